@@ -5,6 +5,7 @@
 
 pub mod commands;
 pub mod components;
+pub mod faults;
 pub mod positions;
 pub mod steps;
 pub mod transitions;
