@@ -113,7 +113,7 @@ chosen (choices ∷ more) number c =
 
 -- the configuration with this number in an entry, well formed or not
 abbrev pub numbered : Script → Entry → ℕ → Configuration
-numbered script entry number = chosen (components entry) number (unused script entry.state Resting Empty)
+numbered script entry number = chosen (components entry) number (unused (length script.lines) entry.state Resting Empty)
 
 -- the points of an entry: those of its numbers whose configuration is well formed
 pub record IsPoint (script : Script) (entry : Entry) (number : ℕ) (c : Configuration) : Type 0 where

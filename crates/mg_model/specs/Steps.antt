@@ -122,14 +122,14 @@ steps_by_link script c Resting =
 abbrev pub steps_of : Script → Configuration → List Step
 steps_of script c = steps_by_link script c c.link
 
--- every name free or absent, nothing cut, each line in the null context, Inactive and silent
-abbrev pub unused : Script → ℕ → Link → EventsName → Configuration
-unused script state link events = record {
+-- every name free or absent, nothing cut; each of these lines in the null context, Inactive and silent, with this list
+abbrev pub unused : ℕ → ℕ → Link → EventsName → Configuration
+unused lines state link events = record {
   state = state;
   link = link;
   spot = unused_spot;
   mode = λ t. Inactive;
-  events = λ i. events;
+  events = λ i. if nat_lt i lines then events else Empty;
   plays = λ i. false;
   context = λ j. Free;
   remote = λ k. Unset;
@@ -137,13 +137,13 @@ unused script state link events = record {
 }
   where
     unused_spot : Termination → Spot
-    unused_spot (Line i) = if nat_lt i (length script.lines) then Null else Absent
+    unused_spot (Line i) = if nat_lt i lines then Null else Absent
     unused_spot (Ephemeral k) = Absent
 
 -- the configuration that a call opens in: at rest in the start state, each line armed
 abbrev pub opening : Script → Configuration
-opening script = unused script script.start Resting Armed
+opening script = unused (length script.lines) script.start Resting Armed
 
 -- the configuration after a restart was heard: the restart state as entered, each line with an empty list
 abbrev pub reset : Script → Configuration
-reset script = entered script (unused script script.restart Answered Empty) script.restart
+reset script = entered script (unused (length script.lines) script.restart Answered Empty) script.restart
