@@ -1,3 +1,4 @@
+pub mod PathLemmas
 pub mod PlaceLemmas
 pub mod SetLemmas
 pub mod UnusedLemmas

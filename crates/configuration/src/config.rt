@@ -1,3 +1,5 @@
+pub mod paths;
+
 use crate::places::{place_of, unused_events, unused_spot};
 use mg_model::commands::{EventsName, Termination};
 use mg_model::components::{Remote, Spot};
@@ -25,6 +27,7 @@ impl Config {
     ghost use Rattle.std.specs.Prelude.{◌≡◌};
     ghost use Rattle.mg_model.specs.Configuration.{with_at, with_of};
     ghost use Rattle.mg_model.specs.Effects.{with_pair};
+    ghost use Rattle.configuration.specs.Places.{HasFour};
     ghost use Rattle.configuration.specs.Config.{configuration_of};
 
     /// The state, by its place in the script.
@@ -43,7 +46,8 @@ impl Config {
 
     /// Where a termination stands.
     pub fn spot(&self, termination: Termination) -> Spot
-        ensures { result ≡ (configuration_of self.now).spot termination }
+        ensures value { result ≡ (configuration_of self.now).spot termination }
+        ensures slots { HasFour (configuration_of self.now) }
     {
         self.spots[place_of(termination)]
     }

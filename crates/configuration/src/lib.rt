@@ -4,3 +4,4 @@
 
 pub mod config;
 mod places;
+pub mod spots;
