@@ -1,12 +1,12 @@
 -- Reading a digit map from left to right, with the first fault that is met. A reader should check the grammar:
 -- alternatives parted by `|`, each of one position or more; a position is a symbol, `x` for any digit, or a range in
 -- brackets; one pair of parentheses may stand round the whole text.
-use Rattle.std.specs.Prelude.{ℕ, zero, suc, ◌+◌, ◌-◌, List, [], ◌∷◌, length, take, drop, map, slice_index, Bool, ◌&&◌, ◌||◌, ◌==◌, nat_lt, nat_le, if◌then◌else◌, Option, Some, None, Result, Ok, Err}
+use Rattle.std.specs.Prelude.{◌≡◌, ℕ, zero, suc, ◌+◌, ◌-◌, List, [], ◌∷◌, length, take, drop, slice_index, Bool, ◌&&◌, ◌||◌, ◌==◌, nat_lt, nat_le, if◌then◌else◌, Option, Some, None, Result, Ok, Err}
 use Rattle.std.specs.List.{list_all, slice_split, before_first, after_first}
 use Rattle.digits.specs.declared.fault.MapFault.{MapFault}
 use Rattle.digits.specs.declared.fault.MapFault.TheVariants as fault
 use Rattle.digits.specs.declared.span.Span.{Span}
-use Rattle.digits.specs.declared.span.Position.{Position}
+use Rattle.mg_model.specs.declared.positions.Position.{Position}
 use Rattle.digits.specs.Symbols.{is_digit, symbol_of, position_of}
 
 infixl 10 ◌>>=◌
@@ -46,9 +46,9 @@ all_of step text = values step (length text) text
 abbrev pub run : ℕ → ℕ → Span
 run low high = record { low = low; high = high }
 
--- two digits that don't fall
-abbrev pub rises : ℕ → ℕ → Bool
-rises low high = is_digit low && is_digit high && nat_le low high
+-- the run of two digits, the second not lower
+unfoldable pub rising : ℕ → ℕ → Option Span
+rising low high = if is_digit low && is_digit high && nat_le low high then Some (run (low - 48) (high - 48)) else None
 
 abbrev pub or_fault : {A : Type 0} → MapFault → Option A → Result A MapFault
 or_fault fault None = Err fault
@@ -57,10 +57,8 @@ or_fault fault (Some x) = Ok x
 -- in a range: a digit, `-` and a digit that isn't lower; or one symbol. start is the place of the range.
 unfoldable pub run_at : ℕ → Step Span
 run_at start text =
-    if slice_index text 1 == 45
-    then (if rises (slice_index text 0) (slice_index text 2)
-        then Ok (run (slice_index text 0 - 48) (slice_index text 2 - 48), drop 3 text)
-        else Err (fault.BadRange start))
+    if nat_lt 2 (length text) && slice_index text 1 == 45
+    then (or_fault (fault.BadRange start) (rising (slice_index text 0) (slice_index text 2)) >>= λ found. Ok (found, drop 3 text))
     else or_fault (fault.BadRange start) (symbol_of (slice_index text 0)) >>= λ symbol. Ok (run symbol symbol, drop 1 text)
 
 abbrev pub is_end : ℕ → Bool
@@ -101,6 +99,16 @@ is_wrapped text = nat_le 2 (length text) && slice_index text 0 == 40 && slice_in
 
 abbrev pub parts : List ℕ → List (List ℕ)
 parts text = slice_split (λ byte. byte == 124) text
+
+-- how many bytes parts take, each with a bar after it
+abbrev pub bytes_of : List (List ℕ) → ℕ
+bytes_of [] = 0
+bytes_of (part ∷ more) = length part + 1 + bytes_of more
+
+-- a bar stands before each part but the first
+abbrev pub bar_before : ℕ → ℕ
+bar_before zero = 0
+bar_before (suc index) = 1
 
 abbrev pub unwrapped : List ℕ → Result (List (List Position)) MapFault
 unwrapped text = if is_wrapped text then alternatives_of 1 (parts (take (length text - 2) (drop 1 text))) else alternatives_of 0 (parts text)

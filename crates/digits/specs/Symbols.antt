@@ -1,8 +1,8 @@
 -- The twelve symbols of a digit map: the digits 0 to 9, E as 10 and F as 11. Check that letters count in either case.
-use Rattle.std.specs.Prelude.{ℕ, ◌+◌, ◌-◌, List, Bool, ◌&&◌, ◌||◌, ◌==◌, nat_le, if◌then◌else◌, Option, Some, None, map}
+use Rattle.std.specs.Prelude.{ℕ, ◌-◌, List, Bool, ◌&&◌, ◌||◌, ◌==◌, nat_le, if◌then◌else◌, Option, Some, None, map}
 use Rattle.std.specs.List.{list_any, range_with_len}
 use Rattle.digits.specs.declared.span.Span.{Span}
-use Rattle.digits.specs.declared.span.Position.{Position}
+use Rattle.mg_model.specs.declared.positions.Position.{Position}
 
 -- a byte of `0` to `9`
 abbrev pub is_digit : ℕ → Bool

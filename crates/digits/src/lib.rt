@@ -9,4 +9,3 @@ mod span;
 
 pub use fault::MapFault;
 pub use map::{DigitMap, LIMIT};
-pub use span::Position;

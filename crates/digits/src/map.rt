@@ -1,10 +1,11 @@
 //! A digit map.
-ghost use Rattle.std.specs.Prelude.{◌≡◌, map, length, IsTrue, ◌≤◌};
+ghost use Rattle.std.specs.Prelude.{◌≡◌, map, length, nat_le};
+ghost use Rattle.std.specs.List.{list_all};
 ghost use Rattle.digits.specs.Reading.{Gives, fits, map_of, unwrapped};
 
 use crate::fault::MapFault;
 use crate::reading;
-use crate::span::Position;
+use mg_model::positions::Position;
 use std::alloc::Global;
 use std::marker::Model;
 
@@ -19,7 +20,7 @@ pub struct DigitMap {
 
 impl Model for DigitMap {
     ghost use Rattle.std.specs.Prelude.{List, map};
-    ghost use Rattle.digits.specs.declared.span.Position.{Position};
+    ghost use Rattle.mg_model.specs.declared.positions.Position.{Position};
 
     ghost Value = { List (List Position) };
 
@@ -29,6 +30,7 @@ impl Model for DigitMap {
 impl DigitMap {
     /// Reads a map. Of the faults `Empty`, `BadSymbol` and `BadRange` the first from the left is given; `TooLong` only
     /// where the text has none of these. `NoMemory` may come in place of any answer.
+    #[tactic(auto, unfolding(crate::specs::Reading::map_of))]
     pub fn parse(alloc: Global, text: &str) -> Result<DigitMap, MapFault>
         ensures { Gives (λ m. m) result (map_of text.now) }
     {
@@ -50,9 +52,18 @@ fn read(alloc: Global, text: &[u8]) -> Result<Vec<Vec<Position>>, MapFault>
     }
 }
 
+/// Whether each alternative is within the limit.
+fn are_short(alternatives: &[Vec<Position>]) -> bool
+    ensures { result ≡ list_all (λ a. nat_le (length a.items) 16) alternatives.now }
+{
+    alternatives
+        .iter()
+        .all(|alternative| alternative.len() <= LIMIT)
+}
+
 /// Whether a map is within the limits.
 fn is_short(alternatives: &[Vec<Position>]) -> bool
     ensures { result ≡ fits (map (λ a. a.items) alternatives.now) }
 {
-    alternatives.len() <= LIMIT && alternatives.iter().all(|alternative| alternative.len() <= LIMIT)
+    alternatives.len() <= LIMIT && are_short(alternatives)
 }

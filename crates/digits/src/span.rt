@@ -2,6 +2,8 @@
 ghost use Rattle.std.specs.Prelude.{◌≡◌, length, IfSome, ◌<◌};
 ghost use Rattle.digits.specs.Symbols.{symbol_of, reaches, reached, position_of};
 
+use mg_model::positions::Position;
+
 /// The number of the last digit among the symbols.
 pub(crate) const LAST_DIGIT: u8 = 9;
 
@@ -10,12 +12,6 @@ pub(crate) const LAST_DIGIT: u8 = 9;
 pub(crate) struct Span {
     pub(crate) low: u8,
     pub(crate) high: u8,
-}
-
-/// One position of an alternative: for each symbol, whether the position accepts it.
-#[derive(Clone, Copy, Debug, PartialEq, Eq)]
-pub struct Position {
-    pub accepts: [bool; 12],
 }
 
 /// The symbol that a byte writes.
