@@ -1,6 +1,6 @@
 -- What is looked up in a script's table. A reader should check the predefined lists: `none`, which is empty, and
 -- `armed`, which is `al/of` in its exact form alone.
-use Rattle.std.specs.Prelude.{ℕ, List, [], ◌∷◌, Bool, true, false, ◌&&◌, ◌==◌, if◌then◌else◌, Option, Some, None, option_map, codes, length, slice_get, position, find}
+use Rattle.std.specs.Prelude.{ℕ, List, [], ◌∷◌, Bool, true, false, ◌&&◌, ◌==◌, if◌then◌else◌, Option, Some, None, option_map, codes, slice_get, position, find}
 use Rattle.std.specs.Str.{bytes_eq}
 use Rattle.mg_names.specs.declared.kinds.Kind.{Kind}
 use Rattle.mg_names.specs.declared.kinds.Kind.TheVariants.{On, Of, Fl, Full, Part}

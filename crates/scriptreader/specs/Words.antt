@@ -1,5 +1,5 @@
 -- The words of a configuration's steps, as reports write them.
-use Rattle.std.specs.Prelude.{ℕ, List, [], ◌∷◌, ◌++◌, Option, Some, None, codes, slice_get, unwrap_or}
+use Rattle.std.specs.Prelude.{ℕ, List, [], ◌++◌, codes, slice_get, unwrap_or}
 use Rattle.std.specs.Fmt.{decimal}
 use Rattle.mg_names.specs.Words.{kind_text}
 use Rattle.mg_model.specs.declared.steps.StepName.{StepName}

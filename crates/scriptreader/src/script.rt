@@ -1,5 +1,5 @@
 //! The table of a script.
-ghost use Rattle.std.specs.Prelude.{◌≡◌, ◌<◌, ◌≤◌, length, map, position, slice_get, ◌==◌, option_copied, string_bytes};
+ghost use Rattle.std.specs.Prelude.{◌≡◌, ◌<◌, ◌≤◌, length, map, position, slice_get, IfSome, ◌==◌, option_copied, string_bytes};
 ghost use Rattle.std.specs.Str.{bytes_eq};
 ghost use Rattle.scriptreader.specs.Table.{place_of, state_named, list_named, items_of, signals_of, map_at};
 
@@ -45,9 +45,35 @@ impl Model for Script {
 
 /// The place of a name among names.
 fn place_among(names: &[String], name: &str) -> Option<usize>
-    ensures { result ≡ position (λ other. bytes_eq (string_bytes other) name.now) names.now }
+    ensures place { result ≡ position (λ other. bytes_eq (string_bytes other) name.now) names.now }
+    ensures within { IfSome result (λ place. place < length names.now) }
 {
     names.iter().position(|other| other.as_str() == name)
+}
+
+/// The slot of a name among at most four.
+fn slot_of(names: &[String], name: &str) -> Option<Slot>
+    requires { length names.now ≤ 4 }
+    ensures { result ≡ place_of name.now (map (λ n. string_bytes n) names.now) }
+{
+    let place = place_among(names, name)?;
+    Slot::new(place)
+}
+
+/// The place of a state among states.
+fn state_among(states: &[State], name: &str) -> Option<usize>
+    ensures place { result ≡ state_named name.now states.now }
+    ensures within { IfSome result (λ place. place < length states.now) }
+{
+    states.iter().position(|state| state.name() == name)
+}
+
+/// The place of a list among lists.
+fn list_among(lists: &[EventsList], name: &str) -> Option<usize>
+    ensures place { result ≡ position (λ list. bytes_eq list.name name.now) lists.now }
+    ensures within { IfSome result (λ place. place < length lists.now) }
+{
+    lists.iter().position(|list| list.name() == name)
 }
 
 impl Script {
@@ -95,21 +121,21 @@ impl Script {
     pub fn line(&self, name: &str) -> Option<Slot>
         ensures { result ≡ place_of name.now self.now.lines }
     {
-        Slot::new(place_among(self.lines.as_slice(), name)?)
+        slot_of(self.lines.as_slice(), name)
     }
 
     /// The context of a name.
     pub fn context(&self, name: &str) -> Option<Slot>
         ensures { result ≡ place_of name.now self.now.contexts }
     {
-        Slot::new(place_among(self.contexts.as_slice(), name)?)
+        slot_of(self.contexts.as_slice(), name)
     }
 
     /// The ephemeral of a name.
     pub fn ephemeral(&self, name: &str) -> Option<Slot>
         ensures { result ≡ place_of name.now self.now.ephemerals }
     {
-        Slot::new(place_among(self.ephemerals.as_slice(), name)?)
+        slot_of(self.ephemerals.as_slice(), name)
     }
 
     /// The name of a line.
@@ -123,10 +149,7 @@ impl Script {
     pub fn state_named(&self, name: &str) -> Option<u8>
         ensures { result ≡ state_named name.now self.now.states }
     {
-        let place = self
-            .states
-            .iter()
-            .position(|state| state.name() == name)?;
+        let place = state_among(self.states.as_slice(), name)?;
         Some(place as u8)
     }
 
@@ -140,10 +163,7 @@ impl Script {
         if name == "armed" {
             return Some(EventsName::Armed);
         }
-        let place = self
-            .lists
-            .iter()
-            .position(|list| list.name() == name)?;
+        let place = list_among(self.lists.as_slice(), name)?;
         Some(EventsName::Own(place as u8))
     }
 
