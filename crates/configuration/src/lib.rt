@@ -5,3 +5,5 @@
 pub mod config;
 mod places;
 pub mod spots;
+pub mod step;
+pub mod well_formed;
