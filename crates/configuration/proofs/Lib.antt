@@ -1,4 +1,5 @@
 pub mod PathLemmas
 pub mod PlaceLemmas
 pub mod SetLemmas
+pub mod SlotLemmas
 pub mod UnusedLemmas

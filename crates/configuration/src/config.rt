@@ -24,7 +24,7 @@ pub struct Config {
 
 #[tactic(auto, unfolding(crate::specs::Config::configuration_of))]
 impl Config {
-    ghost use Rattle.std.specs.Prelude.{◌≡◌};
+    ghost use Rattle.std.specs.Prelude.{◌≡◌, ℕ, ◌≤◌};
     ghost use Rattle.mg_model.specs.Configuration.{with_at, with_of};
     ghost use Rattle.mg_model.specs.Effects.{with_pair};
     ghost use Rattle.configuration.specs.Places.{HasFour};
@@ -75,7 +75,8 @@ impl Config {
 
     /// What a context name stands for.
     pub fn context(&self, context: Slot) -> ContextValue
-        ensures { result ≡ (configuration_of self.now).context context }
+        ensures value { result ≡ (configuration_of self.now).context context }
+        ensures slots { (j : ℕ) → 4 ≤ j → (configuration_of self.now).context j ≡ ContextValue.Free }
     {
         self.contexts[context.index()]
     }

@@ -1,3 +1,7 @@
+ghost use Rattle.std.specs.Prelude.{◌≡◌};
+ghost use Rattle.mg_model.specs.Configuration.{terminations, stands_in};
+ghost use Rattle.configuration.specs.Config.{configuration_of};
+
 use crate::config::Config;
 use crate::spots;
 use mg_model::commands::Termination;
@@ -7,7 +11,9 @@ use mg_names::phases::Link;
 use mg_names::slots::Slot;
 
 /// All terminations that a script can name: four lines, then four ephemerals.
-pub fn all_terminations() -> [Termination; 8] {
+pub fn all_terminations() -> [Termination; 8]
+    ensures { result ≡ terminations }
+{
     let [first, second, third, fourth] = Slot::all();
     [
         Termination::Line(first),
@@ -22,7 +28,9 @@ pub fn all_terminations() -> [Termination; 8] {
 }
 
 /// Whether a termination stands in the context.
-pub fn stands_in(config: &Config, context: Slot) -> bool {
+pub fn stands_in(config: &Config, context: Slot) -> bool
+    ensures { result ≡ stands_in (configuration_of config.now).spot context }
+{
     all_terminations().iter().any(|termination| spots::is_in(config.spot(*termination), context))
 }
 
