@@ -3,3 +3,4 @@ pub mod PlaceLemmas
 pub mod SetLemmas
 pub mod SlotLemmas
 pub mod UnusedLemmas
+pub mod WellFormedLemmas

@@ -27,6 +27,7 @@ impl Config {
     ghost use Rattle.std.specs.Prelude.{◌≡◌, ℕ, ◌≤◌};
     ghost use Rattle.mg_model.specs.Configuration.{with_at, with_of};
     ghost use Rattle.mg_model.specs.Effects.{with_pair};
+    ghost use Rattle.mg_model.specs.declared.commands.Termination.TheVariants.{Ephemeral};
     ghost use Rattle.configuration.specs.Places.{HasFour};
     ghost use Rattle.configuration.specs.Config.{configuration_of};
 
@@ -54,7 +55,8 @@ impl Config {
 
     /// The mode of a termination.
     pub fn mode(&self, termination: Termination) -> Mode
-        ensures { result ≡ (configuration_of self.now).mode termination }
+        ensures value { result ≡ (configuration_of self.now).mode termination }
+        ensures slots { (k : ℕ) → 4 ≤ k → (configuration_of self.now).mode (Ephemeral k) ≡ Mode.Inactive }
     {
         self.modes[place_of(termination)]
     }
@@ -83,7 +85,8 @@ impl Config {
 
     /// The Remote of an ephemeral.
     pub fn remote(&self, ephemeral: Slot) -> Remote
-        ensures { result ≡ (configuration_of self.now).remote ephemeral }
+        ensures value { result ≡ (configuration_of self.now).remote ephemeral }
+        ensures slots { (k : ℕ) → 4 ≤ k → (configuration_of self.now).remote k ≡ Remote.Unset }
     {
         self.remotes[ephemeral.index()]
     }
