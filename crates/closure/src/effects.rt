@@ -1,13 +1,15 @@
-ghost use Rattle.std.specs.Prelude.{◌≡◌, not};
-ghost use Rattle.mg_model.specs.Configuration.{is_same};
-ghost use Rattle.mg_model.specs.Effects.{is_legal, is_elsewhere, stands_at, place_exists, remote_legal};
+ghost use Rattle.std.specs.Prelude.{◌≡◌, ℕ, ◌≤◌, not};
+ghost use Rattle.mg_model.specs.Configuration.{is_same, settled, value_of};
+ghost use Rattle.mg_model.specs.Effects.{is_legal, is_elsewhere, stands_at, place_exists, remote_legal, plays_after, remote_set, put_in, with_line_options, with_ephemeral_options};
+ghost use Rattle.closure.specs.Turns.{settled_at};
 ghost use Rattle.configuration.specs.Config.{configuration_of};
 
 use configuration::config::Config;
 use configuration::spots;
 use configuration::well_formed::{all_terminations, stands_in};
 use mg_model::commands::{
-    Command, EphemeralOptions, EventsName, LineOptions, Place, RemoteOption, Termination,
+    Command, EphemeralOptions, EventsName, LineOptions, Place, RemoteOption, SignalsName,
+    Termination,
 };
 use mg_model::components::{Remote, Spot};
 use mg_names::context_values::ContextValue;
@@ -156,7 +158,9 @@ fn are_apart(first: &Termination, second: &Termination) -> bool
 }
 
 /// What a bound context name stands for, given whether its context exists.
-fn value_of(value: ContextValue, exists: bool) -> ContextValue {
+fn value_of(value: ContextValue, exists: bool) -> ContextValue
+    ensures { result ≡ value_of value exists }
+{
     match value {
         ContextValue::Free => ContextValue::Free,
         ContextValue::Live | ContextValue::Stale => {
@@ -169,45 +173,79 @@ fn value_of(value: ContextValue, exists: bool) -> ContextValue {
     }
 }
 
+/// Makes one context name say what the places of the terminations make it.
+fn settle_one(config: &mut Config, context: Slot)
+    ensures settled { configuration_of config.new ≡ settled_at (configuration_of config.old) context }
+    ensures slots { (j : ℕ) → 4 ≤ j → (configuration_of config.old).context j ≡ ContextValue.Free }
+{
+    let exists = stands_in(config, context);
+    let value = config.context(context);
+    config.set_context(context, value_of(value, exists));
+}
+
 /// Makes the context names say what the places of the terminations make them.
-fn settle(config: &mut Config) {
-    for context in &Slot::all() {
-        let exists = stands_in(config, *context);
-        let value = config.context(*context);
-        config.set_context(*context, value_of(value, exists));
-    }
+fn settle(config: &mut Config)
+    ensures { configuration_of config.new ≡ settled (configuration_of config.old) }
+{
+    let slots = Slot::all();
+    settle_one(config, slots[0]);
+    settle_one(config, slots[1]);
+    settle_one(config, slots[2]);
+    settle_one(config, slots[3]);
 }
 
 /// Puts a termination into a context, which exists then.
-fn put_in(config: &mut Config, termination: Termination, context: Slot) {
+fn put_in(config: &mut Config, termination: Termination, context: Slot)
+    ensures { configuration_of config.new ≡ put_in (configuration_of config.old) termination context }
+{
     config.set_spot(termination, Spot::In(context));
     config.set_context(context, ContextValue::Live);
     settle(config);
 }
 
 /// Sets on a line what a command gives; what it leaves out stays.
-fn set_line_options(script: &Script, config: &mut Config, line: Slot, options: &LineOptions) {
-    if let Some(mode) = options.mode {
-        config.set_mode(Termination::Line(line), mode);
+fn set_line_options(script: &Script, config: &mut Config, line: Slot, options: &LineOptions)
+    ensures { configuration_of config.new ≡ with_line_options script.now (configuration_of config.old) line options.now }
+{
+    let mode = options.mode.unwrap_or(config.mode(Termination::Line(line)));
+    let events = options.events.unwrap_or(config.events(line));
+    let plays = plays_after(script, &options.signals, config.plays(line));
+    config.set_mode(Termination::Line(line), mode);
+    config.set_events(line, events);
+    config.set_plays(line, plays);
+}
+
+/// Whether a line may play once a Signals descriptor is processed.
+fn plays_after(script: &Script, signals: &Option<SignalsName>, was: bool) -> bool
+    ensures { result ≡ plays_after script.now signals.now was }
+{
+    match *signals {
+        None => was,
+        Some(signals) => !script.signals_empty(signals),
     }
-    if let Some(events) = options.events {
-        config.set_events(line, events);
-    }
-    if let Some(signals) = options.signals {
-        config.set_plays(line, !script.signals_empty(signals));
+}
+
+/// The Remote that an option sets.
+fn remote_set(remote: &Option<RemoteOption>, was: Remote) -> Remote
+    ensures { result ≡ remote_set remote.now was }
+{
+    match *remote {
+        None => was,
+        Some(RemoteOption::NoneGiven) => Remote::Unset,
+        Some(RemoteOption::Peer(peer)) => Remote::To(peer),
     }
 }
 
 /// Sets on an ephemeral what a command gives; what it leaves out stays.
-fn set_ephemeral_options(config: &mut Config, ephemeral: Slot, options: &EphemeralOptions) {
-    if let Some(mode) = options.mode {
-        config.set_mode(Termination::Ephemeral(ephemeral), mode);
-    }
-    match options.remote {
-        None => {}
-        Some(RemoteOption::NoneGiven) => config.set_remote(ephemeral, Remote::Unset),
-        Some(RemoteOption::Peer(peer)) => config.set_remote(ephemeral, Remote::To(peer)),
-    }
+fn set_ephemeral_options(config: &mut Config, ephemeral: Slot, options: &EphemeralOptions)
+    ensures { configuration_of config.new ≡ with_ephemeral_options (configuration_of config.old) ephemeral options.now }
+{
+    let mode = options
+        .mode
+        .unwrap_or(config.mode(Termination::Ephemeral(ephemeral)));
+    let remote = remote_set(&options.remote, config.remote(ephemeral));
+    config.set_mode(Termination::Ephemeral(ephemeral), mode);
+    config.set_remote(ephemeral, remote);
 }
 
 /// Forgets what was set for the pairs of a termination.

@@ -119,7 +119,8 @@ impl Config {
           spot = with_of (configuration_of self.old).spot termination spot;
         } }
     {
-        self.spots[place_of(termination)] = spot;
+        let place = place_of(termination);
+        self.spots[place] = spot;
     }
 
     /// Sets the mode of a termination.
@@ -128,7 +129,8 @@ impl Config {
           mode = with_of (configuration_of self.old).mode termination mode;
         } }
     {
-        self.modes[place_of(termination)] = mode;
+        let place = place_of(termination);
+        self.modes[place] = mode;
     }
 
     /// Sets the events list of a line.
@@ -137,7 +139,8 @@ impl Config {
           events = with_at (configuration_of self.old).events line events;
         } }
     {
-        self.events[line.index()] = events;
+        let place = line.index();
+        self.events[place] = events;
     }
 
     /// Sets whether a line may play a signal.
@@ -146,7 +149,8 @@ impl Config {
           plays = with_at (configuration_of self.old).plays line plays;
         } }
     {
-        self.plays[line.index()] = plays;
+        let place = line.index();
+        self.plays[place] = plays;
     }
 
     /// Sets what a context name stands for.
@@ -155,7 +159,8 @@ impl Config {
           context = with_at (configuration_of self.old).context context value;
         } }
     {
-        self.contexts[context.index()] = value;
+        let place = context.index();
+        self.contexts[place] = value;
     }
 
     /// Sets the Remote of an ephemeral.
@@ -164,7 +169,8 @@ impl Config {
           remote = with_at (configuration_of self.old).remote ephemeral remote;
         } }
     {
-        self.remotes[ephemeral.index()] = remote;
+        let place = ephemeral.index();
+        self.remotes[place] = remote;
     }
 
     /// Sets whether media from one termination to another is cut.
