@@ -1,1 +1,2 @@
 pub mod SettleLemmas
+pub mod SubtractLemmas

@@ -1,7 +1,7 @@
 ghost use Rattle.std.specs.Prelude.{◌≡◌, ℕ, ◌≤◌, not};
-ghost use Rattle.mg_model.specs.Configuration.{is_same, settled, value_of};
-ghost use Rattle.mg_model.specs.Effects.{is_legal, is_elsewhere, stands_at, place_exists, remote_legal, plays_after, remote_set, put_in, with_line_options, with_ephemeral_options};
-ghost use Rattle.closure.specs.Turns.{settled_at};
+ghost use Rattle.mg_model.specs.Configuration.{is_same, settled, terminations, value_of};
+ghost use Rattle.mg_model.specs.Effects.{is_legal, is_elsewhere, stands_at, place_exists, remote_legal, plays_after, remote_set, put_in, with_line_options, with_ephemeral_options, without_terminations, without_cuts_of};
+ghost use Rattle.closure.specs.Turns.{settled_at, forget_pair, forget_pairs, lost_at, remote_lost, without_line, without_ephemeral, without_remotes_to, with_topology};
 ghost use Rattle.configuration.specs.Config.{configuration_of};
 
 use configuration::config::Config;
@@ -248,39 +248,91 @@ fn set_ephemeral_options(config: &mut Config, ephemeral: Slot, options: &Ephemer
     config.set_remote(ephemeral, remote);
 }
 
+/// Forgets what was set for a pair, either way.
+fn forget_pair(config: &mut Config, termination: &Termination, other: &Termination)
+    ensures { configuration_of config.new ≡ forget_pair (configuration_of config.old) termination.now other.now }
+{
+    config.set_cut(*termination, *other, false);
+    config.set_cut(*other, *termination, false);
+}
+
 /// Forgets what was set for the pairs of a termination.
-fn forget_cuts(config: &mut Config, termination: &Termination) {
-    for other in &all_terminations() {
-        config.set_cut(*termination, *other, false);
-        config.set_cut(*other, *termination, false);
+fn forget_cuts(config: &mut Config, termination: &Termination)
+    ensures { configuration_of config.new ≡ record (configuration_of config.old) { cut = without_cuts_of (is_same termination.now) (configuration_of config.old).cut } }
+{
+    forget_each(config, termination);
+}
+
+/// The same, pair by pair.
+fn forget_each(config: &mut Config, termination: &Termination)
+    ensures { configuration_of config.new ≡ forget_pairs (configuration_of config.old) termination.now terminations }
+{
+    let others = all_terminations();
+    for other in &others {
+        forget_pair(config, termination, other);
     }
 }
 
-/// Makes the Remotes that name an ephemeral name nothing.
-fn lose_remotes_to(config: &mut Config, ephemeral: Slot) {
-    for other in &Slot::all() {
-        if spots::is_to(config.remote(*other), ephemeral) {
-            config.set_remote(*other, Remote::Gone);
-        }
+/// A Remote after an ephemeral was destroyed.
+fn remote_lost(remote: &Remote, ephemeral: Slot) -> Remote
+    ensures { result ≡ remote_lost ephemeral remote.now }
+{
+    if spots::is_to(*remote, ephemeral) {
+        Remote::Gone
+    } else {
+        *remote
     }
+}
+
+/// Makes a Remote that names an ephemeral name nothing.
+fn lose_remote(config: &mut Config, other: Slot, ephemeral: Slot)
+    ensures lost { configuration_of config.new ≡ lost_at ephemeral (configuration_of config.old) other }
+    ensures slots { (k : ℕ) → 4 ≤ k → (configuration_of config.old).remote k ≡ Remote.Unset }
+{
+    let lost = remote_lost(&config.remote(other), ephemeral);
+    config.set_remote(other, lost);
+}
+
+/// Makes the Remotes that name an ephemeral name nothing.
+fn lose_remotes_to(config: &mut Config, ephemeral: Slot)
+    ensures { configuration_of config.new ≡ without_remotes_to ephemeral (configuration_of config.old) }
+{
+    let slots = Slot::all();
+    lose_remote(config, slots[0], ephemeral);
+    lose_remote(config, slots[1], ephemeral);
+    lose_remote(config, slots[2], ephemeral);
+    lose_remote(config, slots[3], ephemeral);
+}
+
+/// What a line loses as it is subtracted: its place, its events list and its signals.
+fn clear_line(config: &mut Config, line: Slot)
+    ensures { configuration_of config.new ≡ without_line line (configuration_of config.old) }
+{
+    config.set_spot(Termination::Line(line), Spot::Null);
+    config.set_mode(Termination::Line(line), Mode::Inactive);
+    config.set_events(line, EventsName::Empty);
+    config.set_plays(line, false);
+}
+
+/// What goes with an ephemeral as it is destroyed: its place and its Remote, and what other Remotes name.
+fn clear_ephemeral(config: &mut Config, ephemeral: Slot)
+    ensures { configuration_of config.new ≡ without_remotes_to ephemeral (without_ephemeral ephemeral (configuration_of config.old)) }
+{
+    config.set_spot(Termination::Ephemeral(ephemeral), Spot::Absent);
+    config.set_mode(Termination::Ephemeral(ephemeral), Mode::Inactive);
+    config.set_remote(ephemeral, Remote::Unset);
+    lose_remotes_to(config, ephemeral);
 }
 
 /// Subtracts a termination: a line returns to the null context, Inactive and silent with an empty events list, and an
 /// ephemeral is destroyed.
-fn subtract(config: &mut Config, termination: &Termination) {
+fn subtract(config: &mut Config, termination: &Termination)
+    ensures { configuration_of config.new ≡ without_terminations (configuration_of config.old) (is_same termination.now) }
+{
     forget_cuts(config, termination);
-    config.set_mode(*termination, Mode::Inactive);
     match *termination {
-        Termination::Line(line) => {
-            config.set_spot(Termination::Line(line), Spot::Null);
-            config.set_events(line, EventsName::Empty);
-            config.set_plays(line, false);
-        }
-        Termination::Ephemeral(ephemeral) => {
-            config.set_spot(Termination::Ephemeral(ephemeral), Spot::Absent);
-            config.set_remote(ephemeral, Remote::Unset);
-            lose_remotes_to(config, ephemeral);
-        }
+        Termination::Line(line) => clear_line(config, line),
+        Termination::Ephemeral(ephemeral) => clear_ephemeral(config, ephemeral),
     }
 }
 
@@ -295,12 +347,9 @@ fn subtract_all(config: &mut Config, context: Slot) {
 }
 
 /// Sets what a Topology descriptor says of a pair.
-fn set_topology(
-    config: &mut Config,
-    first: &Termination,
-    second: &Termination,
-    topology: Topology,
-) {
+fn set_topology(config: &mut Config, first: &Termination, second: &Termination, topology: Topology)
+    ensures { configuration_of config.new ≡ with_topology (configuration_of config.old) first.now second.now topology }
+{
     let (forward, backward) = match topology {
         Topology::Isolate => (true, true),
         Topology::Oneway => (false, true),
