@@ -1,2 +1,4 @@
+pub mod RequestLemmas
 pub mod SettleLemmas
+pub mod StepLemmas
 pub mod SubtractLemmas
