@@ -3,7 +3,7 @@
 -- the whole product of the sets, in mixed radix, the last component changing fastest. This profile's own.
 -- A reader should check that each component's values are the choices that the numbering makes, and the values that the
 -- entry allows. Which components an entry has, and in which order, is the certificate's format.
-use Rattle.std.specs.Prelude.{◌≡◌, ℕ, ◌*◌, ◌/◌, ◌%◌, ◌<◌, Bool, List, [], ◌∷◌, map, length, slice_index_or, Contains, Option}
+use Rattle.std.specs.Prelude.{◌≡◌, ℕ, ◌*◌, ◌/◌, ◌%◌, ◌<◌, Bool, List, [], ◌∷◌, map, length, slice_index_or, Contains}
 use Rattle.std.specs.List.{All}
 use Rattle.mg_names.specs.declared.modes.Mode.{Mode}
 use Rattle.mg_names.specs.declared.phases.Link.{Link}
@@ -49,10 +49,10 @@ abbrev pub mode_choice : Termination → Mode → Choice
 mode_choice t mode c = record c { mode = with_of c.mode t mode }
 
 abbrev pub events_choice : ℕ → EventsName → Choice
-events_choice i events c = record c { events = with_at c.events i events }
+events_choice i list c = record c { events = with_at c.events i list }
 
 abbrev pub plays_choice : ℕ → Bool → Choice
-plays_choice i plays c = record c { plays = with_at c.plays i plays }
+plays_choice i may c = record c { plays = with_at c.plays i may }
 
 abbrev pub context_choice : ℕ → ContextValue → Choice
 context_choice j value c = record c { context = with_at c.context j value }
