@@ -1,3 +1,4 @@
+pub mod ClearedLemmas
 pub mod RequestLemmas
 pub mod SettleLemmas
 pub mod StepLemmas
