@@ -1,5 +1,5 @@
 -- The first line of a text ends at its first line feed, and a cut at a divider parts the sections.
-use Rattle.std.proofs.Common.{◌≡◌, ◌∙◌, ◌+◌, ◌<◌, ◌≤◌, ◌++◌, ◌==◌, ℕ, Bool, true, false, suc, List, [], ◌∷◌, length, take, drop, refl, sym, ap, ap₂, subst, arith, inl, inr, nat_lt, lt-ltb, le-ltb, append_assoc, append-nil, Option, Some, None}
+use Rattle.std.proofs.Common.{◌≡◌, ◌∙◌, ◌+◌, ◌<◌, ◌≤◌, ◌++◌, ◌==◌, ℕ, Bool, true, false, suc, List, [], ◌∷◌, length, take, drop, refl, sym, ap, ap₂, subst, arith, inl, inr, lt-ltb, le-ltb, append_assoc, append-nil, Some, None}
 use Rattle.std.proofs.lemmas.Bool.{cases_lt}
 use Rattle.std.proofs.lemmas.List.{drop-drop, drop_all, take_all}
 use Rattle.std.proofs.Math.Seq.{take-add}

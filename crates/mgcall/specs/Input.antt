@@ -4,7 +4,7 @@ use Rattle.std.specs.Prelude.{◌≡◌, ℕ, ◌+◌, ◌≤◌, List, length, 
 use Rattle.std.specs.Io.KnownBytes.{Consumes, IsAtEnd}
 use Rattle.mgcall.specs.declared.input.TheConstants.{INPUT_LIMIT}
 use Rattle.mgcall.specs.declared.input.Input.{Input}
-use Rattle.mgcall.specs.declared.input.Input.TheVariants.{Whole, TooLong, Failed, NoMemory}
+use Rattle.mgcall.specs.declared.input.Input.TheVariants.{Whole, TooLong, Failed}
 
 -- what was taken from the source, by how the reading ended
 abbrev pub ReadsAll : Option (List ℕ) → Option (List ℕ) → Input → Type 0

@@ -1,7 +1,7 @@
 -- The sections of the input. A reader should check that a divider is a line of exactly `%%`, with
 -- any of the allowed ends, that a section is what stands between two dividers, byte for byte, and
 -- that n dividers make n + 1 sections.
-use Rattle.std.specs.Prelude.{ℕ, Bool, true, false, ◌==◌, ◌||◌, List, [], ◌∷◌, ◌++◌, Option, None, Some, codes, if◌then◌else◌}
+use Rattle.std.specs.Prelude.{ℕ, Bool, ◌==◌, ◌||◌, List, [], ◌∷◌, ◌++◌, Option, None, Some, if◌then◌else◌}
 use Rattle.std.specs.Str.{bytes_eq}
 
 -- a byte before the first of some lines

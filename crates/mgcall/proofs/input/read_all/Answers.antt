@@ -1,5 +1,4 @@
 -- Each read adds what it gave to what was read before.
-use Rattle.std.proofs.Common.{List, ℕ, arith, rules}
 use Rattle.std.proofs.KnownBytes.{Consumes-trans}
 use Rattle.mgcall.proofs.input.read_all.Goals as goal
 

@@ -1,7 +1,7 @@
 -- Line after line, up to the first divider.
 use Rattle.std.proofs.Common.{◌≡◌, ◌≤◌, length, false, arith, subst, sym}
 use Rattle.std.proofs.lemmas.List.{take_rest, length-drop}
-use Rattle.mgcall.proofs.Lines.{IsCutAt, cut-start, cut-line}
+use Rattle.mgcall.proofs.Lines.{cut-start, cut-line}
 use Rattle.mgcall.specs.Sections.{is_divider}
 use Rattle.mgcall.proofs.sections.cut.Goals as goal
 
