@@ -1,0 +1,3 @@
+pub mod PlaceLemmas
+pub mod SetLemmas
+pub mod UnusedLemmas

@@ -1,0 +1,6 @@
+//! Configurations of one call as data: a reader and a setter for each component, the tests that the checker asks of
+//! them, and the two that it starts from. Layers above see a configuration by its components alone.
+#![tactic(auto)]
+
+pub mod config;
+mod places;

@@ -1,0 +1,9 @@
+pub mod Script
+pub mod Configuration
+pub mod Tables
+pub mod Paths
+pub mod Request
+pub mod Effects
+pub mod Steps
+pub mod Entries
+pub mod Obligations

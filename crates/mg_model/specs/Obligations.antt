@@ -1,0 +1,147 @@
+-- The obligations of a certificate, and the first one that is broken. Where none is broken, every run of any number of
+-- calls is safe; that is a theorem of its own. This profile's own. A reader should check each obligation, and that
+-- their order is the one in which the answer `no` names the first.
+use Rattle.std.specs.Prelude.{◌≡◌, ℕ, ◌<◌, false, IsTrue, List, [], ◌∷◌, length, slice_get, Option, Some, None, ◌⊎◌}
+use Rattle.mg_names.specs.declared.phases.Link.TheVariants.{Sent, Resting}
+use Rattle.mg_model.specs.declared.commands.Termination.TheVariants.{Line, Ephemeral}
+use Rattle.mg_model.specs.declared.components.Spot.TheVariants.{Absent, Null}
+use Rattle.mg_model.specs.declared.faults.Fault.{Fault}
+use Rattle.mg_model.specs.declared.steps.StepName.{StepName}
+use Rattle.mg_model.specs.Script.{Script}
+use Rattle.mg_model.specs.Tables.{state_of, items_of, is_armed_list, is_marked}
+use Rattle.mg_model.specs.Configuration.{Configuration}
+use Rattle.mg_model.specs.Paths.{AreJoined}
+use Rattle.mg_model.specs.Steps.{Step, steps_of, names_unbound, opening, reset}
+use Rattle.mg_model.specs.Entries.{Entry, IsPoint, IsCovered}
+
+-- joined lines are marked in the state
+abbrev pub JoinedAreMarked : Script → Configuration → Type 0
+JoinedAreMarked script c =
+    (i j : ℕ) → i < length script.lines → j < length script.lines → (i ≡ j → ⊥) → AreJoined c i j →
+    IsTrue (is_marked (state_of script c.state).talk i j)
+
+-- at rest in an end state each line is in the null context, silent and armed for off-hook alone, and no ephemeral exists
+pub record IsCleared (script : Script) (c : Configuration) : Type 0 where
+  pub in_null : (i : ℕ) → i < length script.lines → c.spot (Line i) ≡ Null
+  pub silent : (i : ℕ) → i < length script.lines → c.plays i ≡ false
+  pub armed : (i : ℕ) → i < length script.lines → IsTrue (is_armed_list (items_of script (c.events i)))
+  pub no_ephemeral : (k : ℕ) → c.spot (Ephemeral k) ≡ Absent
+
+abbrev pub EndedIsCleared : Script → Configuration → Type 0
+EndedIsCleared script c =
+    c.link ≡ Resting → IsTrue (state_of script c.state).is_end → IsCleared script c
+
+-- while its request is sent, each name that the state creates is free or absent
+abbrev pub CreatedAreUnbound : Script → Configuration → Type 0
+CreatedAreUnbound script c = c.link ≡ Sent → IsTrue (names_unbound script c)
+
+-- an obligation: of the certificate as a whole, of a point of an entry, or of a step of a point
+pub data Obligation : Type 0 where
+  OpeningCovered : Obligation
+  ResetCovered : Obligation
+  Marked : (entry point : ℕ) → Obligation
+  Cleared : (entry point : ℕ) → Obligation
+  Unbound : (entry point : ℕ) → Obligation
+  StepCovered : (entry point step : ℕ) → Obligation
+
+-- a fact of the point with this number in the entry at this place, where there is such a point
+abbrev pub AtPoint : Script → List Entry → ℕ → ℕ → (Configuration → Type 0) → Type 0
+AtPoint script entries e p P =
+    (entry : Entry) → slice_get entries e ≡ Some entry → (c : Configuration) → IsPoint script entry p c → P c
+
+abbrev pub Holds : Script → List Entry → Obligation → Type 0
+Holds script entries OpeningCovered = IsCovered entries (opening script)
+Holds script entries ResetCovered = IsCovered entries (reset script)
+Holds script entries (Marked e p) = AtPoint script entries e p (JoinedAreMarked script)
+Holds script entries (Cleared e p) = AtPoint script entries e p (EndedIsCleared script)
+Holds script entries (Unbound e p) = AtPoint script entries e p (CreatedAreUnbound script)
+Holds script entries (StepCovered e p s) =
+    AtPoint script entries e p (λ c. (step : Step) → slice_get (steps_of script c) s ≡ Some step → IsCovered entries step.1)
+
+-- the order in which obligations are named: the opening, the reset, then by entry and point, and in a point joined
+-- lines, ended calls, created names, then the steps in their order
+abbrev pub rank_in_point : Obligation → ℕ
+rank_in_point OpeningCovered = 0
+rank_in_point ResetCovered = 0
+rank_in_point (Marked e p) = 0
+rank_in_point (Cleared e p) = 1
+rank_in_point (Unbound e p) = 2
+rank_in_point (StepCovered e p s) = 3
+
+abbrev pub step_in_point : Obligation → ℕ
+step_in_point (StepCovered e p s) = s
+step_in_point _ = 0
+
+abbrev pub point_of : Obligation → ℕ × ℕ
+point_of (Marked e p) = (e, p)
+point_of (Cleared e p) = (e, p)
+point_of (Unbound e p) = (e, p)
+point_of (StepCovered e p s) = (e, p)
+point_of _ = (0, 0)
+
+-- 0 for the opening, 1 for the reset, 2 for what belongs to a point
+abbrev pub part_of : Obligation → ℕ
+part_of OpeningCovered = 0
+part_of ResetCovered = 1
+part_of (Marked e p) = 2
+part_of (Cleared e p) = 2
+part_of (Unbound e p) = 2
+part_of (StepCovered e p s) = 2
+
+abbrev pub key_of : Obligation → List ℕ
+key_of o = part_of o ∷ (point_of o).0 ∷ (point_of o).1 ∷ rank_in_point o ∷ step_in_point o ∷ []
+
+-- the first difference of two lists of numbers decides
+abbrev pub KeyBefore : List ℕ → List ℕ → Type 0
+KeyBefore [] ys = ⊥
+KeyBefore (x ∷ xs) [] = ⊥
+KeyBefore (x ∷ xs) (y ∷ ys) = (x < y) ⊎ ((x ≡ y) × KeyBefore xs ys)
+
+abbrev pub ComesBefore : Obligation → Obligation → Type 0
+ComesBefore a b = KeyBefore (key_of a) (key_of b)
+
+-- what the answer `no` says of an obligation: its number, and its entry and point where there are such
+abbrev pub fault_number : Obligation → ℕ
+fault_number OpeningCovered = 1
+fault_number ResetCovered = 6
+fault_number (Marked e p) = 3
+fault_number (Cleared e p) = 4
+fault_number (Unbound e p) = 5
+fault_number (StepCovered e p s) = 2
+
+abbrev pub entry_named : Obligation → Option ℕ
+entry_named OpeningCovered = None
+entry_named ResetCovered = None
+entry_named (Marked e p) = Some e
+entry_named (Cleared e p) = Some e
+entry_named (Unbound e p) = Some e
+entry_named (StepCovered e p s) = Some e
+
+abbrev pub point_named : Obligation → Option ℕ
+point_named OpeningCovered = None
+point_named ResetCovered = None
+point_named (Marked e p) = Some p
+point_named (Cleared e p) = Some p
+point_named (Unbound e p) = Some p
+point_named (StepCovered e p s) = Some p
+
+-- the fault names the step that breaks its obligation, and none for the other obligations
+abbrev pub NamesStep : Script → List Entry → Obligation → Option StepName → Type 0
+NamesStep script entries (StepCovered e p s) named =
+    (entry : Entry) × (slice_get entries e ≡ Some entry) × ((c : Configuration) × IsPoint script entry p c
+    × ((step : Step) × (slice_get (steps_of script c) s ≡ Some step) × (named ≡ Some step.0)))
+NamesStep script entries _ named = named ≡ None
+
+-- no obligation is broken
+abbrev pub NoneBroken : Script → List Entry → Type 0
+NoneBroken script entries = (o : Obligation) → Holds script entries o
+
+-- the fault is that of the first obligation that is broken
+pub record IsFirstFault (script : Script) (entries : List Entry) (fault : Fault) : Type 0 where
+  pub obligation : Obligation
+  pub broken : Holds script entries obligation → ⊥
+  pub before : (earlier : Obligation) → ComesBefore earlier obligation → Holds script entries earlier
+  pub number : fault.number ≡ fault_number obligation
+  pub entry : fault.entry ≡ entry_named obligation
+  pub point : fault.point ≡ point_named obligation
+  pub step : NamesStep script entries obligation fault.step

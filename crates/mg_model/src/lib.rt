@@ -1,0 +1,11 @@
+//! The definitions that more than one layer cites: the table of a call control script, the configurations of one call,
+//! what each command does to them, the steps between them, and the obligations of a certificate. The files of `specs/`
+//! hold them; here stand the plain types that the code shares with them. Nothing here runs.
+#![tactic(auto)]
+
+pub mod commands;
+pub mod components;
+pub mod faults;
+pub mod positions;
+pub mod steps;
+pub mod transitions;

@@ -1,0 +1,36 @@
+use mg_names::kinds::Kind;
+use mg_names::slots::Slot;
+use mg_names::strictness::Strict;
+
+/// An item of an events list.
+#[derive(Clone, Copy, Debug, PartialEq, Eq)]
+pub enum EventItem {
+    /// `al/on`.
+    OnHook(Strict),
+    /// `al/of`.
+    OffHook(Strict),
+    /// `al/fl`.
+    Flash,
+    /// `dd/ce` with one of the script's digit maps, by its place from 0.
+    Digits(u8),
+}
+
+/// A transition of a state: where a note of this line and kind leads.
+#[derive(Clone, Copy, Debug, PartialEq, Eq)]
+pub struct Transition {
+    /// The line.
+    pub line: Slot,
+    /// What the note reports.
+    pub kind: Kind,
+    /// The state that is entered, by its place from 0.
+    pub target: u8,
+}
+
+/// Two lines that a state marks as talking; the order has no meaning.
+#[derive(Clone, Copy, Debug, PartialEq, Eq)]
+pub struct Pair {
+    /// One line.
+    pub first: Slot,
+    /// The other line.
+    pub second: Slot,
+}
