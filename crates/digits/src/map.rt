@@ -1,0 +1,69 @@
+//! A digit map.
+ghost use Rattle.std.specs.Prelude.{◌≡◌, map, length, nat_le};
+ghost use Rattle.std.specs.List.{list_all};
+ghost use Rattle.digits.specs.Reading.{Gives, fits, map_of, unwrapped};
+
+use crate::fault::MapFault;
+use crate::reading;
+use mg_model::positions::Position;
+use std::alloc::Global;
+use std::marker::Model;
+
+/// The most alternatives of a map, and the most positions of an alternative. This profile's own limit.
+pub const LIMIT: usize = 16;
+
+/// A digit map (ITU-T H.248.1 v1 / RFC 3525, 7.1.14): its alternatives, of which each is a list of positions.
+#[derive(Drop)]
+pub struct DigitMap {
+    alternatives: Vec<Vec<Position>>,
+}
+
+impl Model for DigitMap {
+    ghost use Rattle.std.specs.Prelude.{List, map};
+    ghost use Rattle.mg_model.specs.declared.positions.Position.{Position};
+
+    ghost Value = { List (List Position) };
+
+    ghost view = { λ m. map (λ alternative. alternative.items) m.alternatives.items };
+}
+
+impl DigitMap {
+    /// Reads a map. Of the faults `Empty`, `BadSymbol` and `BadRange` the first from the left is given; `TooLong` only
+    /// where the text has none of these. `NoMemory` may come in place of any answer.
+    #[tactic(auto, unfolding(crate::specs::Reading::map_of))]
+    pub fn parse(alloc: Global, text: &str) -> Result<DigitMap, MapFault>
+        ensures { Gives (λ m. m) result (map_of text.now) }
+    {
+        let alternatives = read(alloc, text.as_bytes())?;
+        if !is_short(alternatives.as_slice()) {
+            return Err(MapFault::TooLong);
+        }
+        Ok(DigitMap { alternatives })
+    }
+}
+
+/// The alternatives, with or without parentheses round the whole text.
+fn read(alloc: Global, text: &[u8]) -> Result<Vec<Vec<Position>>, MapFault>
+    ensures { Gives (λ v. map (λ a. a.items) v.items) result (unwrapped text.now) }
+{
+    match text {
+        [b'(', inside @ .., b')'] => reading::alternatives(alloc, inside, 1),
+        _ => reading::alternatives(alloc, text, 0),
+    }
+}
+
+/// Whether each alternative is within the limit.
+fn are_short(alternatives: &[Vec<Position>]) -> bool
+    ensures { result ≡ list_all (λ a. nat_le (length a.items) 16) alternatives.now }
+{
+    alternatives
+        .iter()
+        .all(|alternative| alternative.len() <= LIMIT)
+}
+
+/// Whether a map is within the limits.
+fn is_short(alternatives: &[Vec<Position>]) -> bool
+    ensures { result ≡ fits (map (λ a. a.items) alternatives.now) }
+{
+    alternatives.len() <= LIMIT && are_short(alternatives)
+}

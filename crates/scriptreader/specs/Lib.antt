@@ -1,0 +1,3 @@
+pub mod FaultNames
+pub mod Table
+pub mod Words
