@@ -1,0 +1,5 @@
+pub mod Document
+pub mod FaultNames
+pub mod Ranks
+pub mod Shape
+pub mod Written
