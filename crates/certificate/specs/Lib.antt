@@ -1,5 +1,7 @@
+pub mod Components
 pub mod Document
 pub mod FaultNames
+pub mod Naming
 pub mod Ranks
 pub mod Shape
 pub mod Written

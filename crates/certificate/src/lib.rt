@@ -3,8 +3,10 @@
 
 mod document;
 mod fault;
+mod key;
 mod ranked;
 mod reads;
+mod vocabulary;
 mod word;
 mod written;
 
