@@ -1,3 +1,5 @@
 pub mod Each
+pub mod Parts
 pub mod Passing
+pub mod RowLemmas
 pub mod Trees

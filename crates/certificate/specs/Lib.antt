@@ -4,4 +4,5 @@ pub mod FaultNames
 pub mod Naming
 pub mod Ranks
 pub mod Shape
+pub mod Shown
 pub mod Written

@@ -1,7 +1,7 @@
 -- What the words and names of a certificate stand for, given a script. A reader should compare the words with the
 -- table of the page on formats.
-use Rattle.std.specs.Prelude.{◌≡◌, ℕ, List, Bool, true, false, ◌==◌, ◌+◌, if◌then◌else◌, Option, Some, None, option_map, option_and_then, Result, Ok, Err, codes, take, drop, length, nat_lt}
-use Rattle.std.specs.List.{position_or_len}
+use Rattle.std.specs.Prelude.{◌≡◌, ℕ, List, Bool, true, false, ◌==◌, if◌then◌else◌, Option, Some, None, option_map, option_and_then, Result, Ok, Err, codes, length, nat_lt}
+use Rattle.std.specs.List.{position_or_len, before_first, after_first}
 use Rattle.std.specs.Str.{bytes_eq}
 use Rattle.mg_model.specs.declared.commands.Termination.{Termination}
 use Rattle.mg_model.specs.declared.commands.Termination.TheVariants.{Line, Ephemeral}
@@ -60,11 +60,15 @@ abbrev pub pair_of : Script → Text → Text → Option (Termination × Termina
 pair_of script source sink =
     option_and_then (λ t. option_and_then (λ u. different t u) (termination_named script sink)) (termination_named script source)
 
--- a cut's key: two different terminations with `>` between them (62 is that character)
+-- the two parts of a text round its first `>` (62 is that character)
+abbrev pub parts_of : Text → Option (Text × Text)
+parts_of text =
+    if nat_lt (position_or_len (λ c. c == 62) text) (length text)
+    then Some (before_first (λ c. c == 62) text, after_first (λ c. c == 62) text) else None
+
+-- a cut's key: two different terminations with `>` between them
 abbrev pub pair_named : Script → Text → Option (Termination × Termination)
-pair_named script key =
-    let place = position_or_len (λ c. c == 62) key in
-    if nat_lt place (length key) then pair_of script (take place key) (drop (place + 1) key) else None
+pair_named script key = option_and_then (λ (parts : Text × Text). pair_of script parts.0 parts.1) (parts_of key)
 
 -- nothing is named: an unknown name, unless memory ran out
 abbrev pub Lacks : {Y : Type 0} → CertFault → Option Y → Type 0

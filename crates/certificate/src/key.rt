@@ -31,8 +31,8 @@ pub(crate) enum Key {
 }
 
 /// Whether two terminations are one.
-pub(crate) fn is_same(first: Termination, second: Termination) -> bool
-    ensures { result ≡ is_same first second }
+pub(crate) fn is_same(first: &Termination, second: &Termination) -> bool
+    ensures { result ≡ is_same first.now second.now }
 {
     match first {
         Termination::Line(i) => match second {
@@ -113,7 +113,7 @@ fn add_cuts_of(
     ensures { OnOk result (keys.new.items ≡ keys.old.items ++ cut_keys all.now source.now) }
 {
     for sink in all {
-        if !is_same(*source, *sink) {
+        if !is_same(source, sink) {
             keys.push(cut_key(source, sink))?;
         }
     }

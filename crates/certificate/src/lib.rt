@@ -1,9 +1,11 @@
 //! Certificates: for each state of a script, the configurations that may stand there.
 #![tactic(auto)]
 
+mod component;
 mod document;
 mod fault;
 mod key;
+mod names;
 mod ranked;
 mod reads;
 mod vocabulary;

@@ -11,6 +11,7 @@ use mg_model::components::{Remote, Spot};
 use mg_names::context_values::ContextValue;
 use mg_names::modes::Mode;
 use mg_names::phases::Link;
+use mg_names::slots::Slot;
 use scriptreader::Script;
 use std::alloc::Global;
 
@@ -42,6 +43,7 @@ pub(crate) fn read_set<T: Ranked + Drop, V: Vocabulary<T>>(
 }
 
 /// The links.
+#[derive(Clone, Copy)]
 pub(crate) struct Links;
 
 impl Vocabulary<Link> for Links {
@@ -55,6 +57,7 @@ impl Vocabulary<Link> for Links {
 }
 
 /// Where a line may stand.
+#[derive(Clone, Copy)]
 pub(crate) struct LineSpots<'a>(pub(crate) &'a Script);
 
 impl Vocabulary<Spot> for LineSpots<'_> {
@@ -72,6 +75,7 @@ impl Vocabulary<Spot> for LineSpots<'_> {
 }
 
 /// Where an ephemeral may stand.
+#[derive(Clone, Copy)]
 pub(crate) struct EphemeralSpots<'a>(pub(crate) &'a Script);
 
 impl Vocabulary<Spot> for EphemeralSpots<'_> {
@@ -89,6 +93,7 @@ impl Vocabulary<Spot> for EphemeralSpots<'_> {
 }
 
 /// The modes.
+#[derive(Clone, Copy)]
 pub(crate) struct Modes;
 
 impl Vocabulary<Mode> for Modes {
@@ -102,6 +107,7 @@ impl Vocabulary<Mode> for Modes {
 }
 
 /// The events lists of a script.
+#[derive(Clone, Copy)]
 pub(crate) struct Lists<'a>(pub(crate) &'a Script);
 
 impl Vocabulary<EventsName> for Lists<'_> {
@@ -115,6 +121,7 @@ impl Vocabulary<EventsName> for Lists<'_> {
 }
 
 /// Whether a line may play a signal.
+#[derive(Clone, Copy)]
 pub(crate) struct Plays;
 
 impl Vocabulary<bool> for Plays {
@@ -132,6 +139,7 @@ impl Vocabulary<bool> for Plays {
 }
 
 /// What a context name stands for.
+#[derive(Clone, Copy)]
 pub(crate) struct ContextValues;
 
 impl Vocabulary<ContextValue> for ContextValues {
@@ -145,6 +153,7 @@ impl Vocabulary<ContextValue> for ContextValues {
 }
 
 /// What an ephemeral's Remote may be.
+#[derive(Clone, Copy)]
 pub(crate) struct Remotes<'a>(pub(crate) &'a Script);
 
 impl Vocabulary<Remote> for Remotes<'_> {
@@ -165,6 +174,7 @@ impl Vocabulary<Remote> for Remotes<'_> {
 }
 
 /// Whether media is cut.
+#[derive(Clone, Copy)]
 pub(crate) struct Cuts;
 
 impl Vocabulary<bool> for Cuts {
@@ -178,5 +188,47 @@ impl Vocabulary<bool> for Cuts {
             "yes" => Some(true),
             _ => None,
         }
+    }
+}
+
+/// The names of a script's lines.
+#[derive(Clone, Copy)]
+pub(crate) struct LineNames<'a>(pub(crate) &'a Script);
+
+impl Vocabulary<Slot> for LineNames<'_> {
+    ghost use Rattle.scriptreader.specs.Table.{place_of};
+
+    ghost named = { λ v name. place_of name v.0.now.lines };
+
+    fn named(&self, word: &str) -> Option<Slot> {
+        self.0.line(word)
+    }
+}
+
+/// The names of a script's contexts.
+#[derive(Clone, Copy)]
+pub(crate) struct ContextNames<'a>(pub(crate) &'a Script);
+
+impl Vocabulary<Slot> for ContextNames<'_> {
+    ghost use Rattle.scriptreader.specs.Table.{place_of};
+
+    ghost named = { λ v name. place_of name v.0.now.contexts };
+
+    fn named(&self, word: &str) -> Option<Slot> {
+        self.0.context(word)
+    }
+}
+
+/// The names of a script's ephemerals.
+#[derive(Clone, Copy)]
+pub(crate) struct EphemeralNames<'a>(pub(crate) &'a Script);
+
+impl Vocabulary<Slot> for EphemeralNames<'_> {
+    ghost use Rattle.scriptreader.specs.Table.{place_of};
+
+    ghost named = { λ v name. place_of name v.0.now.ephemerals };
+
+    fn named(&self, word: &str) -> Option<Slot> {
+        self.0.ephemeral(word)
     }
 }
