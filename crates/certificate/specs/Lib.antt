@@ -1,6 +1,7 @@
 pub mod Components
 pub mod Document
 pub mod FaultNames
+pub mod Listed
 pub mod Naming
 pub mod Ranks
 pub mod Shape

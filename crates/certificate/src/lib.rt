@@ -1,6 +1,7 @@
 //! Certificates: for each state of a script, the configurations that may stand there.
 #![tactic(auto)]
 
+mod choices;
 mod component;
 mod document;
 mod fault;
