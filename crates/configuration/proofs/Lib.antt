@@ -1,3 +1,6 @@
+pub mod PathLemmas
 pub mod PlaceLemmas
 pub mod SetLemmas
+pub mod SlotLemmas
 pub mod UnusedLemmas
+pub mod WellFormedLemmas

@@ -1,5 +1,5 @@
 -- What a setter's write to one field makes of the configuration that is shown.
-use Rattle.std.proofs.Common.{◌≡◌, ℕ, ◌<◌, Bool, true, false, List, [], length, slice_index_or, slice_set, refl, ap, subst, sym, ◌∙◌, arith, length-set}
+use Rattle.std.proofs.Common.{◌≡◌, ℕ, ◌<◌, Bool, true, false, List, [], length, slice_index_or, slice_set, nat_lt, refl, ap, subst, sym, ◌∙◌, arith, length-set}
 use Rattle.std.specs.Prelude.{if◌then◌else◌, ◌&&◌}
 use Rattle.std.proofs.lemmas.Grind.{common_steps}
 use Rattle.mg_model.specs.declared.commands.Termination.{Termination}
@@ -50,11 +50,31 @@ cut_at-set cuts t u x y value n ht hu m = by_test (is_same x t) refl
         lookup-set cuts [] written t x n ht ∙ ap (λ (b : Bool). if b then written else slice_index_or cuts (index_of x) []) e in
         ap (λ (r : List Bool). slice_index_or r (index_of y) false) at_row
 
+-- the cut between two terminations, where both have a place
+abbrev pub cut_at : List (List Bool) → Termination → Termination → Bool
+cut_at cuts x y =
+    nat_lt (index_of x) 8 && nat_lt (index_of y) 8 && slice_index_or (slice_index_or cuts (index_of x) []) (index_of y) false
+
+pub cut_at_pair : (x y t u : Termination) (a b found kept value : Bool) → is_same x t ≡ a → is_same y u ≡ b → index_of t < 8 →
+    index_of u < 8 → found ≡ (if a && b then value else kept) →
+    (nat_lt (index_of x) 8 && nat_lt (index_of y) 8 && found)
+    ≡ (if a && b then value else nat_lt (index_of x) 8 && nat_lt (index_of y) 8 && kept)
+cut_at_pair x y t u true true found kept value ea eb ht hu f =
+    let place : index_of x ≡ index_of t = index_of-same t x ht ea in
+    let other_place : index_of y ≡ index_of u = index_of-same u y hu eb in
+    let within : nat_lt (index_of x) 8 ≡ true = grind (arith, common_steps) in
+    let other_within : nat_lt (index_of y) 8 ≡ true = grind (arith, common_steps) in
+    rw (within, other_within) f
+cut_at_pair x y t u true false found kept value ea eb ht hu f = rw f refl
+cut_at_pair x y t u false true found kept value ea eb ht hu f = rw f refl
+cut_at_pair x y t u false false found kept value ea eb ht hu f = rw f refl
+
 pub cuts-set : (cuts : List (List Bool)) (t u : Termination) (i j : ℕ) (value : Bool) → i ≡ index_of t → j ≡ index_of u →
     i < 8 → j < 8 → length cuts ≡ 8 → length (slice_index_or cuts i []) ≡ 8 →
-    (λ (x y : Termination). slice_index_or (slice_index_or (slice_set cuts i (slice_set (slice_index_or cuts i []) j value)) (index_of x) []) (index_of y) false)
-    ≡ with_pair (λ (x y : Termination). slice_index_or (slice_index_or cuts (index_of x) []) (index_of y) false) t u value
+    (λ (x y : Termination). cut_at (slice_set cuts i (slice_set (slice_index_or cuts i []) j value)) x y)
+    ≡ with_pair (λ (x y : Termination). cut_at cuts x y) t u value
 cuts-set cuts t u i j value ei ej hi hj n m =
     same_functions (λ x. same_functions (λ y. rw (ei, ej)
+    (cut_at_pair x y t u (is_same x t) (is_same y u) _ (slice_index_or (slice_index_or cuts (index_of x) []) (index_of y) false) value refl refl (subst (λ (k : ℕ). k < 8) ei hi) (subst (λ (k : ℕ). k < 8) ej hj)
     (cut_at-set cuts t u x y value n (subst (λ (k : ℕ). k < 8) ei hi) (subst (λ (k : ℕ). k < 8) ej hj)
-    (subst (λ (k : ℕ). length (slice_index_or cuts k []) ≡ 8) ei m))))
+    (subst (λ (k : ℕ). length (slice_index_or cuts k []) ≡ 8) ei m)))))

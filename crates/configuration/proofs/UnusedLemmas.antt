@@ -1,5 +1,5 @@
 -- The tables of a configuration that no call has used.
-use Rattle.std.proofs.Common.{◌≡◌, ℕ, ◌≤◌, suc, zero, nat_lt, Bool, false, List, [], ◌∷◌, slice_index_or, refl, arith}
+use Rattle.std.proofs.Common.{◌≡◌, ℕ, ◌≤◌, suc, zero, nat_lt, ◌&&◌, Bool, true, false, List, [], ◌∷◌, slice_index_or, refl, arith}
 use Rattle.std.specs.Prelude.{if◌then◌else◌}
 use Rattle.std.proofs.lemmas.Grind.{common_steps}
 use Rattle.mg_model.specs.declared.commands.Termination.{Termination}
@@ -76,8 +76,14 @@ uncut (suc (suc (suc (suc (suc (suc zero)))))) n = same_in_eight false n
 uncut (suc (suc (suc (suc (suc (suc (suc zero))))))) n = same_in_eight false n
 uncut (suc (suc (suc (suc (suc (suc (suc (suc m)))))))) n = refl
 
-pub cuts_unused : (t u : Termination) → slice_index_or (slice_index_or uncut_rows (index_of t) []) (index_of u) false ≡ false
-cuts_unused t u = uncut (index_of t) (index_of u)
+pub cuts_unused : (t u : Termination) →
+    (nat_lt (index_of t) 8 && nat_lt (index_of u) 8 && slice_index_or (slice_index_or uncut_rows (index_of t) []) (index_of u) false) ≡ false
+cuts_unused t u = by_test (nat_lt (index_of t) 8 && nat_lt (index_of u) 8) (uncut (index_of t) (index_of u))
+  where
+    by_test : (b : Bool) → slice_index_or (slice_index_or uncut_rows (index_of t) []) (index_of u) false ≡ false →
+        (b && slice_index_or (slice_index_or uncut_rows (index_of t) []) (index_of u) false) ≡ false
+    by_test true h = h
+    by_test false h = refl
 
 -- the same for tables whose four items are given by equations
 pub events_unused : (x d : EventsName) (lines i : ℕ) (e₀ e₁ e₂ e₃ : EventsName) → lines ≤ 4 →

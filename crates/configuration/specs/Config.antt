@@ -1,6 +1,6 @@
 -- What a `Config` shows: one function from its fields to the definition's configuration. A reader should check that
 -- each component is read from its own field, at the place of its slot, and that a slot that no script has is absent.
-use Rattle.std.specs.Prelude.{false, [], slice_index_or}
+use Rattle.std.specs.Prelude.{false, [], nat_lt, ◌&&◌, slice_index_or}
 use Rattle.mg_names.specs.declared.modes.Mode.TheVariants.{Inactive}
 use Rattle.mg_names.specs.declared.context_values.ContextValue.TheVariants.{Free}
 use Rattle.mg_model.specs.declared.commands.EventsName.TheVariants.{Empty}
@@ -21,5 +21,5 @@ configuration_of c = record {
   plays = λ i. slice_index_or c.plays i false;
   context = λ j. slice_index_or c.contexts j Free;
   remote = λ k. slice_index_or c.remotes k Unset;
-  cut = λ t u. slice_index_or (slice_index_or c.cuts (index_of t) []) (index_of u) false;
+  cut = λ t u. nat_lt (index_of t) 8 && nat_lt (index_of u) 8 && slice_index_or (slice_index_or c.cuts (index_of t) []) (index_of u) false;
 }

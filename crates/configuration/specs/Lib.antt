@@ -1,2 +1,4 @@
 pub mod Places
 pub mod Config
+pub mod Search
+pub mod Tests

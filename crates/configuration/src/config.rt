@@ -1,3 +1,5 @@
+pub mod paths;
+
 use crate::places::{place_of, unused_events, unused_spot};
 use mg_model::commands::{EventsName, Termination};
 use mg_model::components::{Remote, Spot};
@@ -22,9 +24,11 @@ pub struct Config {
 
 #[tactic(auto, unfolding(crate::specs::Config::configuration_of))]
 impl Config {
-    ghost use Rattle.std.specs.Prelude.{◌≡◌};
+    ghost use Rattle.std.specs.Prelude.{◌≡◌, ℕ, ◌≤◌};
     ghost use Rattle.mg_model.specs.Configuration.{with_at, with_of};
     ghost use Rattle.mg_model.specs.Effects.{with_pair};
+    ghost use Rattle.mg_model.specs.declared.commands.Termination.TheVariants.{Ephemeral};
+    ghost use Rattle.configuration.specs.Places.{HasFour};
     ghost use Rattle.configuration.specs.Config.{configuration_of};
 
     /// The state, by its place in the script.
@@ -43,14 +47,16 @@ impl Config {
 
     /// Where a termination stands.
     pub fn spot(&self, termination: Termination) -> Spot
-        ensures { result ≡ (configuration_of self.now).spot termination }
+        ensures value { result ≡ (configuration_of self.now).spot termination }
+        ensures slots { HasFour (configuration_of self.now) }
     {
         self.spots[place_of(termination)]
     }
 
     /// The mode of a termination.
     pub fn mode(&self, termination: Termination) -> Mode
-        ensures { result ≡ (configuration_of self.now).mode termination }
+        ensures value { result ≡ (configuration_of self.now).mode termination }
+        ensures slots { (k : ℕ) → 4 ≤ k → (configuration_of self.now).mode (Ephemeral k) ≡ Mode.Inactive }
     {
         self.modes[place_of(termination)]
     }
@@ -71,14 +77,16 @@ impl Config {
 
     /// What a context name stands for.
     pub fn context(&self, context: Slot) -> ContextValue
-        ensures { result ≡ (configuration_of self.now).context context }
+        ensures value { result ≡ (configuration_of self.now).context context }
+        ensures slots { (j : ℕ) → 4 ≤ j → (configuration_of self.now).context j ≡ ContextValue.Free }
     {
         self.contexts[context.index()]
     }
 
     /// The Remote of an ephemeral.
     pub fn remote(&self, ephemeral: Slot) -> Remote
-        ensures { result ≡ (configuration_of self.now).remote ephemeral }
+        ensures value { result ≡ (configuration_of self.now).remote ephemeral }
+        ensures slots { (k : ℕ) → 4 ≤ k → (configuration_of self.now).remote k ≡ Remote.Unset }
     {
         self.remotes[ephemeral.index()]
     }
@@ -111,7 +119,8 @@ impl Config {
           spot = with_of (configuration_of self.old).spot termination spot;
         } }
     {
-        self.spots[place_of(termination)] = spot;
+        let place = place_of(termination);
+        self.spots[place] = spot;
     }
 
     /// Sets the mode of a termination.
@@ -120,7 +129,8 @@ impl Config {
           mode = with_of (configuration_of self.old).mode termination mode;
         } }
     {
-        self.modes[place_of(termination)] = mode;
+        let place = place_of(termination);
+        self.modes[place] = mode;
     }
 
     /// Sets the events list of a line.
@@ -129,7 +139,8 @@ impl Config {
           events = with_at (configuration_of self.old).events line events;
         } }
     {
-        self.events[line.index()] = events;
+        let place = line.index();
+        self.events[place] = events;
     }
 
     /// Sets whether a line may play a signal.
@@ -138,7 +149,8 @@ impl Config {
           plays = with_at (configuration_of self.old).plays line plays;
         } }
     {
-        self.plays[line.index()] = plays;
+        let place = line.index();
+        self.plays[place] = plays;
     }
 
     /// Sets what a context name stands for.
@@ -147,7 +159,8 @@ impl Config {
           context = with_at (configuration_of self.old).context context value;
         } }
     {
-        self.contexts[context.index()] = value;
+        let place = context.index();
+        self.contexts[place] = value;
     }
 
     /// Sets the Remote of an ephemeral.
@@ -156,7 +169,8 @@ impl Config {
           remote = with_at (configuration_of self.old).remote ephemeral remote;
         } }
     {
-        self.remotes[ephemeral.index()] = remote;
+        let place = ephemeral.index();
+        self.remotes[place] = remote;
     }
 
     /// Sets whether media from one termination to another is cut.

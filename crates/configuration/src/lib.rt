@@ -4,3 +4,6 @@
 
 pub mod config;
 mod places;
+pub mod spots;
+pub mod step;
+pub mod well_formed;

@@ -1,1 +1,2 @@
 pub mod ConfigurationLemmas
+pub mod BasicRows

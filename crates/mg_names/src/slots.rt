@@ -1,4 +1,4 @@
-ghost use Rattle.std.specs.Prelude.{◌≡◌, ℕ, ◌<◌, ◌≤◌, IsNone, IfSome, ◌↔◌};
+ghost use Rattle.std.specs.Prelude.{◌≡◌, ℕ, ◌<◌, ◌≤◌, IsNone, IfSome, ◌↔◌, ◌∷◌, []};
 
 use std::marker::Model;
 
@@ -35,6 +35,18 @@ impl Slot {
             3 => Some(Slot { place: 3 }),
             _ => None,
         }
+    }
+
+    /// All slots, in their order.
+    pub fn all() -> [Slot; 4]
+        ensures { result ≡ 0 ∷ 1 ∷ 2 ∷ 3 ∷ [] }
+    {
+        [
+            Slot { place: 0 },
+            Slot { place: 1 },
+            Slot { place: 2 },
+            Slot { place: 3 },
+        ]
     }
 
     /// The place, below 4.

@@ -9,4 +9,4 @@ pub returns : goal.returns
 unfolding configuration_of
 returns c =
     ap (λ (f : Termination → Spot). record (configuration_of c.args.self.now) { spot = f })
-    (spots-set c.args.self.now.spots c.args.termination c.place_of.result c.args.spot c.place_of.ensures.value c.place_of.ensures.small (search rules))
+    (spots-set c.args.self.now.spots c.args.termination c.place_of-place.result c.args.spot c.place_of-place.ensures.value c.place_of-place.ensures.small (search rules))

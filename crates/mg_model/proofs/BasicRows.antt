@@ -1,0 +1,148 @@
+-- The definitions computed on one script: line a goes off hook and is joined with line b in a new context. What they
+-- give was reasoned out by hand from the rules; the proofs by computation show that they give it.
+use Rattle.std.specs.Prelude.{◌≡◌, ℕ, Bool, true, false, List, [], ◌∷◌, Option, Some, None, map, refl, codes, slice_get, option_map}
+use Rattle.mg_names.specs.declared.kinds.Kind.TheVariants.{On, Of}
+use Rattle.mg_names.specs.declared.modes.Mode.{Mode}
+use Rattle.mg_names.specs.declared.modes.Mode.TheVariants.{Inactive, SendReceive}
+use Rattle.mg_names.specs.declared.phases.Link.{Link}
+use Rattle.mg_names.specs.declared.phases.Link.TheVariants.{Sent, Answered, Failed, Resting}
+use Rattle.mg_names.specs.declared.strictness.Strict.TheVariants.{State as StateOfHook}
+use Rattle.mg_names.specs.declared.context_values.ContextValue.{ContextValue}
+use Rattle.mg_names.specs.declared.context_values.ContextValue.TheVariants.{Free, Live}
+use Rattle.mg_model.specs.declared.commands.Command.TheVariants.{AddLine, ModifyLine, SubtractAll}
+use Rattle.mg_model.specs.declared.commands.LineOptions.{LineOptions}
+use Rattle.mg_model.specs.declared.commands.EventsName.{EventsName}
+use Rattle.mg_model.specs.declared.commands.EventsName.TheVariants.{Empty, Armed, Own}
+use Rattle.mg_model.specs.declared.commands.SignalsName.{SignalsName}
+use Rattle.mg_model.specs.declared.commands.SignalsName.TheVariants.{Silent}
+use Rattle.mg_model.specs.declared.commands.Place.TheVariants.{NullContext}
+use Rattle.mg_model.specs.declared.commands.Termination.TheVariants.{Line}
+use Rattle.mg_model.specs.declared.components.Spot.{Spot}
+use Rattle.mg_model.specs.declared.components.Spot.TheVariants.{Null, In}
+use Rattle.mg_model.specs.declared.steps.StepName.{StepName}
+use Rattle.mg_model.specs.declared.steps.StepName.TheVariants.{Refuse, Execute, Reply, Observe}
+use Rattle.mg_model.specs.declared.transitions.EventItem.TheVariants.{OnHook}
+use Rattle.mg_model.specs.Script.{Script, State}
+use Rattle.mg_model.specs.Configuration.{Configuration}
+use Rattle.mg_model.specs.Paths.{hops}
+use Rattle.mg_model.specs.Steps.{Step, steps_of, opening, reset, entered, names_unbound}
+
+options_of : Option Mode → Option EventsName → Option SignalsName → LineOptions
+options_of m e s = record { mode = m; events = e; signals = s }
+
+abbrev pub idle : State
+idle = record {
+  name = codes "idle";
+  commands = [];
+  talk = [];
+  is_end = false;
+  ok = None;
+  fault = None;
+  timer = None;
+  on = record { line = 0; kind = Of; target = 1 } ∷ [];
+}
+
+abbrev pub talk : State
+talk = record {
+  name = codes "talk";
+  commands =
+      AddLine true 0 0 record { mode = Some SendReceive; events = Some (Own 0); signals = None }
+      ∷ AddLine false 0 1 record { mode = Some SendReceive; events = None; signals = None } ∷ [];
+  talk = record { first = 0; second = 1 } ∷ [];
+  is_end = false;
+  ok = None;
+  fault = Some 2;
+  timer = None;
+  on = record { line = 0; kind = On; target = 2 } ∷ [];
+}
+
+abbrev pub part : State
+part = record {
+  name = codes "part";
+  commands = SubtractAll 0 ∷ [];
+  talk = record { first = 0; second = 1 } ∷ [];
+  is_end = false;
+  ok = Some 4;
+  fault = Some 2;
+  timer = None;
+  on = [];
+}
+
+abbrev pub done : State
+done = record {
+  name = codes "done";
+  commands = [];
+  talk = [];
+  is_end = true;
+  ok = None;
+  fault = None;
+  timer = None;
+  on = [];
+}
+
+abbrev pub rearm : State
+rearm = record {
+  name = codes "rearm";
+  commands =
+      ModifyLine NullContext 0 record { mode = None; events = Some Armed; signals = Some Silent }
+      ∷ ModifyLine NullContext 1 record { mode = None; events = Some Armed; signals = Some Silent } ∷ [];
+  talk = [];
+  is_end = false;
+  ok = Some 3;
+  fault = Some 4;
+  timer = None;
+  on = [];
+}
+
+abbrev pub basic : Script
+basic = record {
+  lines = codes "a" ∷ codes "b" ∷ [];
+  contexts = codes "c" ∷ [];
+  ephemerals = [];
+  lists = record { name = codes "hang"; items = OnHook StateOfHook ∷ [] } ∷ [];
+  signals = [];
+  maps = [];
+  states = idle ∷ talk ∷ part ∷ done ∷ rearm ∷ [];
+  start = 0;
+  restart = 4;
+}
+
+abbrev pub names : List Step → List StepName
+names steps = map (λ (step : Step). step.0) steps
+
+-- what a configuration says of both lines and of the context
+abbrev pub shown : Configuration → (ℕ × Link) × (Spot × Mode × EventsName) × (Spot × Mode × EventsName) × ContextValue
+shown c =
+    ((c.state, c.link), (c.spot (Line 0), c.mode (Line 0), c.events 0), (c.spot (Line 1), c.mode (Line 1), c.events 1), c.context 0)
+
+abbrev pub results : List Step → List ((ℕ × Link) × (Spot × Mode × EventsName) × (Spot × Mode × EventsName) × ContextValue)
+results steps = map (λ (step : Step). shown step.1) steps
+
+-- the start state has one step, the off-hook note of line a
+opening_steps : names (steps_of basic (opening basic)) ≡ Observe 0 Of ∷ []
+opening_steps = refl
+
+abbrev pub talking : Configuration
+talking = entered basic (opening basic) 1
+
+-- the request of `talk` may be refused at either place, or executed
+talk_steps : names (steps_of basic talking) ≡ Refuse 0 ∷ Refuse 1 ∷ Execute ∷ []
+talk_steps = refl
+
+talk_results :
+    results (steps_of basic talking)
+    ≡ ((1, Failed), (Null, Inactive, Armed), (Null, Inactive, Armed), Free)
+    ∷ ((1, Failed), (In 0, SendReceive, Own 0), (Null, Inactive, Armed), Live)
+    ∷ ((1, Answered), (In 0, SendReceive, Own 0), (In 0, SendReceive, Armed), Live) ∷ []
+talk_results = refl
+
+-- the restart state modifies both lines
+reset_steps : names (steps_of basic (reset basic)) ≡ Refuse 0 ∷ Refuse 1 ∷ Execute ∷ []
+reset_steps = refl
+
+reset_results :
+    results (steps_of basic (reset basic))
+    ≡ ((4, Failed), (Null, Inactive, Empty), (Null, Inactive, Empty), Free)
+    ∷ ((4, Failed), (Null, Inactive, Armed), (Null, Inactive, Empty), Free)
+    ∷ ((4, Answered), (Null, Inactive, Armed), (Null, Inactive, Armed), Free) ∷ []
+reset_results = refl
