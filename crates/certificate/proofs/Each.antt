@@ -5,6 +5,11 @@ use Rattle.std.specs.List.{slice_index_or}
 use Rattle.std.proofs.lemmas.List.{drop_all}
 use Rattle.certificate.specs.Shape.{each, ◌>>=◌}
 
+-- what is left begins with the element at the place
+pub at : {X : Type 0} (xs : List X) (i : ℕ) (x : X) → i < length xs → x ≡ slice_index_or xs i x → drop i xs ≡ x ∷ drop (i + 1) xs
+at xs i x lt is =
+    drop-cons xs i x lt ∙ ap (λ y. y ∷ drop (suc i) xs) (sym is) ∙ ap (λ k. x ∷ drop k xs) (sym (add-one i))
+
 module _ {X Y : Type 0} (f : X → Option Y) where
   -- `done` was read of the elements before the place i
   abbrev pub IsReadTo : List X → ℕ → List Y → Type 0
@@ -16,10 +21,6 @@ module _ {X Y : Type 0} (f : X → Option Y) where
 
   pub read_start : (xs : List X) → IsReadTo xs 0 []
   read_start xs = unchanged (each f xs)
-
-  at : (xs : List X) (i : ℕ) (x : X) → i < length xs → x ≡ slice_index_or xs i x → drop i xs ≡ x ∷ drop (i + 1) xs
-  at xs i x lt is =
-      drop-cons xs i x lt ∙ ap (λ y. y ∷ drop (suc i) xs) (sym is) ∙ ap (λ k. x ∷ drop k xs) (sym (add-one i))
 
   moved : (o : Option (List Y)) (done : List Y) (y : Y)
       → ((o >>= λ ys. Some (y ∷ ys)) >>= λ ys. Some (done ++ ys)) ≡ (o >>= λ ys. Some ((done ++ y ∷ []) ++ ys))

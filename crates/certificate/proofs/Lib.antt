@@ -1,5 +1,6 @@
 pub mod Each
 pub mod Parts
 pub mod Passing
+pub mod Products
 pub mod RowLemmas
 pub mod Trees

@@ -1,3 +1,4 @@
+pub mod Certificate
 pub mod Components
 pub mod Document
 pub mod FaultNames

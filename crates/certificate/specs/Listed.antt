@@ -4,7 +4,7 @@ use Rattle.std.specs.Prelude.{◌≡◌, ℕ, ◌+◌, ◌*◌, ◌<◌, ◌≤�
 use Rattle.std.specs.List.{All}
 use Rattle.mg_names.specs.declared.phases.Link.TheVariants.{Resting}
 use Rattle.mg_model.specs.declared.commands.EventsName.TheVariants.{Empty}
-use Rattle.mg_model.specs.Configuration.{Configuration}
+use Rattle.mg_model.specs.Configuration.{Configuration, IsWellFormed}
 use Rattle.mg_model.specs.Entries.{Choice, product, chosen, link_choice, spot_choice, mode_choice, events_choice, plays_choice, context_choice, remote_choice, cut_choice}
 use Rattle.mg_model.specs.Steps.{unused}
 use Rattle.certificate.specs.Components.{Component, links, spots, modes, events, plays, contexts, remotes, cuts}
@@ -43,3 +43,12 @@ Allows c (plays i values) = Contains values (c.plays i)
 Allows c (contexts j values) = Contains values (c.context j)
 Allows c (remotes k values) = Contains values (c.remote k)
 Allows c (cuts t u values) = Contains values (c.cut t u)
+
+-- the configurations that an entry denotes
+abbrev pub Includes : Listed → Configuration → Type 0
+Includes entry c = (c.state ≡ entry.state) × IsWellFormed c × All (Allows c) entry.components
+
+-- the points of an entry: those of its numbers whose configuration is well formed
+abbrev pub IsPointOf : Listed → ℕ → Configuration → Type 0
+IsPointOf entry number c =
+    (number < size_of entry.components) × (c ≡ numbered entry number) × IsWellFormed c

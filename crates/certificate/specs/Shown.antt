@@ -1,4 +1,5 @@
 -- What the code's components show.
+use Rattle.std.specs.Prelude.{List, map}
 use Rattle.certificate.specs.declared.component.Component.{Component}
 use Rattle.certificate.specs.declared.component.Component.TheVariants as code
 use Rattle.certificate.specs.Components as spec
@@ -12,3 +13,6 @@ shown (code.Plays i values) = spec.plays i values.items
 shown (code.Contexts j values) = spec.contexts j values.items
 shown (code.Remotes k values) = spec.remotes k values.items
 shown (code.Cuts t u values) = spec.cuts t u values.items
+
+abbrev pub shown_all : List Component → List spec.Component
+shown_all = map shown

@@ -39,3 +39,53 @@ pub(crate) fn allows(component: &Component, config: &Config) -> bool
         Component::Cuts(t, u, values) => values.contains(&config.cut(*t, *u)),
     }
 }
+
+/// Makes the choice at a place; none where there is no such place.
+#[tactic(auto, using(crate::proofs::Products::choice_at, crate::proofs::Products::no_choice))]
+pub(crate) fn choose(component: &Component, place: usize, config: &mut Config)
+    ensures { configuration_of config.new
+        ≡ (slice_index_or (choices_of (shown component.now)) place same_choice) (configuration_of config.old) }
+{
+    match component {
+        Component::Links(values) => {
+            if let Some(value) = values.get(place) {
+                config.set_link(*value);
+            }
+        }
+        Component::Spots(t, values) => {
+            if let Some(value) = values.get(place) {
+                config.set_spot(*t, *value);
+            }
+        }
+        Component::Modes(t, values) => {
+            if let Some(value) = values.get(place) {
+                config.set_mode(*t, *value);
+            }
+        }
+        Component::Events(line, values) => {
+            if let Some(value) = values.get(place) {
+                config.set_events(*line, *value);
+            }
+        }
+        Component::Plays(line, values) => {
+            if let Some(value) = values.get(place) {
+                config.set_plays(*line, *value);
+            }
+        }
+        Component::Contexts(name, values) => {
+            if let Some(value) = values.get(place) {
+                config.set_context(*name, *value);
+            }
+        }
+        Component::Remotes(name, values) => {
+            if let Some(value) = values.get(place) {
+                config.set_remote(*name, *value);
+            }
+        }
+        Component::Cuts(t, u, values) => {
+            if let Some(value) = values.get(place) {
+                config.set_cut(*t, *u, *value);
+            }
+        }
+    }
+}

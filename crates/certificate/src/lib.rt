@@ -4,6 +4,8 @@
 mod choices;
 mod component;
 mod document;
+mod draft;
+mod entry;
 mod fault;
 mod key;
 mod names;
@@ -13,4 +15,5 @@ mod vocabulary;
 mod word;
 mod written;
 
+pub use entry::Entry;
 pub use fault::CertFault;
