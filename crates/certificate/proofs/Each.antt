@@ -1,6 +1,5 @@
 -- A list that is read element by element: what was read so far, followed by the rest, is the whole.
-use Rattle.std.proofs.Common.{◌≡◌, ◌∙◌, ◌+◌, ◌<◌, ◌≤◌, ◌++◌, ℕ, suc, List, [], ◌∷◌, length, drop, Option, Some, None, refl, sym, ap, subst, arith, append_assoc, append-nil, drop-cons, add-one}
-use Rattle.std.specs.Prelude.{option_and_then}
+use Rattle.std.proofs.Common.{◌≡◌, ◌∙◌, ◌+◌, ◌<◌, ◌≤◌, ◌++◌, ℕ, suc, List, [], ◌∷◌, length, drop, Option, Some, None, refl, sym, ap, append_assoc, append-nil, drop-cons, add-one}
 use Rattle.std.specs.List.{slice_index_or}
 use Rattle.std.proofs.lemmas.List.{drop_all}
 use Rattle.certificate.specs.Shape.{each, ◌>>=◌}

@@ -1,4 +1,5 @@
 pub mod Each
+pub mod Limits
 pub mod Parts
 pub mod Passing
 pub mod Products

@@ -1,5 +1,5 @@
 -- A text that is divided by its first `>`.
-use Rattle.std.proofs.Common.{◌≡◌, ◌<◌, ◌≤◌, ℕ, List, length, Option, Some, None, option_map, MatchOption, Bor, refl, sym, ap₂, arith, nat_lt, lt-ltb, le-ltb}
+use Rattle.std.proofs.Common.{◌≡◌, ◌<◌, ◌≤◌, ℕ, List, length, Option, Some, None, option_map, MatchOption, Bor, refl, arith, lt-ltb, le-ltb}
 use Rattle.std.specs.Prelude.{◌==◌}
 use Rattle.std.specs.List.{position_or_len, before_first, after_first}
 use Rattle.certificate.specs.Naming.{parts_of}
@@ -9,7 +9,7 @@ sign c = c == 62
 
 pub parts_found : (text : List ℕ) (r : Option (Bor (List ℕ) × Bor (List ℕ)))
     → MatchOption r (position_or_len sign text ≡ length text)
-      (λ x. (x.0.now ≡ before_first sign text) × (x.1.now ≡ after_first sign text) × (position_or_len sign text < length text))
+    (λ x. (x.0.now ≡ before_first sign text) × (x.1.now ≡ after_first sign text) × (position_or_len sign text < length text))
     → option_map (λ p. (p.0.now, p.1.now)) r ≡ parts_of text
 parts_found text None past =
     let full : length text ≤ position_or_len sign text = omega arith in

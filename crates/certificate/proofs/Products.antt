@@ -1,10 +1,9 @@
 -- Choices by their places, and products.
-use Rattle.std.proofs.Common.{◌≡◌, ◌∙◌, ◌+◌, ◌-◌, ◌*◌, ◌/◌, ◌%◌, ◌^◌, ◌<◌, ◌≤◌, ℕ, zero, suc, List, [], ◌∷◌, length, map, drop, refl, sym, ap, arith, min}
+use Rattle.std.proofs.Common.{◌≡◌, ◌∙◌, ◌-◌, ◌*◌, ◌/◌, ◌^◌, ◌<◌, ◌≤◌, ℕ, zero, suc, List, [], ◌∷◌, length, map, refl, sym, ap, arith, min}
 use Rattle.std.proofs.Common.{inl, inr, mul-zero, zero-mul}
 use Rattle.std.proofs.lemmas.Bool.{cases_lt}
 use Rattle.std.proofs.Math.Nat.{mul-div_cancel_left, mul-le-mul_left, mul_assoc}
 use Rattle.std.specs.List.{slice_index_or}
-use Rattle.mg_model.specs.Entries.{product}
 
 module _ {A B : Type 0} (f : A → B) where
   pub choice_at : (values : List A) (i : ℕ) (v : A) (d : B) → i < length values → v ≡ slice_index_or values i v

@@ -1,10 +1,10 @@
 -- A certificate: what a document's entries are, given a script, and its faults in the order of their numbers. A reader
 -- should check the limits, and that each fault is looked for in the whole document before the next.
-use Rattle.std.specs.Prelude.{◌≡◌, ◌⊎◌, ℕ, zero, suc, ◌==◌, ◌||◌, ◌&&◌, Bool, true, false, List, [], ◌∷◌, length, map, count_by, nat_lt, if◌then◌else◌, Option, Some, None, is_some, Result, Ok, Err}
-use Rattle.std.specs.List.{list_all, list_any}
+use Rattle.std.specs.Prelude.{◌≡◌, ℕ, zero, suc, ◌==◌, ◌+◌, ◌<◌, ◌||◌, ◌&&◌, Bool, false, List, [], ◌∷◌, length, count_by, nat_lt, if◌then◌else◌, Option, Some, None, is_some, Result, Ok, Err}
+use Rattle.std.specs.List.{list_all, list_any, slice_index_or}
 use Rattle.std.specs.Str.{IsUtf8}
 use Rattle.serde_json.specs.Data.{Data}
-use Rattle.serde_json.specs.Read.{read_text}
+use Rattle.serde_json.specs.Read.{read as read_text}
 use Rattle.mg_model.specs.Script.{Script}
 use Rattle.scriptreader.specs.Table.{place_of, state_named}
 use Rattle.certificate.specs.Shape.{◌>>=◌, each, only_if}
@@ -72,6 +72,16 @@ resolved_or script (Some entries) = checked_or script (each (listed_meant script
 abbrev pub document_read : Script → Data → Result (List Listed) CertFault
 document_read script document = resolved_or script (document_meant document)
 
+-- a fault of the code is that of the definition; memory may run out
+abbrev pub Faults : CertFault → Result (List Listed) CertFault → Type 0
+Faults NoMemory answer = Unit {0}
+Faults fault answer = answer ≡ Err fault
+
+-- what a function returned, seen by view, is the answer of the definition
+abbrev pub Gives : {X : Type 0} → (X → List Listed) → Result X CertFault → Result (List Listed) CertFault → Type 0
+Gives view (Ok x) answer = answer ≡ Ok (view x)
+Gives view (Err fault) answer = Faults fault answer
+
 -- ---- the bytes
 
 -- the bytes are a JSON text of this document
@@ -83,3 +93,26 @@ abbrev pub ReadsCertificate : Script → List ℕ → Result (List Listed) CertF
 ReadsCertificate script bytes (Err NoMemory) = Unit {0}
 ReadsCertificate script bytes (Err NotJson) = (document : Data) → IsText bytes document → ⊥
 ReadsCertificate script bytes answer = (document : Data) × IsText bytes document × (document_read script document ≡ answer)
+
+-- what the parsing of the bytes gives, seen by view
+abbrev pub Parses : {X : Type 0} → (X → Data) → Result X CertFault → List ℕ → Type 0
+Parses view (Ok x) bytes = IsText bytes (view x)
+Parses view (Err NoMemory) bytes = Unit {0}
+Parses view (Err NotJson) bytes = (document : Data) → IsText bytes document → ⊥
+Parses view (Err fault) bytes = ⊥
+
+-- ---- where the entries of a state stand
+
+-- the places of a state's entries, in their order
+abbrev pub places_from : ℕ → ℕ → List Listed → List ℕ
+places_from place state [] = []
+places_from place state (entry ∷ entries) =
+    if entry.state == state then place ∷ places_from (place + 1) state entries else places_from (place + 1) state entries
+
+abbrev pub places_of : ℕ → List Listed → List ℕ
+places_of state entries = places_from 0 state entries
+
+-- for each number of a state of 8 bits, the places of its entries
+abbrev pub IsIndex : List (List ℕ) → List Listed → Type 0
+IsIndex places entries =
+    (length places ≡ 256) × ((state : ℕ) (none : List ℕ) → state < 256 → slice_index_or places state none ≡ places_of state entries)

@@ -1,7 +1,6 @@
 -- The keys of a certificate and the kinds of their values. A reader should compare this with the table of the page on
 -- formats.
-use Rattle.std.specs.Prelude.{ℕ, List, [], ◌∷◌, Bool, ◌==◌, Option, Some, codes, option_and_then, unwrap_or}
-use Rattle.std.specs.Option.{option_map_or}
+use Rattle.std.specs.Prelude.{ℕ, List, [], ◌∷◌, ◌==◌, Option, Some, codes}
 use Rattle.serde_json.specs.Data.{Data}
 use Rattle.serde_json.specs.Find.{as_str, as_number, as_u64}
 use Rattle.certificate.specs.Shape.{◌>>=◌, only_if, list_of, needed, optional, tabled, has_only}

@@ -1,6 +1,6 @@
 -- An entry as the list of its components. A reader should check that each component's values are the choices that the
 -- numbering makes, and the values that the entry allows.
-use Rattle.std.specs.Prelude.{◌≡◌, ℕ, ◌+◌, ◌*◌, ◌<◌, ◌≤◌, List, [], ◌∷◌, map, length, Bool, Contains, Option}
+use Rattle.std.specs.Prelude.{◌≡◌, ℕ, ◌<◌, List, map, Contains}
 use Rattle.std.specs.List.{All}
 use Rattle.mg_names.specs.declared.phases.Link.TheVariants.{Resting}
 use Rattle.mg_model.specs.declared.commands.EventsName.TheVariants.{Empty}

@@ -1,6 +1,6 @@
 -- The place of each value in the format's table, and sets that are kept in that order. A reader should compare the
 -- places with the table of the page on formats: points are numbered by them.
-use Rattle.std.specs.Prelude.{ℕ, suc, ◌==◌, Bool, true, false, List, [], ◌∷◌, Option, Some, None, option_and_then, if◌then◌else◌, nat_lt}
+use Rattle.std.specs.Prelude.{ℕ, suc, ◌==◌, Bool, true, false, List, [], ◌∷◌, Option, Some, option_and_then, if◌then◌else◌, nat_lt}
 use Rattle.mg_names.specs.declared.modes.Mode.{Mode}
 use Rattle.mg_names.specs.declared.modes.Mode.TheVariants.{Inactive, SendOnly, ReceiveOnly, SendReceive}
 use Rattle.mg_names.specs.declared.phases.Link.{Link}

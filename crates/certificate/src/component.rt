@@ -80,7 +80,11 @@ fn ephemeral<'a>(
 ) -> Option<&'a WrittenEphemeral>
     ensures { option_map (λ e. e.now) result ≡ row_at script.now.ephemerals ephemeral entry.now.ephemerals }
 {
-    row_at(&EphemeralNames(script), entry.ephemerals.as_slice(), ephemeral)
+    row_at(
+        &EphemeralNames(script),
+        entry.ephemerals.as_slice(),
+        ephemeral,
+    )
 }
 
 /// What is written for a context.

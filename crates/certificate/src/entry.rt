@@ -25,7 +25,7 @@ pub(crate) const POINTS: u32 = 65_536;
 pub struct Entry {
     pub(crate) state: u8,
     pub(crate) lines: usize,
-    pub(crate) size: u32,
+    pub(crate) product: u32,
     pub(crate) components: Vec<Component>,
 }
 
@@ -39,7 +39,7 @@ impl Model for Entry {
 
     ghost view = { λ e. record { state = e.state; lines = e.lines; components = shown_all e.components.items } };
 
-    ghost invariant = { λ e. (e.lines ≤ 4) × (0 < e.size) × (e.size ≡ size_of (shown_all e.components.items)) };
+    ghost invariant = { λ e. (e.lines ≤ 4) × (0 < e.product) × (e.product ≡ size_of (shown_all e.components.items)) };
 }
 
 /// How many choices some components have together, or the last number of 64 bits where that is more.
@@ -95,7 +95,7 @@ impl Entry {
         ensures size { result ≡ size_of self.now.components }
         ensures some { 0 < result }
     {
-        self.size
+        self.product
     }
 
     /// Whether it has a configuration: it is well formed, one of the entry's state, and has each component in its set.
@@ -117,7 +117,12 @@ impl Entry {
     {
         let mut config = Config::unused(self.lines, self.state, Link::Resting, EventsName::Empty);
         let components = self.components.as_slice();
-        choose_all(components, u64::from(self.size), u64::from(number), &mut config);
+        choose_all(
+            components,
+            u64::from(self.size()),
+            u64::from(number),
+            &mut config,
+        );
         config
     }
 
@@ -126,7 +131,7 @@ impl Entry {
         ensures point { IfSome result (λ config. IsPointOf self.now number (configuration_of config)) }
         ensures no_point { IfNone result (number < size_of self.now.components → IsWellFormed (numbered self.now number) → ⊥) }
     {
-        if number >= self.size {
+        if number >= self.size() {
             return None;
         }
         let config = self.numbered(number);

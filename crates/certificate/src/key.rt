@@ -78,11 +78,7 @@ fn add_lines(keys: &mut Vec<Key>, lines: &[Slot]) -> Result<(), AllocError>
 }
 
 /// Adds the contexts, and then the ephemerals.
-fn add_names(
-    keys: &mut Vec<Key>,
-    contexts: &[Slot],
-    ephemerals: &[Slot],
-) -> Result<(), AllocError>
+fn add_names(keys: &mut Vec<Key>, contexts: &[Slot], ephemerals: &[Slot]) -> Result<(), AllocError>
     ensures { OnOk result (keys.new.items ≡ keys.old.items ++ map (λ j. Key.Context j) contexts.now
         ++ flat_map ephemeral_keys ephemerals.now) }
 {

@@ -7,6 +7,7 @@ use Rattle.certificate.proofs.entry.all_allow.Goals as goal
 
 pub returns : goal.returns
 returns c =
-    let config = configuration_of c.args.config.now in
-    (λ yes. seen_all shown (Allows config) c.args.components.now (c.each_allows.ensures.0 yes),
-    λ all. c.each_allows.ensures.1 (all_seen shown (Allows config) c.args.components.now all))
+    let config = configuration_of c.args.config.now in (
+      λ yes. seen_all shown (Allows config) c.args.components.now (c.each_allows.ensures.0 yes),
+      λ all. c.each_allows.ensures.1 (all_seen shown (Allows config) c.args.components.now all),
+    )

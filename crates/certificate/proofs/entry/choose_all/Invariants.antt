@@ -11,5 +11,5 @@ invariant-loop-component l = record {
   some : 0 < l.rest;
   size : l.rest ≡ size_of (shown_all (drop l.component-index l.components));
   made : chosen (map choices_of (shown_all (drop l.component-index l.components))) l.left (configuration_of l.config)
-      ≡ chosen (map choices_of (shown_all l.components)) l.number (configuration_of l.initial.config)
+      ≡ chosen (map choices_of (shown_all l.components)) l.number (configuration_of l.initial.config);
 }

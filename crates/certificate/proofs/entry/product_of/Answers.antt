@@ -13,7 +13,7 @@ loop-component-preserved c =
     let rest = size_of (shown_all (drop (i + 1) c.args.components.now)) in
     let here = at c.args.components.now i c.component-item.result c.loop-component-test.true c.component-item.is in
     let factor : c.count.result * rest ≡ size_of (shown_all (drop i c.args.components.now)) =
-        ap (λ n. n * rest) c.count.ensures ∙ sym (ap (λ xs. size_of (shown_all xs)) here) in
+    ap (λ n. n * rest) c.count.ensures ∙ sym (ap (λ xs. size_of (shown_all xs)) here) in
     record {
       fits = omega (arith, c.saturating_mul-size.ensures);
       product = ap (λ s. min (s * rest) (2 ^ 64 - 1)) c.saturating_mul-size.ensures

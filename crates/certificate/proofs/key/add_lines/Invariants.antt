@@ -1,5 +1,5 @@
 -- What was added so far, followed by what is left, is the whole.
-use Rattle.std.proofs.Common.{◌≡◌, ◌++◌, map, drop}
+use Rattle.std.proofs.Common.{◌≡◌, ◌++◌, drop}
 use Rattle.std.specs.List.{flat_map}
 use Rattle.certificate.specs.Components.{line_keys}
 use Rattle.certificate.proofs.key.add_lines.Given as goal
