@@ -1,0 +1,7 @@
+pub mod Each
+pub mod Limits
+pub mod Parts
+pub mod Passing
+pub mod Products
+pub mod RowLemmas
+pub mod Trees

@@ -1,0 +1,118 @@
+-- A certificate: what a document's entries are, given a script, and its faults in the order of their numbers. A reader
+-- should check the limits, and that each fault is looked for in the whole document before the next.
+use Rattle.std.specs.Prelude.{◌≡◌, ℕ, zero, suc, ◌==◌, ◌+◌, ◌<◌, ◌||◌, ◌&&◌, Bool, false, List, [], ◌∷◌, length, count_by, nat_lt, if◌then◌else◌, Option, Some, None, is_some, Result, Ok, Err}
+use Rattle.std.specs.List.{list_all, list_any, slice_index_or}
+use Rattle.std.specs.Str.{IsUtf8}
+use Rattle.serde_json.specs.Data.{Data}
+use Rattle.serde_json.specs.Read.{read as read_text}
+use Rattle.mg_model.specs.Script.{Script}
+use Rattle.scriptreader.specs.Table.{place_of, state_named}
+use Rattle.certificate.specs.Shape.{◌>>=◌, each, only_if}
+use Rattle.certificate.specs.Naming.{pair_named}
+use Rattle.certificate.specs.Components.{component_meant, keys_of}
+use Rattle.certificate.specs.Document.{document_meant}
+use Rattle.certificate.specs.Listed.{Listed, choices_of, size_of}
+use Rattle.certificate.specs.Written as written
+use Rattle.certificate.specs.declared.fault.CertFault.{CertFault}
+use Rattle.certificate.specs.declared.fault.CertFault.TheVariants.{NotJson, BadKey, Unknown, EmptySet, TooManyEntries, TooManyPoints, NoMemory}
+
+-- whether each key that is a name stands for what its place asks for
+abbrev pub are_known : Script → written.Entry → Bool
+are_known script entry =
+    list_all (λ row. is_some (place_of row.0 script.lines)) entry.lines
+    && (list_all (λ row. is_some (place_of row.0 script.contexts)) entry.contexts
+    && (list_all (λ row. is_some (place_of row.0 script.ephemerals)) entry.ephemerals
+    && list_all (λ row. is_some (pair_named script row.0)) entry.cuts))
+
+-- the entry that is meant, or nothing where a name or a word is unknown
+abbrev pub listed_meant : Script → written.Entry → Option Listed
+listed_meant script entry =
+    only_if (are_known script entry) (state_named entry.state script.states >>= λ state.
+    each (component_meant script entry) (keys_of script) >>= λ components.
+    Some (record { state = state; lines = length script.lines; components = components }))
+
+-- ---- the later faults
+
+-- a component has no values
+abbrev pub has_empty : Listed → Bool
+has_empty entry = list_any (λ component. length (choices_of component) == 0) entry.components
+
+abbrev pub entries_for : List Listed → ℕ → ℕ
+entries_for entries state = count_by (λ entry. entry.state == state) entries
+
+-- some number below another passes a test
+abbrev pub some_below : ℕ → (ℕ → Bool) → Bool
+some_below zero p = false
+some_below (suc n) p = some_below n p || p n
+
+-- a state of the script has more than 256 entries
+abbrev pub has_crowd : Script → List Listed → Bool
+has_crowd script entries = some_below (length script.states) (λ state. nat_lt 256 (entries_for entries state))
+
+-- an entry has a product of more than 65,536
+abbrev pub is_large : Listed → Bool
+is_large entry = nat_lt 65536 (size_of entry.components)
+
+abbrev pub checked : Script → List Listed → Result (List Listed) CertFault
+checked script entries =
+    if list_any has_empty entries then Err EmptySet
+    else if has_crowd script entries then Err TooManyEntries
+    else if list_any is_large entries then Err TooManyPoints
+    else Ok entries
+
+abbrev pub checked_or : Script → Option (List Listed) → Result (List Listed) CertFault
+checked_or script None = Err Unknown
+checked_or script (Some entries) = checked script entries
+
+abbrev pub resolved_or : Script → Option (List written.Entry) → Result (List Listed) CertFault
+resolved_or script None = Err BadKey
+resolved_or script (Some entries) = checked_or script (each (listed_meant script) entries)
+
+-- what a document says
+abbrev pub document_read : Script → Data → Result (List Listed) CertFault
+document_read script document = resolved_or script (document_meant document)
+
+-- a fault of the code is that of the definition; memory may run out
+abbrev pub Faults : CertFault → Result (List Listed) CertFault → Type 0
+Faults NoMemory answer = Unit {0}
+Faults fault answer = answer ≡ Err fault
+
+-- what a function returned, seen by view, is the answer of the definition
+abbrev pub Gives : {X : Type 0} → (X → List Listed) → Result X CertFault → Result (List Listed) CertFault → Type 0
+Gives view (Ok x) answer = answer ≡ Ok (view x)
+Gives view (Err fault) answer = Faults fault answer
+
+-- ---- the bytes
+
+-- the bytes are a JSON text of this document
+abbrev pub IsText : List ℕ → Data → Type 0
+IsText bytes document = IsUtf8 bytes × (read_text bytes ≡ Some document)
+
+-- the answer is that of the document, or says that there is none; memory may run out
+abbrev pub ReadsCertificate : Script → List ℕ → Result (List Listed) CertFault → Type 0
+ReadsCertificate script bytes (Err NoMemory) = Unit {0}
+ReadsCertificate script bytes (Err NotJson) = (document : Data) → IsText bytes document → ⊥
+ReadsCertificate script bytes answer = (document : Data) × IsText bytes document × (document_read script document ≡ answer)
+
+-- what the parsing of the bytes gives, seen by view
+abbrev pub Parses : {X : Type 0} → (X → Data) → Result X CertFault → List ℕ → Type 0
+Parses view (Ok x) bytes = IsText bytes (view x)
+Parses view (Err NoMemory) bytes = Unit {0}
+Parses view (Err NotJson) bytes = (document : Data) → IsText bytes document → ⊥
+Parses view (Err fault) bytes = ⊥
+
+-- ---- where the entries of a state stand
+
+-- the places of a state's entries, in their order
+abbrev pub places_from : ℕ → ℕ → List Listed → List ℕ
+places_from place state [] = []
+places_from place state (entry ∷ entries) =
+    if entry.state == state then place ∷ places_from (place + 1) state entries else places_from (place + 1) state entries
+
+abbrev pub places_of : ℕ → List Listed → List ℕ
+places_of state entries = places_from 0 state entries
+
+-- for each number of a state of 8 bits, the places of its entries
+abbrev pub IsIndex : List (List ℕ) → List Listed → Type 0
+IsIndex places entries =
+    (length places ≡ 256) × ((state : ℕ) (none : List ℕ) → state < 256 → slice_index_or places state none ≡ places_of state entries)

@@ -1,0 +1,10 @@
+pub mod Certificate
+pub mod Components
+pub mod Document
+pub mod FaultNames
+pub mod Listed
+pub mod Naming
+pub mod Ranks
+pub mod Shape
+pub mod Shown
+pub mod Written

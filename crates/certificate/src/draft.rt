@@ -1,0 +1,221 @@
+//! Entries whose names were looked up, before the limits are checked.
+ghost use Rattle.std.specs.Prelude.{◌≡◌, ◌<◌, ◌==◌, ◌&&◌, is_some, length, map, nat_lt, count_by, false, IfOk};
+ghost use Rattle.std.specs.List.{list_all, list_any};
+ghost use Rattle.scriptreader.specs.Table.{place_of};
+ghost use Rattle.certificate.specs.Certificate.{are_known, entries_for, has_crowd, has_empty, is_large, listed_meant};
+ghost use Rattle.certificate.specs.Components.{component_meant, keys_of};
+ghost use Rattle.certificate.specs.Listed.{choices_of};
+ghost use Rattle.certificate.specs.Naming.{Resolves, pair_named};
+ghost use Rattle.certificate.specs.Shape.{each};
+ghost use Rattle.certificate.specs.Shown.{shown_all};
+
+use crate::choices::count;
+use crate::component::{Component, read_component};
+use crate::entry::{Entry, POINTS, product_of};
+use crate::fault::CertFault;
+use crate::key::Key;
+use crate::names::{are_cuts, are_named};
+use crate::vocabulary::{ContextNames, EphemeralNames, LineNames};
+use crate::written::WrittenEntry;
+use scriptreader::Script;
+use std::alloc::{AllocError, Global};
+use std::marker::Model;
+
+/// How many entries a state may have.
+const ENTRIES: usize = 256;
+
+/// An entry whose names were looked up.
+#[derive(Drop)]
+pub(crate) struct Draft {
+    pub(crate) state: u8,
+    pub(crate) lines: usize,
+    pub(crate) components: Vec<Component>,
+}
+
+impl Model for Draft {
+    ghost use Rattle.std.specs.Prelude.{◌≤◌};
+    ghost use Rattle.certificate.specs.Listed.{Listed};
+
+    ghost Value = { Listed };
+
+    ghost use Rattle.certificate.specs.Shown.{shown_all};
+
+    ghost view = { λ d. record { state = d.state; lines = d.lines; components = shown_all d.components.items } };
+
+    ghost invariant = { λ d. d.lines ≤ 4 };
+}
+
+fn lines_known(script: &Script, entry: &WrittenEntry) -> bool
+    ensures { result ≡ list_all (λ row. is_some (place_of row.0 script.now.lines)) entry.now.lines }
+{
+    are_named(&LineNames(script), entry.lines.as_slice())
+}
+
+fn contexts_known(script: &Script, entry: &WrittenEntry) -> bool
+    ensures { result ≡ list_all (λ row. is_some (place_of row.0 script.now.contexts)) entry.now.contexts }
+{
+    are_named(&ContextNames(script), entry.contexts.as_slice())
+}
+
+fn ephemerals_known(script: &Script, entry: &WrittenEntry) -> bool
+    ensures { result ≡ list_all (λ row. is_some (place_of row.0 script.now.ephemerals)) entry.now.ephemerals }
+{
+    are_named(&EphemeralNames(script), entry.ephemerals.as_slice())
+}
+
+fn cuts_known(script: &Script, entry: &WrittenEntry) -> bool
+    ensures { result ≡ list_all (λ row. is_some (pair_named script.now row.0)) entry.now.cuts }
+{
+    are_cuts(script, entry.cuts.as_slice())
+}
+
+/// Whether each key that is a name stands for what its place asks for.
+fn are_known(script: &Script, entry: &WrittenEntry) -> bool
+    ensures { result ≡ are_known script.now entry.now }
+{
+    if !lines_known(script, entry) {
+        return false;
+    }
+    if !contexts_known(script, entry) {
+        return false;
+    }
+    if !ephemerals_known(script, entry) {
+        return false;
+    }
+    cuts_known(script, entry)
+}
+
+/// The components of an entry, for their keys in order.
+fn components(
+    alloc: Global,
+    script: &Script,
+    entry: &WrittenEntry,
+    keys: &[Key],
+) -> Result<Vec<Component>, CertFault>
+    ensures { Resolves (λ v. shown_all v.items) result (each (component_meant script.now entry.now) keys.now) }
+{
+    let mut found = Vec::new(alloc);
+    for key in keys {
+        found.push(read_component(alloc, script, entry, key)?)?;
+    }
+    Ok(found)
+}
+
+/// Looks up the names of an entry. The keys are those of the script.
+fn read_draft(
+    alloc: Global,
+    script: &Script,
+    keys: &[Key],
+    entry: &WrittenEntry,
+) -> Result<Draft, CertFault>
+    requires { keys.now ≡ keys_of script.now }
+    ensures { Resolves (λ d. d) result (listed_meant script.now entry.now) }
+{
+    if !are_known(script, entry) {
+        return Err(CertFault::Unknown);
+    }
+    let Some(state) = script.state_named(entry.state.as_str()) else {
+        return Err(CertFault::Unknown);
+    };
+    let components = components(alloc, script, entry, keys)?;
+    let lines = script.lines();
+    Ok(Draft {
+        state,
+        lines,
+        components,
+    })
+}
+
+/// Looks up the names of each entry.
+pub(crate) fn drafts(
+    alloc: Global,
+    script: &Script,
+    keys: &[Key],
+    entries: &[WrittenEntry],
+) -> Result<Vec<Draft>, CertFault>
+    requires { keys.now ≡ keys_of script.now }
+    ensures { Resolves (λ v. v.items) result (each (listed_meant script.now) entries.now) }
+{
+    let mut found = Vec::new(alloc);
+    for entry in entries {
+        found.push(read_draft(alloc, script, keys, entry)?)?;
+    }
+    Ok(found)
+}
+
+/// Whether a component has no values.
+pub(crate) fn has_empty(draft: &Draft) -> bool
+    ensures { result ≡ has_empty draft.now }
+{
+    any_empty(draft.components.as_slice())
+}
+
+fn any_empty(components: &[Component]) -> bool
+    ensures { result ≡ list_any (λ component. length (choices_of component) == 0) (shown_all components.now) }
+{
+    for component in components {
+        if count(component) == 0 {
+            return true;
+        }
+    }
+    false
+}
+
+/// How many entries a state has.
+fn entries_for(drafts: &[Draft], state: u8) -> usize
+    ensures { result ≡ entries_for drafts.now state }
+{
+    drafts.iter().filter(|draft| draft.state == state).count()
+}
+
+/// Whether a state of the script has more entries than it may.
+pub(crate) fn has_crowd(script: &Script, drafts: &[Draft]) -> bool
+    ensures { result ≡ has_crowd script.now drafts.now }
+{
+    for state in 0..script.states() {
+        if entries_for(drafts, state as u8) > ENTRIES {
+            return true;
+        }
+    }
+    false
+}
+
+/// Whether an entry has more points than it may.
+pub(crate) fn is_large(draft: &Draft) -> bool
+    ensures { result ≡ is_large draft.now }
+{
+    product_of(draft.components.as_slice()) > u64::from(POINTS)
+}
+
+/// The entry of a draft.
+fn sized(draft: Draft) -> Entry
+    requires some { has_empty draft ≡ false }
+    requires within { is_large draft ≡ false }
+    ensures { result ≡ draft }
+{
+    let product = product_of(draft.components.as_slice()) as u32;
+    let Draft {
+        state,
+        lines,
+        components,
+    } = draft;
+    Entry {
+        state,
+        lines,
+        product,
+        components,
+    }
+}
+
+/// The entries of drafts that are within the limits.
+pub(crate) fn entries(alloc: Global, drafts: Vec<Draft>) -> Result<Vec<Entry>, AllocError>
+    requires some { list_any has_empty drafts.items ≡ false }
+    requires within { list_any is_large drafts.items ≡ false }
+    ensures { IfOk result (λ v. v.items ≡ drafts.items) }
+{
+    let mut found = Vec::new(alloc);
+    for draft in drafts {
+        found.push(sized(draft))?;
+    }
+    Ok(found)
+}

@@ -1,0 +1,143 @@
+//! Entries: for a state a set of values for each component of a configuration.
+ghost use Rattle.std.specs.Prelude.{◌≡◌, ◌↔◌, ◌^◌, ◌-◌, ◌*◌, ◌<◌, ◌≤◌, ℕ, IsTrue, IfSome, IfNone, map, min, length, List};
+ghost use Rattle.std.specs.List.{All};
+ghost use Rattle.mg_model.specs.Configuration.{IsWellFormed};
+ghost use Rattle.mg_model.specs.Entries.{chosen, product};
+ghost use Rattle.configuration.specs.Config.{configuration_of};
+ghost use Rattle.certificate.specs.Listed.{Allows, Includes, IsPointOf, choices_of, numbered, size_of};
+ghost use Rattle.certificate.specs.Shown.{shown, shown_all};
+
+use crate::choices::{allows, choose, count};
+use crate::component::Component;
+use configuration::config::Config;
+use configuration::well_formed::is_well_formed;
+use mg_model::commands::EventsName;
+use mg_names::phases::Link;
+use std::marker::Model;
+
+/// How many points an entry may have.
+pub(crate) const POINTS: u32 = 65_536;
+
+/// An entry of a certificate: a state, and a set of values for each component of a configuration. It denotes the
+/// well-formed configurations of the state that have each component in its set. Its points are the whole product,
+/// numbered from 0, the last component changing fastest. This profile's own.
+#[derive(Drop)]
+pub struct Entry {
+    pub(crate) state: u8,
+    pub(crate) lines: usize,
+    pub(crate) product: u32,
+    pub(crate) components: Vec<Component>,
+}
+
+impl Model for Entry {
+    ghost use Rattle.std.specs.Prelude.{◌≡◌, ◌<◌, ◌≤◌, map};
+    ghost use Rattle.certificate.specs.Listed.{Listed, size_of};
+
+    ghost Value = { Listed };
+
+    ghost use Rattle.certificate.specs.Shown.{shown, shown_all};
+
+    ghost view = { λ e. record { state = e.state; lines = e.lines; components = shown_all e.components.items } };
+
+    ghost invariant = { λ e. (e.lines ≤ 4) × (0 < e.product) × (e.product ≡ size_of (shown_all e.components.items)) };
+}
+
+/// How many choices some components have together, or the last number of 64 bits where that is more.
+pub(crate) fn product_of(components: &[Component]) -> u64
+    ensures { result ≡ min (size_of (shown_all components.now)) (2 ^ 64 - 1) }
+{
+    let mut size: u64 = 1;
+    for component in components {
+        size = size.saturating_mul(count(component) as u64);
+    }
+    size
+}
+
+fn each_allows(components: &[Component], config: &Config) -> bool
+    ensures { IsTrue result ↔ All (λ component. Allows (configuration_of config.now) (shown component)) components.now }
+{
+    components.iter().all(|component| allows(component, config))
+}
+
+/// Whether each component has a configuration's value.
+fn all_allow(components: &[Component], config: &Config) -> bool
+    ensures { IsTrue result ↔ All (Allows (configuration_of config.now)) (shown_all components.now) }
+{
+    each_allows(components, config)
+}
+
+/// Makes the choices with a number, in order.
+fn choose_all(components: &[Component], size: u64, number: u64, config: &mut Config)
+    requires some { 0 < size }
+    requires size { size ≡ size_of (shown_all components.now) }
+    ensures { configuration_of config.new
+        ≡ chosen (map choices_of (shown_all components.now)) number (configuration_of config.old) }
+{
+    let mut rest = size;
+    let mut left = number;
+    for component in components {
+        rest /= count(component) as u64;
+        choose(component, (left / rest) as usize, config);
+        left %= rest;
+    }
+}
+
+impl Entry {
+    /// The state, by its place in the script.
+    pub fn state(&self) -> u8
+        ensures { result ≡ self.now.state }
+    {
+        self.state
+    }
+
+    /// How many points it has, those that aren't well formed among them: the whole product.
+    pub fn size(&self) -> u32
+        ensures size { result ≡ size_of self.now.components }
+        ensures some { 0 < result }
+    {
+        self.product
+    }
+
+    /// Whether it has a configuration: it is well formed, one of the entry's state, and has each component in its set.
+    pub fn contains(&self, config: &Config) -> bool
+        ensures { IsTrue result ↔ Includes self.now (configuration_of config.now) }
+    {
+        if config.state() != self.state {
+            return false;
+        }
+        if !is_well_formed(config) {
+            return false;
+        }
+        all_allow(self.components.as_slice(), config)
+    }
+
+    /// The configuration with a number, well formed or not.
+    fn numbered(&self, number: u32) -> Config
+        ensures { configuration_of result ≡ numbered self.now number }
+    {
+        let mut config = Config::unused(self.lines, self.state, Link::Resting, EventsName::Empty);
+        let components = self.components.as_slice();
+        choose_all(
+            components,
+            u64::from(self.size()),
+            u64::from(number),
+            &mut config,
+        );
+        config
+    }
+
+    /// The point with a number; `None` where it isn't well formed, and past the end.
+    pub fn point(&self, number: u32) -> Option<Config>
+        ensures point { IfSome result (λ config. IsPointOf self.now number (configuration_of config)) }
+        ensures no_point { IfNone result (number < size_of self.now.components → IsWellFormed (numbered self.now number) → ⊥) }
+    {
+        if number >= self.size() {
+            return None;
+        }
+        let config = self.numbered(number);
+        if !is_well_formed(&config) {
+            return None;
+        }
+        Some(config)
+    }
+}

@@ -1,0 +1,127 @@
+//! What the names of a certificate stand for, and what is written for each.
+ghost use Rattle.std.specs.Prelude.{◌≡◌, find, option_map, is_some};
+ghost use Rattle.std.specs.List.{list_all};
+ghost use Rattle.certificate.specs.Components.{is_slot, is_pair};
+ghost use Rattle.certificate.specs.Naming.{different, pair_named, pair_of, parts_of, termination_named};
+
+use crate::key::is_same;
+use crate::reads::Row;
+use crate::vocabulary::Vocabulary;
+use crate::word::Words;
+use mg_model::commands::Termination;
+use mg_names::slots::Slot;
+use scriptreader::Script;
+
+/// The termination of a name.
+fn termination(script: &Script, name: &str) -> Option<Termination>
+    ensures { result ≡ termination_named script.now name.now }
+{
+    if let Some(line) = script.line(name) {
+        return Some(Termination::Line(line));
+    }
+    let ephemeral = script.ephemeral(name)?;
+    Some(Termination::Ephemeral(ephemeral))
+}
+
+/// The two parts of a text round its first `>`.
+fn parts(text: &str) -> Option<(&str, &str)>
+    ensures { option_map (λ p. (p.0.now, p.1.now)) result ≡ parts_of text.now }
+{
+    text.split_once('>')
+}
+
+/// Whether a key of the cuts names these two terminations.
+fn is_pair(script: &Script, key: &str, source: &Termination, sink: &Termination) -> bool
+    ensures { result ≡ is_pair (pair_named script.now key.now) source.now sink.now }
+{
+    let Some((first, second)) = parts(key) else {
+        return false;
+    };
+    let Some(first) = termination(script, first) else {
+        return false;
+    };
+    let Some(second) = termination(script, second) else {
+        return false;
+    };
+    !is_same(&first, &second) && is_same(&first, source) && is_same(&second, sink)
+}
+
+/// Whether a key of the cuts names two different terminations.
+fn is_cut(script: &Script, key: &str) -> bool
+    ensures { result ≡ is_some (pair_named script.now key.now) }
+{
+    let Some((first, second)) = parts(key) else {
+        return false;
+    };
+    let Some(first) = termination(script, first) else {
+        return false;
+    };
+    let Some(second) = termination(script, second) else {
+        return false;
+    };
+    !is_same(&first, &second)
+}
+
+/// Whether each key of the cuts names two different terminations.
+pub(crate) fn are_cuts(script: &Script, rows: &[Row<Words>]) -> bool
+    ensures { result ≡ list_all (λ row. is_some (pair_named script.now row.name)) rows.now }
+{
+    rows.iter().all(|row| is_cut(script, row.name.as_str()))
+}
+
+/// What is written for a pair of terminations.
+pub(crate) fn cut_at<'a>(
+    script: &Script,
+    rows: &'a [Row<Words>],
+    source: &Termination,
+    sink: &Termination,
+) -> Option<&'a Words>
+    ensures { option_map (λ w. w.now) result ≡ option_map (λ row. row.value)
+        (find (λ row. is_pair (pair_named script.now row.name) source.now sink.now) rows.now) }
+{
+    for row in rows {
+        if is_pair(script, row.name.as_str(), source, sink) {
+            return Some(&row.value);
+        }
+    }
+    None
+}
+
+/// Whether a name stands for a slot.
+fn is_slot(found: Option<Slot>, slot: Slot) -> bool
+    ensures { result ≡ is_slot found slot }
+{
+    match found {
+        Some(found) => found.index() == slot.index(),
+        None => false,
+    }
+}
+
+/// What is written for a slot of some names.
+pub(crate) fn row_at<'a, T, V: Vocabulary<Slot>>(
+    names: &V,
+    rows: &'a [Row<T>],
+    slot: Slot,
+) -> Option<&'a T>
+    ensures { option_map (λ x. x.now) result ≡ option_map (λ row. row.value)
+        (find (λ row. is_slot (V.named names.now row.name) slot) rows.now) }
+{
+    for row in rows {
+        if is_slot(names.named(row.name.as_str()), slot) {
+            return Some(&row.value);
+        }
+    }
+    None
+}
+
+/// Whether each name stands for a slot.
+pub(crate) fn are_named<T, V: Vocabulary<Slot>>(names: &V, rows: &[Row<T>]) -> bool
+    ensures { result ≡ list_all (λ row. is_some (V.named names.now row.name)) rows.now }
+{
+    for row in rows {
+        if names.named(row.name.as_str()).is_none() {
+            return false;
+        }
+    }
+    true
+}

@@ -1,0 +1,9 @@
+pub mod Devices
+pub mod Engine
+pub mod Input
+pub mod Output
+pub mod Replies
+pub mod Sections
+pub mod Statuses
+pub mod Verdict
+pub mod Words

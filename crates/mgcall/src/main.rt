@@ -1,0 +1,59 @@
+//! `mgcall check [--pieces N]`: reads a script and a certificate from standard input, and says in
+//! one line whether every obligation holds.
+//!
+//! `engine` is the whole program over its own devices. Its contract says which line it writes for
+//! the words and the input, and with which status; `specs/Engine.antt` and `specs/Output.antt` are
+//! what a reader has to believe. What is here binds it to the process: the words of the command
+//! line, standard input and output, and the exit status.
+#![tactic(auto)]
+
+mod answer;
+mod check;
+mod engine;
+mod fused;
+mod host;
+mod input;
+mod reply;
+mod sections;
+mod sink;
+mod source;
+mod status;
+mod words;
+
+use crate::answer::Answer;
+use crate::engine::{engine, tell};
+use crate::host::Host;
+use crate::reply::Reply;
+use crate::status::Status;
+use std::alloc::Global;
+use std::process::ExitCode;
+use std::{env, io};
+
+/// The words that the process was called with, its own name first.
+fn arguments(rt: &HostRuntime) -> io::Result<Vec<String>> {
+    let words = env::args(rt)?.collect(rt.alloc())?;
+    Ok(words)
+}
+
+/// The reply where there are no words.
+fn reply_to_failure(error: &io::Error) -> Reply {
+    match error.kind() {
+        io::ErrorKind::OutOfMemory => Reply::Checked(Answer::NoMemory),
+        _ => Reply::Usage,
+    }
+}
+
+fn run(alloc: Global, rt: &HostRuntime) -> Status {
+    let mut sink = Host::new(rt.stdout());
+    match arguments(rt) {
+        Ok(words) => {
+            let mut source = Host::new(rt.stdin());
+            engine(alloc, words.as_slice(), &mut source, &mut sink)
+        }
+        Err(error) => tell(alloc, &reply_to_failure(&error), &mut sink),
+    }
+}
+
+fn main(rt: HostRuntime) -> ExitCode {
+    ExitCode::from(run(rt.alloc(), &rt).code())
+}
