@@ -2,6 +2,7 @@
 #![tactic(auto)]
 
 pub mod effects;
+pub mod first_fault;
 pub mod obligations;
 pub mod requests;
 pub mod steps;
