@@ -46,23 +46,35 @@ map_in t = only_if (has_only (codes "name" ∷ codes "map" ∷ []) t) (do
   text ← needed as_str (codes "map") t
   Some (record { name = name; text = text }))
 
+-- where one kind of note of a line leads
+abbrev pub transition_of : List ℕ → List ℕ → Data → Option WrittenTransition
+transition_of line kind d = do
+  kind ← kind_named kind
+  target ← as_str d
+  Some (record { line = line; kind = kind; target = target })
+
 -- the kinds of one line, each with the state that it leads to
 unfoldable pub kinds_of : List ℕ → Members → Option (List WrittenTransition)
 kinds_of line no_members = Some []
 kinds_of line (member kind d more) = do
-  kind ← kind_named kind
-  target ← as_str d
+  first ← transition_of line kind d
   others ← kinds_of line more
-  Some (record { line = line; kind = kind; target = target } ∷ others)
+  Some (first ∷ others)
+
+unfoldable pub line_of : List ℕ → Data → Option (List WrittenTransition)
+line_of line d = only_if (is_name line) (as_table d >>= kinds_of line)
 
 -- the lines of `on`, each with its kinds
 unfoldable pub lines_of : Members → Option (List WrittenTransition)
 lines_of no_members = Some []
 lines_of (member line d more) = do
-  kinds ← only_if (is_name line) (as_table d)
-  first ← kinds_of line kinds
+  first ← line_of line d
   others ← lines_of more
   Some (first ++ others)
+
+-- these, and then what a shape gives
+abbrev pub added_to : List WrittenTransition → Option (List WrittenTransition) → Option (List WrittenTransition)
+added_to front shape = shape >>= λ xs. Some (front ++ xs)
 
 abbrev pub on_at : Option Data → Option (List WrittenTransition)
 on_at None = Some []

@@ -2,8 +2,8 @@
 -- matter: a shape is a function from a value to what it says, or nothing.
 use Rattle.std.specs.Prelude.{◌≡◌, ℕ, List, [], ◌∷◌, Bool, true, false, ◌&&◌, if◌then◌else◌, Option, Some, None, option_map, option_and_then, Result, Ok, Err}
 use Rattle.toml.specs.Data.{Data, Items, no_items, item, Members, no_members, member, get_member, as_str, as_array, as_table, as_bool}
-use Rattle.scriptreader.specs.declared.fault.ScriptFault.{ScriptFault}
-use Rattle.scriptreader.specs.declared.fault.ScriptFault.TheVariants.{BadKey, NoMemory}
+use Rattle.scriptreader.specs.declared.unread.Unread.{Unread}
+use Rattle.scriptreader.specs.declared.unread.Unread.TheVariants.{BadKey, Memory}
 use Rattle.scriptreader.specs.Names.{is_among}
 
 infixl 10 ◌>>=◌
@@ -15,11 +15,13 @@ abbrev pub only_if : {A : Type 0} → Bool → Option A → Option A
 only_if b o = if b then o else None
 
 -- What a function returned, seen by view, is what a shape gives: a bad key where it gives nothing, unless memory ran out.
-abbrev pub Shapes : {X Y : Type 0} → (X → Y) → Result X ScriptFault → Option Y → Type 0
+abbrev pub Misses : {Y : Type 0} → Unread → Option Y → Type 0
+Misses Memory shape = Unit {0}
+Misses BadKey shape = shape ≡ None
+
+abbrev pub Shapes : {X Y : Type 0} → (X → Y) → Result X Unread → Option Y → Type 0
 Shapes view (Ok x) shape = shape ≡ Some (view x)
-Shapes view (Err NoMemory) shape = Unit {0}
-Shapes view (Err BadKey) shape = shape ≡ None
-Shapes view (Err fault) shape = ⊥
+Shapes view (Err e) shape = Misses e shape
 
 module _ {A : Type 0} (shape : Data → Option A) where
   -- each item of an array

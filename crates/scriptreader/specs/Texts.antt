@@ -49,9 +49,15 @@ valued_item event.OffHook value = strict_named value >>= λ strict. Some (OffHoo
 valued_item event.Flash value = None
 valued_item event.DigitMapCompletion value = name_of value >>= λ map. Some (Digits map)
 
+abbrev pub plain_named : List ℕ → Option WrittenItem
+plain_named text = event_name_named text >>= plain_item
+
+abbrev pub valued_named : List ℕ → List ℕ → Option WrittenItem
+valued_named name value = event_name_named name >>= λ event. valued_item event value
+
 abbrev pub item_in : List ℕ → Option (List ℕ × List ℕ) → Option WrittenItem
-item_in text None = event_name_named text >>= plain_item
-item_in text (Some p) = event_name_named p.0 >>= λ name. valued_item name p.1
+item_in text None = plain_named text
+item_in text (Some p) = valued_named p.0 p.1
 
 -- an item of an events list
 unfoldable pub item_of : List ℕ → Option WrittenItem

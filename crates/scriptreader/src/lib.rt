@@ -6,27 +6,21 @@
 //! `duplicates`, `scope`), and then its table is built (`build`).
 #![tactic(auto)]
 
-mod build;
 mod commands;
-mod duplicates;
 mod fault;
-mod faults;
 mod items;
 mod lists;
-mod named;
 mod names;
-mod reader;
 mod reads;
-mod scope;
 mod script;
 mod state;
 mod syntax;
 mod tables;
 mod texts;
+mod unread;
 mod word;
 mod words;
 
 pub use fault::ScriptFault;
-pub use reader::read_script;
 pub use script::Script;
 pub use state::State;

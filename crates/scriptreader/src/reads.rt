@@ -1,13 +1,14 @@
 //! Reading typed values from a document's tree. Each type says what of the tree it reads; arrays, options and tables
 //! of it are then read by what stands here. The only fault is a bad key.
-ghost use Rattle.std.specs.Prelude.{◌≡◌, option_map, Option, List, map, IfOk};
+ghost use Rattle.std.specs.Prelude.{◌≡◌, option_map, Option, List, map, IfOk, string_bytes};
+ghost use Rattle.std.specs.List.{list_any, list_all};
+ghost use Rattle.std.specs.Str.{bytes_eq};
 ghost use Rattle.std.specs.Map.Iter.{deref_pair};
 ghost use Rattle.toml.specs.View.{view, table_view};
 ghost use Rattle.toml.specs.Data.{Data, get_member, as_str, as_array, as_table, as_bool};
 ghost use Rattle.scriptreader.specs.Shape.{Shapes, list_of, needed, optional, listed, has_only};
-ghost use Rattle.scriptreader.specs.Names.{is_among};
 
-use crate::fault::ScriptFault;
+use crate::unread::Unread;
 use crate::word::Word;
 use std::alloc::{AllocError, Global};
 use toml::{Table, Value};
@@ -21,27 +22,27 @@ pub(crate) trait Reads: Drop {
     ghost meaning: { Data → Option Seen };
 
     /// Reads a value.
-    fn read(alloc: Global, value: &Value) -> Result<Self, ScriptFault>
+    fn read(alloc: Global, value: &Value) -> Result<Self, Unread>
         ensures { Shapes seen result (meaning (view value.now)) };
 }
 
 /// The text of a value.
-pub(crate) fn text(value: &Value) -> Result<&str, ScriptFault>
+pub(crate) fn text(value: &Value) -> Result<&str, Unread>
     ensures { Shapes (λ t. t.now) result (as_str (view value.now)) }
 {
     match value.as_str() {
         Some(text) => Ok(text),
-        None => Err(ScriptFault::BadKey),
+        None => Err(Unread::BadKey),
     }
 }
 
 /// The table of a value.
-pub(crate) fn table(value: &Value) -> Result<&Table, ScriptFault>
+pub(crate) fn table(value: &Value) -> Result<&Table, Unread>
     ensures { Shapes (λ t. table_view t.now) result (as_table (view value.now)) }
 {
     match value.as_table() {
         Some(table) => Ok(table),
-        None => Err(ScriptFault::BadKey),
+        None => Err(Unread::BadKey),
     }
 }
 
@@ -59,32 +60,35 @@ pub(crate) fn entries(alloc: Global, table: &Table) -> Result<Vec<(&String, &Val
     table.iter().collect(alloc)
 }
 
-/// Whether a table has no other keys than these.
-pub(crate) fn has_only(table: &Table, keys: &[&str]) -> bool
-    ensures { result ≡ has_only (map (λ k. k.now) keys.now) (table_view table.now) }
-{
-    table.keys().all(|key| is_among(key.as_str(), keys))
-}
-
 /// Whether a text is one of these.
 fn is_among(text: &str, texts: &[&str]) -> bool
-    ensures { result ≡ is_among text.now (map (λ t. t.now) texts.now) }
+    ensures { result ≡ list_any (λ other. bytes_eq text.now other.now) texts.now }
 {
-    for other in texts {
-        if text == *other {
-            return true;
-        }
-    }
-    false
+    texts.iter().any(|other| text == *other)
+}
+
+/// Whether each of these keys is one of those.
+fn are_among(keys: &[(&String, &Value)], texts: &[&str]) -> bool
+    ensures { result ≡ list_all (λ p. list_any (λ other. bytes_eq (string_bytes p.0.now) other.now) texts.now) keys.now }
+{
+    keys.iter().all(|entry| is_among(entry.0.as_str(), texts))
+}
+
+/// Whether a table has no other keys than these.
+pub(crate) fn has_only(alloc: Global, table: &Table, keys: &[&str]) -> Result<bool, AllocError>
+    ensures { IfOk result (λ r. r ≡ has_only (map (λ k. k.now) keys.now) (table_view table.now)) }
+{
+    let entries = entries(alloc, table)?;
+    Ok(are_among(entries.as_slice(), keys))
 }
 
 /// The value at a key that has to be there.
-pub(crate) fn needed<T: Reads>(alloc: Global, table: &Table, key: &str) -> Result<T, ScriptFault>
+pub(crate) fn needed<T: Reads>(alloc: Global, table: &Table, key: &str) -> Result<T, Unread>
     ensures { Shapes T.seen result (needed T.meaning key.now (table_view table.now)) }
 {
     match member(table, key) {
         Some(value) => T::read(alloc, value),
-        None => Err(ScriptFault::BadKey),
+        None => Err(Unread::BadKey),
     }
 }
 
@@ -93,7 +97,7 @@ pub(crate) fn optional<T: Reads>(
     alloc: Global,
     table: &Table,
     key: &str,
-) -> Result<Option<T>, ScriptFault>
+) -> Result<Option<T>, Unread>
     ensures { Shapes (option_map T.seen) result (optional T.meaning key.now (table_view table.now)) }
 {
     match member(table, key) {
@@ -103,11 +107,11 @@ pub(crate) fn optional<T: Reads>(
 }
 
 /// The items of an array.
-fn items<T: Reads>(alloc: Global, value: &Value) -> Result<Vec<T>, ScriptFault>
+fn items<T: Reads>(alloc: Global, value: &Value) -> Result<Vec<T>, Unread>
     ensures { Shapes (λ v. map T.seen v.items) result (list_of T.meaning (view value.now)) }
 {
     let Some(array) = value.as_array() else {
-        return Err(ScriptFault::BadKey);
+        return Err(Unread::BadKey);
     };
     let mut found = Vec::new(alloc);
     for item in array {
@@ -121,21 +125,17 @@ pub(crate) fn needed_list<T: Reads>(
     alloc: Global,
     table: &Table,
     key: &str,
-) -> Result<Vec<T>, ScriptFault>
+) -> Result<Vec<T>, Unread>
     ensures { Shapes (λ v. map T.seen v.items) result (needed (list_of T.meaning) key.now (table_view table.now)) }
 {
     match member(table, key) {
         Some(value) => items(alloc, value),
-        None => Err(ScriptFault::BadKey),
+        None => Err(Unread::BadKey),
     }
 }
 
 /// The items of the array at a key, none where it is left out.
-pub(crate) fn listed<T: Reads>(
-    alloc: Global,
-    table: &Table,
-    key: &str,
-) -> Result<Vec<T>, ScriptFault>
+pub(crate) fn listed<T: Reads>(alloc: Global, table: &Table, key: &str) -> Result<Vec<T>, Unread>
     ensures { Shapes (λ v. map T.seen v.items) result (listed T.meaning key.now (table_view table.now)) }
 {
     match member(table, key) {
@@ -154,7 +154,7 @@ impl Reads for Word {
 
     ghost meaning = { as_str };
 
-    fn read(alloc: Global, value: &Value) -> Result<Word, ScriptFault> {
+    fn read(alloc: Global, value: &Value) -> Result<Word, Unread> {
         let text = text(value)?;
         Ok(Word::copy(alloc, text)?)
     }
@@ -170,10 +170,10 @@ impl Reads for bool {
 
     ghost meaning = { as_bool };
 
-    fn read(_alloc: Global, value: &Value) -> Result<bool, ScriptFault> {
+    fn read(_alloc: Global, value: &Value) -> Result<bool, Unread> {
         match value.as_bool() {
             Some(value) => Ok(value),
-            None => Err(ScriptFault::BadKey),
+            None => Err(Unread::BadKey),
         }
     }
 }

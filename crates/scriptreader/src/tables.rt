@@ -1,5 +1,10 @@
 //! The tables of a document.
-use crate::fault::ScriptFault;
+ghost use Rattle.std.specs.Prelude.{◌≡◌, codes};
+ghost use Rattle.toml.specs.View.{view, table_view};
+ghost use Rattle.toml.specs.Data.{get_member};
+ghost use Rattle.scriptreader.specs.Shape.{Shapes};
+ghost use Rattle.scriptreader.specs.Documents.{on_at, lines_of, line_of, kinds_of, transition_of, added_to, document_in};
+
 use crate::reads::{
     Reads, entries, has_only, listed, member, needed, needed_list, optional, table, text,
 };
@@ -7,6 +12,7 @@ use crate::syntax::{
     Document, WrittenCommand, WrittenEvents, WrittenItem, WrittenMap, WrittenPair, WrittenSignals,
     WrittenState, WrittenTransition,
 };
+use crate::unread::Unread;
 use crate::word::{self, Word};
 use crate::{commands, items, texts};
 use mg_names::kinds::Kind;
@@ -24,7 +30,7 @@ impl Reads for WrittenItem {
 
     ghost meaning = { item_meant };
 
-    fn read(alloc: Global, value: &Value) -> Result<WrittenItem, ScriptFault> {
+    fn read(alloc: Global, value: &Value) -> Result<WrittenItem, Unread> {
         let text = text(value)?;
         items::item(alloc, text)
     }
@@ -40,11 +46,11 @@ impl Reads for Signal {
 
     ghost meaning = { signal_meant };
 
-    fn read(_alloc: Global, value: &Value) -> Result<Signal, ScriptFault> {
+    fn read(_alloc: Global, value: &Value) -> Result<Signal, Unread> {
         let text = text(value)?;
         match Signal::read(text) {
             Some(signal) => Ok(signal),
-            None => Err(ScriptFault::BadKey),
+            None => Err(Unread::BadKey),
         }
     }
 }
@@ -59,7 +65,7 @@ impl Reads for WrittenPair {
 
     ghost meaning = { pair_meant };
 
-    fn read(alloc: Global, value: &Value) -> Result<WrittenPair, ScriptFault> {
+    fn read(alloc: Global, value: &Value) -> Result<WrittenPair, Unread> {
         let text = text(value)?;
         items::pair(alloc, text)
     }
@@ -75,7 +81,7 @@ impl Reads for WrittenCommand {
 
     ghost meaning = { command_meant };
 
-    fn read(alloc: Global, value: &Value) -> Result<WrittenCommand, ScriptFault> {
+    fn read(alloc: Global, value: &Value) -> Result<WrittenCommand, Unread> {
         let text = text(value)?;
         let words = texts::words(alloc, text)?;
         commands::command(alloc, words.as_slice())
@@ -92,10 +98,11 @@ impl Reads for WrittenEvents {
 
     ghost meaning = { events_meant };
 
-    fn read(alloc: Global, value: &Value) -> Result<WrittenEvents, ScriptFault> {
+    #[tactic(auto, unfolding(crate::specs::Documents::events_in))]
+    fn read(alloc: Global, value: &Value) -> Result<WrittenEvents, Unread> {
         let table = table(value)?;
-        if !has_only(table, &["name", "list"]) {
-            return Err(ScriptFault::BadKey);
+        if !has_only(alloc, table, &["name", "list"])? {
+            return Err(Unread::BadKey);
         }
         let name = needed(alloc, table, "name")?;
         let items = needed_list(alloc, table, "list")?;
@@ -113,10 +120,11 @@ impl Reads for WrittenSignals {
 
     ghost meaning = { signals_meant };
 
-    fn read(alloc: Global, value: &Value) -> Result<WrittenSignals, ScriptFault> {
+    #[tactic(auto, unfolding(crate::specs::Documents::signals_in))]
+    fn read(alloc: Global, value: &Value) -> Result<WrittenSignals, Unread> {
         let table = table(value)?;
-        if !has_only(table, &["name", "list"]) {
-            return Err(ScriptFault::BadKey);
+        if !has_only(alloc, table, &["name", "list"])? {
+            return Err(Unread::BadKey);
         }
         let name = needed(alloc, table, "name")?;
         let items = needed_list(alloc, table, "list")?;
@@ -134,19 +142,17 @@ impl Reads for WrittenMap {
 
     ghost meaning = { map_meant };
 
-    fn read(alloc: Global, value: &Value) -> Result<WrittenMap, ScriptFault> {
+    #[tactic(auto, unfolding(crate::specs::Documents::map_in))]
+    fn read(alloc: Global, value: &Value) -> Result<WrittenMap, Unread> {
         let table = table(value)?;
-        if !has_only(table, &["name", "map"]) {
-            return Err(ScriptFault::BadKey);
+        if !has_only(alloc, table, &["name", "map"])? {
+            return Err(Unread::BadKey);
         }
         let name = needed(alloc, table, "name")?;
         let text = needed(alloc, table, "map")?;
         Ok(WrittenMap { name, text })
     }
 }
-
-/// The keys of a state.
-const STATE_KEYS: [&str; 8] = ["name", "do", "talk", "end", "ok", "fault", "timer", "on"];
 
 impl Reads for WrittenState {
     ghost use Rattle.scriptreader.specs.Documents.{state_meant};
@@ -158,10 +164,15 @@ impl Reads for WrittenState {
 
     ghost meaning = { state_meant };
 
-    fn read(alloc: Global, value: &Value) -> Result<WrittenState, ScriptFault> {
+    #[tactic(auto, unfolding(crate::specs::Documents::state_in))]
+    fn read(alloc: Global, value: &Value) -> Result<WrittenState, Unread> {
         let table = table(value)?;
-        if !has_only(table, &STATE_KEYS) {
-            return Err(ScriptFault::BadKey);
+        if !has_only(
+            alloc,
+            table,
+            &["name", "do", "talk", "end", "ok", "fault", "timer", "on"],
+        )? {
+            return Err(Unread::BadKey);
         }
         let name = needed(alloc, table, "name")?;
         let commands = listed(alloc, table, "do")?;
@@ -185,31 +196,57 @@ impl Reads for WrittenState {
 }
 
 /// Where a state's notes lead.
-fn transitions(alloc: Global, state: &Table) -> Result<Vec<WrittenTransition>, ScriptFault> {
+fn transitions(alloc: Global, state: &Table) -> Result<Vec<WrittenTransition>, Unread>
+    ensures { Shapes (λ v. v.items) result (on_at (get_member (codes "on") (table_view state.now))) }
+{
+    match member(state, "on") {
+        Some(on) => of_lines(alloc, table(on)?),
+        None => Ok(Vec::new(alloc)),
+    }
+}
+
+/// Where the notes of these lines lead.
+#[tactic(auto, unfolding(crate::specs::Documents::lines_of))]
+fn of_lines(alloc: Global, on: &Table) -> Result<Vec<WrittenTransition>, Unread>
+    ensures { Shapes (λ v. v.items) result (lines_of (table_view on.now)) }
+{
+    let entries = entries(alloc, on)?;
     let mut found = Vec::new(alloc);
-    let Some(on) = member(state, "on") else {
-        return Ok(found);
-    };
-    let lines = entries(alloc, table(on)?)?;
-    for (line, kinds) in &lines {
-        of_line(alloc, line, kinds, &mut found)?;
+    for entry in &entries {
+        of_line(alloc, entry.0.as_str(), entry.1, &mut found)?;
     }
     Ok(found)
 }
 
 /// Adds where the notes of one line lead.
+#[tactic(auto, unfolding(crate::specs::Documents::line_of))]
 fn of_line(
     alloc: Global,
     line: &str,
     kinds: &Value,
     found: &mut Vec<WrittenTransition>,
-) -> Result<(), ScriptFault> {
+) -> Result<(), Unread>
+    ensures { Shapes (λ _. found.new.items) result (added_to found.old.items (line_of line.now (view kinds.now))) }
+{
     if !word::is_name(line) {
-        return Err(ScriptFault::BadKey);
+        return Err(Unread::BadKey);
     }
-    let kinds = entries(alloc, table(kinds)?)?;
-    for (kind, target) in &kinds {
-        found.push(transition(alloc, line, kind, target)?)?;
+    of_kinds(alloc, line, table(kinds)?, found)
+}
+
+/// Adds where the kinds of notes of one line lead.
+#[tactic(auto, unfolding(crate::specs::Documents::kinds_of))]
+fn of_kinds(
+    alloc: Global,
+    line: &str,
+    kinds: &Table,
+    found: &mut Vec<WrittenTransition>,
+) -> Result<(), Unread>
+    ensures { Shapes (λ _. found.new.items) result (added_to found.old.items (kinds_of line.now (table_view kinds.now))) }
+{
+    let entries = entries(alloc, kinds)?;
+    for entry in &entries {
+        found.push(transition(alloc, line, entry.0.as_str(), entry.1)?)?;
     }
     Ok(())
 }
@@ -220,37 +257,40 @@ fn transition(
     line: &str,
     kind: &str,
     target: &Value,
-) -> Result<WrittenTransition, ScriptFault> {
+) -> Result<WrittenTransition, Unread>
+    ensures { Shapes (λ t. t) result (transition_of line.now kind.now (view target.now)) }
+{
     let Some(kind) = Kind::read(kind) else {
-        return Err(ScriptFault::BadKey);
+        return Err(Unread::BadKey);
     };
-    let line = Word::copy(alloc, line)?;
     let target = Word::read(alloc, target)?;
+    let line = Word::copy(alloc, line)?;
     Ok(WrittenTransition { line, kind, target })
 }
 
-/// The keys of a document.
-const DOCUMENT_KEYS: [&str; 9] = [
-    "lines",
-    "contexts",
-    "ephemerals",
-    "start",
-    "restart",
-    "events",
-    "signals",
-    "maps",
-    "state",
-];
-
 /// The document that a whole tree is.
-pub(crate) fn document(alloc: Global, table: &Table) -> Result<Document, ScriptFault> {
-    if !has_only(table, &DOCUMENT_KEYS) {
-        return Err(ScriptFault::BadKey);
+#[tactic(auto, unfolding(crate::specs::Documents::document_in))]
+pub(crate) fn document(alloc: Global, table: &Table) -> Result<Document, Unread>
+    ensures { Shapes (λ d. d) result (document_in (table_view table.now)) }
+{
+    if !has_only(
+        alloc,
+        table,
+        &[
+            "lines",
+            "contexts",
+            "ephemerals",
+            "start",
+            "restart",
+            "events",
+            "signals",
+            "maps",
+            "state",
+        ],
+    )? {
+        return Err(Unread::BadKey);
     }
     let lines: Vec<Word> = needed_list(alloc, table, "lines")?;
-    if lines.len() < 2 {
-        return Err(ScriptFault::BadKey);
-    }
     let contexts = listed(alloc, table, "contexts")?;
     let ephemerals = listed(alloc, table, "ephemerals")?;
     let start = optional(alloc, table, "start")?;
@@ -259,6 +299,9 @@ pub(crate) fn document(alloc: Global, table: &Table) -> Result<Document, ScriptF
     let signals = listed(alloc, table, "signals")?;
     let maps = listed(alloc, table, "maps")?;
     let states = listed(alloc, table, "state")?;
+    if lines.len() < 2 {
+        return Err(Unread::BadKey);
+    }
     Ok(Document {
         lines,
         contexts,
