@@ -4,5 +4,6 @@ pub mod Shape
 pub mod Written
 pub mod Texts
 pub mod Documents
+pub mod Faults
 pub mod Table
 pub mod Words

@@ -7,11 +7,14 @@
 #![tactic(auto)]
 
 mod commands;
+mod duplicates;
 mod fault;
 mod items;
 mod lists;
+mod named;
 mod names;
 mod reads;
+mod scope;
 mod script;
 mod state;
 mod syntax;
