@@ -26,9 +26,9 @@ use Rattle.scriptreader.specs.Texts.{suits_line, suits_ephemeral}
 unfoldable pub has_bad_name : Document → Bool
 has_bad_name d =
     not (list_all (λ name. is_declarable name) d.lines && (list_all (λ name. is_declarable name) d.contexts
-        && (list_all (λ name. is_declarable name) d.ephemerals && (list_all (λ e. is_declarable e.name) d.events
-            && (list_all (λ s. is_declarable s.name) d.signals && (list_all (λ m. is_declarable m.name) d.maps
-                && list_all (λ s. is_declarable s.name) d.states))))))
+    && (list_all (λ name. is_declarable name) d.ephemerals && (list_all (λ e. is_declarable e.name) d.events
+    && (list_all (λ s. is_declarable s.name) d.signals && (list_all (λ m. is_declarable m.name) d.maps
+    && list_all (λ s. is_declarable s.name) d.states))))))
 
 -- ---- Duplicate
 

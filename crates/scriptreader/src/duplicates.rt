@@ -170,9 +170,13 @@ fn add_created<'a>(names: &mut Names<'a>, command: &'a WrittenCommand) -> Result
 }
 
 impl WrittenCommand {
+    ghost use Rattle.scriptreader.specs.Faults.{is_loop};
+
     /// Whether this is a topology between a termination and itself.
     #[tactic(auto, unfolding(crate::specs::Faults::is_loop))]
-    fn is_loop(&self) -> bool {
+    fn is_loop(&self) -> bool
+        ensures { result ≡ is_loop self.now }
+    {
         match self {
             WrittenCommand::SetTopology { first, second, .. } => {
                 first.as_str() == second.as_str()

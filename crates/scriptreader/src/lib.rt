@@ -6,13 +6,16 @@
 //! `duplicates`, `scope`), and then its table is built (`build`).
 #![tactic(auto)]
 
+mod build;
 mod commands;
 mod duplicates;
 mod fault;
+mod faults;
 mod items;
 mod lists;
 mod named;
 mod names;
+mod reader;
 mod reads;
 mod scope;
 mod script;
@@ -25,5 +28,6 @@ mod word;
 mod words;
 
 pub use fault::ScriptFault;
+pub use reader::read_script;
 pub use script::Script;
 pub use state::State;
