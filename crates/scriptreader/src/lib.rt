@@ -31,3 +31,6 @@ pub use fault::ScriptFault;
 pub use reader::read_script;
 pub use script::Script;
 pub use state::State;
+
+#[cfg(test)]
+mod tests;
