@@ -1,6 +1,6 @@
 -- The faults of a document that are not of its shape. Each is a test of the whole document, apart from the others. A
 -- reader should check each test against the table of faults.
-use Rattle.std.specs.Prelude.{ℕ, List, [], ◌∷◌, ◌++◌, length, map, Bool, true, false, not, ◌&&◌, ◌||◌, ◌==◌, nat_le, nat_lt, is_some, is_none, is_err, codes, if◌then◌else◌, Option, Some, None}
+use Rattle.std.specs.Prelude.{ℕ, List, [], ◌∷◌, ◌++◌, length, map, Bool, true, false, not, ◌≡◌, ◌&&◌, ◌||◌, ◌==◌, nat_le, nat_lt, is_some, is_none, is_err, codes, if◌then◌else◌, Option, Some, None}
 use Rattle.std.specs.List.{list_all, list_any, flat_map}
 use Rattle.std.specs.Str.{bytes_eq}
 use Rattle.mg_names.specs.Words.{event_name_text, signal_text}
@@ -18,7 +18,7 @@ use Rattle.scriptreader.specs.declared.syntax.Options.{Options}
 use Rattle.scriptreader.specs.declared.syntax.WrittenCommand.{WrittenCommand}
 use Rattle.scriptreader.specs.declared.syntax.WrittenCommand.TheVariants.{Add, Modify, Move, Subtract, SubtractAll, SetTopology}
 use Rattle.scriptreader.specs.Written.{Events, Signals, State, Document}
-use Rattle.scriptreader.specs.Names.{is_declarable, is_among, repeats_after}
+use Rattle.scriptreader.specs.Names.{is_declarable, is_among, repeats_after, each_once}
 use Rattle.scriptreader.specs.Texts.{suits_line, suits_ephemeral}
 
 -- ---- BadName: a declared name that may not be declared
@@ -92,6 +92,19 @@ scope_of d = record {
   maps = map (λ m. m.name) d.maps;
   states = map (λ s. s.name) d.states;
 }
+
+abbrev pub no_names : Scope
+no_names = record { lines = []; contexts = []; ephemerals = []; events = []; signals = []; maps = []; states = [] }
+
+-- of each kind whose names don't repeat, the scope has these names
+pub record IsScopeOf (d : Document) (k : Scope) : Type 0 where
+  pub lines : repeats (map (λ n. n) d.lines) ≡ false → k.lines ≡ map (λ n. n) d.lines
+  pub contexts : repeats (map (λ n. n) d.contexts) ≡ false → k.contexts ≡ map (λ n. n) d.contexts
+  pub ephemerals : repeats (map (λ n. n) d.ephemerals) ≡ false → k.ephemerals ≡ map (λ n. n) d.ephemerals
+  pub events : repeats (map (λ e. e.name) d.events) ≡ false → k.events ≡ map (λ e. e.name) d.events
+  pub signals : repeats (map (λ s. s.name) d.signals) ≡ false → k.signals ≡ map (λ s. s.name) d.signals
+  pub maps : repeats (map (λ m. m.name) d.maps) ≡ false → k.maps ≡ map (λ m. m.name) d.maps
+  pub states : repeats (map (λ s. s.name) d.states) ≡ false → k.states ≡ map (λ s. s.name) d.states
 
 -- left out, or among the names
 abbrev pub is_known : List (List ℕ) → Option (List ℕ) → Bool
@@ -203,7 +216,8 @@ unmakes contexts ephemerals (SubtractAll context) = is_among context contexts
 unmakes contexts ephemerals command = false
 
 unfoldable pub makes_and_subtracts : State → Bool
-makes_and_subtracts s = list_any (λ c. unmakes (flat_map contexts_made s.commands) (flat_map ephemerals_made s.commands) c) s.commands
+makes_and_subtracts s =
+    list_any (λ c. unmakes (each_once [] (flat_map contexts_made s.commands)) (each_once [] (flat_map ephemerals_made s.commands)) c) s.commands
 
 -- this profile's limits
 abbrev pub is_too_large : Document → Bool
@@ -212,18 +226,28 @@ is_too_large d =
     || (nat_lt 16 (length d.events) || (nat_lt 16 (length d.signals) || (nat_lt 16 (length d.maps)
     || list_any (λ s. nat_lt 16 (length s.commands)) d.states))))))
 
--- the first fault of the list whose test holds; the shape of the document comes before all of these
-unfoldable pub fault_of : Document → Option ScriptFault
-fault_of d =
-    if has_bad_name d then Some fault.BadName
-    else if has_duplicate d then Some fault.Duplicate
-    else if has_unknown d then Some fault.Unknown
-    else if has_bad_map d then Some fault.BadMap
-    else if not (names_state d d.start) then Some fault.NoStart
-    else if not (names_state d d.restart) then Some fault.NoRestart
-    else if list_any (λ s. lacks_fault s) d.states then Some fault.NoFault
+-- the first fault of the states whose test holds
+unfoldable pub state_fault_of : Document → Option ScriptFault
+state_fault_of d =
+    if list_any (λ s. lacks_fault s) d.states then Some fault.NoFault
     else if list_any (λ s. has_vain_outcome s) d.states then Some fault.OkWithoutActions
     else if list_any (λ s. is_end_that_goes_on s) d.states then Some fault.EndWithTransitions
     else if list_any (λ s. makes_and_subtracts s) d.states then Some fault.MadeAndSubtracted
     else if is_too_large d then Some fault.TooMany
     else None
+
+-- the first fault of the uses whose test holds, and after those the faults of the states
+unfoldable pub use_fault_of : Document → Option ScriptFault
+use_fault_of d =
+    if has_unknown d then Some fault.Unknown
+    else if has_bad_map d then Some fault.BadMap
+    else if not (names_state d d.start) then Some fault.NoStart
+    else if not (names_state d d.restart) then Some fault.NoRestart
+    else state_fault_of d
+
+-- the first fault whose test holds, in the order of their numbers; the shape of the document comes before all of these
+unfoldable pub fault_of : Document → Option ScriptFault
+fault_of d =
+    if has_bad_name d then Some fault.BadName
+    else if has_duplicate d then Some fault.Duplicate
+    else use_fault_of d

@@ -32,3 +32,8 @@ is_among text texts = list_any (λ other. bytes_eq text other) texts
 abbrev pub repeats_after : List (List ℕ) → List (List ℕ) → Bool
 repeats_after before [] = false
 repeats_after before (text ∷ texts) = is_among text before || repeats_after (before ++ text ∷ []) texts
+
+-- the texts, each once, after those before them
+abbrev pub each_once : List (List ℕ) → List (List ℕ) → List (List ℕ)
+each_once before [] = before
+each_once before (text ∷ texts) = each_once (if is_among text before then before else before ++ text ∷ []) texts

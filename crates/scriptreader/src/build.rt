@@ -1,5 +1,6 @@
 //! The table that a document means. Where the document has no fault, each look-up here finds what it looks for.
-ghost use Rattle.std.specs.Prelude.{◌≡◌, length, vec_len, IfOk};
+ghost use Rattle.std.specs.Prelude.{◌≡◌, false, length, vec_len, IfOk};
+ghost use Rattle.scriptreader.specs.Faults.{has_duplicate};
 
 use crate::fault::ScriptFault;
 use crate::lists::{EventsList, NamedMap, SignalsList};
@@ -364,11 +365,11 @@ fn named_state(
 }
 
 /// The table of a document.
-pub(crate) fn script(
-    alloc: Global,
-    scope: &Scope,
-    document: &Document,
-) -> Result<Script, ScriptFault> {
+pub(crate) fn script(alloc: Global, document: &Document) -> Result<Script, ScriptFault>
+    requires { has_duplicate document.now ≡ false }
+{
+    let scope = Scope::new(alloc, document)?;
+    let scope = &scope;
     if document.lines.len() > 4
         || document.contexts.len() > 4
         || document.ephemerals.len() > 4

@@ -1,9 +1,8 @@
 //! The faults of a document that are not of its shape, the lowest first.
-ghost use Rattle.std.specs.Prelude.{◌≡◌, false, nat_lt, length, IfOk};
-ghost use Rattle.std.specs.List.{list_any};
-ghost use Rattle.std.specs.Option.{option_map_or};
-ghost use Rattle.scriptreader.specs.Names.{is_among};
-ghost use Rattle.scriptreader.specs.Faults.{has_bad_name, is_bad_map, is_too_large, unmakes, lacks_fault, has_vain_outcome, is_end_that_goes_on};
+ghost use Rattle.std.specs.Prelude.{◌≡◌, ◌++◌, List, ℕ, None, false, not, nat_lt, length, IfOk, OnOk};
+ghost use Rattle.std.specs.List.{list_any, flat_map};
+ghost use Rattle.scriptreader.specs.Names.{each_once};
+ghost use Rattle.scriptreader.specs.Faults.{has_bad_name, has_duplicate, is_bad_map, has_bad_map, has_unknown, names_state, scope_of, is_too_large, unmakes, makes_and_subtracts, contexts_made, ephemerals_made, lacks_fault, has_vain_outcome, is_end_that_goes_on, state_fault_of, use_fault_of, fault_of};
 
 use crate::duplicates::has_duplicate;
 use crate::fault::ScriptFault;
@@ -52,8 +51,8 @@ fn is_bad_map(alloc: Global, map: &WrittenMap) -> Result<bool, AllocError>
     }
 }
 
-/// Whether one of the maps' texts is no digit map.
-fn has_bad_map(alloc: Global, maps: &[WrittenMap]) -> Result<bool, AllocError>
+/// Whether one of these texts is no digit map.
+fn one_is_bad_map(alloc: Global, maps: &[WrittenMap]) -> Result<bool, AllocError>
     ensures { IfOk result (λ r. r ≡ list_any (λ m. is_bad_map m) maps.now) }
 {
     for map in maps {
@@ -64,14 +63,12 @@ fn has_bad_map(alloc: Global, maps: &[WrittenMap]) -> Result<bool, AllocError>
     Ok(false)
 }
 
-/// Whether a state is named, and is one of these.
-fn names_state(states: &Names, name: &Option<Word>) -> bool
-    ensures { result ≡ option_map_or (λ n. is_among n states.now) name.now false }
+/// Whether one of the document's maps is no digit map.
+#[tactic(auto, unfolding(crate::specs::Faults::has_bad_map))]
+fn has_bad_map(alloc: Global, document: &Document) -> Result<bool, AllocError>
+    ensures { IfOk result (λ r. r ≡ has_bad_map document.now) }
 {
-    match name {
-        Some(name) => states.has(name.as_str()),
-        None => false,
-    }
+    one_is_bad_map(alloc, document.maps.as_slice())
 }
 
 impl WrittenState {
@@ -113,42 +110,82 @@ impl WrittenState {
 }
 
 /// Whether a state creates what it subtracts.
-fn makes_and_subtracts(alloc: Global, state: &WrittenState) -> Result<bool, AllocError> {
+#[tactic(auto, unfolding(crate::specs::Faults::makes_and_subtracts))]
+fn makes_and_subtracts(alloc: Global, state: &WrittenState) -> Result<bool, AllocError>
+    ensures { IfOk result (λ r. r ≡ makes_and_subtracts state.now) }
+{
+    let commands = state.commands.as_slice();
     let mut contexts = Names::new(alloc);
+    add_contexts(&mut contexts, commands)?;
     let mut ephemerals = Names::new(alloc);
-    for command in &state.commands {
-        add_made(&mut contexts, &mut ephemerals, command)?;
-    }
-    Ok(
-        state
-            .commands
-            .iter()
-            .any(|command| unmakes(&contexts, &ephemerals, command)),
-    )
+    add_ephemerals(&mut ephemerals, commands)?;
+    Ok(one_unmakes(&contexts, &ephemerals, commands))
 }
 
-/// Adds what a command creates.
-fn add_made<'a>(
-    contexts: &mut Names<'a>,
-    ephemerals: &mut Names<'a>,
-    command: &'a WrittenCommand,
-) -> Result<(), AllocError> {
-    if let WrittenCommand::Add {
+/// Adds the context that a command creates.
+fn add_context<'a>(names: &mut Names<'a>, command: &'a WrittenCommand) -> Result<(), AllocError>
+    ensures { OnOk result ((rest : List (List ℕ)) → each_once names.new rest ≡ each_once names.old (contexts_made command.now ++ rest)) }
+{
+    let WrittenCommand::Add {
         create,
         context,
-        own,
-        name,
         ..
     } = command
-    {
-        if *create {
-            contexts.add(context.as_str())?;
-        }
-        if *own {
-            ephemerals.add(name.as_str())?;
-        }
+    else {
+        return Ok(());
+    };
+    if *create {
+        let _ = names.add(context.as_str())?;
     }
     Ok(())
+}
+
+/// Adds the contexts that the commands create.
+fn add_contexts<'a>(names: &mut Names<'a>, commands: &'a [WrittenCommand]) -> Result<(), AllocError>
+    ensures { OnOk result (names.new ≡ each_once names.old (flat_map contexts_made commands.now)) }
+{
+    for command in commands {
+        add_context(names, command)?;
+    }
+    Ok(())
+}
+
+/// Adds the ephemeral that a command creates.
+fn add_ephemeral<'a>(names: &mut Names<'a>, command: &'a WrittenCommand) -> Result<(), AllocError>
+    ensures { OnOk result ((rest : List (List ℕ)) → each_once names.new rest ≡ each_once names.old (ephemerals_made command.now ++ rest)) }
+{
+    let WrittenCommand::Add { own, name, .. } = command else {
+        return Ok(());
+    };
+    if *own {
+        let _ = names.add(name.as_str())?;
+    }
+    Ok(())
+}
+
+/// Adds the ephemerals that the commands create.
+fn add_ephemerals<'a>(
+    names: &mut Names<'a>,
+    commands: &'a [WrittenCommand],
+) -> Result<(), AllocError>
+    ensures { OnOk result (names.new ≡ each_once names.old (flat_map ephemerals_made commands.now)) }
+{
+    for command in commands {
+        add_ephemeral(names, command)?;
+    }
+    Ok(())
+}
+
+/// Whether one of the commands subtracts one of the ephemerals, or all of one of the contexts.
+fn one_unmakes(contexts: &Names, ephemerals: &Names, commands: &[WrittenCommand]) -> bool
+    ensures { result ≡ list_any (λ c. unmakes contexts.now ephemerals.now c) commands.now }
+{
+    for command in commands {
+        if unmakes(contexts, ephemerals, command) {
+            return true;
+        }
+    }
+    false
 }
 
 /// Whether a command subtracts one of the ephemerals, or all of one of the contexts.
@@ -164,7 +201,9 @@ fn unmakes(contexts: &Names, ephemerals: &Names, command: &WrittenCommand) -> bo
 }
 
 /// Whether one of the states creates what it subtracts.
-fn one_makes_and_subtracts(alloc: Global, states: &[WrittenState]) -> Result<bool, AllocError> {
+fn one_makes_and_subtracts(alloc: Global, states: &[WrittenState]) -> Result<bool, AllocError>
+    ensures { IfOk result (λ r. r ≡ list_any (λ s. makes_and_subtracts s) states.now) }
+{
     for state in states {
         if makes_and_subtracts(alloc, state)? {
             return Ok(true);
@@ -215,52 +254,91 @@ fn one_end_goes_on(states: &[WrittenState]) -> bool
     states.iter().any(|state| state.is_end_that_goes_on())
 }
 
-/// Answers the faults of names: what is declared, what comes twice, and what is used.
-fn judge_names(alloc: Global, document: &Document, scope: &Scope) -> Result<(), ScriptFault> {
-    if has_bad_name(document) {
-        return Err(ScriptFault::BadName);
-    }
-    if has_duplicate(alloc, document)? {
-        return Err(ScriptFault::Duplicate);
-    }
-    if !scope.knows(document) {
-        return Err(ScriptFault::Unknown);
-    }
-    if has_bad_map(alloc, document.maps.as_slice())? {
-        return Err(ScriptFault::BadMap);
-    }
-    if !names_state(&scope.states, &document.start) {
-        return Err(ScriptFault::NoStart);
-    }
-    if !names_state(&scope.states, &document.restart) {
-        return Err(ScriptFault::NoRestart);
-    }
-    Ok(())
-}
-
-/// Answers the faults of the states, and of the document's size.
-fn judge_states(alloc: Global, document: &Document) -> Result<(), ScriptFault> {
+/// The lowest fault of the states, and of the document's size.
+#[tactic(auto, unfolding(crate::specs::Faults::state_fault_of))]
+fn state_fault(alloc: Global, document: &Document) -> Result<Option<ScriptFault>, AllocError>
+    ensures { IfOk result (λ f. f ≡ state_fault_of document.now) }
+{
     let states = document.states.as_slice();
     if one_lacks_fault(states) {
-        return Err(ScriptFault::NoFault);
+        return Ok(Some(ScriptFault::NoFault));
     }
     if one_has_vain_outcome(states) {
-        return Err(ScriptFault::OkWithoutActions);
+        return Ok(Some(ScriptFault::OkWithoutActions));
     }
     if one_end_goes_on(states) {
-        return Err(ScriptFault::EndWithTransitions);
+        return Ok(Some(ScriptFault::EndWithTransitions));
     }
     if one_makes_and_subtracts(alloc, states)? {
-        return Err(ScriptFault::MadeAndSubtracted);
+        return Ok(Some(ScriptFault::MadeAndSubtracted));
     }
     if is_too_large(document) {
-        return Err(ScriptFault::TooMany);
+        return Ok(Some(ScriptFault::TooMany));
     }
-    Ok(())
+    Ok(None)
 }
 
-/// Answers the lowest fault of a document.
-pub(crate) fn judge(alloc: Global, document: &Document, scope: &Scope) -> Result<(), ScriptFault> {
-    judge_names(alloc, document, scope)?;
-    judge_states(alloc, document)
+/// Whether the document uses a name that isn't declared as what its place asks for.
+#[tactic(auto, unfolding(crate::specs::Faults::has_unknown))]
+fn has_unknown(scope: &Scope, document: &Document) -> bool
+    requires { scope.now ≡ scope_of document.now }
+    ensures { result ≡ has_unknown document.now }
+{
+    !scope.knows(document)
+}
+
+/// Whether a state is named, and is one of the document.
+fn lacks_state(scope: &Scope, document: &Document, name: &Option<Word>) -> bool
+    requires { scope.now ≡ scope_of document.now }
+    ensures { result ≡ not (names_state document.now name.now) }
+{
+    match name {
+        Some(name) => !scope.states.has(name.as_str()),
+        None => true,
+    }
+}
+
+/// The lowest fault from the names that the document uses on.
+#[tactic(auto, unfolding(crate::specs::Faults::use_fault_of))]
+fn use_fault(
+    alloc: Global,
+    scope: &Scope,
+    document: &Document,
+) -> Result<Option<ScriptFault>, AllocError>
+    requires { scope.now ≡ scope_of document.now }
+    ensures { IfOk result (λ f. f ≡ use_fault_of document.now) }
+{
+    if has_unknown(scope, document) {
+        return Ok(Some(ScriptFault::Unknown));
+    }
+    if has_bad_map(alloc, document)? {
+        return Ok(Some(ScriptFault::BadMap));
+    }
+    if lacks_state(scope, document, &document.start) {
+        return Ok(Some(ScriptFault::NoStart));
+    }
+    if lacks_state(scope, document, &document.restart) {
+        return Ok(Some(ScriptFault::NoRestart));
+    }
+    state_fault(alloc, document)
+}
+
+/// The lowest fault of a document that is not of its shape.
+#[tactic(auto, unfolding(crate::specs::Faults::fault_of))]
+pub(crate) fn first_fault(
+    alloc: Global,
+    document: &Document,
+) -> Result<Option<ScriptFault>, AllocError>
+    ensures value { IfOk result (λ f. f ≡ fault_of document.now) }
+    ensures clean { IfOk result (λ f. f ≡ None → has_duplicate document.now ≡ false) }
+{
+    if has_bad_name(document) {
+        return Ok(Some(ScriptFault::BadName));
+    }
+    let duplicate = has_duplicate(alloc, document)?;
+    if duplicate {
+        return Ok(Some(ScriptFault::Duplicate));
+    }
+    let scope = Scope::new(alloc, document)?;
+    use_fault(alloc, &scope, document)
 }

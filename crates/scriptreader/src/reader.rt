@@ -1,6 +1,5 @@
 //! The reader of scripts.
 use crate::fault::ScriptFault;
-use crate::scope::Scope;
 use crate::script::Script;
 use crate::syntax::Document;
 use crate::unread::Unread;
@@ -33,9 +32,10 @@ fn document_of(alloc: Global, tree: &Table) -> Result<Document, ScriptFault> {
 
 /// The table of a document that is of the right shape.
 fn table_of(alloc: Global, document: &Document) -> Result<Script, ScriptFault> {
-    let scope = Scope::new(alloc, document)?;
-    faults::judge(alloc, document, &scope)?;
-    build::script(alloc, &scope, document)
+    if let Some(fault) = faults::first_fault(alloc, document)? {
+        return Err(fault);
+    }
+    build::script(alloc, document)
 }
 
 /// Reads a script. The bytes are TOML; the format is this profile's own. Of all faults that the document has anywhere

@@ -1,9 +1,9 @@
 //! The names that a document declares, and whether it uses others.
-ghost use Rattle.std.specs.Prelude.{◌≡◌, ◌&&◌, false, if◌then◌else◌, IfOk};
+ghost use Rattle.std.specs.Prelude.{◌≡◌, ◌&&◌, [], false, map, if◌then◌else◌, IfOk, OnOk};
 ghost use Rattle.std.specs.List.{list_all};
-ghost use Rattle.scriptreader.specs.Names.{is_among};
+ghost use Rattle.scriptreader.specs.Names.{is_among, repeats_after};
 
-use crate::named::add_all;
+use crate::named::{Named, add_all};
 use crate::names::Names;
 use crate::syntax::{
     Document, Options, WrittenCommand, WrittenEvents, WrittenItem, WrittenPair, WrittenState,
@@ -25,6 +25,15 @@ pub(crate) struct Scope<'a> {
     pub(crate) states: Names<'a>,
 }
 
+/// Fills a table with the names of these.
+fn fill_with<'a, T: Named>(names: &mut Names<'a>, items: &'a [T]) -> Result<(), AllocError>
+    requires { names.old ≡ [] }
+    ensures { OnOk result (repeats_after [] (map T.called items.now) ≡ false → names.new ≡ map T.called items.now) }
+{
+    let _ = add_all(names, items)?;
+    Ok(())
+}
+
 impl<'a> Model for Scope<'a> {
     ghost use Rattle.scriptreader.specs.Faults as faults;
 
@@ -34,10 +43,12 @@ impl<'a> Model for Scope<'a> {
 }
 
 impl<'a> Scope<'a> {
-    ghost use Rattle.scriptreader.specs.Faults.{item_known, state_known, command_known, pair_known, transition_known, is_known, ephemeral_options_known, line_options_known, termination_known, options_known, option_passes, is_events_list, is_signals_list, is_remote, has_duplicate, scope_of};
+    ghost use Rattle.scriptreader.specs.Faults.{item_known, state_known, command_known, pair_known, transition_known, is_known, ephemeral_options_known, line_options_known, termination_known, options_known, option_passes, is_events_list, is_signals_list, is_remote, has_duplicate, scope_of, no_names, IsScopeOf};
 
     /// No names.
-    fn empty(alloc: Global) -> Scope<'a> {
+    fn empty(alloc: Global) -> Scope<'a>
+        ensures { result ≡ no_names }
+    {
         Scope {
             lines: Names::new(alloc),
             contexts: Names::new(alloc),
@@ -50,19 +61,28 @@ impl<'a> Scope<'a> {
     }
 
     /// Adds the names of a document.
-    fn fill(&mut self, document: &'a Document) -> Result<(), AllocError> {
-        add_all(&mut self.lines, document.lines.as_slice())?;
-        add_all(&mut self.contexts, document.contexts.as_slice())?;
-        add_all(&mut self.ephemerals, document.ephemerals.as_slice())?;
-        add_all(&mut self.events, document.events.as_slice())?;
-        add_all(&mut self.signals, document.signals.as_slice())?;
-        add_all(&mut self.maps, document.maps.as_slice())?;
-        add_all(&mut self.states, document.states.as_slice())?;
+    fn fill(&mut self, document: &'a Document) -> Result<(), AllocError>
+        requires { self.old ≡ no_names }
+        ensures { OnOk result (IsScopeOf document.now self.new) }
+    {
+        let lines = document.lines.as_slice();
+        fill_with(&mut self.lines, lines)?;
+        let contexts = document.contexts.as_slice();
+        fill_with(&mut self.contexts, contexts)?;
+        let ephemerals = document.ephemerals.as_slice();
+        fill_with(&mut self.ephemerals, ephemerals)?;
+        fill_with(&mut self.events, document.events.as_slice())?;
+        fill_with(&mut self.signals, document.signals.as_slice())?;
+        fill_with(&mut self.maps, document.maps.as_slice())?;
+        fill_with(&mut self.states, document.states.as_slice())?;
         Ok(())
     }
 
-    /// The names of a document.
-    pub(crate) fn new(alloc: Global, document: &'a Document) -> Result<Scope<'a>, AllocError> {
+    /// The names of a document, where none comes twice.
+    pub(crate) fn new(alloc: Global, document: &'a Document) -> Result<Scope<'a>, AllocError>
+        requires { has_duplicate document.now ≡ false }
+        ensures { IfOk result (λ scope. scope ≡ scope_of document.now) }
+    {
         let mut scope = Scope::empty(alloc);
         scope.fill(document)?;
         Ok(scope)
