@@ -9,3 +9,6 @@ mod span;
 
 pub use fault::MapFault;
 pub use map::{DigitMap, LIMIT};
+
+#[cfg(test)]
+mod tests;

@@ -1,1 +1,4 @@
 pub mod Places
+pub mod Shapes
+pub mod Signs
+pub mod Repeats

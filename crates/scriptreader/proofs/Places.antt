@@ -1,7 +1,13 @@
 -- The place of an element of a mapped list.
 use Rattle.std.proofs.Common.{◌≡◌, ℕ, suc, not, ◌+◌, ◌<◌, ◌≤◌, arith, List, [], ◌∷◌, length, map, Bool, cond, Option, Some, None, refl, ap, position}
-use Rattle.std.specs.Prelude.{IfSome, IsNone, ◌↔◌}
-use Rattle.std.specs.List.{prefix_len}
+use Rattle.std.specs.Prelude.{IfSome, IsNone, ◌↔◌, ◌||◌, ◌&&◌}
+use Rattle.std.specs.List.{list_any, list_all, prefix_len}
+
+abbrev either : Bool → Bool → Bool
+either a b = a || b
+
+abbrev both : Bool → Bool → Bool
+both a b = a && b
 
 abbrev more : Bool → ℕ → ℕ
 more b n = cond b (1 + n) 0
@@ -21,3 +27,11 @@ position-mapped p f xs = rw (prefix_len-mapped (λ y. not (p y)) f xs, length-ma
 pub slot_is : (r : Option ℕ) (place : ℕ) → IfSome r (λ slot. slot ≡ place) → (IsNone r ↔ (4 ≤ place)) → place < 4 → r ≡ Some place
 slot_is (Some slot) place value refused small = ap (λ n. Some n) value
 slot_is None place value refused small = absurd (let le : 4 ≤ place = refused.0 refl in omega arith)
+
+pub list_any-mapped : {A B : Type 0} (p : B → Bool) (f : A → B) (xs : List A) → list_any p (map f xs) ≡ list_any (λ x. p (f x)) xs
+list_any-mapped p f [] = refl
+list_any-mapped p f (x ∷ xs) = ap (either (p (f x))) (list_any-mapped p f xs)
+
+pub list_all-mapped : {A B : Type 0} (p : B → Bool) (f : A → B) (xs : List A) → list_all p (map f xs) ≡ list_all (λ x. p (f x)) xs
+list_all-mapped p f [] = refl
+list_all-mapped p f (x ∷ xs) = ap (both (p (f x))) (list_all-mapped p f xs)

@@ -17,18 +17,18 @@ use Rattle.mg_model.specs.Script.{EventsList, SignalsList, NamedMap, DigitMap, S
 
 -- the place of a name among names
 abbrev pub place_of : List ℕ → List (List ℕ) → Option ℕ
-place_of name names = position (λ other. bytes_eq other name) names
+place_of name names = position (λ other. bytes_eq name other) names
 
 -- the state of a name
 abbrev pub state_named : List ℕ → List State → Option ℕ
-state_named name states = position (λ state. bytes_eq state.name name) states
+state_named name states = position (λ state. bytes_eq name state.name) states
 
 -- the events list of a name
 abbrev pub list_named : List ℕ → List EventsList → Option EventsName
 list_named name lists =
     if bytes_eq name (codes "none") then Some Empty
     else if bytes_eq name (codes "armed") then Some Armed
-    else option_map (λ place. Own place) (position (λ list. bytes_eq list.name name) lists)
+    else option_map (λ place. Own place) (position (λ list. bytes_eq name list.name) lists)
 
 -- the items of what stands at a place
 abbrev pub items_at : Option EventsList → List EventItem

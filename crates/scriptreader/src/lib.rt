@@ -1,13 +1,36 @@
 //! Call control scripts: the table that a script means, and its reader. A document is either read into the table that
 //! it describes, or refused with the lowest fault that it has anywhere. The format is this profile's own.
+//!
+//! The way of a document: its bytes are a tree (`reader`), the tree is a document as it is written (`tables`, over
+//! `reads`, `texts`, `items` and `commands`), the document is searched for one fault after the other (`faults`,
+//! `duplicates`, `scope`), and then its table is built (`build`).
 #![tactic(auto)]
 
+mod build;
+mod commands;
+mod duplicates;
 mod fault;
+mod faults;
+mod items;
 mod lists;
+mod named;
+mod names;
+mod reader;
+mod reads;
+mod scope;
 mod script;
 mod state;
+mod syntax;
+mod tables;
+mod texts;
+mod unread;
+mod word;
 mod words;
 
 pub use fault::ScriptFault;
+pub use reader::read_script;
 pub use script::Script;
 pub use state::State;
+
+#[cfg(test)]
+mod tests;

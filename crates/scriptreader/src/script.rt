@@ -45,10 +45,10 @@ impl Model for Script {
 
 /// The place of a name among names.
 fn place_among(names: &[String], name: &str) -> Option<usize>
-    ensures place { result ≡ position (λ other. bytes_eq (string_bytes other) name.now) names.now }
+    ensures place { result ≡ position (λ other. bytes_eq name.now (string_bytes other)) names.now }
     ensures within { IfSome result (λ place. place < length names.now) }
 {
-    names.iter().position(|other| other.as_str() == name)
+    names.iter().position(|other| name == other.as_str())
 }
 
 /// The slot of a name among at most four.
@@ -65,15 +65,15 @@ fn state_among(states: &[State], name: &str) -> Option<usize>
     ensures place { result ≡ state_named name.now states.now }
     ensures within { IfSome result (λ place. place < length states.now) }
 {
-    states.iter().position(|state| state.name() == name)
+    states.iter().position(|state| name == state.name())
 }
 
 /// The place of a list among lists.
 fn list_among(lists: &[EventsList], name: &str) -> Option<usize>
-    ensures place { result ≡ position (λ list. bytes_eq list.name name.now) lists.now }
+    ensures place { result ≡ position (λ list. bytes_eq name.now list.name) lists.now }
     ensures within { IfSome result (λ place. place < length lists.now) }
 {
-    lists.iter().position(|list| list.name() == name)
+    lists.iter().position(|list| name == list.name())
 }
 
 impl Script {

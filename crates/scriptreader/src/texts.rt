@@ -1,0 +1,44 @@
+//! The parts of texts: words, names, and what a sign divides.
+ghost use Rattle.std.specs.Prelude.{◌≡◌, ◌<◌, IfOk, map, option_map};
+ghost use Rattle.scriptreader.specs.Shape.{Shapes};
+ghost use Rattle.scriptreader.specs.Texts.{words_of, parts_at, name_of, marked_of};
+
+use crate::unread::Unread;
+use crate::word::{self, Word};
+use std::alloc::{AllocError, Global};
+
+/// The words of a text, between its spaces.
+pub(crate) fn words(alloc: Global, text: &str) -> Result<Vec<&str>, AllocError>
+    ensures { IfOk result (λ v. map (λ w. w.now) v.items ≡ words_of text.now) }
+{
+    text.split(' ').collect(alloc)
+}
+
+/// The two parts of a text round the first such sign.
+pub(crate) fn split_once(text: &str, sign: char) -> Option<(&str, &str)>
+    requires { sign < 128 }
+    ensures { option_map (λ p. (p.0.now, p.1.now)) result ≡ parts_at sign text.now }
+{
+    text.split_once(sign)
+}
+
+/// A word that has the form of a name.
+pub(crate) fn name(alloc: Global, text: &str) -> Result<Word, Unread>
+    ensures { Shapes (λ w. w) result (name_of text.now) }
+{
+    if !word::is_name(text) {
+        return Err(Unread::BadKey);
+    }
+    Ok(Word::copy(alloc, text)?)
+}
+
+/// Whether a word begins with `$`, and what is left of it then.
+pub(crate) fn marked(text: &str) -> (bool, &str)
+    ensures mark { result.0 ≡ (marked_of text.now).0 }
+    ensures rest { result.1.now ≡ (marked_of text.now).1 }
+{
+    match text.strip_prefix('$') {
+        Some(rest) => (true, rest),
+        None => (false, text),
+    }
+}
