@@ -125,7 +125,7 @@ pub fn first_fault(
         if let Some((point, broken)) = entry_fault(alloc, script, cert, entry)? {
             return Ok(Some(Fault {
                 number: broken.number,
-                entry: Some(place as u32),
+                entry: Some(place),
                 point: Some(point),
                 step: broken.step,
             }));

@@ -6,7 +6,7 @@ pub struct Fault {
     /// The number of the obligation, 1 to 6.
     pub number: u8,
     /// The place of the entry in the certificate, from 0, where the obligation is of an entry.
-    pub entry: Option<u32>,
+    pub entry: Option<usize>,
     /// The number of the point in the entry.
     pub point: Option<u32>,
     /// The step whose result is not covered.

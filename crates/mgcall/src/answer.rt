@@ -6,7 +6,7 @@ pub struct Broken {
     /// The obligation's number.
     pub obligation: u8,
     /// The certificate's entry, from 0, where the obligation is about one.
-    pub entry: Option<u32>,
+    pub entry: Option<usize>,
     /// The point of that entry, from 0.
     pub point: Option<u32>,
     /// The step from that point, in words.

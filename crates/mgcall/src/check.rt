@@ -1,17 +1,57 @@
-//! The checking itself.
+//! What the program says of a script and a certificate.
 ghost use Rattle.mgcall.specs.Replies.{answer_line};
-ghost use Rattle.mgcall.specs.Verdict.{Judges};
+ghost use Rattle.mgcall.specs.Verdict.{IsAnswerLine};
 
-use crate::answer::Answer;
-use std::alloc::Global;
+use crate::answer::{Answer, Broken};
+use crate::verdict::{CheckFault, Verdict, check};
+use mg_model::faults::Fault;
+use mg_model::steps::StepName;
+use scriptreader::{Script, read_script};
+use std::alloc::{AllocError, Global};
 
-/// The verdict on a script and a certificate.
-pub fn check(_alloc: Global, script: &[u8], certificate: &[u8]) -> Answer
-    ensures { Judges script.now certificate.now (answer_line result) }
+/// The words of a step, with the names of the script's lines.
+fn words_of(alloc: Global, script: &Script, step: &Option<StepName>) -> Result<Option<String>, AllocError> {
+    match step {
+        Some(step) => Ok(Some(script.step_words(alloc, step)?)),
+        None => Ok(None),
+    }
+}
+
+/// What is said of a broken obligation. A step's words name lines, so the script is read again.
+fn broken(alloc: Global, bytes: &[u8], fault: &Fault) -> Answer {
+    let Ok(script) = read_script(alloc, bytes) else {
+        return Answer::NoMemory;
+    };
+    match words_of(alloc, &script, &fault.step) {
+        Ok(step) => Answer::No(Broken {
+            obligation: fault.number,
+            entry: fault.entry,
+            point: fault.point,
+            step,
+        }),
+        Err(_) => Answer::NoMemory,
+    }
+}
+
+/// The answer on a script and a certificate.
+pub fn answer(alloc: Global, script: &[u8], certificate: &[u8]) -> Answer
+    ensures { IsAnswerLine (answer_line result) }
 {
-    Answer::Yes {
-        states: script.len() as u64,
-        entries: certificate.len() as u64,
-        points: 0,
+    match check(alloc, script, certificate) {
+        Ok(Verdict::Yes(checked)) => Answer::Yes {
+            states: checked.states(),
+            entries: checked.entries(),
+            points: checked.points(),
+        },
+        Ok(Verdict::No(fault)) => broken(alloc, script, &fault),
+        Err(CheckFault::Script(fault)) => Answer::ScriptFault {
+            number: fault.number(),
+            name: fault.name(),
+        },
+        Err(CheckFault::Cert(fault)) => Answer::CertificateFault {
+            number: fault.number(),
+            name: fault.name(),
+        },
+        Err(CheckFault::NoMemory) => Answer::NoMemory,
     }
 }

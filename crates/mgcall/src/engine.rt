@@ -6,7 +6,7 @@ ghost use Rattle.mgcall.specs.Sections.{pair_of, sections_of};
 ghost use Rattle.mgcall.specs.Statuses.{failures_of};
 
 use crate::answer::Answer;
-use crate::check::check;
+use crate::check::answer;
 use crate::input::{Input, read_all};
 use crate::reply::{InputFault, Reply};
 use crate::sections::two_sections;
@@ -21,7 +21,7 @@ fn reply_to_input(alloc: Global, input: &[u8]) -> Reply
     ensures { IsLineOfSections (pair_of (sections_of input.now)) (line_of result) }
 {
     match two_sections(input) {
-        Some((script, certificate)) => Reply::Checked(check(alloc, script, certificate)),
+        Some((script, certificate)) => Reply::Checked(answer(alloc, script, certificate)),
         None => Reply::Input(InputFault::Sections),
     }
 }

@@ -18,6 +18,7 @@ mod sections;
 mod sink;
 mod source;
 mod status;
+mod verdict;
 mod words;
 
 use crate::answer::Answer;

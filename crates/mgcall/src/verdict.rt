@@ -1,0 +1,79 @@
+//! The verdict on a script and a certificate. A `Yes` can be made in no other way than by `check`.
+use certificate::{Cert, CertFault, read_cert};
+use closure::first_fault::{first_fault, points};
+use mg_model::faults::Fault;
+use scriptreader::{Script, ScriptFault, read_script};
+use std::alloc::Global;
+
+/// A script with a certificate that breaks no obligation.
+#[derive(Drop)]
+pub struct Checked {
+    script: Script,
+    cert: Cert,
+    points: u64,
+}
+
+impl Checked {
+    /// The script.
+    pub fn script(&self) -> &Script {
+        &self.script
+    }
+
+    /// How many states the script has.
+    pub fn states(&self) -> u64 {
+        self.script().states() as u64
+    }
+
+    /// How many entries the certificate has.
+    pub fn entries(&self) -> u64 {
+        self.cert.entries().len() as u64
+    }
+
+    /// How many points of all entries are well formed.
+    pub fn points(&self) -> u64 {
+        self.points
+    }
+}
+
+/// What the checker says of a script and a certificate that are read.
+#[derive(Drop)]
+pub enum Verdict {
+    /// No obligation is broken.
+    Yes(Checked),
+    /// The first obligation that is broken.
+    No(Fault),
+}
+
+/// Why there is no verdict.
+#[derive(Debug, Drop)]
+pub enum CheckFault {
+    /// 1: the script is not read.
+    Script(ScriptFault),
+    /// 2: the certificate is not read.
+    Cert(CertFault),
+    /// 3: there was no memory to check them.
+    NoMemory,
+}
+
+/// The verdict on a script and a certificate. Faults of the script go before those of the certificate; want of memory
+/// may stand in place of any.
+pub fn check(alloc: Global, script: &[u8], certificate: &[u8]) -> Result<Verdict, CheckFault> {
+    let script = match read_script(alloc, script) {
+        Ok(script) => script,
+        Err(ScriptFault::NoMemory) => return Err(CheckFault::NoMemory),
+        Err(fault) => return Err(CheckFault::Script(fault)),
+    };
+    let cert = match read_cert(alloc, certificate, &script) {
+        Ok(cert) => cert,
+        Err(CertFault::NoMemory) => return Err(CheckFault::NoMemory),
+        Err(fault) => return Err(CheckFault::Cert(fault)),
+    };
+    match first_fault(alloc, &script, &cert) {
+        Ok(None) => {
+            let points = points(&cert);
+            Ok(Verdict::Yes(Checked { script, cert, points }))
+        }
+        Ok(Some(fault)) => Ok(Verdict::No(fault)),
+        Err(_) => Err(CheckFault::NoMemory),
+    }
+}
