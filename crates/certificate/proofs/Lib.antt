@@ -1,5 +1,7 @@
 pub mod Each
+pub mod Every
 pub mod Limits
+pub mod Same
 pub mod Parts
 pub mod Passing
 pub mod Products
