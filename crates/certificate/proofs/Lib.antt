@@ -1,5 +1,6 @@
 pub mod Each
 pub mod Every
+pub mod Existing
 pub mod Limits
 pub mod Same
 pub mod Parts

@@ -1,11 +1,15 @@
 -- An entry by its lines, contexts, ephemerals and pairs is the list of its components.
-use Rattle.std.proofs.Common.{◌≡◌, ◌∙◌, ◌++◌, ℕ, List, [], ◌∷◌, map, refl, sym, ap, ap₂, subst}
+use Rattle.std.proofs.Common.{◌≡◌, ◌∙◌, ◌++◌, ℕ, List, [], ◌∷◌, map, refl, sym, ap, ap₂, subst, length}
 use Rattle.std.specs.List.{flat_map, enumerate_from, All}
 use Rattle.std.proofs.lemmas.List.{map-append}
+use Rattle.mg_names.specs.declared.phases.Link.TheVariants.{Resting}
+use Rattle.mg_model.specs.declared.commands.EventsName.TheVariants.{Empty}
+use Rattle.mg_model.specs.Script.{Script}
+use Rattle.mg_model.specs.Steps.{unused}
 use Rattle.mg_model.specs.Configuration.{Configuration}
-use Rattle.mg_model.specs.Entries.{Entry, LineSets, EphemeralSets, CutSet, Choice, IsIn, components, line_components, ephemeral_components, context_choice, cut_choice, link_choice}
+use Rattle.mg_model.specs.Entries.{Entry, LineSets, EphemeralSets, CutSet, Choice, IsIn, chosen, components, numbered, product, size_of, line_components, ephemeral_components, context_choice, cut_choice, link_choice}
 use Rattle.certificate.specs.Components.{Component, links}
-use Rattle.certificate.specs.Listed.{Listed, Includes, Allows, choices_of}
+use Rattle.certificate.specs.Listed.{Listed, Includes, Allows, choices_of, size_of as listed_size, numbered as listed_numbered}
 use Rattle.certificate.specs.Nested.{IsSame, flattened, line_parts, context_part, ephemeral_parts, cut_part}
 use Rattle.certificate.proofs.Every.{Every, every_all, all_every, every_of, of_every, every_append, append_every, every_map, map_every, every_flat_map, flat_map_every}
 
@@ -87,3 +91,14 @@ in_included listed entry c same inside =
       inside.well_formed,
       subst (λ (parts : List Component). All P parts) (sym same.1) (all_every P (flattened entry) every),
     )
+
+-- ---- the points
+
+pub sizes_same : (listed : Listed) (entry : Entry) → IsSame listed entry → listed_size listed.components ≡ size_of entry
+sizes_same listed entry same = ap listed_size same.1 ∙ ap product (choices_same entry)
+
+pub numbers_same : (script : Script) (listed : Listed) (entry : Entry) → IsSame listed entry → listed.lines ≡ length script.lines
+    → (number : ℕ) → listed_numbered listed number ≡ numbered script entry number
+numbers_same script listed entry same lines number =
+    ap (λ choices. chosen choices number (unused listed.lines listed.state Resting Empty)) (ap (map choices_of) same.1 ∙ choices_same entry)
+    ∙ ap₂ (λ count state. chosen (components entry) number (unused count state Resting Empty)) lines same.0
