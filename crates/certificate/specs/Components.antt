@@ -17,6 +17,7 @@ use Rattle.mg_model.specs.declared.components.Spot.TheVariants.{Absent, Null}
 use Rattle.mg_model.specs.declared.components.Remote.{Remote}
 use Rattle.mg_model.specs.declared.components.Remote.TheVariants.{Unset}
 use Rattle.mg_model.specs.Script.{Script}
+pub use Rattle.mg_model.specs.Entries.{Component, links, spots, modes, events, plays, contexts, remotes, cuts}
 use Rattle.mg_model.specs.Configuration.{is_same}
 use Rattle.scriptreader.specs.Table.{place_of, list_named}
 use Rattle.certificate.specs.Ranks.{set_with, link_rank, spot_rank, mode_rank, events_rank, switch_rank, context_rank, remote_rank}
@@ -25,17 +26,6 @@ use Rattle.certificate.specs.Written as written
 use Rattle.certificate.specs.Written.{Text}
 use Rattle.certificate.specs.declared.key.Key.{Key}
 use Rattle.certificate.specs.declared.key.Key.TheVariants as key
-
--- a component with its values, in their order
-pub data Component : Type 0 where
-  links : List Link → Component
-  spots : Termination → List Spot → Component
-  modes : Termination → List Mode → Component
-  events : ℕ → List EventsName → Component
-  plays : ℕ → List Bool → Component
-  contexts : ℕ → List ContextValue → Component
-  remotes : ℕ → List Remote → Component
-  cuts : Termination → Termination → List Bool → Component
 
 -- ---- the order
 

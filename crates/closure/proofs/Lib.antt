@@ -1,2 +1,5 @@
+pub mod ClearedLemmas
+pub mod RequestLemmas
 pub mod SettleLemmas
+pub mod StepLemmas
 pub mod SubtractLemmas

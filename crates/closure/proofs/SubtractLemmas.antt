@@ -7,15 +7,15 @@ use Rattle.mg_model.specs.declared.commands.Termination.{Termination}
 use Rattle.mg_model.specs.declared.commands.Termination.TheVariants.{Line, Ephemeral}
 use Rattle.mg_model.specs.declared.components.Remote.{Remote}
 use Rattle.mg_model.specs.declared.components.Remote.TheVariants.{Unset, Gone, To}
-use Rattle.mg_model.specs.Configuration.{Configuration, is_same, terminations}
+use Rattle.mg_model.specs.Configuration.{Configuration, is_in, is_same, terminations}
 use Rattle.mg_model.specs.Effects.{with_pair, spot_after, remote_after, without_cuts_of, without_terminations}
 use Rattle.mg_model.proofs.ConfigurationLemmas.{same_configurations}
 use Rattle.mg_names.specs.declared.modes.Mode.TheVariants.{Inactive}
 use Rattle.mg_model.specs.declared.components.Spot.TheVariants.{Absent, Null}
 use Rattle.mg_model.specs.declared.commands.EventsName.TheVariants.{Empty}
-use Rattle.configuration.specs.Places.{index_of, NoCutsPastEight}
+use Rattle.configuration.specs.Places.{index_of, AbsentPastEight, NoCutsPastEight}
 use Rattle.configuration.proofs.WellFormedLemmas.{some_termination}
-use Rattle.closure.specs.Turns.{forget_pair, forget_pairs, lost_at, remote_lost, without_line, without_ephemeral, without_remotes_to}
+use Rattle.closure.specs.Turns.{forget_pair, forget_pairs, lost_at, remote_lost, without_remotes_to, subtracted_from, subtracted_each}
 
 pub lost_all : (k : ℕ) (c : Configuration) → ((n : ℕ) → 4 ≤ n → c.remote n ≡ Unset) →
     lost_at k (lost_at k (lost_at k (lost_at k c 0) 1) 2) 3 ≡ without_remotes_to k c
@@ -111,75 +111,144 @@ forget_all c small t =
     forget_pairs-else c t terminations
     ∙ ap (λ (f : Termination → Termination → Bool). record c { cut = f }) (λ i x y. cut-forget_all c small t x y i)
 
--- what a line or an ephemeral loses, and its cuts, is what its subtraction makes of a configuration
-pub remote-kept : (i k : ℕ) (r : Remote) → r ≡ remote_after (is_same (Line i)) k r
-remote-kept i k Unset = refl
-remote-kept i k Gone = refl
-remote-kept i k (To n) = refl
+-- two subtractions, one after the other, are one of both
+pub remote-twice : (one two : Termination → Bool) (k : ℕ) (r : Remote) →
+    remote_after two k (remote_after one k r) ≡ remote_after (λ t. one t || two t) k r
+remote-twice one two k Unset = refl
+remote-twice one two k Gone = by_test (one (Ephemeral k)) refl (two (Ephemeral k)) refl
+  where
+    by_test : (a : Bool) → one (Ephemeral k) ≡ a → (b : Bool) → two (Ephemeral k) ≡ b →
+        remote_after two k (if one (Ephemeral k) then Unset else Gone) ≡ (if one (Ephemeral k) || two (Ephemeral k) then Unset else Gone)
+    by_test true e b f = rw e refl
+    by_test false e b f = rw e refl
+remote-twice one two k (To i) = by_test (one (Ephemeral k)) refl (one (Ephemeral i)) refl (two (Ephemeral k)) refl
+  where
+    by_test : (a : Bool) → one (Ephemeral k) ≡ a → (d : Bool) → one (Ephemeral i) ≡ d → (b : Bool) → two (Ephemeral k) ≡ b →
+        remote_after two k (if one (Ephemeral k) then Unset else (if one (Ephemeral i) then Gone else To i))
+        ≡ (if one (Ephemeral k) || two (Ephemeral k) then Unset else (if one (Ephemeral i) || two (Ephemeral i) then Gone else To i))
+    by_test true e d f b g = rw e refl
+    by_test false e true f true g = rw (e, f, g) refl
+    by_test false e true f false g = rw (e, f, g) refl
+    by_test false e false f b g = rw (e, f) refl
 
-pub line_subtracted : (i : ℕ) (c : Configuration) →
-    without_line i (record c { cut = without_cuts_of (is_same (Line i)) c.cut }) ≡ without_terminations c (is_same (Line i))
-line_subtracted i c = same_configurations _ _ record {
+pub subtracted_twice : (c : Configuration) (one two : Termination → Bool) →
+    without_terminations (without_terminations c one) two ≡ without_terminations c (λ t. one t || two t)
+subtracted_twice c one two = same_configurations _ _ record {
   state = refl;
   link = refl;
-  spot = spot;
-  mode = mode;
-  events = λ n. swap_test n (λ (b : Bool). if b then Empty else c.events n);
-  plays = λ n. swap_test n (λ (b : Bool). if b then false else c.plays n);
+  spot = λ t. either (one t) (two t) (spot_after t) (c.spot t);
+  mode = λ t. either (one t) (two t) Inactive (c.mode t);
+  events = λ i. either (one (Line i)) (two (Line i)) Empty (c.events i);
+  plays = λ i. either (one (Line i)) (two (Line i)) false (c.plays i);
   context = λ j. refl;
-  remote = λ k. remote-kept i k (c.remote k);
+  remote = λ k. remote-twice one two k (c.remote k);
+  cut = λ t u. either_cut (one t) (two t) (one u) (two u) (c.cut t u);
+}
+  where
+    either : {A : Type 0} (a b : Bool) (x y : A) → (if b then x else (if a then x else y)) ≡ (if a || b then x else y)
+    either true true x y = refl
+    either true false x y = refl
+    either false b x y = refl
+
+    either_cut : (a b d e v : Bool) → (if b || e then false else (if a || d then false else v)) ≡ (if (a || b) || (d || e) then false else v)
+    either_cut true true d e v = refl
+    either_cut true false d true v = refl
+    either_cut true false d false v = refl
+    either_cut false true d e v = refl
+    either_cut false false true true v = refl
+    either_cut false false true false v = refl
+    either_cut false false false e v = refl
+
+-- the subtraction of none changes nothing
+pub subtracted_none : (c : Configuration) → without_terminations c (λ t. false) ≡ c
+subtracted_none c = same_configurations _ _ record {
+  state = refl;
+  link = refl;
+  spot = λ t. refl;
+  mode = λ t. refl;
+  events = λ i. refl;
+  plays = λ i. refl;
+  context = λ j. refl;
+  remote = λ k. same_remote k (c.remote k);
   cut = λ t u. refl;
 }
   where
-    swap_test : {A : Type 0} (n : ℕ) (f : Bool → A) → f (n == i) ≡ f (i == n)
-    swap_test n f = ap f (is_same-comm (Line n) (Line i))
+    same_remote : (k : ℕ) (r : Remote) → remote_after (λ t. false) k r ≡ r
+    same_remote k Unset = refl
+    same_remote k Gone = refl
+    same_remote k (To i) = refl
 
-    spot : (t : Termination) → (if is_same t (Line i) then Null else c.spot t) ≡ (if is_same (Line i) t then spot_after t else c.spot t)
-    spot (Line n) = swap_test n (λ (b : Bool). if b then Null else c.spot (Line n))
-    spot (Ephemeral k) = refl
+pub same_leaves : (c : Configuration) (one two : Termination → Bool) → ((t : Termination) → one t ≡ two t) →
+    without_terminations c one ≡ without_terminations c two
+same_leaves c one two h = ap (without_terminations c) (λ i t. h t i)
 
-    mode : (t : Termination) → (if is_same t (Line i) then Inactive else c.mode t) ≡ (if is_same (Line i) t then Inactive else c.mode t)
-    mode (Line n) = swap_test n (λ (b : Bool). if b then Inactive else c.mode (Line n))
-    mode (Ephemeral k) = refl
-
-pub remote-lost : (k n : ℕ) (r : Remote) →
-    remote_lost k (if n == k then Unset else r) ≡ remote_after (is_same (Ephemeral k)) n r
-remote-lost k n r = by_test (n == k) refl r
+-- one turn subtracts the termination if it stands there
+pub turn_is : (j : ℕ) (c : Configuration) (t : Termination) →
+    subtracted_from j c t ≡ without_terminations c (λ u. is_same t u && is_in (c.spot t) j)
+turn_is j c t = by_test (is_in (c.spot t) j)
   where
-    swapped : (k == n) ≡ (n == k)
-    swapped = is_same-comm (Ephemeral k) (Ephemeral n)
+    by_test : (b : Bool) → (if b then without_terminations c (is_same t) else c) ≡ without_terminations c (λ u. is_same t u && b)
+    by_test true = same_leaves c (is_same t) (λ u. is_same t u && true) (λ u. and_true (is_same t u))
+      where
+        and_true : (b : Bool) → b ≡ (b && true)
+        and_true true = refl
+        and_true false = refl
+    by_test false = sym (same_leaves c (λ u. is_same t u && false) (λ u. false) (λ u. and_false (is_same t u)) ∙ subtracted_none c)
+      where
+        and_false : (b : Bool) → (b && false) ≡ false
+        and_false true = refl
+        and_false false = refl
 
-    by_test : (b : Bool) → (n == k) ≡ b → (r : Remote) →
-        remote_lost k (if n == k then Unset else r) ≡ remote_after (is_same (Ephemeral k)) n r
-    by_test true e Unset = rw e refl
-    by_test true e Gone = rw (swapped, e) refl
-    by_test true e (To m) = rw (swapped, e) refl
-    by_test false e Unset = rw e refl
-    by_test false e Gone = rw (swapped, e) refl
-    by_test false e (To m) = rw (swapped, e, is_same-comm (Ephemeral k) (Ephemeral m)) refl
+pub same_termination : (t u : Termination) → is_same t u ≡ true → t ≡ u
+same_termination (Line i) (Line j) h = let e : i ≡ j = grind (arith, common_steps) in ap Line e
+same_termination (Line i) (Ephemeral j) h = cc
+same_termination (Ephemeral i) (Line j) h = cc
+same_termination (Ephemeral i) (Ephemeral j) h = let e : i ≡ j = grind (arith, common_steps) in ap Ephemeral e
 
-pub ephemeral_subtracted : (k : ℕ) (c : Configuration) →
-    without_remotes_to k (without_ephemeral k (record c { cut = without_cuts_of (is_same (Ephemeral k)) c.cut }))
-    ≡ without_terminations c (is_same (Ephemeral k))
-ephemeral_subtracted k c = same_configurations _ _ record {
-  state = refl;
-  link = refl;
-  spot = spot;
-  mode = mode;
-  events = λ n. refl;
-  plays = λ n. refl;
-  context = λ j. refl;
-  remote = λ n. remote-lost k n (c.remote n);
-  cut = λ t u. refl;
-}
+pub subtracted_each_is : (j : ℕ) (c : Configuration) (ts : List Termination) →
+    subtracted_each j c ts ≡ without_terminations c (λ u. list_any (is_same u) ts && is_in (c.spot u) j)
+subtracted_each_is j c [] = sym (subtracted_none c)
+subtracted_each_is j c (t ∷ ts) =
+    subtracted_each_is j (subtracted_from j c t) ts
+    ∙ ap (λ (d : Configuration). without_terminations d (λ u. list_any (is_same u) ts && is_in (d.spot u) j)) (turn_is j c t)
+    ∙ subtracted_twice c (λ u. is_same t u && is_in (c.spot t) j) (λ u. list_any (is_same u) ts && is_in ((without_terminations c (λ v. is_same t v && is_in (c.spot t) j)).spot u) j)
+    ∙ same_leaves c _ _ (λ u. leaves u (is_same t u) refl)
   where
-    swap_test : {A : Type 0} (n : ℕ) (f : Bool → A) → f (n == k) ≡ f (k == n)
-    swap_test n f = ap f (is_same-comm (Ephemeral n) (Ephemeral k))
+    no_more : (u : Termination) → is_in (spot_after u) j ≡ false
+    no_more (Line i) = refl
+    no_more (Ephemeral k) = refl
 
-    spot : (t : Termination) → (if is_same t (Ephemeral k) then Absent else c.spot t) ≡ (if is_same (Ephemeral k) t then spot_after t else c.spot t)
-    spot (Ephemeral n) = swap_test n (λ (b : Bool). if b then Absent else c.spot (Ephemeral n))
-    spot (Line i) = refl
+    leaves : (u : Termination) (b : Bool) → is_same t u ≡ b →
+        ((is_same t u && is_in (c.spot t) j) || (list_any (is_same u) ts && is_in (if is_same t u && is_in (c.spot t) j then spot_after u else c.spot u) j))
+        ≡ ((is_same u t || list_any (is_same u) ts) && is_in (c.spot u) j)
+    leaves u true e =
+        let one : t ≡ u = same_termination t u e in
+        let spot : is_in (c.spot t) j ≡ is_in (c.spot u) j = ap (λ (v : Termination). is_in (c.spot v) j) one in
+        let back : is_same u t ≡ true = is_same-comm u t ∙ e in
+        rw (e, back, spot) (by_place (is_in (c.spot u) j) (list_any (is_same u) ts) refl)
+      where
+        by_place : (p a : Bool) → is_in (c.spot u) j ≡ p → (p || (a && is_in (if p then spot_after u else c.spot u) j)) ≡ p
+        by_place true a q = refl
+        by_place false true q = q
+        by_place false false q = refl
+    leaves u false e =
+        let back : is_same u t ≡ false = is_same-comm u t ∙ e in
+        rw (e, back) refl
 
-    mode : (t : Termination) → (if is_same t (Ephemeral k) then Inactive else c.mode t) ≡ (if is_same (Ephemeral k) t then Inactive else c.mode t)
-    mode (Ephemeral n) = swap_test n (λ (b : Bool). if b then Inactive else c.mode (Ephemeral n))
-    mode (Line i) = refl
+-- all terminations that stand in the context
+pub subtracted_all : (j : ℕ) (c : Configuration) → AbsentPastEight c →
+    subtracted_each j c terminations ≡ without_terminations c (λ t. is_in (c.spot t) j)
+subtracted_all j c absent =
+    subtracted_each_is j c terminations
+    ∙ same_leaves c _ _ (λ u. by_place u (nat_lt (index_of u) 8) refl)
+  where
+    by_place : (u : Termination) (b : Bool) → nat_lt (index_of u) 8 ≡ b →
+        (list_any (is_same u) terminations && is_in (c.spot u) j) ≡ is_in (c.spot u) j
+    by_place u true e = let among = among_terminations u (grind (arith, common_steps)) in rw among refl
+    by_place u false e =
+        let gone : c.spot u ≡ Absent = absent u (grind (arith, common_steps)) in
+        rw gone (and_false (list_any (is_same u) terminations))
+      where
+        and_false : (b : Bool) → (b && false) ≡ false
+        and_false true = refl
+        and_false false = refl

@@ -1,1 +1,4 @@
+pub mod Known
+pub mod Shown
+pub mod Tests
 pub mod Turns

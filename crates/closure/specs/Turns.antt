@@ -8,8 +8,8 @@ use Rattle.mg_model.specs.declared.components.Spot.TheVariants.{Absent, Null}
 use Rattle.mg_model.specs.declared.commands.EventsName.TheVariants.{Empty}
 use Rattle.mg_model.specs.declared.commands.Termination.TheVariants.{Line, Ephemeral}
 use Rattle.mg_names.specs.declared.modes.Mode.TheVariants.{Inactive}
-use Rattle.mg_model.specs.Configuration.{Configuration, with_at, with_of, value_of, stands_in, is_to}
-use Rattle.mg_model.specs.Effects.{with_pair, cuts_forward, cuts_backward}
+use Rattle.mg_model.specs.Configuration.{Configuration, with_at, with_of, value_of, stands_in, is_to, is_in, is_same}
+use Rattle.mg_model.specs.Effects.{with_pair, cuts_forward, cuts_backward, without_terminations}
 
 -- one context name says what the places of the terminations make it
 abbrev pub settled_at : Configuration → ℕ → Configuration
@@ -56,3 +56,11 @@ without_ephemeral k c = record c {
   mode = with_of c.mode (Ephemeral k) Inactive;
   remote = with_at c.remote k Unset;
 }
+
+-- a termination is subtracted if it stands in context j
+abbrev pub subtracted_from : ℕ → Configuration → Termination → Configuration
+subtracted_from j c t = if is_in (c.spot t) j then without_terminations c (is_same t) else c
+
+abbrev pub subtracted_each : ℕ → Configuration → List Termination → Configuration
+subtracted_each j c [] = c
+subtracted_each j c (t ∷ ts) = subtracted_each j (subtracted_from j c t) ts

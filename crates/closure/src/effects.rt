@@ -1,7 +1,7 @@
 ghost use Rattle.std.specs.Prelude.{◌≡◌, ℕ, ◌≤◌, not};
-ghost use Rattle.mg_model.specs.Configuration.{is_same, settled, terminations, value_of};
-ghost use Rattle.mg_model.specs.Effects.{is_legal, is_elsewhere, stands_at, place_exists, remote_legal, plays_after, remote_set, put_in, with_line_options, with_ephemeral_options, without_terminations, without_cuts_of};
-ghost use Rattle.closure.specs.Turns.{settled_at, forget_pair, forget_pairs, lost_at, remote_lost, without_line, without_ephemeral, without_remotes_to, with_topology};
+ghost use Rattle.mg_model.specs.Configuration.{is_in, is_same, settled, terminations, value_of};
+ghost use Rattle.mg_model.specs.Effects.{is_legal, is_elsewhere, stands_at, place_exists, remote_legal, plays_after, remote_set, put_in, with_line_options, with_ephemeral_options, without_terminations, without_cuts_of, effect};
+ghost use Rattle.closure.specs.Turns.{settled_at, forget_pair, forget_pairs, lost_at, remote_lost, without_line, without_ephemeral, without_remotes_to, with_topology, subtracted_from, subtracted_each};
 ghost use Rattle.configuration.specs.Config.{configuration_of};
 
 use configuration::config::Config;
@@ -336,14 +336,30 @@ fn subtract(config: &mut Config, termination: &Termination)
     }
 }
 
-/// Subtracts all terminations of a context.
-fn subtract_all(config: &mut Config, context: Slot) {
-    for termination in &all_terminations() {
-        if spots::is_in(config.spot(*termination), context) {
-            subtract(config, termination);
-        }
+/// Subtracts a termination if it stands in the context.
+fn subtract_from(config: &mut Config, termination: &Termination, context: Slot)
+    ensures { configuration_of config.new ≡ subtracted_from context (configuration_of config.old) termination.now }
+{
+    if spots::is_in(config.spot(*termination), context) {
+        subtract(config, termination);
     }
-    config.set_context(context, ContextValue::Free);
+}
+
+/// Subtracts each termination that stands in the context, one by one.
+fn subtract_each(config: &mut Config, context: Slot)
+    ensures { configuration_of config.new ≡ subtracted_each context (configuration_of config.old) terminations }
+{
+    let all = all_terminations();
+    for termination in &all {
+        subtract_from(config, termination, context);
+    }
+}
+
+/// Subtracts all terminations of a context.
+fn subtract_all(config: &mut Config, context: Slot)
+    ensures { configuration_of config.new ≡ without_terminations (configuration_of config.old) (λ t. is_in ((configuration_of config.old).spot t) context) }
+{
+    subtract_each(config, context);
 }
 
 /// Sets what a Topology descriptor says of a pair.
@@ -360,13 +376,17 @@ fn set_topology(config: &mut Config, first: &Termination, second: &Termination, 
 }
 
 /// Moves a termination to another context; what was set for its pairs is forgotten.
-fn move_to(config: &mut Config, termination: &Termination, context: Slot) {
+fn move_to(config: &mut Config, termination: &Termination, context: Slot)
+    ensures { configuration_of config.new ≡ put_in (record (configuration_of config.old) { cut = without_cuts_of (is_same termination.now) (configuration_of config.old).cut }) termination.now context }
+{
     forget_cuts(config, termination);
     put_in(config, *termination, context);
 }
 
 /// The configuration after a command that is legal in it and whose created names are not bound.
-pub fn effect(script: &Script, config: &Config, command: &Command) -> Config {
+pub fn effect(script: &Script, config: &Config, command: &Command) -> Config
+    ensures { configuration_of result ≡ effect script.now (configuration_of config.now) command.now }
+{
     let mut after = *config;
     match *command {
         Command::AddLine {
@@ -426,6 +446,7 @@ pub fn effect(script: &Script, config: &Config, command: &Command) -> Config {
         }
         Command::SubtractAll { context } => {
             subtract_all(&mut after, context);
+            after.set_context(context, ContextValue::Free);
             settle(&mut after);
         }
         Command::SetTopology {

@@ -2,5 +2,6 @@
 #![tactic(auto)]
 
 pub mod effects;
+pub mod obligations;
 pub mod requests;
 pub mod steps;

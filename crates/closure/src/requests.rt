@@ -1,8 +1,32 @@
+ghost use Rattle.std.specs.Prelude.{◌≡◌, ℕ, ◌≤◌, not, ◌&&◌, ◌||◌, slice_index_or};
+ghost use Rattle.std.specs.List.{list_any, list_all};
+ghost use Rattle.mg_model.specs.Configuration.{is_free, is_present};
+ghost use Rattle.mg_model.specs.Tables.{state_of, is_empty};
+ghost use Rattle.mg_model.specs.Request.{bound_names, uses_known, names_after, place_known, termination_known, remote_option_known};
+ghost use Rattle.mg_model.specs.Steps.{request_in, creates_unbound, names_unbound};
+ghost use Rattle.configuration.specs.Config.{configuration_of};
+
 use configuration::config::Config;
 use configuration::spots;
 use mg_model::commands::{Command, EphemeralOptions, Place, RemoteOption, Termination};
+use mg_names::context_values::ContextValue;
 use mg_names::slots::Slot;
 use scriptreader::Script;
+
+/// Whether a context name is bound.
+fn is_bound(config: &Config, context: Slot) -> bool
+    ensures value { result ≡ not (is_free ((configuration_of config.now).context context)) }
+    ensures slots { (j : ℕ) → 4 ≤ j → (configuration_of config.now).context j ≡ ContextValue.Free }
+{
+    !spots::is_free(config.context(context))
+}
+
+/// Whether an ephemeral exists, so that its name is bound.
+fn exists(config: &Config, ephemeral: Slot) -> bool
+    ensures { result ≡ is_present ((configuration_of config.now).spot (Termination.Ephemeral ephemeral)) }
+{
+    spots::is_present(config.spot(Termination::Ephemeral(ephemeral)))
+}
 
 /// The names that commands of a request may use: those that are bound as it is built, and those that its earlier
 /// commands create.
@@ -12,49 +36,64 @@ pub struct Names {
     ephemerals: [bool; 4],
 }
 
+#[tactic(auto, unfolding(crate::specs::Known::names_of))]
 impl Names {
+    ghost use Rattle.closure.specs.Known.{names_of};
+
     /// The names that are bound in a configuration.
-    pub fn bound(config: &Config) -> Names {
-        let [first, second, third, fourth] = Slot::all();
+    pub fn bound(config: &Config) -> Names
+        ensures { names_of result ≡ bound_names (configuration_of config.now) }
+    {
+        let slots = Slot::all();
         Names {
             contexts: [
-                !spots::is_free(config.context(first)),
-                !spots::is_free(config.context(second)),
-                !spots::is_free(config.context(third)),
-                !spots::is_free(config.context(fourth)),
+                is_bound(config, slots[0]),
+                is_bound(config, slots[1]),
+                is_bound(config, slots[2]),
+                is_bound(config, slots[3]),
             ],
             ephemerals: [
-                spots::is_present(config.spot(Termination::Ephemeral(first))),
-                spots::is_present(config.spot(Termination::Ephemeral(second))),
-                spots::is_present(config.spot(Termination::Ephemeral(third))),
-                spots::is_present(config.spot(Termination::Ephemeral(fourth))),
+                exists(config, slots[0]),
+                exists(config, slots[1]),
+                exists(config, slots[2]),
+                exists(config, slots[3]),
             ],
         }
     }
 
-    fn has_context(&self, context: Slot) -> bool {
+    fn has_context(&self, context: Slot) -> bool
+        ensures { result ≡ (names_of self.now).contexts context }
+    {
         self.contexts[context.index()]
     }
 
-    fn has_ephemeral(&self, ephemeral: Slot) -> bool {
+    fn has_ephemeral(&self, ephemeral: Slot) -> bool
+        ensures { result ≡ (names_of self.now).ephemerals ephemeral }
+    {
         self.ephemerals[ephemeral.index()]
     }
 
-    fn has_place(&self, place: &Place) -> bool {
+    fn has_place(&self, place: &Place) -> bool
+        ensures { result ≡ place_known (names_of self.now) place.now }
+    {
         match *place {
             Place::NullContext => true,
             Place::Context(context) => self.has_context(context),
         }
     }
 
-    fn has_termination(&self, termination: &Termination) -> bool {
+    fn has_termination(&self, termination: &Termination) -> bool
+        ensures { result ≡ termination_known (names_of self.now) termination.now }
+    {
         match *termination {
             Termination::Line(_) => true,
             Termination::Ephemeral(ephemeral) => self.has_ephemeral(ephemeral),
         }
     }
 
-    fn has_remote(&self, options: &EphemeralOptions) -> bool {
+    fn has_remote(&self, options: &EphemeralOptions) -> bool
+        ensures { result ≡ remote_option_known (names_of self.now) options.now.remote }
+    {
         match options.remote {
             None => true,
             Some(RemoteOption::NoneGiven) => true,
@@ -63,7 +102,9 @@ impl Names {
     }
 
     /// Whether each name that a command uses is known; a name that it creates is not used by it.
-    pub fn know_all_of(&self, command: &Command) -> bool {
+    pub fn know_all_of(&self, command: &Command) -> bool
+        ensures { result ≡ uses_known (names_of self.now) command.now }
+    {
         match *command {
             Command::AddLine {
                 create,
@@ -121,8 +162,17 @@ impl Names {
         }
     }
 
+    /// Whether some command uses known names alone.
+    pub fn keep_any(&self, commands: &[Command]) -> bool
+        ensures { result ≡ list_any (uses_known (names_of self.now)) commands.now }
+    {
+        commands.iter().any(|command| self.know_all_of(command))
+    }
+
     /// Adds the names that a command creates.
-    pub fn add_created(&mut self, command: &Command) {
+    pub fn add_created(&mut self, command: &Command)
+        ensures { names_of self.new ≡ names_after (names_of self.old) command.now }
+    {
         match *command {
             Command::AddLine {
                 create,
@@ -151,7 +201,9 @@ impl Names {
 }
 
 /// The commands of a state; none where the script has no such state.
-pub fn commands_of(script: &Script, state: u8) -> &[Command] {
+pub fn commands_of(script: &Script, state: u8) -> &[Command]
+    ensures { result.now ≡ (state_of script.now state).commands }
+{
     match script.state(state) {
         Some(state) => state.commands(),
         None => &[],
@@ -159,15 +211,17 @@ pub fn commands_of(script: &Script, state: u8) -> &[Command] {
 }
 
 /// Whether the request that a state builds in a configuration is empty.
-pub fn is_request_empty(script: &Script, config: &Config, state: u8) -> bool {
+pub fn is_request_empty(script: &Script, config: &Config, state: u8) -> bool
+    ensures { result ≡ is_empty (request_in script.now (configuration_of config.now) state) }
+{
     let names = Names::bound(config);
-    !commands_of(script, state)
-        .iter()
-        .any(|command| names.know_all_of(command))
+    !names.keep_any(commands_of(script, state))
 }
 
 /// Whether a command's created names are not bound.
-fn creates_unbound(config: &Config, command: &Command) -> bool {
+fn creates_unbound(config: &Config, command: &Command) -> bool
+    ensures { result ≡ creates_unbound (configuration_of config.now) command.now }
+{
     match *command {
         Command::AddLine {
             create,
@@ -190,7 +244,9 @@ fn creates_unbound(config: &Config, command: &Command) -> bool {
 }
 
 /// Whether each name that a command of the configuration's state creates, kept or not, is not bound.
-pub fn are_names_unbound(script: &Script, config: &Config) -> bool {
+pub fn are_names_unbound(script: &Script, config: &Config) -> bool
+    ensures { result ≡ names_unbound script.now (configuration_of config.now) }
+{
     commands_of(script, config.state())
         .iter()
         .all(|command| creates_unbound(config, command))

@@ -9,9 +9,7 @@ use Rattle.mg_model.specs.declared.commands.Termination.TheVariants.{Line, Ephem
 use Rattle.mg_model.specs.declared.components.Spot.TheVariants.{Absent}
 use Rattle.mg_model.specs.Configuration.{Configuration, is_present}
 use Rattle.mg_model.specs.Paths.{hops, crosses, goes_over, HasPath}
-use Rattle.configuration.specs.declared.config.Config.{Config}
-use Rattle.configuration.specs.Places.{HasFour}
-use Rattle.configuration.specs.Config.{configuration_of}
+use Rattle.configuration.specs.Places.{index_of, AbsentPastEight}
 use Rattle.configuration.specs.Search.{hops_from, is_reached, crosses_from, arrives_at, is_new}
 
 -- each slot stands at its own place
@@ -194,17 +192,20 @@ goes_on_line c line arrived t hop = grind (arith, common_steps)
 abbrev pub GoesOn : Configuration → ℕ → List Bool → Termination → Type 0
 GoesOn c line arrived source = (t : Termination) → IsTrue (hops c source t) → IsTrue (is_reached c line arrived t)
 
-pub crosses_small : (c : Configuration) (e k : ℕ) → HasFour c → IsTrue (crosses c e k) → (e < 4) × (k < 4)
+pub past : (i : ℕ) → nat_lt i 4 ≡ false → 8 ≤ index_of (Ephemeral i)
+past i q = grind (arith, common_steps)
+
+pub crosses_small : (c : Configuration) (e k : ℕ) → AbsentPastEight c → IsTrue (crosses c e k) → (e < 4) × (k < 4)
 crosses_small c e k small x =
     (by_test e (nat_lt e 4) refl (grind (arith, common_steps)), by_test k (nat_lt k 4) refl (grind (arith, common_steps)))
   where
     by_test : (i : ℕ) (b : Bool) → nat_lt i 4 ≡ b → IsTrue (is_present (c.spot (Ephemeral i))) → i < 4
     by_test i true q p = grind (arith, common_steps)
     by_test i false q p =
-        let gone : c.spot (Ephemeral i) ≡ Absent = small i (grind (arith, common_steps)) in
+        let gone : c.spot (Ephemeral i) ≡ Absent = small (Ephemeral i) (past i q) in
         let bad : IsTrue (is_present Absent) = rw gone at p in absurd (search rules)
 
-pub closed_reaches : (c : Configuration) (line : ℕ) (arrived : List Bool) → HasFour c → IsClosed c line arrived →
+pub closed_reaches : (c : Configuration) (line : ℕ) (arrived : List Bool) → AbsentPastEight c → IsClosed c line arrived →
     (source : Termination) (crossings : List (ℕ × ℕ)) (sink : Termination) → GoesOn c line arrived source →
     IsTrue (goes_over c source crossings sink) → IsTrue (is_reached c line arrived sink)
 closed_reaches c line arrived small closed source [] sink on g = on sink g
@@ -217,11 +218,6 @@ closed_reaches c line arrived small closed source (crossing ∷ more) sink on g 
     any_slot_from (crosses_from c line arrived crossing.1) crossing.0 sizes.0 (both (crosses c crossing.0 crossing.1) _ inner.1 reached) in
     let here : slice_index_or arrived crossing.1 false ≡ true = closed crossing.1 sizes.1 arrives in
     closed_reaches c line arrived small closed (Ephemeral crossing.1) more sink (goes_on_arrived c line arrived crossing.1 sizes.1 here) outer.1
-
--- what a configuration shows has nothing at slots past the fourth
-pub has_four : (config : Config) → length config.spots ≡ 8 → HasFour (configuration_of config)
-unfolding configuration_of
-has_four config n k h = grind (arith, common_steps)
 
 -- what the search finds has not been arrived at, and is arrived at
 pub record IsNext (c : Configuration) (line : ℕ) (arrived : List Bool) (k : ℕ) : Type 0 where

@@ -15,11 +15,30 @@ use Rattle.configuration.proofs.PlaceLemmas.{index_of-same, lookup-set}
 pub same_functions : {A B : Type 0} {f g : A → B} → ((x : A) → f x ≡ g x) → f ≡ g
 same_functions h = λ i x. h x i
 
+-- where a termination stands, where it has a place
+abbrev pub spot_at : List Spot → Termination → Spot
+spot_at spots u = if nat_lt (index_of u) 8 then slice_index_or spots (index_of u) Absent else Absent
+
+pub spot_at-set : (spots : List Spot) (t u : Termination) (spot : Spot) → index_of t < 8 → length spots ≡ 8 →
+    spot_at (slice_set spots (index_of t) spot) u ≡ (if is_same u t then spot else spot_at spots u)
+spot_at-set spots t u spot h n = by_test (is_same u t) refl (lookup-set spots Absent spot t u n h)
+  where
+    by_test : (b : Bool) → is_same u t ≡ b →
+        slice_index_or (slice_set spots (index_of t) spot) (index_of u) Absent ≡ (if is_same u t then spot else slice_index_or spots (index_of u) Absent) →
+        spot_at (slice_set spots (index_of t) spot) u ≡ (if b then spot else spot_at spots u)
+    by_test true e found =
+        let place : index_of u ≡ index_of t = index_of-same t u h e in
+        let within : nat_lt (index_of u) 8 ≡ true = grind (arith, common_steps) in
+        let here : slice_index_or (slice_set spots (index_of t) spot) (index_of u) Absent ≡ spot = rw e at found in
+        rw within here
+    by_test false e found =
+        let here : slice_index_or (slice_set spots (index_of t) spot) (index_of u) Absent ≡ slice_index_or spots (index_of u) Absent = rw e at found in
+        ap (λ (s : Spot). if nat_lt (index_of u) 8 then s else Absent) here
+
 pub spots-set : (spots : List Spot) (t : Termination) (i : ℕ) (spot : Spot) → i ≡ index_of t → i < 8 → length spots ≡ 8 →
-    (λ (u : Termination). slice_index_or (slice_set spots i spot) (index_of u) Absent)
-    ≡ with_of (λ (u : Termination). slice_index_or spots (index_of u) Absent) t spot
+    (λ (u : Termination). spot_at (slice_set spots i spot) u) ≡ with_of (λ (u : Termination). spot_at spots u) t spot
 spots-set spots t i spot e h n =
-    same_functions (λ u. rw e (lookup-set spots Absent spot t u n (subst (λ (k : ℕ). k < 8) e h)))
+    same_functions (λ u. rw e (spot_at-set spots t u spot (subst (λ (k : ℕ). k < 8) e h) n))
 
 -- the cut between two terminations after a write at the places of t and u
 pub cut_at-set : (cuts : List (List Bool)) (t u x y : Termination) (value : Bool) → length cuts ≡ 8 → index_of t < 8 →

@@ -2,7 +2,7 @@
 use Rattle.std.proofs.Common.{◌≡◌, ℕ, ◌≤◌, ◌<◌, suc, zero, nat_lt, Bool, true, false, ◌&&◌, List, [], ◌∷◌, length, slice_index_or, refl, arith, ap, sym, ◌∙◌, IsTrue}
 use Rattle.std.proofs.lemmas.Grind.{common_steps}
 use Rattle.configuration.specs.declared.config.Config.{Config}
-use Rattle.configuration.specs.Places.{index_of, NoCutsPastEight}
+use Rattle.configuration.specs.Places.{index_of, AbsentPastEight, NoCutsPastEight}
 use Rattle.configuration.specs.Config.{configuration_of}
 
 -- reading past the end gives what stands for nothing
@@ -10,6 +10,12 @@ pub past_end : {A : Type 0} (xs : List A) (i : ℕ) (d : A) → length xs ≤ i 
 past_end [] i d h = refl
 past_end (x ∷ xs) zero d h = absurd (omega arith)
 past_end (x ∷ xs) (suc i) d h = past_end xs i d (omega arith)
+
+-- a termination that has no place is absent
+pub absent_past_eight : (config : Config) → AbsentPastEight (configuration_of config)
+unfolding configuration_of
+absent_past_eight config t h =
+    let past : nat_lt (index_of t) 8 ≡ false = grind (arith, common_steps) in rw past refl
 
 -- nothing is cut of a termination that has no place
 pub no_cuts : (config : Config) → NoCutsPastEight (configuration_of config)

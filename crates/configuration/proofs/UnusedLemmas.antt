@@ -42,7 +42,7 @@ same_in_eight x (suc (suc (suc zero))) = refl
 same_in_eight x (suc (suc (suc (suc i)))) = same_in_all x i
 
 pub spots_unused : (lines : ℕ) (t : Termination) → lines ≤ 4 →
-    slice_index_or (first_of_four Null Absent lines (Absent ∷ Absent ∷ Absent ∷ Absent ∷ [])) (index_of t) Absent
+    (if nat_lt (index_of t) 8 then slice_index_or (first_of_four Null Absent lines (Absent ∷ Absent ∷ Absent ∷ Absent ∷ [])) (index_of t) Absent else Absent)
     ≡ (unused lines 0 Resting Empty).spot t
 spots_unused lines (Line zero) h = refl
 spots_unused lines (Line (suc zero)) h = refl

@@ -10,9 +10,9 @@ abbrev pub index_of : Termination → ℕ
 index_of (Line i) = if nat_lt i 4 then i else 8
 index_of (Ephemeral k) = 4 + k
 
--- no ephemeral stands past the fourth slot
-abbrev pub HasFour : Configuration → Type 0
-HasFour c = (k : ℕ) → 4 ≤ k → c.spot (Ephemeral k) ≡ Absent
+-- a termination that has no place is absent
+abbrev pub AbsentPastEight : Configuration → Type 0
+AbsentPastEight c = (t : Termination) → 8 ≤ index_of t → c.spot t ≡ Absent
 
 -- nothing is cut of a termination that has no place
 abbrev pub NoCutsPastEight : Configuration → Type 0

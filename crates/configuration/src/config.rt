@@ -28,7 +28,6 @@ impl Config {
     ghost use Rattle.mg_model.specs.Configuration.{with_at, with_of};
     ghost use Rattle.mg_model.specs.Effects.{with_pair};
     ghost use Rattle.mg_model.specs.declared.commands.Termination.TheVariants.{Ephemeral};
-    ghost use Rattle.configuration.specs.Places.{HasFour};
     ghost use Rattle.configuration.specs.Config.{configuration_of};
 
     /// The state, by its place in the script.
@@ -47,8 +46,7 @@ impl Config {
 
     /// Where a termination stands.
     pub fn spot(&self, termination: Termination) -> Spot
-        ensures value { result ≡ (configuration_of self.now).spot termination }
-        ensures slots { HasFour (configuration_of self.now) }
+        ensures { result ≡ (configuration_of self.now).spot termination }
     {
         self.spots[place_of(termination)]
     }

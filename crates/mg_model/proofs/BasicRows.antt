@@ -1,11 +1,11 @@
 -- The definitions computed on one script: line a goes off hook and is joined with line b in a new context. What they
 -- give was reasoned out by hand from the rules; the proofs by computation show that they give it.
-use Rattle.std.specs.Prelude.{◌≡◌, ℕ, Bool, true, false, List, [], ◌∷◌, Option, Some, None, map, refl, codes, slice_get, option_map}
+use Rattle.std.specs.Prelude.{◌≡◌, ℕ, true, false, List, [], ◌∷◌, Option, Some, None, map, refl, codes}
 use Rattle.mg_names.specs.declared.kinds.Kind.TheVariants.{On, Of}
 use Rattle.mg_names.specs.declared.modes.Mode.{Mode}
 use Rattle.mg_names.specs.declared.modes.Mode.TheVariants.{Inactive, SendReceive}
 use Rattle.mg_names.specs.declared.phases.Link.{Link}
-use Rattle.mg_names.specs.declared.phases.Link.TheVariants.{Sent, Answered, Failed, Resting}
+use Rattle.mg_names.specs.declared.phases.Link.TheVariants.{Answered, Failed}
 use Rattle.mg_names.specs.declared.strictness.Strict.TheVariants.{State as StateOfHook}
 use Rattle.mg_names.specs.declared.context_values.ContextValue.{ContextValue}
 use Rattle.mg_names.specs.declared.context_values.ContextValue.TheVariants.{Free, Live}
@@ -20,12 +20,11 @@ use Rattle.mg_model.specs.declared.commands.Termination.TheVariants.{Line}
 use Rattle.mg_model.specs.declared.components.Spot.{Spot}
 use Rattle.mg_model.specs.declared.components.Spot.TheVariants.{Null, In}
 use Rattle.mg_model.specs.declared.steps.StepName.{StepName}
-use Rattle.mg_model.specs.declared.steps.StepName.TheVariants.{Refuse, Execute, Reply, Observe}
+use Rattle.mg_model.specs.declared.steps.StepName.TheVariants.{Refuse, Execute, Observe}
 use Rattle.mg_model.specs.declared.transitions.EventItem.TheVariants.{OnHook}
 use Rattle.mg_model.specs.Script.{Script, State}
 use Rattle.mg_model.specs.Configuration.{Configuration}
-use Rattle.mg_model.specs.Paths.{hops}
-use Rattle.mg_model.specs.Steps.{Step, steps_of, opening, reset, entered, names_unbound}
+use Rattle.mg_model.specs.Steps.{Step, steps_of, opening, reset, entered}
 
 options_of : Option Mode → Option EventsName → Option SignalsName → LineOptions
 options_of m e s = record { mode = m; events = e; signals = s }

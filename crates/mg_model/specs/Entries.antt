@@ -1,9 +1,10 @@
 -- An entry of a certificate: for one state a set of values for each component of a configuration. It denotes the
 -- configurations of the state that are well formed and have each component in its set. The points of an entry number
 -- the whole product of the sets, in mixed radix, the last component changing fastest. This profile's own.
--- A reader should check the order of the components, and that an entry speaks of every one of them.
-use Rattle.std.specs.Prelude.{◌≡◌, ℕ, ◌*◌, ◌/◌, ◌%◌, ◌<◌, Bool, List, [], ◌∷◌, ◌++◌, map, length, slice_index_or, Contains}
-use Rattle.std.specs.List.{flat_map, enumerate_from}
+-- A reader should check that each component's values are the choices that the numbering makes, and the values that the
+-- entry allows. Which components an entry has, and in which order, is the certificate's format.
+use Rattle.std.specs.Prelude.{◌≡◌, ℕ, ◌*◌, ◌/◌, ◌%◌, ◌<◌, Bool, List, [], ◌∷◌, map, length, slice_index_or, Contains}
+use Rattle.std.specs.List.{All}
 use Rattle.mg_names.specs.declared.modes.Mode.{Mode}
 use Rattle.mg_names.specs.declared.phases.Link.{Link}
 use Rattle.mg_names.specs.declared.phases.Link.TheVariants.{Resting}
@@ -11,41 +12,28 @@ use Rattle.mg_names.specs.declared.context_values.ContextValue.{ContextValue}
 use Rattle.mg_model.specs.declared.commands.EventsName.{EventsName}
 use Rattle.mg_model.specs.declared.commands.EventsName.TheVariants.{Empty}
 use Rattle.mg_model.specs.declared.commands.Termination.{Termination}
-use Rattle.mg_model.specs.declared.commands.Termination.TheVariants.{Line, Ephemeral}
 use Rattle.mg_model.specs.declared.components.Spot.{Spot}
 use Rattle.mg_model.specs.declared.components.Remote.{Remote}
-use Rattle.mg_model.specs.Script.{Script}
 use Rattle.mg_model.specs.Configuration.{Configuration, IsWellFormed, with_at, with_of}
 use Rattle.mg_model.specs.Effects.{with_pair}
 use Rattle.mg_model.specs.Steps.{unused}
 
--- the values that an entry allows of a line
-pub record LineSets : Type 0 where
-  pub spots : List Spot
-  pub modes : List Mode
-  pub events : List EventsName
-  pub plays : List Bool
+-- a component with the values that an entry allows it, each once, in the order of the format's table
+pub data Component : Type 0 where
+  links : List Link → Component
+  spots : Termination → List Spot → Component
+  modes : Termination → List Mode → Component
+  events : ℕ → List EventsName → Component
+  plays : ℕ → List Bool → Component
+  contexts : ℕ → List ContextValue → Component
+  remotes : ℕ → List Remote → Component
+  cuts : Termination → Termination → List Bool → Component
 
--- the values that an entry allows of an ephemeral
-pub record EphemeralSets : Type 0 where
-  pub spots : List Spot
-  pub modes : List Mode
-  pub remotes : List Remote
-
--- the values that an entry allows of a pair: whether media from the one to the other is cut
-pub record CutSet : Type 0 where
-  pub source : Termination
-  pub sink : Termination
-  pub values : List Bool
-
--- each set has its values once, in the order of the format's table
+-- an entry: its state, how many lines the script has, and its components in their order
 pub record Entry : Type 0 where
   pub state : ℕ
-  pub links : List Link
-  pub lines : List LineSets
-  pub contexts : List (List ContextValue)
-  pub ephemerals : List EphemeralSets
-  pub cuts : List CutSet
+  pub lines : ℕ
+  pub components : List Component
 
 -- a value of a component, as the change that it makes to a configuration
 abbrev pub Choice : Type 0
@@ -61,10 +49,10 @@ abbrev pub mode_choice : Termination → Mode → Choice
 mode_choice t mode c = record c { mode = with_of c.mode t mode }
 
 abbrev pub events_choice : ℕ → EventsName → Choice
-events_choice i events c = record c { events = with_at c.events i events }
+events_choice i list c = record c { events = with_at c.events i list }
 
 abbrev pub plays_choice : ℕ → Bool → Choice
-plays_choice i plays c = record c { plays = with_at c.plays i plays }
+plays_choice i may c = record c { plays = with_at c.plays i may }
 
 abbrev pub context_choice : ℕ → ContextValue → Choice
 context_choice j value c = record c { context = with_at c.context j value }
@@ -75,32 +63,10 @@ remote_choice k remote c = record c { remote = with_at c.remote k remote }
 abbrev pub cut_choice : Termination → Termination → Bool → Choice
 cut_choice t u value c = record c { cut = with_pair c.cut t u value }
 
-abbrev pub line_components : ℕ → LineSets → List (List Choice)
-line_components i sets =
-    map (spot_choice (Line i)) sets.spots ∷ map (mode_choice (Line i)) sets.modes ∷ map (events_choice i) sets.events
-    ∷ map (plays_choice i) sets.plays ∷ []
-
-abbrev pub ephemeral_components : ℕ → EphemeralSets → List (List Choice)
-ephemeral_components k sets =
-    map (spot_choice (Ephemeral k)) sets.spots ∷ map (mode_choice (Ephemeral k)) sets.modes
-    ∷ map (remote_choice k) sets.remotes ∷ []
-
--- the components of an entry, in their order
-abbrev pub components : Entry → List (List Choice)
-components entry =
-    map link_choice entry.links
-    ∷ flat_map (λ (line : ℕ × LineSets). line_components line.0 line.1) (enumerate_from 0 entry.lines)
-    ++ map (λ (values : ℕ × List ContextValue). map (context_choice values.0) values.1) (enumerate_from 0 entry.contexts)
-    ++ flat_map (λ (ephemeral : ℕ × EphemeralSets). ephemeral_components ephemeral.0 ephemeral.1) (enumerate_from 0 entry.ephemerals)
-    ++ map (λ (set : CutSet). map (cut_choice set.source set.sink) set.values) entry.cuts
-
 -- the whole product of these sets
 abbrev pub product : List (List Choice) → ℕ
 product [] = 1
 product (choices ∷ more) = length choices * product more
-
-abbrev pub size_of : Entry → ℕ
-size_of entry = product (components entry)
 
 abbrev pub same_choice : Choice
 same_choice c = c
@@ -111,36 +77,45 @@ chosen [] number c = c
 chosen (choices ∷ more) number c =
     chosen more (number % product more) ((slice_index_or choices (number / product more) same_choice) c)
 
--- the configuration with this number in an entry, well formed or not
-abbrev pub numbered : Script → Entry → ℕ → Configuration
-numbered script entry number = chosen (components entry) number (unused (length script.lines) entry.state Resting Empty)
+-- the values of a component, as choices
+abbrev pub choices_of : Component → List Choice
+choices_of (links values) = map link_choice values
+choices_of (spots t values) = map (spot_choice t) values
+choices_of (modes t values) = map (mode_choice t) values
+choices_of (events i values) = map (events_choice i) values
+choices_of (plays i values) = map (plays_choice i) values
+choices_of (contexts j values) = map (context_choice j) values
+choices_of (remotes k values) = map (remote_choice k) values
+choices_of (cuts t u values) = map (cut_choice t u) values
+
+-- the whole product
+abbrev pub size_of : List Component → ℕ
+size_of components = product (map choices_of components)
+
+-- the configuration with a number, well formed or not
+abbrev pub numbered : Entry → ℕ → Configuration
+numbered entry number = chosen (map choices_of entry.components) number (unused entry.lines entry.state Resting Empty)
+
+-- the component has the configuration's value
+abbrev pub Allows : Configuration → Component → Type 0
+Allows c (links values) = Contains values c.link
+Allows c (spots t values) = Contains values (c.spot t)
+Allows c (modes t values) = Contains values (c.mode t)
+Allows c (events i values) = Contains values (c.events i)
+Allows c (plays i values) = Contains values (c.plays i)
+Allows c (contexts j values) = Contains values (c.context j)
+Allows c (remotes k values) = Contains values (c.remote k)
+Allows c (cuts t u values) = Contains values (c.cut t u)
+
+-- the configurations that an entry denotes
+abbrev pub Includes : Entry → Configuration → Type 0
+Includes entry c = (c.state ≡ entry.state) × IsWellFormed c × All (Allows c) entry.components
 
 -- the points of an entry: those of its numbers whose configuration is well formed
-pub record IsPoint (script : Script) (entry : Entry) (number : ℕ) (c : Configuration) : Type 0 where
-  pub within : number < size_of entry
-  pub is : c ≡ numbered script entry number
-  pub well_formed : IsWellFormed c
-
-abbrev pub LineAllows : Configuration → ℕ × LineSets → Type 0
-LineAllows c (i, sets) =
-    Contains sets.spots (c.spot (Line i)) × Contains sets.modes (c.mode (Line i)) × Contains sets.events (c.events i)
-    × Contains sets.plays (c.plays i)
-
-abbrev pub EphemeralAllows : Configuration → ℕ × EphemeralSets → Type 0
-EphemeralAllows c (k, sets) =
-    Contains sets.spots (c.spot (Ephemeral k)) × Contains sets.modes (c.mode (Ephemeral k))
-    × Contains sets.remotes (c.remote k)
-
--- the configuration is well formed, is one of the entry's state, and has each component in the entry's set
-pub record IsIn (c : Configuration) (entry : Entry) : Type 0 where
-  pub well_formed : IsWellFormed c
-  pub state : c.state ≡ entry.state
-  pub link : Contains entry.links c.link
-  pub lines : (line : ℕ × LineSets) → Contains (enumerate_from 0 entry.lines) line → LineAllows c line
-  pub contexts : (values : ℕ × List ContextValue) → Contains (enumerate_from 0 entry.contexts) values → Contains values.1 (c.context values.0)
-  pub ephemerals : (ephemeral : ℕ × EphemeralSets) → Contains (enumerate_from 0 entry.ephemerals) ephemeral → EphemeralAllows c ephemeral
-  pub cuts : (set : CutSet) → Contains entry.cuts set → Contains set.values (c.cut set.source set.sink)
+abbrev pub IsPointOf : Entry → ℕ → Configuration → Type 0
+IsPointOf entry number c =
+    (number < size_of entry.components) × (c ≡ numbered entry number) × IsWellFormed c
 
 -- some entry has the configuration
 abbrev pub IsCovered : List Entry → Configuration → Type 0
-IsCovered entries c = (entry : Entry) × (Contains entries entry × IsIn c entry)
+IsCovered entries c = (entry : Entry) × (Contains entries entry × Includes entry c)

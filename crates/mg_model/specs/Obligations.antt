@@ -12,7 +12,7 @@ use Rattle.mg_model.specs.Tables.{state_of, items_of, is_armed_list, is_marked}
 use Rattle.mg_model.specs.Configuration.{Configuration}
 use Rattle.mg_model.specs.Paths.{AreJoined}
 use Rattle.mg_model.specs.Steps.{Step, steps_of, names_unbound, opening, reset}
-use Rattle.mg_model.specs.Entries.{Entry, IsPoint, IsCovered}
+use Rattle.mg_model.specs.Entries.{Entry, IsPointOf, IsCovered}
 
 -- joined lines are marked in the state
 abbrev pub JoinedAreMarked : Script → Configuration → Type 0
@@ -45,18 +45,18 @@ pub data Obligation : Type 0 where
   StepCovered : (entry point step : ℕ) → Obligation
 
 -- a fact of the point with this number in the entry at this place, where there is such a point
-abbrev pub AtPoint : Script → List Entry → ℕ → ℕ → (Configuration → Type 0) → Type 0
-AtPoint script entries e p P =
-    (entry : Entry) → slice_get entries e ≡ Some entry → (c : Configuration) → IsPoint script entry p c → P c
+abbrev pub AtPoint : List Entry → ℕ → ℕ → (Configuration → Type 0) → Type 0
+AtPoint entries e p P =
+    (entry : Entry) → slice_get entries e ≡ Some entry → (c : Configuration) → IsPointOf entry p c → P c
 
 abbrev pub Holds : Script → List Entry → Obligation → Type 0
 Holds script entries OpeningCovered = IsCovered entries (opening script)
 Holds script entries ResetCovered = IsCovered entries (reset script)
-Holds script entries (Marked e p) = AtPoint script entries e p (JoinedAreMarked script)
-Holds script entries (Cleared e p) = AtPoint script entries e p (EndedIsCleared script)
-Holds script entries (Unbound e p) = AtPoint script entries e p (CreatedAreUnbound script)
+Holds script entries (Marked e p) = AtPoint entries e p (JoinedAreMarked script)
+Holds script entries (Cleared e p) = AtPoint entries e p (EndedIsCleared script)
+Holds script entries (Unbound e p) = AtPoint entries e p (CreatedAreUnbound script)
 Holds script entries (StepCovered e p s) =
-    AtPoint script entries e p (λ c. (step : Step) → slice_get (steps_of script c) s ≡ Some step → IsCovered entries step.1)
+    AtPoint entries e p (λ c. (step : Step) → slice_get (steps_of script c) s ≡ Some step → IsCovered entries step.1)
 
 -- the order in which obligations are named: the opening, the reset, then by entry and point, and in a point joined
 -- lines, ended calls, created names, then the steps in their order
@@ -128,7 +128,7 @@ point_named (StepCovered e p s) = Some p
 -- the fault names the step that breaks its obligation, and none for the other obligations
 abbrev pub NamesStep : Script → List Entry → Obligation → Option StepName → Type 0
 NamesStep script entries (StepCovered e p s) named =
-    (entry : Entry) × (slice_get entries e ≡ Some entry) × ((c : Configuration) × IsPoint script entry p c
+    (entry : Entry) × (slice_get entries e ≡ Some entry) × ((c : Configuration) × IsPointOf entry p c
     × ((step : Step) × (slice_get (steps_of script c) s ≡ Some step) × (named ≡ Some step.0)))
 NamesStep script entries _ named = named ≡ None
 

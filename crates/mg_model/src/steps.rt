@@ -5,7 +5,7 @@ use mg_names::slots::Slot;
 #[derive(Clone, Copy, Debug, PartialEq, Eq)]
 pub enum StepName {
     /// The gateway refuses the command at this place of the built request, after it did those before it.
-    Refuse(u8),
+    Refuse(usize),
     /// The gateway executes the whole request.
     Execute,
     /// The reply is taken.

@@ -1,6 +1,5 @@
 ghost use Rattle.std.specs.Prelude.{◌≡◌, ℕ, ◌<◌, ◌↔◌, ◌||◌, ◌&&◌, ◌⊎◌, false, true, IsTrue, IfSome, IfNone, slice_index_or};
 ghost use Rattle.mg_model.specs.Paths.{hops, crosses, HasPath, AreJoined};
-ghost use Rattle.configuration.specs.Places.{HasFour};
 ghost use Rattle.configuration.specs.Config.{configuration_of};
 ghost use Rattle.std.specs.Prelude.{◌∷◌, []};
 ghost use Rattle.std.specs.List.{find, list_any};
@@ -13,8 +12,7 @@ use mg_names::slots::Slot;
 
 /// Whether media goes from one termination to another of its context.
 fn hops(config: &Config, source: &Termination, sink: &Termination) -> bool
-    ensures value { result ≡ hops (configuration_of config.now) source.now sink.now }
-    ensures slots { HasFour (configuration_of config.now) }
+    ensures { result ≡ hops (configuration_of config.now) source.now sink.now }
 {
     let apart = !spots::is_same(*source, *sink);
     let here = config.spot(*source);
@@ -48,8 +46,7 @@ fn is_reached_from_arrived(config: &Config, arrived: &[bool; 4], sink: &Terminat
 
 /// Whether media from the line, or from an ephemeral that it has arrived at, goes on to the sink.
 fn is_reached(config: &Config, line: Slot, arrived: &[bool; 4], sink: &Termination) -> bool
-    ensures value { result ≡ is_reached (configuration_of config.now) line arrived.now sink.now }
-    ensures slots { HasFour (configuration_of config.now) }
+    ensures { result ≡ is_reached (configuration_of config.now) line arrived.now sink.now }
 {
     hops(config, &Termination::Line(line), sink) || is_reached_from_arrived(config, arrived, sink)
 }

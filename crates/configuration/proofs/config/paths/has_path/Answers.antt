@@ -2,6 +2,7 @@ use Rattle.std.proofs.Common.{◌≡◌, ◌<◌, true, arith, sym, ◌∙◌, I
 use Rattle.mg_model.specs.declared.commands.Termination.TheVariants.{Line}
 use Rattle.configuration.specs.Config.{configuration_of}
 use Rattle.configuration.specs.Search.{is_reached}
+use Rattle.configuration.proofs.SlotLemmas.{absent_past_eight}
 use Rattle.configuration.proofs.PathLemmas.{found_next, missing, missing-set, arrives_goes, all_arrived-set, reached_goes, closed, closed_reaches, goes_on_line}
 use Rattle.configuration.proofs.config.paths.has_path.Goals as goal
 
@@ -23,7 +24,7 @@ pub returns : goal.returns
 returns c =
     let config = configuration_of c.args.config.now in
     let all_closed = closed config c.args.from c.loop-slot.arrived (sym c.next_arrival.ensures ∙ c.in_default.is) in (
-      λ reached. reached_goes config c.args.from c.loop-slot.arrived (Line c.args.to) c.loop-slot.invariant.1 (sym c.is_reached.ensures.value ∙ reached),
-      λ path. c.is_reached.ensures.value ∙ closed_reaches config c.args.from c.loop-slot.arrived c.is_reached.ensures.slots all_closed
+      λ reached. reached_goes config c.args.from c.loop-slot.arrived (Line c.args.to) c.loop-slot.invariant.1 (sym c.is_reached.ensures ∙ reached),
+      λ path. c.is_reached.ensures ∙ closed_reaches config c.args.from c.loop-slot.arrived (absent_past_eight c.args.config.now) all_closed
           (Line c.args.from) path.0 (Line c.args.to) (goes_on_line config c.args.from c.loop-slot.arrived) path.1,
     )

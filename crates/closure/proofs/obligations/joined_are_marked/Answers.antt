@@ -1,0 +1,13 @@
+use Rattle.std.proofs.Common.{◌≡◌, ℕ, ◌<◌, arith, subst, sym}
+use Rattle.configuration.specs.Config.{configuration_of}
+use Rattle.closure.specs.Tests.{PairBelowIsMarked}
+use Rattle.closure.proofs.obligations.joined_are_marked.Goals as goal
+
+pub returns : goal.returns
+returns c = (
+  λ marked i j hi hj apart joined.
+      (c.lines_are_marked.ensures.0 marked) i (omega (arith, c.lines.ensures.value, c.lines.ensures.few)) j (omega (arith, c.lines.ensures.value, c.lines.ensures.few))
+      (omega (arith, c.lines.ensures.value)) (omega (arith, c.lines.ensures.value)) apart joined,
+  λ all. c.lines_are_marked.ensures.1
+      (λ i hi j hj li lj apart joined. all i j (omega (arith, c.lines.ensures.value)) (omega (arith, c.lines.ensures.value)) apart joined),
+)

@@ -1,0 +1,22 @@
+-- Words of the tests that the obligations of a configuration are made of. No public clause speaks of them.
+use Rattle.std.specs.Prelude.{◌≡◌, ℕ, ◌<◌, Bool, not, ◌&&◌, ◌||◌, nat_lt, IsTrue}
+use Rattle.mg_model.specs.declared.commands.Termination.TheVariants.{Line, Ephemeral}
+use Rattle.mg_model.specs.Script.{Script}
+use Rattle.mg_model.specs.Tables.{state_of, items_of, is_armed_list, is_marked}
+use Rattle.mg_model.specs.Configuration.{Configuration, is_null, is_present}
+use Rattle.mg_model.specs.Paths.{AreJoined}
+
+-- two lines that are joined are marked
+abbrev pub PairIsMarked : Script → Configuration → ℕ → ℕ → Type 0
+PairIsMarked script c i j = (i ≡ j → ⊥) → AreJoined c i j → IsTrue (is_marked (state_of script c.state).talk i j)
+
+-- the same of two among so many lines
+abbrev pub PairBelowIsMarked : Script → Configuration → ℕ → ℕ → ℕ → Type 0
+PairBelowIsMarked script c lines i j = i < lines → j < lines → PairIsMarked script c i j
+
+abbrev pub line_is_cleared : Script → Configuration → ℕ → ℕ → Bool
+line_is_cleared script c lines i =
+    not (nat_lt i lines) || (is_null (c.spot (Line i)) && not (c.plays i) && is_armed_list (items_of script (c.events i)))
+
+abbrev pub ephemeral_is_absent : Configuration → ℕ → Bool
+ephemeral_is_absent c k = not (is_present (c.spot (Ephemeral k)))

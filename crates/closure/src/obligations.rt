@@ -1,0 +1,200 @@
+//! The obligations of a single configuration.
+ghost use Rattle.std.specs.Prelude.{◌≡◌, ℕ, ◌<◌, ◌≤◌, ◌↔◌, ◌&&◌, ◌||◌, not, nat_lt, ◌==◌, length, ◌∷◌, [], IsTrue};
+ghost use Rattle.std.specs.List.{list_all};
+ghost use Rattle.mg_model.specs.Tables.{state_of, items_of, is_armed_list, is_marked};
+ghost use Rattle.mg_model.specs.Steps.{names_unbound};
+ghost use Rattle.mg_model.specs.Obligations.{JoinedAreMarked, IsCleared, EndedIsCleared, CreatedAreUnbound};
+ghost use Rattle.configuration.specs.Config.{configuration_of};
+ghost use Rattle.closure.specs.Tests.{PairIsMarked, PairBelowIsMarked, line_is_cleared, ephemeral_is_absent};
+
+use crate::requests::are_names_unbound;
+use crate::steps::items_of;
+use configuration::config::Config;
+use configuration::config::paths::are_joined;
+use configuration::spots;
+use configuration::well_formed::at_rest;
+use mg_model::commands::Termination;
+use mg_model::transitions::{EventItem, Pair};
+use mg_names::phases::Link;
+use mg_names::slots::Slot;
+use mg_names::strictness::Strict;
+use scriptreader::Script;
+
+/// The pairs that a state marks as talking; none where the script has no such state.
+fn talk_of(script: &Script, state: u8) -> &[Pair]
+    ensures { result.now ≡ (state_of script.now state).talk }
+{
+    match script.state(state) {
+        Some(state) => state.talk(),
+        None => &[],
+    }
+}
+
+/// Whether a state marks two lines, in either order.
+fn is_marked(talk: &[Pair], one: Slot, other: Slot) -> bool
+    ensures { result ≡ is_marked talk.now one other }
+{
+    talk.iter().any(|pair| {
+        pair.first.index() == one.index() && pair.second.index() == other.index()
+            || pair.first.index() == other.index() && pair.second.index() == one.index()
+    })
+}
+
+/// Whether two lines are marked in the configuration's state, if they are two that are joined.
+fn pair_is_marked(script: &Script, config: &Config, one: Slot, other: Slot) -> bool
+    ensures { IsTrue result ↔ PairIsMarked script.now (configuration_of config.now) one other }
+{
+    if one.index() == other.index() {
+        return true;
+    }
+    if !are_joined(config, one, other) {
+        return true;
+    }
+    is_marked(talk_of(script, config.state()), one, other)
+}
+
+/// Whether two lines are marked if they are two lines of the script that are joined.
+fn pair_below_is_marked(
+    script: &Script,
+    config: &Config,
+    lines: usize,
+    one: Slot,
+    other: Slot,
+) -> bool
+    ensures { IsTrue result ↔ PairBelowIsMarked script.now (configuration_of config.now) lines one other }
+{
+    if one.index() >= lines || other.index() >= lines {
+        return true;
+    }
+    pair_is_marked(script, config, one, other)
+}
+
+/// Whether a line is marked with each line that it is joined with.
+fn line_is_marked(script: &Script, config: &Config, lines: usize, one: Slot) -> bool
+    ensures { IsTrue result ↔ ((j : ℕ) → j < 4 → PairBelowIsMarked script.now (configuration_of config.now) lines one j) }
+{
+    let others = Slot::all();
+    for other in &others {
+        if !pair_below_is_marked(script, config, lines, one, *other) {
+            return false;
+        }
+    }
+    true
+}
+
+/// Whether each of so many lines is marked with each that it is joined with.
+fn lines_are_marked(script: &Script, config: &Config, lines: usize) -> bool
+    ensures { IsTrue result ↔ ((i : ℕ) → i < 4 → (j : ℕ) → j < 4 → PairBelowIsMarked script.now (configuration_of config.now) lines i j) }
+{
+    let slots = Slot::all();
+    for one in &slots {
+        if !line_is_marked(script, config, lines, *one) {
+            return false;
+        }
+    }
+    true
+}
+
+/// Whether lines that are joined are marked in the configuration's state.
+pub fn joined_are_marked(script: &Script, config: &Config) -> bool
+    ensures { IsTrue result ↔ JoinedAreMarked script.now (configuration_of config.now) }
+{
+    lines_are_marked(script, config, script.lines())
+}
+
+/// Whether an events list is exactly `al/of` with `strict=exact`.
+pub fn is_armed_list(items: &[EventItem]) -> bool
+    ensures { result ≡ is_armed_list items.now }
+{
+    match items {
+        [EventItem::OffHook(Strict::Exact)] => true,
+        _ => false,
+    }
+}
+
+/// Whether a line is in the null context, silent and armed, if it is one of so many.
+fn line_is_cleared(script: &Script, config: &Config, lines: usize, line: Slot) -> bool
+    ensures { result ≡ line_is_cleared script.now (configuration_of config.now) lines line }
+{
+    let in_null = spots::is_null(config.spot(Termination::Line(line)));
+    let silent = !config.plays(line);
+    let armed = is_armed_list(items_of(script, config.events(line)));
+    line.index() >= lines || in_null && silent && armed
+}
+
+/// Whether each of so many lines is in the null context, silent and armed.
+fn lines_are_cleared(script: &Script, config: &Config, lines: usize) -> bool
+    ensures { result ≡ list_all (line_is_cleared script.now (configuration_of config.now) lines) (0 ∷ 1 ∷ 2 ∷ 3 ∷ []) }
+{
+    Slot::all()
+        .iter()
+        .all(|line| line_is_cleared(script, config, lines, *line))
+}
+
+/// Whether an ephemeral doesn't exist.
+fn is_absent(config: &Config, ephemeral: Slot) -> bool
+    ensures { result ≡ ephemeral_is_absent (configuration_of config.now) ephemeral }
+{
+    !spots::is_present(config.spot(Termination::Ephemeral(ephemeral)))
+}
+
+/// Whether no ephemeral exists.
+fn ephemerals_are_absent(config: &Config) -> bool
+    ensures { result ≡ list_all (ephemeral_is_absent (configuration_of config.now)) (0 ∷ 1 ∷ 2 ∷ 3 ∷ []) }
+{
+    Slot::all()
+        .iter()
+        .all(|ephemeral| is_absent(config, *ephemeral))
+}
+
+/// Whether each line is in the null context, silent and armed, and no ephemeral exists.
+fn is_cleared(script: &Script, config: &Config) -> bool
+    ensures { IsTrue result ↔ IsCleared script.now (configuration_of config.now) }
+{
+    let lines = lines_are_cleared(script, config, script.lines());
+    let ephemerals = ephemerals_are_absent(config);
+    lines && ephemerals
+}
+
+/// Whether a call ends in a state.
+fn is_end_of(script: &Script, state: u8) -> bool
+    ensures { result ≡ (state_of script.now state).is_end }
+{
+    match script.state(state) {
+        Some(state) => state.is_end(),
+        None => false,
+    }
+}
+
+/// Whether a call that rests in an end state has cleared its lines and ephemerals.
+pub fn ended_is_cleared(script: &Script, config: &Config) -> bool
+    ensures { IsTrue result ↔ EndedIsCleared script.now (configuration_of config.now) }
+{
+    if !at_rest(config) {
+        return true;
+    }
+    if !is_end_of(script, config.state()) {
+        return true;
+    }
+    is_cleared(script, config)
+}
+
+/// Whether the link is `sent`.
+fn is_sent(config: &Config) -> bool
+    ensures { IsTrue result ↔ ((configuration_of config.now).link ≡ Link.Sent) }
+{
+    match config.link() {
+        Link::Sent => true,
+        _ => false,
+    }
+}
+
+/// Whether the names that the state creates are not bound, where its request is sent.
+pub fn created_are_unbound(script: &Script, config: &Config) -> bool
+    ensures { IsTrue result ↔ CreatedAreUnbound script.now (configuration_of config.now) }
+{
+    if !is_sent(config) {
+        return true;
+    }
+    are_names_unbound(script, config)
+}
