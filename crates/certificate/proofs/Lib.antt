@@ -1,8 +1,5 @@
 pub mod Each
-pub mod Every
-pub mod Existing
 pub mod Limits
-pub mod Same
 pub mod Parts
 pub mod Passing
 pub mod Products

@@ -4,7 +4,6 @@ pub mod Document
 pub mod FaultNames
 pub mod Listed
 pub mod Naming
-pub mod Nested
 pub mod Ranks
 pub mod Shape
 pub mod Shown

@@ -12,7 +12,6 @@ mod draft;
 mod entry;
 mod fault;
 mod key;
-pub mod laws;
 mod names;
 mod ranked;
 mod reads;
