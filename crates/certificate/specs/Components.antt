@@ -2,19 +2,13 @@
 -- each of them. A reader should check the order, and each component's default.
 use Rattle.std.specs.Prelude.{ℕ, List, [], ◌∷◌, ◌++◌, Bool, false, not, ◌==◌, ◌&&◌, map, filter, find, take, length, Option, Some, None, option_map, option_and_then}
 use Rattle.std.specs.List.{flat_map}
-use Rattle.mg_names.specs.declared.modes.Mode.{Mode}
 use Rattle.mg_names.specs.declared.modes.Mode.TheVariants.{Inactive}
-use Rattle.mg_names.specs.declared.phases.Link.{Link}
-use Rattle.mg_names.specs.declared.context_values.ContextValue.{ContextValue}
 use Rattle.mg_names.specs.declared.context_values.ContextValue.TheVariants.{Free}
 use Rattle.mg_names.specs.Words.{link_named, mode_named, context_value_named}
 use Rattle.mg_model.specs.declared.commands.Termination.{Termination}
 use Rattle.mg_model.specs.declared.commands.Termination.TheVariants.{Line, Ephemeral}
-use Rattle.mg_model.specs.declared.commands.EventsName.{EventsName}
 use Rattle.mg_model.specs.declared.commands.EventsName.TheVariants.{Armed}
-use Rattle.mg_model.specs.declared.components.Spot.{Spot}
 use Rattle.mg_model.specs.declared.components.Spot.TheVariants.{Absent, Null}
-use Rattle.mg_model.specs.declared.components.Remote.{Remote}
 use Rattle.mg_model.specs.declared.components.Remote.TheVariants.{Unset}
 use Rattle.mg_model.specs.Script.{Script}
 pub use Rattle.mg_model.specs.Entries.{Component, links, spots, modes, events, plays, contexts, remotes, cuts}
