@@ -1,5 +1,5 @@
 -- Which fault a document has. The shape comes first: what is not of it has a bad key, and no other fault is looked for.
-use Rattle.std.specs.Prelude.{◌≡◌, ◌≢◌, Bool, true, is_some, Option, Some, None, Result, Ok, Err}
+use Rattle.std.specs.Prelude.{◌≡◌, ◌≢◌, true, is_some, Option, Some, None, Result, Ok, Err}
 use Rattle.toml.specs.Data.{Members}
 use Rattle.scriptreader.specs.declared.fault.ScriptFault.{ScriptFault}
 use Rattle.scriptreader.specs.declared.fault.ScriptFault.TheVariants.{BadKey, NoMemory}
