@@ -1,18 +1,17 @@
 -- Reading the items of an array one after the other, and the keys of a table.
-use Rattle.std.proofs.Common.{◌≡◌, ℕ, ◌+◌, ◌<◌, List, [], ◌∷◌, ◌++◌, length, map, drop, get_or, Bool, Option, Some, None, refl, sym, ap, ◌∙◌, append_assoc, arith, String, Global, Bor, string_bytes}
+use Rattle.std.proofs.Common.{◌≡◌, ℕ, List, [], ◌∷◌, ◌++◌, map, Bool, Option, Some, None, refl, sym, ap, ◌∙◌, append_assoc, String, Global, Bor, string_bytes}
 use Rattle.std.proofs.lemmas.List.{append-nil}
 use Rattle.std.specs.Prelude.{◌&&◌}
 use Rattle.std.specs.List.{list_any, list_all}
 use Rattle.std.specs.Str.{bytes_eq}
 use Rattle.std.specs.Map.Iter.{deref_pair}
 use Rattle.scriptreader.proofs.Places.{list_any-mapped}
-use Rattle.toml.specs.Data.{Data, Items, no_items, item, Members}
+use Rattle.toml.specs.Data.{Data, Items, no_items, item}
 use Rattle.toml.specs.declared.value.Value.{Value}
-use Rattle.toml.specs.View.{view, members_view}
+use Rattle.toml.specs.View.{members_view}
 use Rattle.scriptreader.specs.declared.unread.Unread.{Unread}
 use Rattle.scriptreader.specs.declared.unread.Unread.TheVariants.{BadKey, Memory}
 use Rattle.scriptreader.specs.Shape.{◌>>=◌, Misses, items_of, has_only}
-use Rattle.scriptreader.specs.Names.{is_among}
 
 -- what was read before, and what is still read
 abbrev pub with_front : {A : Type 0} → List A → Option (List A) → Option (List A)

@@ -1,9 +1,8 @@
 -- What a sign divides, and what it marks.
-use Rattle.std.proofs.Common.{◌≡◌, ◌≢◌, ℕ, ◌<◌, List, [], ◌∷◌, length, get_or, drop, Bool, true, false, cond, Option, Some, None, Bor, refl, sym, ap, ◌∙◌, nat_lt, eqb, arith}
+use Rattle.std.proofs.Common.{◌≡◌, ℕ, ◌<◌, List, [], ◌∷◌, length, Bool, true, false, cond, Option, Some, None, Bor, refl, ap, nat_lt, arith}
 use Rattle.std.specs.Prelude.{option_map, MatchOption, ◌==◌}
-use Rattle.std.specs.List.{before_first, after_first, position_or_len, slice_index}
+use Rattle.std.specs.List.{before_first, after_first, position_or_len}
 use Rattle.std.proofs.lemmas.Bool.{le-ltb, eqb-true}
-use Rattle.scriptreader.specs.Shape.{only_if}
 use Rattle.scriptreader.specs.Texts.{parts_at, marked_of}
 
 pub split_is : (sign : ℕ) (text : List ℕ) (r : Option (Bor (List ℕ) × Bor (List ℕ)))

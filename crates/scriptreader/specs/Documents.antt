@@ -1,5 +1,5 @@
 -- The tables of a document. A reader should check each key, whether it may be left out, and what it holds.
-use Rattle.std.specs.Prelude.{ℕ, List, [], ◌∷◌, ◌++◌, length, Bool, false, ◌==◌, nat_le, unwrap_or, codes, Option, Some, None}
+use Rattle.std.specs.Prelude.{ℕ, List, [], ◌∷◌, ◌++◌, length, false, nat_le, unwrap_or, codes, Option, Some, None}
 use Rattle.toml.specs.Data.{Data, Members, no_members, member, get_member, as_str, as_table, as_bool}
 use Rattle.mg_names.specs.Words.{signal_named, kind_named}
 use Rattle.mg_names.specs.declared.signals.Signal.{Signal}

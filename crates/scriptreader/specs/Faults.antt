@@ -1,11 +1,10 @@
 -- The faults of a document that are not of its shape. Each is a test of the whole document, apart from the others. A
 -- reader should check each test against the table of faults.
-use Rattle.std.specs.Prelude.{ℕ, List, [], ◌∷◌, ◌++◌, length, map, Bool, true, false, not, ◌≡◌, ◌&&◌, ◌||◌, ◌==◌, nat_le, nat_lt, is_some, is_none, is_err, codes, if◌then◌else◌, Option, Some, None}
+use Rattle.std.specs.Prelude.{ℕ, List, [], ◌∷◌, ◌++◌, length, map, Bool, true, false, not, ◌≡◌, ◌&&◌, ◌||◌, nat_lt, is_some, is_none, is_err, codes, if◌then◌else◌, Option, Some, None}
 use Rattle.std.specs.List.{list_all, list_any, flat_map}
 use Rattle.std.specs.Str.{bytes_eq}
 use Rattle.mg_names.specs.Words.{event_name_text, signal_text}
 use Rattle.mg_names.specs.declared.events.EventName.TheVariants as event
-use Rattle.mg_names.specs.declared.signals.Signal.{Signal}
 use Rattle.digits.specs.Reading.{map_of}
 use Rattle.scriptreader.specs.declared.fault.ScriptFault.{ScriptFault}
 use Rattle.scriptreader.specs.declared.fault.ScriptFault.TheVariants as fault
@@ -17,7 +16,7 @@ use Rattle.scriptreader.specs.declared.syntax.WrittenTransition.{WrittenTransiti
 use Rattle.scriptreader.specs.declared.syntax.Options.{Options}
 use Rattle.scriptreader.specs.declared.syntax.WrittenCommand.{WrittenCommand}
 use Rattle.scriptreader.specs.declared.syntax.WrittenCommand.TheVariants.{Add, Modify, Move, Subtract, SubtractAll, SetTopology}
-use Rattle.scriptreader.specs.Written.{Events, Signals, State, Document}
+use Rattle.scriptreader.specs.Written.{State, Document}
 use Rattle.scriptreader.specs.Names.{is_declarable, is_among, repeats_after, each_once}
 use Rattle.scriptreader.specs.Texts.{suits_line, suits_ephemeral}
 

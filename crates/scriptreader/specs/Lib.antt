@@ -5,5 +5,6 @@ pub mod Written
 pub mod Texts
 pub mod Documents
 pub mod Faults
+pub mod Reading
 pub mod Table
 pub mod Words

@@ -1,7 +1,7 @@
 -- What the keys and values of a document have to be. Here every fault is a bad key, so the order of reading can't
 -- matter: a shape is a function from a value to what it says, or nothing.
-use Rattle.std.specs.Prelude.{◌≡◌, ℕ, List, [], ◌∷◌, Bool, true, false, ◌&&◌, if◌then◌else◌, Option, Some, None, option_map, option_and_then, Result, Ok, Err}
-use Rattle.toml.specs.Data.{Data, Items, no_items, item, Members, no_members, member, get_member, as_str, as_array, as_table, as_bool}
+use Rattle.std.specs.Prelude.{◌≡◌, ℕ, List, [], ◌∷◌, Bool, true, ◌&&◌, if◌then◌else◌, Option, Some, None, option_map, option_and_then, Result, Ok, Err}
+use Rattle.toml.specs.Data.{Data, Items, no_items, item, Members, no_members, member, get_member, as_array}
 use Rattle.scriptreader.specs.declared.unread.Unread.{Unread}
 use Rattle.scriptreader.specs.declared.unread.Unread.TheVariants.{BadKey, Memory}
 use Rattle.scriptreader.specs.Names.{is_among}

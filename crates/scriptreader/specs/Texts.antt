@@ -1,10 +1,9 @@
 -- The texts of a script: items of events lists, pairs that talk, and commands. A reader should check each form, and that
 -- an option comes at most once. A text that is not of these forms is a bad key.
-use Rattle.std.specs.Prelude.{ℕ, List, [], ◌∷◌, length, drop, Bool, true, false, not, ◌&&◌, ◌||◌, ◌==◌, nat_lt, is_none, slice_index, codes, if◌then◌else◌, Option, Some, None}
+use Rattle.std.specs.Prelude.{ℕ, List, [], ◌∷◌, length, drop, Bool, true, false, ◌&&◌, ◌||◌, ◌==◌, nat_lt, is_none, slice_index, codes, if◌then◌else◌, Option, Some, None}
 use Rattle.std.specs.List.{slice_split, before_first, after_first, position_or_len}
 use Rattle.std.specs.Str.{bytes_eq}
 use Rattle.mg_names.specs.Words.{mode_named, event_name_named, strict_named, topology_named}
-use Rattle.mg_names.specs.declared.modes.Mode.{Mode}
 use Rattle.mg_names.specs.declared.events.EventName.{EventName}
 use Rattle.mg_names.specs.declared.events.EventName.TheVariants as event
 use Rattle.mg_names.specs.declared.strictness.Strict.TheVariants.{Exact}

@@ -364,12 +364,8 @@ fn named_state(
     }
 }
 
-/// The table of a document.
-pub(crate) fn script(alloc: Global, document: &Document) -> Result<Script, ScriptFault>
-    requires { has_duplicate document.now ≡ false }
-{
-    let scope = Scope::new(alloc, document)?;
-    let scope = &scope;
+/// The table of a document, whose names are these.
+fn script_in(alloc: Global, scope: &Scope, document: &Document) -> Result<Script, ScriptFault> {
     if document.lines.len() > 4
         || document.contexts.len() > 4
         || document.ephemerals.len() > 4
@@ -398,4 +394,12 @@ pub(crate) fn script(alloc: Global, document: &Document) -> Result<Script, Scrip
         start,
         restart,
     })
+}
+
+/// The table of a document.
+pub(crate) fn script(alloc: Global, document: &Document) -> Result<Script, ScriptFault>
+    requires { has_duplicate document.now ≡ false }
+{
+    let scope = Scope::new(alloc, document)?;
+    script_in(alloc, &scope, document)
 }

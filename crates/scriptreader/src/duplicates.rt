@@ -14,7 +14,10 @@ use crate::word::Word;
 use std::alloc::{AllocError, Global};
 
 /// Whether something is declared, listed or created twice, or paired with itself.
-pub(crate) fn has_duplicate(alloc: Global, document: &Document) -> Result<bool, AllocError> {
+#[tactic(auto, unfolding(crate::specs::Faults::has_duplicate))]
+pub(crate) fn has_duplicate(alloc: Global, document: &Document) -> Result<bool, AllocError>
+    ensures { IfOk result (λ r. r ≡ has_duplicate document.now) }
+{
     let lines = document.lines.as_slice();
     let contexts = document.contexts.as_slice();
     let ephemerals = document.ephemerals.as_slice();

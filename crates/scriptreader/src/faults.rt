@@ -340,5 +340,6 @@ pub(crate) fn first_fault(
         return Ok(Some(ScriptFault::Duplicate));
     }
     let scope = Scope::new(alloc, document)?;
-    use_fault(alloc, &scope, document)
+    let fault = use_fault(alloc, &scope, document)?;
+    Ok(fault)
 }

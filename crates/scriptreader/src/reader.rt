@@ -1,4 +1,12 @@
 //! The reader of scripts.
+ghost use Rattle.std.specs.Prelude.{◌≡◌, Some, IsSome, OnOk};
+ghost use Rattle.std.specs.Str.{IsUtf8};
+ghost use Rattle.toml.specs.Data.{Members};
+ghost use Rattle.toml.specs.View.{table_view};
+ghost use Rattle.toml.specs.Parse.{parse_document};
+ghost use Rattle.scriptreader.specs.Faults.{fault_of};
+ghost use Rattle.scriptreader.specs.Reading.{tree_fault, Judges};
+
 use crate::fault::ScriptFault;
 use crate::script::Script;
 use crate::syntax::Document;
@@ -7,10 +15,41 @@ use crate::{build, faults, tables};
 use std::alloc::Global;
 use toml::Table;
 
-/// The tree of a document.
-fn tree(alloc: Global, bytes: &[u8]) -> Result<Table, ScriptFault> {
+/// The script that a document is.
+fn of_document(alloc: Global, document: &Document) -> Result<Script, ScriptFault>
+    ensures { Judges (fault_of document.now) result }
+{
+    let fault = faults::first_fault(alloc, document)?;
+    if let Some(fault) = fault {
+        return Err(fault);
+    }
+    let script = build::script(alloc, document)?;
+    Ok(script)
+}
+
+/// The script that a tree is.
+#[tactic(auto, unfolding(crate::specs::Reading::tree_fault))]
+fn of_tree(alloc: Global, tree: &Table) -> Result<Script, ScriptFault>
+    ensures { Judges (tree_fault (table_view tree.now)) result }
+{
+    match tables::document(alloc, tree) {
+        Ok(document) => of_document(alloc, &document),
+        Err(Unread::BadKey) => Err(ScriptFault::BadKey),
+        Err(Unread::Memory) => Err(ScriptFault::NoMemory),
+    }
+}
+
+/// Reads a script. The bytes are TOML; the format is this profile's own. Of all faults that the document has anywhere
+/// the lowest is given; `NoMemory` may come in place of any answer. Time goes up with the length of the bytes.
+pub fn read_script(alloc: Global, bytes: &[u8]) -> Result<Script, ScriptFault>
+    // What is read is TOML.
+    ensures toml { OnOk result (IsUtf8 bytes.now × IsSome (parse_document bytes.now)) }
+
+    // Which fault it is, for the tree of the bytes.
+    ensures fault { (tree : Members) → IsUtf8 bytes.now → parse_document bytes.now ≡ Some tree → Judges (tree_fault tree) result }
+{
     match toml::table_from_slice(alloc, bytes) {
-        Ok(table) => Ok(table),
+        Ok(tree) => of_tree(alloc, &tree),
         Err(error) => {
             if error.is_memory() {
                 Err(ScriptFault::NoMemory)
@@ -19,29 +58,4 @@ fn tree(alloc: Global, bytes: &[u8]) -> Result<Table, ScriptFault> {
             }
         }
     }
-}
-
-/// The document that a tree is.
-fn document_of(alloc: Global, tree: &Table) -> Result<Document, ScriptFault> {
-    match tables::document(alloc, tree) {
-        Ok(document) => Ok(document),
-        Err(Unread::BadKey) => Err(ScriptFault::BadKey),
-        Err(Unread::Memory) => Err(ScriptFault::NoMemory),
-    }
-}
-
-/// The table of a document that is of the right shape.
-fn table_of(alloc: Global, document: &Document) -> Result<Script, ScriptFault> {
-    if let Some(fault) = faults::first_fault(alloc, document)? {
-        return Err(fault);
-    }
-    build::script(alloc, document)
-}
-
-/// Reads a script. The bytes are TOML; the format is this profile's own. Of all faults that the document has anywhere
-/// the lowest is given; `NoMemory` may come in place of any answer. Time goes up with the length of the bytes.
-pub fn read_script(alloc: Global, bytes: &[u8]) -> Result<Script, ScriptFault> {
-    let tree = tree(alloc, bytes)?;
-    let document = document_of(alloc, &tree)?;
-    table_of(alloc, &document)
 }

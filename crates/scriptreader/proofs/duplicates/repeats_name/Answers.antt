@@ -1,4 +1,3 @@
-use Rattle.std.proofs.Common.{◌≡◌, sym}
 use Rattle.scriptreader.proofs.Repeats.{first_repeats, second_repeats, third_repeats}
 use Rattle.scriptreader.proofs.duplicates.repeats_name.Goals as goal
 

@@ -1,5 +1,5 @@
 use Rattle.std.proofs.Common.{◌≡◌, drop}
-use Rattle.std.specs.List.{list_any, flat_map}
+use Rattle.std.specs.List.{list_any}
 use Rattle.scriptreader.specs.Faults.{is_bad_map}
 use Rattle.scriptreader.proofs.faults.one_is_bad_map.Given as goal
 

@@ -1,5 +1,5 @@
 use Rattle.std.proofs.Common.{◌≡◌, drop}
-use Rattle.std.specs.List.{list_any, flat_map}
+use Rattle.std.specs.List.{list_any}
 use Rattle.scriptreader.specs.Faults.{makes_and_subtracts}
 use Rattle.scriptreader.proofs.faults.one_makes_and_subtracts.Given as goal
 

@@ -1,5 +1,5 @@
 use Rattle.std.proofs.Common.{◌≡◌, drop}
-use Rattle.std.specs.List.{list_any, flat_map}
+use Rattle.std.specs.List.{list_any}
 use Rattle.scriptreader.specs.Faults.{unmakes}
 use Rattle.scriptreader.proofs.faults.one_unmakes.Given as goal
 

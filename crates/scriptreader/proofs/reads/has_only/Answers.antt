@@ -1,5 +1,4 @@
-use Rattle.std.proofs.Common.{◌≡◌, map, Bor, List, ℕ, sym, ◌∙◌, ap}
-use Rattle.std.specs.Map.Iter.{deref_pair}
+use Rattle.std.proofs.Common.{map, sym, ◌∙◌, ap}
 use Rattle.toml.specs.View.{members_view}
 use Rattle.scriptreader.specs.Shape.{has_only}
 use Rattle.scriptreader.proofs.Shapes.{only-entries}

@@ -1,7 +1,6 @@
-use Rattle.std.proofs.Common.{◌≡◌, None, Bool, List, ℕ, sym, ap, lit<, ◌≢◌, get_or}
+use Rattle.std.proofs.Common.{None, Bool, List, ℕ, sym, ap, lit<}
 use Rattle.std.proofs.lemmas.Str.Pattern.{strip_prefix_char}
 use Rattle.scriptreader.proofs.Signs.{unmarked}
-use Rattle.scriptreader.specs.Texts.{marked_of}
 use Rattle.scriptreader.proofs.texts.marked.Goals as goal
 
 pub returns-in-None-clause-mark : goal.returns-in-None-clause-mark

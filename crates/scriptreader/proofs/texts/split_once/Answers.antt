@@ -1,4 +1,3 @@
-use Rattle.std.proofs.Common.{◌≡◌}
 use Rattle.scriptreader.proofs.Signs.{split_is}
 use Rattle.scriptreader.proofs.texts.split_once.Goals as goal
 

@@ -1,4 +1,4 @@
-use Rattle.std.proofs.Common.{◌≡◌, List, ℕ, Bor, sym, ◌∙◌, ap, not, rules}
+use Rattle.std.proofs.Common.{List, ℕ, Bor, sym, ◌∙◌, ap, not}
 use Rattle.std.specs.Str.{bytes_eq}
 use Rattle.scriptreader.proofs.Places.{list_any-mapped}
 use Rattle.scriptreader.proofs.names.Names.add.Goals as goal

@@ -1,4 +1,4 @@
-use Rattle.std.proofs.Common.{◌≡◌, List, ℕ, Bor, sym, ◌∙◌, rules}
+use Rattle.std.proofs.Common.{List, ℕ, Bor, sym, ◌∙◌}
 use Rattle.std.specs.Str.{bytes_eq}
 use Rattle.scriptreader.proofs.Places.{position-mapped}
 use Rattle.scriptreader.proofs.names.Names.place.Goals as goal

@@ -1,4 +1,3 @@
-use Rattle.std.proofs.Common.{◌≡◌}
 use Rattle.scriptreader.proofs.Repeats.{scope_is}
 use Rattle.scriptreader.proofs.scope.Scope.new.Goals as goal
 
