@@ -10,7 +10,11 @@ use scriptreader::{Script, read_script};
 use std::alloc::{AllocError, Global};
 
 /// The words of a step, with the names of the script's lines.
-fn words_of(alloc: Global, script: &Script, step: &Option<StepName>) -> Result<Option<String>, AllocError> {
+fn words_of(
+    alloc: Global,
+    script: &Script,
+    step: &Option<StepName>,
+) -> Result<Option<String>, AllocError> {
     match step {
         Some(step) => Ok(Some(script.step_words(alloc, step)?)),
         None => Ok(None),

@@ -18,6 +18,8 @@ mod sections;
 mod sink;
 mod source;
 mod status;
+#[cfg(test)]
+mod tests;
 mod verdict;
 mod words;
 

@@ -71,7 +71,11 @@ pub fn check(alloc: Global, script: &[u8], certificate: &[u8]) -> Result<Verdict
     match first_fault(alloc, &script, &cert) {
         Ok(None) => {
             let points = points(&cert);
-            Ok(Verdict::Yes(Checked { script, cert, points }))
+            Ok(Verdict::Yes(Checked {
+                script,
+                cert,
+                points,
+            }))
         }
         Ok(Some(fault)) => Ok(Verdict::No(fault)),
         Err(_) => Err(CheckFault::NoMemory),
