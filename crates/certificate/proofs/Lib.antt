@@ -1,5 +1,6 @@
 pub mod Each
 pub mod Limits
+pub mod OutlineLemmas
 pub mod Parts
 pub mod Passing
 pub mod Products

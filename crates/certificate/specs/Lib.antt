@@ -4,6 +4,7 @@ pub mod Document
 pub mod FaultNames
 pub mod Listed
 pub mod Naming
+pub mod Outlines
 pub mod Ranks
 pub mod Shape
 pub mod Shown

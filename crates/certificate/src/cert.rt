@@ -1,15 +1,15 @@
 //! Certificates.
 ghost use Rattle.std.specs.Prelude.{◌≡◌, IfOk, map};
-ghost use Rattle.std.specs.List.{list_any};
 ghost use Rattle.serde_json.specs.View.{view};
-ghost use Rattle.certificate.specs.Certificate.{Gives, IsIndex, Parses, ReadsCertificate, checked, checked_or, document_read, has_empty, is_large, listed_meant, places_of};
+ghost use Rattle.certificate.specs.Certificate.{Gives, IsIndex, Parses, ReadsCertificate, checked_or, document_read, listed_meant, places_of};
 ghost use Rattle.certificate.specs.Shape.{each};
 
 use crate::document::read_document;
-use crate::draft::{Draft, drafts, entries, has_crowd, has_empty, is_large};
+use crate::draft::{drafts, entries};
 use crate::entry::Entry;
 use crate::fault::CertFault;
 use crate::key::keys;
+use crate::outline::{limit_passed, outlines};
 use crate::written::WrittenEntry;
 use scriptreader::Script;
 use serde_json::Value;
@@ -84,35 +84,7 @@ fn indexed(alloc: Global, entries: Vec<Entry>) -> Result<Cert, AllocError>
     Ok(Cert { entries, places })
 }
 
-fn any_empty(drafts: &[Draft]) -> bool
-    ensures { result ≡ list_any has_empty drafts.now }
-{
-    drafts.iter().any(|draft| has_empty(draft))
-}
-
-fn any_large(drafts: &[Draft]) -> bool
-    ensures { result ≡ list_any is_large drafts.now }
-{
-    drafts.iter().any(|draft| is_large(draft))
-}
-
-/// The entries of drafts, if they are within the limits.
-fn check(alloc: Global, script: &Script, drafts: Vec<Draft>) -> Result<Vec<Entry>, CertFault>
-    ensures { Gives (λ v. v.items) result (checked script.now drafts.items) }
-{
-    if any_empty(drafts.as_slice()) {
-        return Err(CertFault::EmptySet);
-    }
-    if has_crowd(script, drafts.as_slice()) {
-        return Err(CertFault::TooManyEntries);
-    }
-    if any_large(drafts.as_slice()) {
-        return Err(CertFault::TooManyPoints);
-    }
-    Ok(entries(alloc, drafts)?)
-}
-
-/// Looks up the names of written entries, and checks the limits.
+/// Looks up the names of written entries. The limits are looked at before any entry is kept.
 fn resolve(
     alloc: Global,
     script: &Script,
@@ -121,8 +93,14 @@ fn resolve(
     ensures { Gives (λ v. v.items) result (checked_or script.now (each (listed_meant script.now) written.now)) }
 {
     let keys = keys(alloc, script)?;
-    let drafts = drafts(alloc, script, keys.as_slice(), written)?;
-    check(alloc, script, drafts)
+    let outlines = outlines(alloc, script, keys.as_slice(), written)?;
+    match limit_passed(script, outlines.as_slice()) {
+        Some(fault) => Err(fault),
+        None => {
+            let drafts = drafts(alloc, script, keys.as_slice(), written)?;
+            Ok(entries(alloc, drafts)?)
+        }
+    }
 }
 
 /// The entries of a document.

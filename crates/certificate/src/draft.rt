@@ -1,8 +1,8 @@
 //! Entries whose names were looked up, before the limits are checked.
-ghost use Rattle.std.specs.Prelude.{◌≡◌, ◌<◌, ◌==◌, ◌&&◌, is_some, length, map, nat_lt, count_by, false, IfOk};
+ghost use Rattle.std.specs.Prelude.{◌≡◌, ◌==◌, is_some, length, false, IfOk};
 ghost use Rattle.std.specs.List.{list_all, list_any};
 ghost use Rattle.scriptreader.specs.Table.{place_of};
-ghost use Rattle.certificate.specs.Certificate.{are_known, entries_for, has_crowd, has_empty, is_large, listed_meant};
+ghost use Rattle.certificate.specs.Certificate.{are_known, has_empty, is_large, listed_meant};
 ghost use Rattle.certificate.specs.Components.{component_meant, keys_of};
 ghost use Rattle.certificate.specs.Listed.{choices_of};
 ghost use Rattle.certificate.specs.Naming.{Resolves, pair_named};
@@ -20,9 +20,6 @@ use crate::written::WrittenEntry;
 use scriptreader::Script;
 use std::alloc::{AllocError, Global};
 use std::marker::Model;
-
-/// How many entries a state may have.
-const ENTRIES: usize = 256;
 
 /// An entry whose names were looked up.
 #[derive(Drop)]
@@ -102,7 +99,7 @@ fn components(
 }
 
 /// Looks up the names of an entry. The keys are those of the script.
-fn read_draft(
+pub(crate) fn read_draft(
     alloc: Global,
     script: &Script,
     keys: &[Key],
@@ -155,25 +152,6 @@ fn any_empty(components: &[Component]) -> bool
 {
     for component in components {
         if count(component) == 0 {
-            return true;
-        }
-    }
-    false
-}
-
-/// How many entries a state has.
-fn entries_for(drafts: &[Draft], state: u8) -> usize
-    ensures { result ≡ entries_for drafts.now state }
-{
-    drafts.iter().filter(|draft| draft.state == state).count()
-}
-
-/// Whether a state of the script has more entries than it may.
-pub(crate) fn has_crowd(script: &Script, drafts: &[Draft]) -> bool
-    ensures { result ≡ has_crowd script.now drafts.now }
-{
-    for state in 0..script.states() {
-        if entries_for(drafts, state as u8) > ENTRIES {
             return true;
         }
     }

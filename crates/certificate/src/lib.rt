@@ -13,6 +13,7 @@ mod entry;
 mod fault;
 mod key;
 mod names;
+mod outline;
 mod ranked;
 mod reads;
 mod vocabulary;

@@ -1,7 +1,0 @@
--- No state so far has too many entries.
-use Rattle.std.proofs.Common.{◌≡◌, false, nat_lt}
-use Rattle.certificate.specs.Certificate.{entries_for, some_below}
-use Rattle.certificate.proofs.draft.has_crowd.Given as goal
-
-abbrev pub invariant-loop-state : goal.invariant-loop-state
-invariant-loop-state l = some_below l.state (λ state. nat_lt 256 (entries_for l.drafts state)) ≡ false

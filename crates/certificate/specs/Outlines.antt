@@ -1,0 +1,30 @@
+-- What the limits look at of an entry, and which limit some entries pass. No public clause speaks of it: what the limits
+-- are stands in the file on certificates.
+use Rattle.std.specs.Prelude.{ℕ, ◌==◌, Bool, List, length, map, count_by, nat_lt, if◌then◌else◌, Option, Some, None, option_map}
+use Rattle.std.specs.List.{list_any}
+use Rattle.mg_model.specs.Script.{Script}
+use Rattle.certificate.specs.Listed.{Listed}
+use Rattle.certificate.specs.Certificate.{listed_meant, has_empty, is_large, some_below}
+use Rattle.certificate.specs.Written as written
+use Rattle.certificate.specs.declared.fault.CertFault.{CertFault}
+use Rattle.certificate.specs.declared.fault.CertFault.TheVariants.{EmptySet, TooManyEntries, TooManyPoints}
+use Rattle.certificate.specs.declared.outline.Outline.{Outline}
+
+abbrev pub outline_of : Listed → Outline
+outline_of entry = record { state = entry.state; is_empty = has_empty entry; is_large = is_large entry }
+
+abbrev pub outline_meant : Script → written.Entry → Option Outline
+outline_meant script entry = option_map outline_of (listed_meant script entry)
+
+abbrev pub outlined_for : List Outline → ℕ → ℕ
+outlined_for outlines state = count_by (λ outline. outline.state == state) outlines
+
+abbrev pub has_crowd_in : Script → List Outline → Bool
+has_crowd_in script outlines = some_below (length script.states) (λ state. nat_lt 256 (outlined_for outlines state))
+
+abbrev pub limit_passed : Script → List Outline → Option CertFault
+limit_passed script outlines =
+    if list_any (λ outline. outline.is_empty) outlines then Some EmptySet
+    else if has_crowd_in script outlines then Some TooManyEntries
+    else if list_any (λ outline. outline.is_large) outlines then Some TooManyPoints
+    else None
