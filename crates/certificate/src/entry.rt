@@ -105,10 +105,10 @@ impl Entry {
         if config.state() != self.state {
             return false;
         }
-        if !is_well_formed(config) {
+        if !all_allow(self.components.as_slice(), config) {
             return false;
         }
-        all_allow(self.components.as_slice(), config)
+        is_well_formed(config)
     }
 
     /// The configuration with a number, well formed or not.
