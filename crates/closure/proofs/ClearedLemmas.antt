@@ -1,5 +1,5 @@
 -- The tests of a configuration whose call has ended.
-use Rattle.std.proofs.Common.{◌≡◌, ℕ, ◌<◌, ◌≤◌, nat_lt, Bool, true, false, not, ◌&&◌, ◌||◌, List, [], ◌∷◌, length, refl, sym, arith, IsTrue}
+use Rattle.std.proofs.Common.{◌≡◌, ℕ, ◌<◌, ◌≤◌, nat_lt, Bool, true, false, not, ◌&&◌, [], ◌∷◌, length, refl, arith, IsTrue}
 use Rattle.std.specs.List.{list_all}
 use Rattle.std.proofs.lemmas.Grind.{common_steps}
 use Rattle.mg_model.specs.declared.commands.Termination.TheVariants.{Line, Ephemeral}
@@ -10,7 +10,7 @@ use Rattle.mg_model.specs.Tables.{items_of, is_armed_list}
 use Rattle.mg_model.specs.Configuration.{Configuration, is_null, is_present}
 use Rattle.mg_model.specs.Obligations.{IsCleared}
 use Rattle.configuration.specs.Places.{AbsentPastEight}
-use Rattle.configuration.proofs.PathLemmas.{split_and, both}
+use Rattle.configuration.proofs.PathLemmas.{split_and}
 use Rattle.configuration.proofs.WellFormedLemmas.{at_slot, at_all_slots, slot_cases}
 use Rattle.closure.specs.Tests.{line_is_cleared, ephemeral_is_absent}
 

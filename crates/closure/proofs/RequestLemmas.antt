@@ -1,6 +1,5 @@
 -- Built requests: the names that are bound, and when a request is empty.
 use Rattle.std.proofs.Common.{◌≡◌, ℕ, ◌≤◌, suc, zero, Bool, true, false, not, ◌||◌, List, [], ◌∷◌, slice_index_or, refl, sym, arith}
-use Rattle.std.specs.Prelude.{if◌then◌else◌}
 use Rattle.std.specs.List.{list_any}
 use Rattle.mg_model.specs.declared.commands.Command.{Command}
 use Rattle.mg_model.specs.Tables.{is_empty}

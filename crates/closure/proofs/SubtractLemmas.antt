@@ -1,5 +1,5 @@
 -- Turns that subtract a termination make of a configuration what the definition says.
-use Rattle.std.proofs.Common.{◌≡◌, ℕ, ◌≤◌, ◌<◌, suc, zero, nat_lt, nat_eq, ◌==◌, Bool, true, false, not, ◌&&◌, ◌||◌, List, [], ◌∷◌, refl, ap, sym, subst, ◌∙◌, arith}
+use Rattle.std.proofs.Common.{◌≡◌, ℕ, ◌≤◌, ◌<◌, suc, zero, nat_lt, Bool, true, false, ◌&&◌, ◌||◌, List, [], ◌∷◌, refl, ap, sym, ◌∙◌, arith}
 use Rattle.std.specs.Prelude.{if◌then◌else◌}
 use Rattle.std.specs.List.{list_any}
 use Rattle.std.proofs.lemmas.Grind.{common_steps}
@@ -8,10 +8,10 @@ use Rattle.mg_model.specs.declared.commands.Termination.TheVariants.{Line, Ephem
 use Rattle.mg_model.specs.declared.components.Remote.{Remote}
 use Rattle.mg_model.specs.declared.components.Remote.TheVariants.{Unset, Gone, To}
 use Rattle.mg_model.specs.Configuration.{Configuration, is_in, is_same, terminations}
-use Rattle.mg_model.specs.Effects.{with_pair, spot_after, remote_after, without_cuts_of, without_terminations}
+use Rattle.mg_model.specs.Effects.{spot_after, remote_after, without_cuts_of, without_terminations}
 use Rattle.mg_model.proofs.ConfigurationLemmas.{same_configurations}
 use Rattle.mg_names.specs.declared.modes.Mode.TheVariants.{Inactive}
-use Rattle.mg_model.specs.declared.components.Spot.TheVariants.{Absent, Null}
+use Rattle.mg_model.specs.declared.components.Spot.TheVariants.{Absent}
 use Rattle.mg_model.specs.declared.commands.EventsName.TheVariants.{Empty}
 use Rattle.configuration.specs.Places.{index_of, AbsentPastEight, NoCutsPastEight}
 use Rattle.configuration.proofs.WellFormedLemmas.{some_termination}

@@ -1,5 +1,5 @@
 -- Words for what one turn of a loop does. No public clause speaks of them.
-use Rattle.std.specs.Prelude.{ℕ, Bool, false, List, [], ◌∷◌, if◌then◌else◌}
+use Rattle.std.specs.Prelude.{ℕ, false, List, [], ◌∷◌, if◌then◌else◌}
 use Rattle.mg_names.specs.declared.topologies.Topology.{Topology}
 use Rattle.mg_model.specs.declared.commands.Termination.{Termination}
 use Rattle.mg_model.specs.declared.components.Remote.{Remote}

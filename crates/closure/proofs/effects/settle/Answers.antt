@@ -1,6 +1,4 @@
-use Rattle.std.proofs.Common.{◌≡◌, ℕ, ◌∷◌, [], slice_index_or, refl, ap, sym, ◌∙◌, arith}
-use Rattle.std.proofs.lemmas.Grind.{common_steps}
-use Rattle.mg_model.specs.Configuration.{Configuration}
+use Rattle.std.proofs.Common.{◌≡◌, ℕ, slice_index_or, refl, ap, ◌∙◌}
 use Rattle.configuration.specs.Config.{configuration_of}
 use Rattle.closure.specs.Turns.{settled_at}
 use Rattle.closure.proofs.SettleLemmas.{settled_all}

@@ -1,6 +1,4 @@
-use Rattle.std.proofs.Common.{◌≡◌, ℕ, ◌<◌, arith, subst, sym}
-use Rattle.configuration.specs.Config.{configuration_of}
-use Rattle.closure.specs.Tests.{PairBelowIsMarked}
+use Rattle.std.proofs.Common.{arith}
 use Rattle.closure.proofs.obligations.joined_are_marked.Goals as goal
 
 pub returns : goal.returns

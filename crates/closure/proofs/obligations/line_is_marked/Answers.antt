@@ -1,4 +1,4 @@
-use Rattle.std.proofs.Common.{◌≡◌, ℕ, ◌<◌, ◌∷◌, [], slice_index_or, arith, rules, refl, sym, subst, ◌∙◌, IsTrue, false}
+use Rattle.std.proofs.Common.{◌≡◌, ℕ, ◌<◌, slice_index_or, rules, sym, subst, ◌∙◌}
 use Rattle.configuration.proofs.PathLemmas.{slot_at}
 use Rattle.closure.proofs.obligations.line_is_marked.Goals as goal
 

@@ -1,4 +1,4 @@
-use Rattle.std.proofs.Common.{◌≡◌, ℕ, ◌<◌, ◌∷◌, [], true, not, slice_index_or, arith, rules, sym, subst, below_more, ◌∙◌}
+use Rattle.std.proofs.Common.{◌≡◌, ℕ, ◌<◌, slice_index_or, subst, below_more}
 use Rattle.configuration.specs.Config.{configuration_of}
 use Rattle.configuration.proofs.PathLemmas.{slot_at}
 use Rattle.closure.specs.Tests.{PairBelowIsMarked}

@@ -1,7 +1,6 @@
-use Rattle.std.proofs.Common.{◌≡◌, ap, sym, ◌∙◌, not}
-use Rattle.std.specs.List.{list_any}
+use Rattle.std.proofs.Common.{sym}
 use Rattle.mg_model.specs.Tables.{state_of}
-use Rattle.mg_model.specs.Request.{Names, bound_names, uses_known}
+use Rattle.mg_model.specs.Request.{bound_names}
 use Rattle.configuration.specs.Config.{configuration_of}
 use Rattle.closure.proofs.RequestLemmas.{is_empty-built}
 use Rattle.closure.proofs.requests.is_request_empty.Goals as goal

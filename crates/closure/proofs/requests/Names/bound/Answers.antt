@@ -1,4 +1,4 @@
-use Rattle.std.proofs.Common.{◌≡◌, ℕ, Bool, not, slice_index_or, refl, ap, ◌∙◌, arith}
+use Rattle.std.proofs.Common.{ℕ, not, refl, ap, ◌∙◌, arith}
 use Rattle.mg_names.specs.declared.context_values.ContextValue.{ContextValue}
 use Rattle.mg_model.specs.declared.commands.Termination.TheVariants.{Ephemeral}
 use Rattle.mg_model.specs.Configuration.{is_free, is_present}

@@ -1,0 +1,218 @@
+-- The obligations in their order: what is found of the points, after the opening and the reset, is the answer.
+use Rattle.std.proofs.Common.{◌≡◌, ℕ, ◌<◌, ◌≤◌, List, [], ◌∷◌, Option, Some, None, refl, sym, ◌∙◌, ap, ap₂, subst, arith, inl, inr, ◌⊎◌}
+use Rattle.std.specs.List.{slice_get}
+use Rattle.std.proofs.lemmas.Option.{same_Some}
+use Rattle.mg_model.specs.declared.faults.Fault.{Fault}
+use Rattle.mg_model.specs.Script.{Script}
+use Rattle.mg_model.specs.Configuration.{Configuration}
+use Rattle.mg_model.specs.Steps.{Step, steps_of, opening, reset}
+use Rattle.mg_model.specs.Entries.{Entry, IsPointOf, IsCovered, numbered}
+use Rattle.mg_model.specs.Obligations.{JoinedAreMarked, EndedIsCleared, CreatedAreUnbound, Obligation, OpeningCovered, ResetCovered, Marked, Cleared, Unbound, StepCovered, AtPoint, Holds, KeyBefore, ComesBefore, key_of, NoneBroken, IsFirstFault}
+use Rattle.closure.specs.declared.first_fault.Broken.{Broken}
+use Rattle.closure.specs.declared.first_fault.Broken.TheVariants.{JoinedLines, EndedCall, CreatedNames, UncoveredStep}
+use Rattle.closure.specs.Answer.{IsAnswer}
+use Rattle.closure.specs.Findings.{AreCoveredBelow, AreKeptBelow, EntriesAreKeptBelow, IsFirstBroken, IsFirstEntry, IsKept, PointsFinding, fault_at, whole_fault}
+
+-- ---- the opening and the reset
+
+not_before_itself : (xs : List ℕ) → KeyBefore xs xs → ⊥
+not_before_itself [] h = h
+not_before_itself (x ∷ xs) (inl less) = omega (arith, less)
+not_before_itself (x ∷ xs) (inr same) = not_before_itself xs same.1
+
+later_part : {X : Type 0} (x y : ℕ) → y < x → (x < y) ⊎ ((x ≡ y) × X) → ⊥
+later_part x y more (inl less) = omega (arith, less, more)
+later_part x y more (inr same) = omega (arith, same.0, more)
+
+none_before_opening : (o : Obligation) → ComesBefore o OpeningCovered → ⊥
+none_before_opening OpeningCovered h = not_before_itself (key_of OpeningCovered) h
+none_before_opening ResetCovered h = later_part 1 0 (omega arith) h
+none_before_opening (Marked e p) h = later_part 2 0 (omega arith) h
+none_before_opening (Cleared e p) h = later_part 2 0 (omega arith) h
+none_before_opening (Unbound e p) h = later_part 2 0 (omega arith) h
+none_before_opening (StepCovered e p s) h = later_part 2 0 (omega arith) h
+
+pub opening_broken : (script : Script) (entries : List Entry) → (IsCovered entries (opening script) → ⊥)
+    → IsFirstFault script entries (whole_fault 1)
+opening_broken script entries broken = record {
+  obligation = OpeningCovered;
+  broken = broken;
+  before = λ o h. absurd (none_before_opening o h);
+  number = refl;
+  entry = refl;
+  point = refl;
+  step = refl;
+}
+
+opening_before_reset : (script : Script) (entries : List Entry) → IsCovered entries (opening script)
+    → (o : Obligation) → ComesBefore o ResetCovered → Holds script entries o
+opening_before_reset script entries opened OpeningCovered h = opened
+opening_before_reset script entries opened ResetCovered h = absurd (not_before_itself (key_of ResetCovered) h)
+opening_before_reset script entries opened (Marked e p) h = absurd (later_part 2 1 (omega arith) h)
+opening_before_reset script entries opened (Cleared e p) h = absurd (later_part 2 1 (omega arith) h)
+opening_before_reset script entries opened (Unbound e p) h = absurd (later_part 2 1 (omega arith) h)
+opening_before_reset script entries opened (StepCovered e p s) h = absurd (later_part 2 1 (omega arith) h)
+
+pub reset_broken : (script : Script) (entries : List Entry) → IsCovered entries (opening script)
+    → (IsCovered entries (reset script) → ⊥) → IsFirstFault script entries (whole_fault 6)
+reset_broken script entries opened broken = record {
+  obligation = ResetCovered;
+  broken = broken;
+  before = opening_before_reset script entries opened;
+  number = refl;
+  entry = refl;
+  point = refl;
+  step = refl;
+}
+
+-- ---- no obligation is broken
+
+module _ (script : Script) (entries : List Entry) (opened : IsCovered entries (opening script))
+    (restarted : IsCovered entries (reset script)) where
+  none_broken : PointsFinding script entries None → NoneBroken script entries
+  none_broken kept OpeningCovered = opened
+  none_broken kept ResetCovered = restarted
+  none_broken kept (Marked e p) = λ entry at c is. (kept e entry at p c is).marked
+  none_broken kept (Cleared e p) = λ entry at c is. (kept e entry at p c is).cleared
+  none_broken kept (Unbound e p) = λ entry at c is. (kept e entry at p c is).unbound
+  none_broken kept (StepCovered e p s) = λ entry at c is. (kept e entry at p c is).covered s
+
+-- ---- the first that is broken
+
+-- a point of an earlier entry, or an earlier point of the same entry
+abbrev IsEarlierPoint : (e' p' e p : ℕ) → Type 0
+IsEarlierPoint e' p' e p = (e' < e) ⊎ ((e' ≡ e) × (p' < p))
+
+-- an obligation of a lower rank, or an earlier step
+abbrev IsEarlierRank : (r' s' r s : ℕ) → Type 0
+IsEarlierRank r' s' r s = (r' < r) ⊎ ((r' ≡ r) × (s' < s))
+
+-- what comes before an obligation of a point is of an earlier point, or comes before it in the same point
+by_point : {X : Type 0} (e' p' r' s' e p r s : ℕ)
+    → KeyBefore (2 ∷ e' ∷ p' ∷ r' ∷ s' ∷ []) (2 ∷ e ∷ p ∷ r ∷ s ∷ [])
+    → (IsEarlierPoint e' p' e p → X) → (e' ≡ e → p' ≡ p → IsEarlierRank r' s' r s → X) → X
+by_point e' p' r' s' e p r s (inl less) at_point at_rank = absurd (omega (arith, less))
+by_point e' p' r' s' e p r s (inr h) at_point at_rank = elim h.1 [
+  | inl less ↦ at_point (inl less)
+  | inr same_entry ↦ elim same_entry.1 [
+    | inl less ↦ at_point (inr (same_entry.0, less))
+    | inr same_point ↦ at_rank same_entry.0 same_point.0 (elim same_point.1 [
+      | inl less ↦ inl less
+      | inr same_rank ↦ elim same_rank.1 [
+        | inl less ↦ inr (same_rank.0, less)
+        | inr none ↦ absurd none.1
+      ]
+    ])
+  ]
+]
+
+-- only the obligations on steps have steps
+lower_rank : (r' r s : ℕ) → r' < 3 → (r < 3 → s ≡ 0) → IsEarlierRank r' 0 r s → r' < r
+lower_rank r' r s small alone (inl less) = less
+lower_rank r' r s small alone (inr h) =
+    let none : s ≡ 0 = alone (omega (arith, h.0, small)) in absurd (omega (arith, none, h.1))
+
+earlier_step : (t r s : ℕ) → r ≤ 3 → IsEarlierRank 3 t r s → t < s
+earlier_step t r s small (inl less) = absurd (omega (arith, less, small))
+earlier_step t r s small (inr h) = h.1
+
+module _ (script : Script) (entries : List Entry) (opened : IsCovered entries (opening script))
+    (restarted : IsCovered entries (reset script)) (place : ℕ) (entry : Entry) (at_place : slice_get entries place ≡ Some entry)
+    (earlier_entries : EntriesAreKeptBelow script entries place) (number : ℕ) (c : Configuration)
+    (is_point : IsPointOf entry number c) (earlier_points : AreKeptBelow script entries entry number) where
+  same_entry : (e : ℕ) (other : Entry) → e ≡ place → slice_get entries e ≡ Some other → other ≡ entry
+  same_entry e other same at = same_Some other entry (sym at ∙ ap (slice_get entries) same ∙ at_place)
+
+  earlier_is_kept : (e p : ℕ) → IsEarlierPoint e p place number → AtPoint entries e p (IsKept script entries)
+  earlier_is_kept e p (inl less) other at d is = earlier_entries e less other at p d is
+  earlier_is_kept e p (inr h) other at d is =
+      earlier_points p h.1 d (subst (λ (x : Entry). IsPointOf x p d) (same_entry e other h.0 at) is)
+
+  here : (P : Configuration → Type 0) (e p : ℕ) → P c → e ≡ place → p ≡ number → AtPoint entries e p P
+  here P e p holds same_place same_number other at d is =
+      subst P (sym (is.1 ∙ ap₂ numbered (same_entry e other same_place at) same_number ∙ sym is_point.1)) holds
+
+  -- what comes before the obligation of this rank and step holds
+  earlier_hold : (r s : ℕ) → r ≤ 3 → (r < 3 → s ≡ 0)
+      → (0 < r → JoinedAreMarked script c) → (1 < r → EndedIsCleared script c) → (2 < r → CreatedAreUnbound script c)
+      → AreCoveredBelow entries (steps_of script c) s
+      → (o : Obligation) → KeyBefore (key_of o) (2 ∷ place ∷ number ∷ r ∷ s ∷ []) → Holds script entries o
+  earlier_hold r s small alone marked cleared unbound covered OpeningCovered h = opened
+  earlier_hold r s small alone marked cleared unbound covered ResetCovered h = restarted
+  earlier_hold r s small alone marked cleared unbound covered (Marked e p) h =
+      by_point e p 0 0 place number r s h
+      (λ earlier other at d is. (earlier_is_kept e p earlier other at d is).marked)
+      (λ same_place same_number rank.
+      here (JoinedAreMarked script) e p (marked (lower_rank 0 r s (omega arith) alone rank)) same_place same_number)
+  earlier_hold r s small alone marked cleared unbound covered (Cleared e p) h =
+      by_point e p 1 0 place number r s h
+      (λ earlier other at d is. (earlier_is_kept e p earlier other at d is).cleared)
+      (λ same_place same_number rank.
+      here (EndedIsCleared script) e p (cleared (lower_rank 1 r s (omega arith) alone rank)) same_place same_number)
+  earlier_hold r s small alone marked cleared unbound covered (Unbound e p) h =
+      by_point e p 2 0 place number r s h
+      (λ earlier other at d is. (earlier_is_kept e p earlier other at d is).unbound)
+      (λ same_place same_number rank.
+      here (CreatedAreUnbound script) e p (unbound (lower_rank 2 r s (omega arith) alone rank)) same_place same_number)
+  earlier_hold r s small alone marked cleared unbound covered (StepCovered e p t) h =
+      by_point e p 3 t place number r s h
+      (λ earlier other at d is. (earlier_is_kept e p earlier other at d is).covered t)
+      (λ same_place same_number rank.
+      here (λ (d : Configuration). (step : Step) → slice_get (steps_of script d) t ≡ Some step → IsCovered entries step.1)
+      e p (covered t (earlier_step t r s small rank)) same_place same_number)
+
+  point_broken : (broken : Broken) → IsFirstBroken script entries c broken
+      → IsFirstFault script entries (fault_at place number broken)
+  point_broken JoinedLines h = record {
+    obligation = Marked place number;
+    broken = λ holds. h (holds entry at_place c is_point);
+    before = earlier_hold 0 0 (omega arith) (λ l. refl) (λ l. absurd (omega arith)) (λ l. absurd (omega arith)) (λ l. absurd (omega arith))
+        (λ t l. absurd (omega arith));
+    number = refl;
+    entry = refl;
+    point = refl;
+    step = refl;
+  }
+  point_broken EndedCall h = record {
+    obligation = Cleared place number;
+    broken = λ holds. h.1 (holds entry at_place c is_point);
+    before = earlier_hold 1 0 (omega arith) (λ l. refl) (λ l. h.0) (λ l. absurd (omega arith)) (λ l. absurd (omega arith))
+        (λ t l. absurd (omega arith));
+    number = refl;
+    entry = refl;
+    point = refl;
+    step = refl;
+  }
+  point_broken CreatedNames h = record {
+    obligation = Unbound place number;
+    broken = λ holds. h.2 (holds entry at_place c is_point);
+    before = earlier_hold 2 0 (omega arith) (λ l. refl) (λ l. h.0) (λ l. h.1) (λ l. absurd (omega arith))
+        (λ t l. absurd (omega arith));
+    number = refl;
+    entry = refl;
+    point = refl;
+    step = refl;
+  }
+  point_broken (UncoveredStep name) h = record {
+    obligation = StepCovered place number h.3.place;
+    broken = λ holds. h.3.uncovered (holds entry at_place c is_point h.3.step h.3.at_place);
+    before = earlier_hold 3 h.3.place (omega arith) (λ l. absurd (omega arith)) (λ l. h.0) (λ l. h.1) (λ l. h.2) h.3.before;
+    number = refl;
+    entry = refl;
+    point = refl;
+    step = (entry, at_place, (c, is_point, (h.3.step, h.3.at_place, ap (λ n. Some n) h.3.named)));
+  }
+
+-- ---- the answer
+
+entry_broken : (script : Script) (entries : List Entry) → IsCovered entries (opening script) → IsCovered entries (reset script)
+    → (fault : Fault) → IsFirstEntry script entries fault → IsFirstFault script entries fault
+entry_broken script entries opened restarted fault found =
+    subst (IsFirstFault script entries) (sym found.named)
+    (point_broken script entries opened restarted found.place found.entry found.at_place found.before found.number
+    found.first.configuration found.first.is_point found.first.before found.broken found.first.first)
+
+pub points_answer : (script : Script) (entries : List Entry) (found : Option Fault) → IsCovered entries (opening script)
+    → IsCovered entries (reset script) → PointsFinding script entries found → IsAnswer script entries found
+points_answer script entries None opened restarted kept = none_broken script entries opened restarted kept
+points_answer script entries (Some fault) opened restarted found = entry_broken script entries opened restarted fault found
