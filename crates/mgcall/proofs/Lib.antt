@@ -2,3 +2,4 @@ pub mod Bytes
 pub mod Command
 pub mod Lines
 pub mod Told
+pub mod Verdicts

@@ -6,4 +6,5 @@ pub mod Replies
 pub mod Sections
 pub mod Statuses
 pub mod Verdict
+pub mod Verdicts
 pub mod Words

@@ -19,9 +19,9 @@ pub enum Answer {
     /// Every obligation holds. The counts are of the script's states, the certificate's entries and
     /// the well-formed points over all entries.
     Yes {
-        states: u64,
-        entries: u64,
-        points: u64,
+        states: usize,
+        entries: usize,
+        points: u128,
     },
     /// An obligation is broken.
     No(Broken),

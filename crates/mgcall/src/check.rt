@@ -1,6 +1,9 @@
 //! What the program says of a script and a certificate.
+ghost use Rattle.std.specs.Prelude.{◌≡◌, IfOk, option_map, string_bytes};
 ghost use Rattle.mgcall.specs.Replies.{answer_line};
-ghost use Rattle.mgcall.specs.Verdict.{IsAnswerLine};
+ghost use Rattle.mgcall.specs.Verdict.{Judges};
+ghost use Rattle.mgcall.specs.Verdicts.{NamesFault};
+ghost use Rattle.scriptreader.specs.Words.{words_of};
 
 use crate::answer::{Answer, Broken};
 use crate::verdict::{CheckFault, Verdict, check};
@@ -14,7 +17,9 @@ fn words_of(
     alloc: Global,
     script: &Script,
     step: &Option<StepName>,
-) -> Result<Option<String>, AllocError> {
+) -> Result<Option<String>, AllocError>
+    ensures { IfOk result (λ words. option_map string_bytes words ≡ option_map (words_of script.now.lines) step.now) }
+{
     match step {
         Some(step) => Ok(Some(script.step_words(alloc, step)?)),
         None => Ok(None),
@@ -22,7 +27,9 @@ fn words_of(
 }
 
 /// What is said of a broken obligation. A step's words name lines, so the script is read again.
-fn broken(alloc: Global, bytes: &[u8], fault: &Fault) -> Answer {
+fn broken(alloc: Global, bytes: &[u8], fault: &Fault) -> Answer
+    ensures { NamesFault bytes.now fault.now (answer_line result) }
+{
     let Ok(script) = read_script(alloc, bytes) else {
         return Answer::NoMemory;
     };
@@ -39,7 +46,7 @@ fn broken(alloc: Global, bytes: &[u8], fault: &Fault) -> Answer {
 
 /// The answer on a script and a certificate.
 pub fn answer(alloc: Global, script: &[u8], certificate: &[u8]) -> Answer
-    ensures { IsAnswerLine (answer_line result) }
+    ensures { Judges script.now certificate.now (answer_line result) }
 {
     match check(alloc, script, certificate) {
         Ok(Verdict::Yes(checked)) => Answer::Yes {

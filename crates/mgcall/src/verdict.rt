@@ -1,36 +1,59 @@
 //! The verdict on a script and a certificate. A `Yes` can be made in no other way than by `check`.
+ghost use Rattle.std.specs.Prelude.{◌≡◌, length};
+ghost use Rattle.mgcall.specs.Verdicts.{IsVerdict};
+
 use certificate::{Cert, CertFault, read_cert};
 use closure::first_fault::{first_fault, points};
 use mg_model::faults::Fault;
 use scriptreader::{Script, ScriptFault, read_script};
 use std::alloc::Global;
+use std::marker::Model;
 
 /// A script with a certificate that breaks no obligation.
 #[derive(Drop)]
 pub struct Checked {
     script: Script,
     cert: Cert,
-    points: u64,
+    points: u128,
+}
+
+impl Model for Checked {
+    ghost use Rattle.mgcall.specs.Verdict.{CheckedScript, IsChecked};
+
+    ghost Value = { CheckedScript };
+
+    ghost view = { λ c. record { table = c.script; entries = c.cert; points = c.points } };
+
+    ghost invariant = { λ c. IsChecked c.script c.cert c.points };
 }
 
 impl Checked {
     /// The script.
-    pub fn script(&self) -> &Script {
+    pub fn script(&self) -> &Script
+        ensures { result.now ≡ self.now.table }
+    {
         &self.script
     }
 
     /// How many states the script has.
-    pub fn states(&self) -> u64 {
-        self.script().states() as u64
+    pub fn states(&self) -> usize
+        ensures { result ≡ length self.now.table.states }
+    {
+        self.script().states()
     }
 
     /// How many entries the certificate has.
-    pub fn entries(&self) -> u64 {
-        self.cert.entries().len() as u64
+    pub fn entries(&self) -> usize
+        ensures { result ≡ length self.now.entries }
+    {
+        self.cert.entries().len()
     }
 
-    /// How many points of all entries are well formed.
-    pub fn points(&self) -> u64 {
+    /// How many points the entries have together: those of their numbers whose configuration is well formed. A wide
+    /// number, since no bound on the entries is assumed.
+    pub fn points(&self) -> u128
+        ensures { result ≡ self.now.points }
+    {
         self.points
     }
 }
@@ -57,7 +80,9 @@ pub enum CheckFault {
 
 /// The verdict on a script and a certificate. Faults of the script go before those of the certificate; want of memory
 /// may stand in place of any.
-pub fn check(alloc: Global, script: &[u8], certificate: &[u8]) -> Result<Verdict, CheckFault> {
+pub fn check(alloc: Global, script: &[u8], certificate: &[u8]) -> Result<Verdict, CheckFault>
+    ensures { IsVerdict script.now certificate.now result }
+{
     let script = match read_script(alloc, script) {
         Ok(script) => script,
         Err(ScriptFault::NoMemory) => return Err(CheckFault::NoMemory),
