@@ -1,7 +1,6 @@
 pub mod Answer
 pub mod Findings
 pub mod Known
-pub mod PointCounts
 pub mod Shown
 pub mod Tests
 pub mod Turns
