@@ -7,13 +7,12 @@ use Rattle.std.proofs.lemmas.Option.{same_Some, slice_get_read, slice_get_within
 use Rattle.mg_model.specs.Script.{Script}
 use Rattle.mg_model.specs.Configuration.{Configuration}
 use Rattle.mg_model.specs.Steps as model
-use Rattle.mg_model.specs.Entries.{Entry, IsPointOf, IsCovered}
+use Rattle.mg_model.specs.Entries.{Entry, IsPointOf, IsCovered, HasPoints, HavePoints}
 use Rattle.configuration.specs.Config.{configuration_of}
 use Rattle.configuration.specs.declared.step.Step.{Step}
 use Rattle.certificate.proofs.Each.{at}
 use Rattle.closure.specs.declared.first_fault.Broken.{Broken}
 use Rattle.closure.specs.Findings.{AreCovered, AreCoveredBelow, EntriesAreKeptBelow, ConfigurationFinding, IsEntryKept, IsFirstUncovered, IsKept, NumberFinding, PointsFinding}
-use Rattle.closure.specs.PointCounts.{HasPoints, HavePoints}
 use Rattle.closure.specs.Shown.{shown}
 
 pub refuted : (b : Bool) → b ≡ false → IsTrue b → ⊥

@@ -1,6 +1,8 @@
-ghost use Rattle.std.specs.Prelude.{◌≡◌, ℕ, ◌≤◌, not};
+ghost use Rattle.std.specs.Prelude.{◌≡◌, ℕ, ◌≤◌, not, ◌&&◌, if◌then◌else◌};
 ghost use Rattle.mg_model.specs.Configuration.{is_in, is_same, settled, terminations, value_of};
 ghost use Rattle.mg_model.specs.Effects.{is_legal, is_elsewhere, stands_at, place_exists, remote_legal, plays_after, remote_set, put_in, with_line_options, with_ephemeral_options, without_terminations, without_cuts_of, effect};
+ghost use Rattle.mg_model.specs.Script.{Script};
+ghost use Rattle.closure.specs.Groups.{is_on_line, is_on_ephemeral, is_on_context};
 ghost use Rattle.closure.specs.Turns.{settled_at, forget_pair, forget_pairs, lost_at, remote_lost, without_line, without_ephemeral, without_remotes_to, with_topology, subtracted_from, subtracted_each};
 ghost use Rattle.configuration.specs.Config.{configuration_of};
 
@@ -62,10 +64,9 @@ fn is_elsewhere(spot: Spot, context: Slot) -> bool
     }
 }
 
-/// Whether the gateway executes a command where the call stands in this configuration. A refusal by 500 or 510 is no
-/// matter of legality.
-pub fn is_legal(config: &Config, command: &Command) -> bool
-    ensures { result ≡ is_legal (configuration_of config.now) command.now }
+/// Whether a command is one on a line that is legal.
+fn is_legal_on_line(config: &Config, command: &Command) -> bool
+    ensures { result ≡ (is_on_line command.now && is_legal (configuration_of config.now) command.now) }
 {
     match *command {
         Command::AddLine {
@@ -78,6 +79,33 @@ pub fn is_legal(config: &Config, command: &Command) -> bool
             let is_free = spots::is_null(config.spot(Termination::Line(line)));
             exists && is_free
         }
+        Command::ModifyLine {
+            place,
+            line,
+            options: _,
+        } => {
+            let exists = place_exists(config, &place);
+            let stands = stands_at(config.spot(Termination::Line(line)), &place);
+            exists && stands
+        }
+        Command::MoveLine {
+            context,
+            line,
+            options: _,
+        } => {
+            let exists = spots::is_live(config.context(context));
+            let stands = is_elsewhere(config.spot(Termination::Line(line)), context);
+            exists && stands
+        }
+        _ => false,
+    }
+}
+
+/// Whether a command is one on an ephemeral that is legal.
+fn is_legal_on_ephemeral(config: &Config, command: &Command) -> bool
+    ensures { result ≡ (is_on_ephemeral command.now && is_legal (configuration_of config.now) command.now) }
+{
+    match *command {
         Command::AddEphemeral {
             create,
             context,
@@ -87,15 +115,6 @@ pub fn is_legal(config: &Config, command: &Command) -> bool
             let exists = create || spots::is_live(config.context(context));
             let remote = is_remote_legal(config, &options.remote);
             exists && remote
-        }
-        Command::ModifyLine {
-            place,
-            line,
-            options: _,
-        } => {
-            let exists = place_exists(config, &place);
-            let stands = stands_at(config.spot(Termination::Line(line)), &place);
-            exists && stands
         }
         Command::ModifyEphemeral {
             place,
@@ -107,15 +126,6 @@ pub fn is_legal(config: &Config, command: &Command) -> bool
             let remote = is_remote_legal(config, &options.remote);
             exists && stands && remote
         }
-        Command::MoveLine {
-            context,
-            line,
-            options: _,
-        } => {
-            let exists = spots::is_live(config.context(context));
-            let stands = is_elsewhere(config.spot(Termination::Line(line)), context);
-            exists && stands
-        }
         Command::MoveEphemeral {
             context,
             ephemeral,
@@ -126,6 +136,15 @@ pub fn is_legal(config: &Config, command: &Command) -> bool
             let remote = is_remote_legal(config, &options.remote);
             exists && stands && remote
         }
+        _ => false,
+    }
+}
+
+/// Whether a command is one that subtracts or sets a topology, and is legal.
+fn is_legal_on_context(config: &Config, command: &Command) -> bool
+    ensures { result ≡ (is_on_context command.now && is_legal (configuration_of config.now) command.now) }
+{
+    match *command {
         Command::Subtract {
             context,
             termination,
@@ -147,7 +166,19 @@ pub fn is_legal(config: &Config, command: &Command) -> bool
             let apart = are_apart(&first, &second);
             exists && first_stands && second_stands && apart
         }
+        _ => false,
     }
+}
+
+/// Whether the gateway executes a command where the call stands in this configuration. A refusal by 500 or 510 is no
+/// matter of legality.
+pub fn is_legal(config: &Config, command: &Command) -> bool
+    ensures { result ≡ is_legal (configuration_of config.now) command.now }
+{
+    let on_line = is_legal_on_line(config, command);
+    let on_ephemeral = is_legal_on_ephemeral(config, command);
+    let on_context = is_legal_on_context(config, command);
+    on_line || on_ephemeral || on_context
 }
 
 /// Whether two terminations are two.
@@ -383,11 +414,10 @@ fn move_to(config: &mut Config, termination: &Termination, context: Slot)
     put_in(config, *termination, context);
 }
 
-/// The configuration after a command that is legal in it and whose created names are not bound.
-pub fn effect(script: &Script, config: &Config, command: &Command) -> Config
-    ensures { configuration_of result ≡ effect script.now (configuration_of config.now) command.now }
+/// What a command does on a line; nothing if it is another.
+fn change_line(script: &Script, config: &mut Config, command: &Command)
+    ensures { configuration_of config.new ≡ (if is_on_line command.now then effect script.now (configuration_of config.old) command.now else configuration_of config.old) }
 {
-    let mut after = *config;
     match *command {
         Command::AddLine {
             create: _,
@@ -395,59 +425,77 @@ pub fn effect(script: &Script, config: &Config, command: &Command) -> Config
             line,
             options,
         } => {
-            put_in(&mut after, Termination::Line(line), context);
-            set_line_options(script, &mut after, line, &options);
-        }
-        Command::AddEphemeral {
-            create: _,
-            context,
-            ephemeral,
-            options,
-        } => {
-            put_in(&mut after, Termination::Ephemeral(ephemeral), context);
-            set_ephemeral_options(&mut after, ephemeral, &options);
+            put_in(config, Termination::Line(line), context);
+            set_line_options(script, config, line, &options);
         }
         Command::ModifyLine {
             place: _,
             line,
             options,
         } => {
-            set_line_options(script, &mut after, line, &options);
-        }
-        Command::ModifyEphemeral {
-            place: _,
-            ephemeral,
-            options,
-        } => {
-            set_ephemeral_options(&mut after, ephemeral, &options);
+            set_line_options(script, config, line, &options);
         }
         Command::MoveLine {
             context,
             line,
             options,
         } => {
-            move_to(&mut after, &Termination::Line(line), context);
-            set_line_options(script, &mut after, line, &options);
+            move_to(config, &Termination::Line(line), context);
+            set_line_options(script, config, line, &options);
+        }
+        _ => {}
+    }
+}
+
+/// What a command does on an ephemeral; nothing if it is another.
+fn change_ephemeral(config: &mut Config, command: &Command)
+    ensures { (script : Script) → configuration_of config.new ≡ (if is_on_ephemeral command.now then effect script (configuration_of config.old) command.now else configuration_of config.old) }
+{
+    match *command {
+        Command::AddEphemeral {
+            create: _,
+            context,
+            ephemeral,
+            options,
+        } => {
+            put_in(config, Termination::Ephemeral(ephemeral), context);
+            set_ephemeral_options(config, ephemeral, &options);
+        }
+        Command::ModifyEphemeral {
+            place: _,
+            ephemeral,
+            options,
+        } => {
+            set_ephemeral_options(config, ephemeral, &options);
         }
         Command::MoveEphemeral {
             context,
             ephemeral,
             options,
         } => {
-            move_to(&mut after, &Termination::Ephemeral(ephemeral), context);
-            set_ephemeral_options(&mut after, ephemeral, &options);
+            move_to(config, &Termination::Ephemeral(ephemeral), context);
+            set_ephemeral_options(config, ephemeral, &options);
         }
+        _ => {}
+    }
+}
+
+/// What a command does that subtracts or sets a topology; nothing if it is another.
+fn change_context(config: &mut Config, command: &Command)
+    ensures { (script : Script) → configuration_of config.new ≡ (if is_on_context command.now then effect script (configuration_of config.old) command.now else configuration_of config.old) }
+{
+    match *command {
         Command::Subtract {
             context: _,
             termination,
         } => {
-            subtract(&mut after, &termination);
-            settle(&mut after);
+            subtract(config, &termination);
+            settle(config);
         }
         Command::SubtractAll { context } => {
-            subtract_all(&mut after, context);
-            after.set_context(context, ContextValue::Free);
-            settle(&mut after);
+            subtract_all(config, context);
+            config.set_context(context, ContextValue::Free);
+            settle(config);
         }
         Command::SetTopology {
             context: _,
@@ -455,8 +503,19 @@ pub fn effect(script: &Script, config: &Config, command: &Command) -> Config
             second,
             topology,
         } => {
-            set_topology(&mut after, &first, &second, topology);
+            set_topology(config, &first, &second, topology);
         }
+        _ => {}
     }
+}
+
+/// The configuration after a command that is legal in it and whose created names are not bound.
+pub fn effect(script: &Script, config: &Config, command: &Command) -> Config
+    ensures { configuration_of result ≡ effect script.now (configuration_of config.now) command.now }
+{
+    let mut after = *config;
+    change_line(script, &mut after, command);
+    change_ephemeral(&mut after, command);
+    change_context(&mut after, command);
     after
 }

@@ -1,12 +1,11 @@
 //! The first broken obligation of a certificate.
 ghost use Rattle.std.specs.Prelude.{◌≡◌, ◌↔◌, IsTrue, IfOk};
 ghost use Rattle.std.specs.List.{Any};
-ghost use Rattle.mg_model.specs.Entries.{IsCovered};
+ghost use Rattle.mg_model.specs.Entries.{IsCovered, HasPoints, HavePoints};
 ghost use Rattle.mg_model.specs.Steps.{steps_of};
 ghost use Rattle.configuration.specs.Config.{configuration_of};
 ghost use Rattle.closure.specs.Answer.{IsAnswer};
 ghost use Rattle.closure.specs.Findings.{PlaceIncludes, StepsFinding, ConfigurationFinding, NumberFinding, EntryFinding, PointsFinding, fault_at, whole_fault};
-ghost use Rattle.closure.specs.PointCounts.{HasPoints, HavePoints};
 ghost use Rattle.closure.specs.Shown.{shown};
 
 use crate::obligations::{created_are_unbound, ended_is_cleared, joined_are_marked};

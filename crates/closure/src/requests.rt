@@ -5,6 +5,7 @@ ghost use Rattle.mg_model.specs.Tables.{state_of, is_empty};
 ghost use Rattle.mg_model.specs.Request.{bound_names, uses_known, names_after, place_known, termination_known, remote_option_known};
 ghost use Rattle.mg_model.specs.Steps.{request_in, creates_unbound, names_unbound};
 ghost use Rattle.configuration.specs.Config.{configuration_of};
+ghost use Rattle.closure.specs.Groups.{is_on_line, is_on_ephemeral, is_on_context};
 
 use configuration::config::Config;
 use configuration::spots;
@@ -101,9 +102,9 @@ impl Names {
         }
     }
 
-    /// Whether each name that a command uses is known; a name that it creates is not used by it.
-    pub fn know_all_of(&self, command: &Command) -> bool
-        ensures { result ≡ uses_known (names_of self.now) command.now }
+    /// Whether a command is one on a line that uses known names alone.
+    fn know_all_on_line(&self, command: &Command) -> bool
+        ensures { result ≡ (is_on_line command.now && uses_known (names_of self.now) command.now) }
     {
         match *command {
             Command::AddLine {
@@ -112,17 +113,31 @@ impl Names {
                 line: _,
                 options: _,
             } => { create || self.has_context(context) }
+            Command::ModifyLine {
+                place,
+                line: _,
+                options: _,
+            } => self.has_place(&place),
+            Command::MoveLine {
+                context,
+                line: _,
+                options: _,
+            } => self.has_context(context),
+            _ => false,
+        }
+    }
+
+    /// Whether a command is one on an ephemeral that uses known names alone.
+    fn know_all_on_ephemeral(&self, command: &Command) -> bool
+        ensures { result ≡ (is_on_ephemeral command.now && uses_known (names_of self.now) command.now) }
+    {
+        match *command {
             Command::AddEphemeral {
                 create,
                 context,
                 ephemeral: _,
                 options,
             } => { (create || self.has_context(context)) && self.has_remote(&options) }
-            Command::ModifyLine {
-                place,
-                line: _,
-                options: _,
-            } => self.has_place(&place),
             Command::ModifyEphemeral {
                 place,
                 ephemeral,
@@ -130,11 +145,6 @@ impl Names {
             } => {
                 self.has_place(&place) && self.has_ephemeral(ephemeral) && self.has_remote(&options)
             }
-            Command::MoveLine {
-                context,
-                line: _,
-                options: _,
-            } => self.has_context(context),
             Command::MoveEphemeral {
                 context,
                 ephemeral,
@@ -144,6 +154,15 @@ impl Names {
                     && self.has_ephemeral(ephemeral)
                     && self.has_remote(&options)
             }
+            _ => false,
+        }
+    }
+
+    /// Whether a command is one that subtracts or sets a topology, and uses known names alone.
+    fn know_all_on_context(&self, command: &Command) -> bool
+        ensures { result ≡ (is_on_context command.now && uses_known (names_of self.now) command.now) }
+    {
+        match *command {
             Command::Subtract {
                 context,
                 termination,
@@ -159,7 +178,18 @@ impl Names {
                     && self.has_termination(&first)
                     && self.has_termination(&second)
             }
+            _ => false,
         }
+    }
+
+    /// Whether each name that a command uses is known; a name that it creates is not used by it.
+    pub fn know_all_of(&self, command: &Command) -> bool
+        ensures { result ≡ uses_known (names_of self.now) command.now }
+    {
+        let on_line = self.know_all_on_line(command);
+        let on_ephemeral = self.know_all_on_ephemeral(command);
+        let on_context = self.know_all_on_context(command);
+        on_line || on_ephemeral || on_context
     }
 
     /// Whether some command uses known names alone.

@@ -3,7 +3,7 @@
 -- the whole product of the sets, in mixed radix, the last component changing fastest. This profile's own.
 -- A reader should check that each component's values are the choices that the numbering makes, and the values that the
 -- entry allows. Which components an entry has, and in which order, is the certificate's format.
-use Rattle.std.specs.Prelude.{◌≡◌, ℕ, ◌*◌, ◌/◌, ◌%◌, ◌<◌, Bool, List, [], ◌∷◌, map, length, slice_index_or, Contains}
+use Rattle.std.specs.Prelude.{◌≡◌, ℕ, zero, suc, ◌+◌, ◌⊎◌, ◌*◌, ◌/◌, ◌%◌, ◌<◌, Bool, List, [], ◌∷◌, map, length, slice_index_or, Contains}
 use Rattle.std.specs.List.{All}
 use Rattle.mg_names.specs.declared.modes.Mode.{Mode}
 use Rattle.mg_names.specs.declared.phases.Link.{Link}
@@ -119,3 +119,22 @@ IsPointOf entry number c =
 -- some entry has the configuration
 abbrev pub IsCovered : List Entry → Configuration → Type 0
 IsCovered entries c = (entry : Entry) × (Contains entries entry × Includes entry c)
+
+-- ---- how many points there are
+
+-- so many of the numbers below n are points of the entry: the last is one more, or it is none
+abbrev pub HasPointsBelow : Entry → ℕ → ℕ → Type 0
+HasPointsBelow entry zero count = count ≡ 0
+HasPointsBelow entry (suc n) count =
+    (IsWellFormed (numbered entry n) × ((before : ℕ) × (HasPointsBelow entry n before × (count ≡ before + 1))))
+    ⊎ ((IsWellFormed (numbered entry n) → ⊥) × HasPointsBelow entry n count)
+
+-- the entry has so many points
+abbrev pub HasPoints : Entry → ℕ → Type 0
+HasPoints entry count = HasPointsBelow entry (size_of entry.components) count
+
+-- the entries have so many points together
+abbrev pub HavePoints : List Entry → ℕ → Type 0
+HavePoints [] count = count ≡ 0
+HavePoints (entry ∷ more) count =
+    (first : ℕ) × ((rest : ℕ) × (HasPoints entry first × (HavePoints more rest × (count ≡ first + rest))))

@@ -1,5 +1,5 @@
 use Rattle.std.proofs.Common.{◌+◌, subst, sym, arith}
-use Rattle.closure.specs.PointCounts.{HasPoints, HavePoints}
+use Rattle.mg_model.specs.Entries.{HasPoints, HavePoints}
 use Rattle.closure.proofs.FindingLemmas.{points_with, none_left}
 use Rattle.closure.proofs.first_fault.points_of.Goals as goal
 

@@ -1,6 +1,6 @@
 -- The count with that of the entries left is the count of all.
 use Rattle.std.proofs.Common.{ℕ, ◌+◌, ◌*◌, ◌^◌, ◌≤◌, drop}
-use Rattle.closure.specs.PointCounts.{HavePoints}
+use Rattle.mg_model.specs.Entries.{HavePoints}
 use Rattle.closure.proofs.first_fault.points_of.Given as goal
 
 abbrev pub invariant-loop-entry : goal.invariant-loop-entry
