@@ -8,3 +8,4 @@ pub mod Faults
 pub mod Reading
 pub mod Table
 pub mod Words
+pub mod Meaning

@@ -1,21 +1,43 @@
--- Which fault a document has. The shape comes first: what is not of it has a bad key, and no other fault is looked for.
-use Rattle.std.specs.Prelude.{◌≡◌, ◌≢◌, true, is_some, Option, Some, None, Result, Ok, Err}
+-- What the bytes of a script are read as. A reader should check that the shape comes first, then the lowest fault, and
+-- that the table is given only where there is no fault.
+use Rattle.std.specs.Prelude.{◌≡◌, ℕ, List, Option, Some, None, option_map, Result, Ok, Err}
+use Rattle.std.specs.Str.{IsUtf8}
 use Rattle.toml.specs.Data.{Members}
+use Rattle.toml.specs.Parse.{parse_document}
+use Rattle.mg_model.specs.Script.{Script}
 use Rattle.scriptreader.specs.declared.fault.ScriptFault.{ScriptFault}
-use Rattle.scriptreader.specs.declared.fault.ScriptFault.TheVariants.{BadKey, NoMemory}
+use Rattle.scriptreader.specs.declared.fault.ScriptFault.TheVariants.{NotToml, BadKey, NoMemory}
 use Rattle.scriptreader.specs.Written.{Document}
 use Rattle.scriptreader.specs.Documents.{document_in}
 use Rattle.scriptreader.specs.Faults.{fault_of}
+use Rattle.scriptreader.specs.Meaning.{script_meant}
 
-abbrev pub shape_fault : Option Document → Option ScriptFault
-shape_fault None = Some BadKey
-shape_fault (Some d) = fault_of d
+-- the fault, or where there is none the table
+abbrev pub fault_or_table : Option ScriptFault → Option Script → Option (Result Script ScriptFault)
+fault_or_table (Some fault) table = Some (Err fault)
+fault_or_table None table = option_map (λ script. Ok script) table
 
--- the lowest fault of a tree
-unfoldable pub tree_fault : Members → Option ScriptFault
-tree_fault tree = shape_fault (document_in tree)
+abbrev pub document_read : Option Document → Option (Result Script ScriptFault)
+document_read None = Some (Err BadKey)
+document_read (Some d) = fault_or_table (fault_of d) (script_meant d)
 
--- What is accepted has no fault. Where there is a fault, that fault is given, unless memory ran out.
-abbrev pub Judges : {X : Type 0} → Option ScriptFault → Result X ScriptFault → Type 0
-Judges fault (Ok x) = fault ≡ None
-Judges fault (Err e) = e ≢ NoMemory → is_some fault ≡ true → fault ≡ Some e
+-- What a tree is read as: what is not of the shape of a document has a bad key, a document has its lowest fault, and one
+-- without a fault is its table.
+unfoldable pub tree_read : Members → Option (Result Script ScriptFault)
+tree_read tree = document_read (document_in tree)
+
+-- an answer that the reader gave of a tree; memory may run out
+abbrev pub Answers : Result Script ScriptFault → Option (Result Script ScriptFault) → Type 0
+Answers (Err NoMemory) read = Unit {0}
+Answers (Err NotToml) read = ⊥
+Answers answer read = read ≡ Some answer
+
+-- the bytes are a TOML text of this tree
+abbrev pub IsText : List ℕ → Members → Type 0
+IsText bytes tree = IsUtf8 bytes × (parse_document bytes ≡ Some tree)
+
+-- the answer is that of the tree, or says that there is no tree; memory may run out
+abbrev pub ReadsScript : List ℕ → Result Script ScriptFault → Type 0
+ReadsScript bytes (Err NoMemory) = Unit {0}
+ReadsScript bytes (Err NotToml) = (tree : Members) → IsText bytes tree → ⊥
+ReadsScript bytes answer = (tree : Members) × IsText bytes tree × (tree_read tree ≡ Some answer)

@@ -1,270 +1,98 @@
 //! The table that a document means. Where the document has no fault, each look-up here finds what it looks for.
-ghost use Rattle.std.specs.Prelude.{◌≡◌, false, length, vec_len, IfOk};
-ghost use Rattle.scriptreader.specs.Faults.{has_duplicate};
+ghost use Rattle.std.specs.Prelude.{◌≡◌, Some, None, IfOk, map, string_bytes};
+ghost use Rattle.scriptreader.specs.Faults.{fault_of, scope_of};
+ghost use Rattle.scriptreader.specs.Meaning.{Builds, each, pair_for, transition_for, state_for, item_for, events_list_for, signals_list_for, named_map_for, if_read, state_at, script_in, script_meant};
+ghost use Rattle.digits.specs.Reading.{map_of};
 
-use crate::fault::ScriptFault;
+use crate::faults::is_too_large;
 use crate::lists::{EventsList, NamedMap, SignalsList};
-use crate::names::Names;
+use crate::lookups::{number, number_if_given, slot};
+use crate::requests::commands;
 use crate::scope::Scope;
 use crate::script::Script;
 use crate::state::State;
 use crate::syntax::{
-    Document, Options, WrittenCommand, WrittenEvents, WrittenItem, WrittenMap, WrittenPair,
-    WrittenSignals, WrittenState, WrittenTransition,
+    Document, WrittenEvents, WrittenItem, WrittenMap, WrittenPair, WrittenSignals, WrittenState,
+    WrittenTransition,
 };
+use crate::unbuilt::Unbuilt;
 use crate::word::Word;
 use digits::{DigitMap, MapFault};
-use mg_model::commands::{
-    Command, EphemeralOptions, EventsName, LineOptions, Place, RemoteOption, SignalsName,
-    Termination,
-};
 use mg_model::transitions::{EventItem, Pair, Transition};
 use mg_names::signals::Signal;
-use mg_names::slots::Slot;
 use std::alloc::{AllocError, Global};
 
-/// The slot of a name.
-fn slot(names: &Names, name: &Word) -> Result<Slot, ScriptFault> {
-    let Some(place) = names.place(name.as_str()) else {
-        return Err(ScriptFault::Unknown);
-    };
-    Slot::new(place).ok_or(ScriptFault::TooMany)
+#[tactic(auto, unfolding(crate::specs::Meaning::pair_for))]
+fn pair(scope: &Scope, written: &WrittenPair) -> Result<Pair, Unbuilt>
+    ensures { Builds (λ pair. pair) result (pair_for scope.now written.now) }
+{
+    let first = slot(&scope.lines, &written.first)?;
+    let second = slot(&scope.lines, &written.second)?;
+    Ok(Pair { first, second })
 }
 
-/// The place of a name, as a small number.
-fn place(names: &Names, name: &str) -> Result<u8, ScriptFault> {
-    let Some(place) = names.place(name) else {
-        return Err(ScriptFault::Unknown);
-    };
-    u8::try_from(place).map_err(|_| ScriptFault::TooMany)
-}
-
-fn events_name(scope: &Scope, name: &str) -> Result<EventsName, ScriptFault> {
-    match name {
-        "none" => Ok(EventsName::Empty),
-        "armed" => Ok(EventsName::Armed),
-        _ => Ok(EventsName::Own(place(&scope.events, name)?)),
-    }
-}
-
-fn signals_name(scope: &Scope, name: &str) -> Result<SignalsName, ScriptFault> {
-    match name {
-        "none" => Ok(SignalsName::Silent),
-        _ => Ok(SignalsName::OwnSignals(place(&scope.signals, name)?)),
-    }
-}
-
-fn remote(scope: &Scope, name: &Word) -> Result<RemoteOption, ScriptFault> {
-    match name.as_str() {
-        "none" => Ok(RemoteOption::NoneGiven),
-        _ => Ok(RemoteOption::Peer(slot(&scope.ephemerals, name)?)),
-    }
-}
-
-fn line_options(scope: &Scope, options: &Options) -> Result<LineOptions, ScriptFault> {
-    let events = match &options.events {
-        Some(name) => Some(events_name(scope, name.as_str())?),
-        None => None,
-    };
-    let signals = match &options.signals {
-        Some(name) => Some(signals_name(scope, name.as_str())?),
-        None => None,
-    };
-    Ok(LineOptions {
-        mode: options.mode,
-        events,
-        signals,
-    })
-}
-
-fn ephemeral_options(scope: &Scope, options: &Options) -> Result<EphemeralOptions, ScriptFault> {
-    let remote = match &options.remote {
-        Some(name) => Some(remote(scope, name)?),
-        None => None,
-    };
-    Ok(EphemeralOptions {
-        mode: options.mode,
-        remote,
-    })
-}
-
-fn termination(scope: &Scope, name: &Word) -> Result<Termination, ScriptFault> {
-    if scope.lines.has(name.as_str()) {
-        return Ok(Termination::Line(slot(&scope.lines, name)?));
-    }
-    Ok(Termination::Ephemeral(slot(&scope.ephemerals, name)?))
-}
-
-fn command(scope: &Scope, command: &WrittenCommand) -> Result<Command, ScriptFault> {
-    match command {
-        WrittenCommand::Add {
-            create,
-            context,
-            own,
-            name,
-            options,
-        } => added(scope, *create, context, *own, name, options),
-        WrittenCommand::Modify {
-            place,
-            name,
-            options,
-        } => modified(scope, place, name, options),
-        WrittenCommand::Move {
-            context,
-            name,
-            options,
-        } => moved(scope, context, name, options),
-        WrittenCommand::Subtract { context, name } => Ok(Command::Subtract {
-            context: slot(&scope.contexts, context)?,
-            termination: termination(scope, name)?,
-        }),
-        WrittenCommand::SubtractAll { context } => Ok(Command::SubtractAll {
-            context: slot(&scope.contexts, context)?,
-        }),
-        WrittenCommand::SetTopology {
-            context,
-            first,
-            second,
-            topology,
-        } => Ok(Command::SetTopology {
-            context: slot(&scope.contexts, context)?,
-            first: termination(scope, first)?,
-            second: termination(scope, second)?,
-            topology: *topology,
-        }),
-    }
-}
-
-fn added(
-    scope: &Scope,
-    create: bool,
-    context: &Word,
-    own: bool,
-    name: &Word,
-    options: &Options,
-) -> Result<Command, ScriptFault> {
-    let context = slot(&scope.contexts, context)?;
-    if own {
-        return Ok(Command::AddEphemeral {
-            create,
-            context,
-            ephemeral: slot(&scope.ephemerals, name)?,
-            options: ephemeral_options(scope, options)?,
-        });
-    }
-    Ok(Command::AddLine {
-        create,
-        context,
-        line: slot(&scope.lines, name)?,
-        options: line_options(scope, options)?,
-    })
-}
-
-fn modified(
-    scope: &Scope,
-    place: &Option<Word>,
-    name: &Word,
-    options: &Options,
-) -> Result<Command, ScriptFault> {
-    let place = match place {
-        Some(context) => Place::Context(slot(&scope.contexts, context)?),
-        None => Place::NullContext,
-    };
-    match termination(scope, name)? {
-        Termination::Line(line) => Ok(Command::ModifyLine {
-            place,
-            line,
-            options: line_options(scope, options)?,
-        }),
-        Termination::Ephemeral(ephemeral) => Ok(Command::ModifyEphemeral {
-            place,
-            ephemeral,
-            options: ephemeral_options(scope, options)?,
-        }),
-    }
-}
-
-fn moved(
-    scope: &Scope,
-    context: &Word,
-    name: &Word,
-    options: &Options,
-) -> Result<Command, ScriptFault> {
-    let context = slot(&scope.contexts, context)?;
-    match termination(scope, name)? {
-        Termination::Line(line) => Ok(Command::MoveLine {
-            context,
-            line,
-            options: line_options(scope, options)?,
-        }),
-        Termination::Ephemeral(ephemeral) => Ok(Command::MoveEphemeral {
-            context,
-            ephemeral,
-            options: ephemeral_options(scope, options)?,
-        }),
-    }
-}
-
-fn commands(
-    alloc: Global,
-    scope: &Scope,
-    written: &[WrittenCommand],
-) -> Result<Vec<Command>, ScriptFault> {
-    written
-        .iter()
-        .map(|one| command(scope, one))
-        .try_collect(alloc)
-}
-
-fn pairs(alloc: Global, scope: &Scope, written: &[WrittenPair]) -> Result<Vec<Pair>, ScriptFault> {
+fn pairs(alloc: Global, scope: &Scope, written: &[WrittenPair]) -> Result<Vec<Pair>, Unbuilt>
+    ensures { Builds (λ pairs. pairs.items) result (each (pair_for scope.now) written.now) }
+{
     let mut found = Vec::new(alloc);
-    for pair in written {
-        found.push(Pair {
-            first: slot(&scope.lines, &pair.first)?,
-            second: slot(&scope.lines, &pair.second)?,
-        })?;
+    for one in written {
+        found.push(pair(scope, one)?)?;
     }
     Ok(found)
+}
+
+#[tactic(auto, unfolding(crate::specs::Meaning::transition_for))]
+fn transition(scope: &Scope, written: &WrittenTransition) -> Result<Transition, Unbuilt>
+    ensures { Builds (λ transition. transition) result (transition_for scope.now written.now) }
+{
+    let line = slot(&scope.lines, &written.line)?;
+    let target = number(&scope.states, &written.target)?;
+    Ok(Transition {
+        line,
+        kind: written.kind,
+        target,
+    })
 }
 
 fn transitions(
     alloc: Global,
     scope: &Scope,
     written: &[WrittenTransition],
-) -> Result<Vec<Transition>, ScriptFault> {
+) -> Result<Vec<Transition>, Unbuilt>
+    ensures { Builds (λ transitions. transitions.items) result (each (transition_for scope.now) written.now) }
+{
     let mut found = Vec::new(alloc);
-    for transition in written {
-        found.push(Transition {
-            line: slot(&scope.lines, &transition.line)?,
-            kind: transition.kind,
-            target: place(&scope.states, transition.target.as_str())?,
-        })?;
+    for one in written {
+        found.push(transition(scope, one)?)?;
     }
     Ok(found)
 }
 
-fn target(scope: &Scope, name: &Option<Word>) -> Result<Option<u8>, ScriptFault> {
-    match name {
-        Some(name) => Ok(Some(place(&scope.states, name.as_str())?)),
-        None => Ok(None),
-    }
-}
-
-fn state(alloc: Global, scope: &Scope, written: &WrittenState) -> Result<State, ScriptFault> {
+#[tactic(auto, unfolding(crate::specs::Meaning::state_for))]
+fn state(alloc: Global, scope: &Scope, written: &WrittenState) -> Result<State, Unbuilt>
+    ensures { Builds (λ state. state) result (state_for scope.now written.now) }
+{
+    let commands = commands(alloc, scope, written.commands.as_slice())?;
+    let talk = pairs(alloc, scope, written.talk.as_slice())?;
+    let ok = number_if_given(&scope.states, &written.ok)?;
+    let fault = number_if_given(&scope.states, &written.fault)?;
+    let timer = number_if_given(&scope.states, &written.timer)?;
+    let on = transitions(alloc, scope, written.on.as_slice())?;
+    let name = text(alloc, &written.name)?;
     Ok(State {
-        name: text(alloc, &written.name)?,
-        commands: commands(alloc, scope, written.commands.as_slice())?,
-        talk: pairs(alloc, scope, written.talk.as_slice())?,
+        name,
+        commands,
+        talk,
         is_end: written.is_end,
-        ok: target(scope, &written.ok)?,
-        fault: target(scope, &written.fault)?,
-        timer: target(scope, &written.timer)?,
-        on: transitions(alloc, scope, written.on.as_slice())?,
+        ok,
+        fault,
+        timer,
+        on,
     })
 }
 
-fn states(alloc: Global, scope: &Scope, written: &[WrittenState]) -> Result<Vec<State>, ScriptFault>
-    ensures { IfOk result (λ v. vec_len v ≡ length written.now) }
+fn states(alloc: Global, scope: &Scope, written: &[WrittenState]) -> Result<Vec<State>, Unbuilt>
+    ensures { Builds (λ states. states.items) result (each (state_for scope.now) written.now) }
 {
     let mut found = Vec::new(alloc);
     for one in written {
@@ -273,12 +101,14 @@ fn states(alloc: Global, scope: &Scope, written: &[WrittenState]) -> Result<Vec<
     Ok(found)
 }
 
-fn text(alloc: Global, word: &Word) -> Result<String, AllocError> {
+fn text(alloc: Global, word: &Word) -> Result<String, AllocError>
+    ensures { IfOk result (λ text. string_bytes text ≡ word.now) }
+{
     String::from_str(alloc, word.as_str())
 }
 
 fn texts(alloc: Global, words: &[Word]) -> Result<Vec<String>, AllocError>
-    ensures { IfOk result (λ v. vec_len v ≡ length words.now) }
+    ensures { IfOk result (λ texts. map (λ text. string_bytes text) texts.items ≡ words.now) }
 {
     let mut found = Vec::new(alloc);
     for word in words {
@@ -287,102 +117,126 @@ fn texts(alloc: Global, words: &[Word]) -> Result<Vec<String>, AllocError>
     Ok(found)
 }
 
-fn item(scope: &Scope, written: &WrittenItem) -> Result<EventItem, ScriptFault> {
+#[tactic(auto, unfolding(crate::specs::Meaning::item_for))]
+fn item(scope: &Scope, written: &WrittenItem) -> Result<EventItem, Unbuilt>
+    ensures { Builds (λ item. item) result (item_for scope.now written.now) }
+{
     match written {
         WrittenItem::OnHook(strict) => Ok(EventItem::OnHook(*strict)),
         WrittenItem::OffHook(strict) => Ok(EventItem::OffHook(*strict)),
         WrittenItem::Flash => Ok(EventItem::Flash),
-        WrittenItem::Digits(map) => Ok(EventItem::Digits(place(&scope.maps, map.as_str())?)),
+        WrittenItem::Digits(map) => Ok(EventItem::Digits(number(&scope.maps, map)?)),
     }
 }
 
-fn items(
-    alloc: Global,
-    scope: &Scope,
-    written: &[WrittenItem],
-) -> Result<Vec<EventItem>, ScriptFault> {
+fn items(alloc: Global, scope: &Scope, written: &[WrittenItem]) -> Result<Vec<EventItem>, Unbuilt>
+    ensures { Builds (λ items. items.items) result (each (item_for scope.now) written.now) }
+{
     let mut found = Vec::new(alloc);
     for one in written {
-        found.push(item(scope, one)?)?;
+        let item = item(scope, one)?;
+        found.extend_from_slice(&[item])?;
     }
     Ok(found)
 }
 
-fn lists(
+#[tactic(auto, unfolding(crate::specs::Meaning::events_list_for))]
+fn events_list(alloc: Global, scope: &Scope, written: &WrittenEvents) -> Result<EventsList, Unbuilt>
+    ensures { Builds (λ list. list) result (events_list_for scope.now written.now) }
+{
+    let items = items(alloc, scope, written.items.as_slice())?;
+    let name = text(alloc, &written.name)?;
+    Ok(EventsList { name, items })
+}
+
+fn events_lists(
     alloc: Global,
     scope: &Scope,
     written: &[WrittenEvents],
-) -> Result<Vec<EventsList>, ScriptFault>
-    ensures { IfOk result (λ v. vec_len v ≡ length written.now) }
+) -> Result<Vec<EventsList>, Unbuilt>
+    ensures { Builds (λ lists. lists.items) result (each (events_list_for scope.now) written.now) }
 {
     let mut found = Vec::new(alloc);
-    for list in written {
-        let name = text(alloc, &list.name)?;
-        let items = items(alloc, scope, list.items.as_slice())?;
-        found.push(EventsList { name, items })?;
+    for one in written {
+        found.push(events_list(alloc, scope, one)?)?;
     }
     Ok(found)
 }
 
-fn signals(alloc: Global, written: &[WrittenSignals]) -> Result<Vec<SignalsList>, AllocError> {
-    let mut found = Vec::new(alloc);
-    for list in written {
-        let name = text(alloc, &list.name)?;
-        let items: Vec<Signal> = Vec::from_slice(alloc, list.items.as_slice())?;
-        found.push(SignalsList { name, items })?;
-    }
-    Ok(found)
+fn signals_list(alloc: Global, written: &WrittenSignals) -> Result<SignalsList, AllocError>
+    ensures { IfOk result (λ list. list ≡ signals_list_for written.now) }
+{
+    let name = text(alloc, &written.name)?;
+    let items: Vec<Signal> = Vec::from_slice(alloc, written.items.as_slice())?;
+    Ok(SignalsList { name, items })
 }
 
-fn digit_map(alloc: Global, written: &WrittenMap) -> Result<DigitMap, ScriptFault> {
-    match DigitMap::parse(alloc, written.text.as_str()) {
-        Ok(map) => Ok(map),
-        Err(MapFault::NoMemory) => Err(ScriptFault::NoMemory),
-        Err(_) => Err(ScriptFault::BadMap),
-    }
-}
-
-fn maps(alloc: Global, written: &[WrittenMap]) -> Result<Vec<NamedMap>, ScriptFault> {
+fn signals_lists(alloc: Global, written: &[WrittenSignals]) -> Result<Vec<SignalsList>, AllocError>
+    ensures { IfOk result (λ lists. lists.items ≡ map signals_list_for written.now) }
+{
     let mut found = Vec::new(alloc);
     for one in written {
-        let name = text(alloc, &one.name)?;
-        let map = digit_map(alloc, one)?;
-        found.push(NamedMap { name, map })?;
+        found.push(signals_list(alloc, one)?)?;
+    }
+    Ok(found)
+}
+
+fn digit_map(alloc: Global, text: &Word) -> Result<DigitMap, Unbuilt>
+    ensures { Builds (λ found. found) result (if_read (map_of text.now)) }
+{
+    match DigitMap::parse(alloc, text.as_str()) {
+        Ok(map) => Ok(map),
+        Err(MapFault::NoMemory) => Err(Unbuilt::Memory),
+        Err(_) => Err(Unbuilt::NoMeaning),
+    }
+}
+
+#[tactic(auto, unfolding(crate::specs::Meaning::named_map_for))]
+fn named_map(alloc: Global, written: &WrittenMap) -> Result<NamedMap, Unbuilt>
+    ensures { Builds (λ found. found) result (named_map_for written.now) }
+{
+    let map = digit_map(alloc, &written.text)?;
+    let name = text(alloc, &written.name)?;
+    Ok(NamedMap { name, map })
+}
+
+fn named_maps(alloc: Global, written: &[WrittenMap]) -> Result<Vec<NamedMap>, Unbuilt>
+    ensures { Builds (λ found. found.items) result (each named_map_for written.now) }
+{
+    let mut found = Vec::new(alloc);
+    for one in written {
+        found.push(named_map(alloc, one)?)?;
     }
     Ok(found)
 }
 
 /// The state that a document opens or restarts in.
-fn named_state(
-    scope: &Scope,
-    name: &Option<Word>,
-    missing: ScriptFault,
-) -> Result<u8, ScriptFault> {
+fn named_state(scope: &Scope, name: &Option<Word>) -> Result<u8, Unbuilt>
+    ensures { Builds (λ number. number) result (state_at scope.now name.now) }
+{
     match name {
-        Some(name) => place(&scope.states, name.as_str()),
-        None => Err(missing),
+        Some(name) => number(&scope.states, name),
+        None => Err(Unbuilt::NoMeaning),
     }
 }
 
 /// The table of a document, whose names are these.
-fn script_in(alloc: Global, scope: &Scope, document: &Document) -> Result<Script, ScriptFault> {
-    if document.lines.len() > 4
-        || document.contexts.len() > 4
-        || document.ephemerals.len() > 4
-        || document.states.len() > 64
-        || document.events.len() > 16
-    {
-        return Err(ScriptFault::TooMany);
+#[tactic(auto, unfolding(crate::specs::Meaning::script_in))]
+fn script_in(alloc: Global, scope: &Scope, document: &Document) -> Result<Script, Unbuilt>
+    ensures { Builds (λ script. script) result (script_in scope.now document.now) }
+{
+    if is_too_large(document) {
+        return Err(Unbuilt::NoMeaning);
     }
+    let lists = events_lists(alloc, scope, document.events.as_slice())?;
+    let maps = named_maps(alloc, document.maps.as_slice())?;
+    let states = states(alloc, scope, document.states.as_slice())?;
+    let start = named_state(scope, &document.start)?;
+    let restart = named_state(scope, &document.restart)?;
+    let signals = signals_lists(alloc, document.signals.as_slice())?;
     let lines = texts(alloc, document.lines.as_slice())?;
     let contexts = texts(alloc, document.contexts.as_slice())?;
     let ephemerals = texts(alloc, document.ephemerals.as_slice())?;
-    let lists = lists(alloc, scope, document.events.as_slice())?;
-    let signals = signals(alloc, document.signals.as_slice())?;
-    let maps = maps(alloc, document.maps.as_slice())?;
-    let states = states(alloc, scope, document.states.as_slice())?;
-    let start = named_state(scope, &document.start, ScriptFault::NoStart)?;
-    let restart = named_state(scope, &document.restart, ScriptFault::NoRestart)?;
     Ok(Script {
         lines,
         contexts,
@@ -396,10 +250,15 @@ fn script_in(alloc: Global, scope: &Scope, document: &Document) -> Result<Script
     })
 }
 
-/// The table of a document.
-pub(crate) fn script(alloc: Global, document: &Document) -> Result<Script, ScriptFault>
-    requires { has_duplicate document.now ≡ false }
+/// The table of a document that has no fault.
+pub(crate) fn script(alloc: Global, document: &Document) -> Result<Script, AllocError>
+    requires { fault_of document.now ≡ None }
+    ensures { IfOk result (λ script. script_meant document.now ≡ Some script) }
 {
     let scope = Scope::new(alloc, document)?;
-    script_in(alloc, &scope, document)
+    match script_in(alloc, &scope, document) {
+        Ok(script) => Ok(script),
+        Err(Unbuilt::Memory) => Err(AllocError),
+        Err(Unbuilt::NoMeaning) => unreachable!(),
+    }
 }

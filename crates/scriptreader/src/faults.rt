@@ -213,7 +213,7 @@ fn one_makes_and_subtracts(alloc: Global, states: &[WrittenState]) -> Result<boo
 }
 
 /// Whether a document is past this profile's limits.
-fn is_too_large(document: &Document) -> bool
+pub(crate) fn is_too_large(document: &Document) -> bool
     ensures { result ≡ is_too_large document.now }
 {
     document.lines.len() > 4
@@ -329,8 +329,7 @@ pub(crate) fn first_fault(
     alloc: Global,
     document: &Document,
 ) -> Result<Option<ScriptFault>, AllocError>
-    ensures value { IfOk result (λ f. f ≡ fault_of document.now) }
-    ensures clean { IfOk result (λ f. f ≡ None → has_duplicate document.now ≡ false) }
+    ensures { IfOk result (λ f. f ≡ fault_of document.now) }
 {
     if has_bad_name(document) {
         return Ok(Some(ScriptFault::BadName));

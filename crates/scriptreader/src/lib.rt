@@ -3,7 +3,9 @@
 //!
 //! The way of a document: its bytes are a tree (`reader`), the tree is a document as it is written (`tables`, over
 //! `reads`, `texts`, `items` and `commands`), the document is searched for one fault after the other (`faults`,
-//! `duplicates`, `scope`), and then its table is built (`build`).
+//! `duplicates`, `scope`), and then its table is built (`build`, over `lookups` and `requests`). The contract of
+//! `read_script` is exact: the answer is the table that the document means, or its lowest fault, or that the bytes are
+//! no TOML; only want of memory may stand in place of it.
 #![tactic(auto)]
 
 mod build;
@@ -13,16 +15,19 @@ mod fault;
 mod faults;
 mod items;
 mod lists;
+mod lookups;
 mod named;
 mod names;
 mod reader;
 mod reads;
+mod requests;
 mod scope;
 mod script;
 mod state;
 mod syntax;
 mod tables;
 mod texts;
+mod unbuilt;
 mod unread;
 mod word;
 mod words;

@@ -1,11 +1,7 @@
 //! The reader of scripts.
-ghost use Rattle.std.specs.Prelude.{◌≡◌, Some, IsSome, OnOk};
-ghost use Rattle.std.specs.Str.{IsUtf8};
-ghost use Rattle.toml.specs.Data.{Members};
+ghost use Rattle.std.specs.Prelude.{Some};
 ghost use Rattle.toml.specs.View.{table_view};
-ghost use Rattle.toml.specs.Parse.{parse_document};
-ghost use Rattle.scriptreader.specs.Faults.{fault_of};
-ghost use Rattle.scriptreader.specs.Reading.{tree_fault, Judges};
+ghost use Rattle.scriptreader.specs.Reading.{Answers, ReadsScript, document_read, tree_read};
 
 use crate::fault::ScriptFault;
 use crate::script::Script;
@@ -17,7 +13,7 @@ use toml::Table;
 
 /// The script that a document is.
 fn of_document(alloc: Global, document: &Document) -> Result<Script, ScriptFault>
-    ensures { Judges (fault_of document.now) result }
+    ensures { Answers result (document_read (Some document.now)) }
 {
     let fault = faults::first_fault(alloc, document)?;
     if let Some(fault) = fault {
@@ -28,9 +24,9 @@ fn of_document(alloc: Global, document: &Document) -> Result<Script, ScriptFault
 }
 
 /// The script that a tree is.
-#[tactic(auto, unfolding(crate::specs::Reading::tree_fault))]
+#[tactic(auto, unfolding(crate::specs::Reading::tree_read))]
 fn of_tree(alloc: Global, tree: &Table) -> Result<Script, ScriptFault>
-    ensures { Judges (tree_fault (table_view tree.now)) result }
+    ensures { Answers result (tree_read (table_view tree.now)) }
 {
     match tables::document(alloc, tree) {
         Ok(document) => of_document(alloc, &document),
@@ -42,20 +38,15 @@ fn of_tree(alloc: Global, tree: &Table) -> Result<Script, ScriptFault>
 /// Reads a script. The bytes are TOML; the format is this profile's own. Of all faults that the document has anywhere
 /// the lowest is given; `NoMemory` may come in place of any answer. Time goes up with the length of the bytes.
 pub fn read_script(alloc: Global, bytes: &[u8]) -> Result<Script, ScriptFault>
-    // What is read is TOML.
-    ensures toml { OnOk result (IsUtf8 bytes.now × IsSome (parse_document bytes.now)) }
-
-    // Which fault it is, for the tree of the bytes.
-    ensures fault { (tree : Members) → IsUtf8 bytes.now → parse_document bytes.now ≡ Some tree → Judges (tree_fault tree) result }
+    ensures { ReadsScript bytes.now result }
 {
     match toml::table_from_slice(alloc, bytes) {
         Ok(tree) => of_tree(alloc, &tree),
         Err(error) => {
             if error.is_memory() {
-                Err(ScriptFault::NoMemory)
-            } else {
-                Err(ScriptFault::NotToml)
+                return Err(ScriptFault::NoMemory);
             }
+            Err(ScriptFault::NotToml)
         }
     }
 }

@@ -1,0 +1,76 @@
+-- From the answer of a tree to that of the bytes.
+use Rattle.std.proofs.Common.{◌≡◌, ℕ, List, Bool, true, false, not, refl, Option, Some, None}
+use Rattle.std.specs.Prelude.{if◌then◌else◌, Result, Ok, Err}
+use Rattle.toml.specs.Data.{Members}
+use Rattle.mg_model.specs.Script.{Script}
+use Rattle.scriptreader.specs.declared.fault.ScriptFault.{ScriptFault}
+use Rattle.scriptreader.specs.declared.fault.ScriptFault.TheVariants.{NotToml, BadKey, BadName, Duplicate, Unknown, BadMap, NoStart, NoRestart, NoFault, OkWithoutActions, EndWithTransitions, MadeAndSubtracted, TooMany, NoMemory}
+use Rattle.scriptreader.specs.Written.{Document}
+use Rattle.std.specs.List.{list_any}
+use Rattle.scriptreader.specs.Faults.{fault_of, use_fault_of, state_fault_of, has_bad_name, has_duplicate, has_unknown, has_bad_map, names_state, lacks_fault, has_vain_outcome, is_end_that_goes_on, makes_and_subtracts, is_too_large}
+use Rattle.scriptreader.specs.Reading.{Answers, IsText, ReadsScript, tree_read}
+
+-- where the fault is another one, and the rest is not this fault
+other : (b : Bool) (fault : ScriptFault) (rest : Option ScriptFault) → (fault ≡ NotToml → ⊥) → (rest ≡ Some NotToml → ⊥) → (if b then Some fault else rest) ≡ Some NotToml → ⊥
+other true fault rest differs later e = differs cc
+other false fault rest differs later e = later e
+
+none_is_some : None ≡ Some NotToml → ⊥
+none_is_some e = absurd cc
+
+state_fault_is_other : (d : Document) → state_fault_of d ≡ Some NotToml → ⊥
+unfolding state_fault_of
+state_fault_is_other d =
+    other (list_any (λ s. lacks_fault s) d.states) NoFault _ (λ p. absurd cc)
+    (other (list_any (λ s. has_vain_outcome s) d.states) OkWithoutActions _ (λ p. absurd cc)
+    (other (list_any (λ s. is_end_that_goes_on s) d.states) EndWithTransitions _ (λ p. absurd cc)
+    (other (list_any (λ s. makes_and_subtracts s) d.states) MadeAndSubtracted _ (λ p. absurd cc)
+    (other (is_too_large d) TooMany None (λ p. absurd cc) none_is_some))))
+
+use_fault_is_other : (d : Document) → use_fault_of d ≡ Some NotToml → ⊥
+unfolding use_fault_of
+use_fault_is_other d =
+    other (has_unknown d) Unknown _ (λ p. absurd cc)
+    (other (has_bad_map d) BadMap _ (λ p. absurd cc)
+    (other (not (names_state d d.start)) NoStart _ (λ p. absurd cc)
+    (other (not (names_state d d.restart)) NoRestart (state_fault_of d) (λ p. absurd cc) (state_fault_is_other d))))
+
+-- a document never has the fault that its bytes are no TOML
+pub is_toml : (d : Document) → fault_of d ≡ Some NotToml → ⊥
+unfolding fault_of
+is_toml d =
+    other (has_bad_name d) BadName _ (λ p. absurd cc)
+    (other (has_duplicate d) Duplicate (use_fault_of d) (λ p. absurd cc) (use_fault_is_other d))
+
+pub fault_answers : (fault : ScriptFault) (read : Option (Result Script ScriptFault)) → (fault ≡ NotToml → ⊥) → read ≡ Some (Err fault) → Answers (Err fault) read
+fault_answers NoMemory read never e = tt
+fault_answers NotToml read never e = absurd (never refl)
+fault_answers BadKey read never e = e
+fault_answers BadName read never e = e
+fault_answers Duplicate read never e = e
+fault_answers Unknown read never e = e
+fault_answers BadMap read never e = e
+fault_answers NoStart read never e = e
+fault_answers NoRestart read never e = e
+fault_answers NoFault read never e = e
+fault_answers OkWithoutActions read never e = e
+fault_answers EndWithTransitions read never e = e
+fault_answers MadeAndSubtracted read never e = e
+fault_answers TooMany read never e = e
+
+pub script_read : (bytes : List ℕ) (tree : Members) (answer : Result Script ScriptFault) → IsText bytes tree → Answers answer (tree_read tree) → ReadsScript bytes answer
+script_read bytes tree (Ok script) text e = (tree, text, e)
+script_read bytes tree (Err NoMemory) text e = tt
+script_read bytes tree (Err NotToml) text e = absurd e
+script_read bytes tree (Err BadKey) text e = (tree, text, e)
+script_read bytes tree (Err BadName) text e = (tree, text, e)
+script_read bytes tree (Err Duplicate) text e = (tree, text, e)
+script_read bytes tree (Err Unknown) text e = (tree, text, e)
+script_read bytes tree (Err BadMap) text e = (tree, text, e)
+script_read bytes tree (Err NoStart) text e = (tree, text, e)
+script_read bytes tree (Err NoRestart) text e = (tree, text, e)
+script_read bytes tree (Err NoFault) text e = (tree, text, e)
+script_read bytes tree (Err OkWithoutActions) text e = (tree, text, e)
+script_read bytes tree (Err EndWithTransitions) text e = (tree, text, e)
+script_read bytes tree (Err MadeAndSubtracted) text e = (tree, text, e)
+script_read bytes tree (Err TooMany) text e = (tree, text, e)

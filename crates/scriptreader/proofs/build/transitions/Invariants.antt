@@ -1,0 +1,7 @@
+use Rattle.std.proofs.Common.{◌≡◌, drop}
+use Rattle.scriptreader.specs.Meaning.{each, transition_for}
+use Rattle.scriptreader.proofs.Shapes.{with_front}
+use Rattle.scriptreader.proofs.build.transitions.Given as goal
+
+abbrev pub invariant-loop-one : goal.invariant-loop-one
+invariant-loop-one l = with_front l.found.items (each (transition_for l.scope) (drop l.one-index l.written)) ≡ each (transition_for l.scope) l.written
