@@ -4,7 +4,7 @@
 use Rattle.std.specs.Prelude.{◌≡◌, ◌≢◌, ℕ, List, length, Option, Some, None, option_map, Result, Ok, Err}
 use Rattle.mg_model.specs.declared.faults.Fault.{Fault}
 use Rattle.mg_model.specs.Script.{Script}
-use Rattle.mg_model.specs.Entries.{Entry}
+use Rattle.mg_model.specs.Entries.{Entry, HavePoints}
 use Rattle.mg_model.specs.Obligations.{NoneBroken, IsFirstFault}
 use Rattle.scriptreader.specs.declared.fault.ScriptFault.{ScriptFault}
 use Rattle.scriptreader.specs.declared.fault.ScriptFault.TheVariants as scripts
@@ -15,7 +15,6 @@ use Rattle.certificate.specs.declared.fault.CertFault.{CertFault}
 use Rattle.certificate.specs.declared.fault.CertFault.TheVariants as certificates
 use Rattle.certificate.specs.FaultNames as certificate_names
 use Rattle.certificate.specs.Certificate.{ReadsCertificate}
-use Rattle.closure.specs.PointCounts.{HavePoints}
 use Rattle.mgcall.specs.Output.{Text, Line, usage, sections, too_long, script_fault, certificate_fault, yes, no, no_memory}
 
 -- the bytes are a script that has this fault

@@ -1,0 +1,92 @@
+/* Preloaded into the program by tools/refusals. What fails is told by the environment:
+     REFUSE_CALL=N   the growth of memory with this number, from 0, is refused
+     REFUSE_READ=N   reads give N bytes, and then fail
+     REFUSE_WRITE=N  writes take N bytes, and then fail
+     REFUSE_FULL=N   writes take N bytes, and then none
+   At the end a byte on the descriptor REFUSE_TELL says that a growth was refused. */
+#define _GNU_SOURCE
+#include <errno.h>
+#include <stdlib.h>
+#include <sys/syscall.h>
+#include <unistd.h>
+
+extern void *__libc_malloc(size_t size);
+extern void *__libc_realloc(void *block, size_t size);
+
+static long call = 0, refused_call = -1, tell = -1, read_left = -1, write_left = -1, full_left = -1;
+static int refused = 0;
+
+static long number(const char *name)
+{
+    const char *text = getenv(name);
+    return text ? atol(text) : -1;
+}
+
+__attribute__((constructor)) static void begin(void)
+{
+    refused_call = number("REFUSE_CALL");
+    tell = number("REFUSE_TELL");
+    read_left = number("REFUSE_READ");
+    write_left = number("REFUSE_WRITE");
+    full_left = number("REFUSE_FULL");
+    call = 0;
+}
+
+__attribute__((destructor)) static void end(void)
+{
+    if (refused)
+        syscall(SYS_write, tell, "r", 1);
+}
+
+static int refuses(void)
+{
+    if (refused_call < 0 || call++ != refused_call)
+        return 0;
+    refused = 1;
+    errno = ENOMEM;
+    return 1;
+}
+
+void *malloc(size_t size)
+{
+    return refuses() ? NULL : __libc_malloc(size);
+}
+
+void *realloc(void *block, size_t size)
+{
+    return refuses() ? NULL : __libc_realloc(block, size);
+}
+
+ssize_t read(int fd, void *buffer, size_t size)
+{
+    if (read_left == 0) {
+        errno = EIO;
+        return -1;
+    }
+    if (read_left > 0 && (size_t)read_left < size)
+        size = read_left;
+    ssize_t got = syscall(SYS_read, fd, buffer, size);
+    if (read_left > 0 && got > 0)
+        read_left -= got;
+    return got;
+}
+
+ssize_t write(int fd, const void *buffer, size_t size)
+{
+    if (full_left == 0)
+        return 0;
+    if (write_left == 0) {
+        errno = EIO;
+        return -1;
+    }
+    if (write_left > 0 && (size_t)write_left < size)
+        size = write_left;
+    if (full_left > 0 && (size_t)full_left < size)
+        size = full_left;
+    ssize_t put = syscall(SYS_write, fd, buffer, size);
+    if (write_left > 0 && put > 0)
+        write_left -= put;
+    if (full_left > 0 && put > 0)
+        full_left -= put;
+    return put;
+}
