@@ -116,10 +116,10 @@ fn number_fault(
 ) -> Result<Option<Broken>, AllocError>
     ensures { IfOk result (NumberFinding script.now cert.now entry.now number) }
 {
-    match entry.point(number) {
-        Some(config) => configuration_fault(alloc, script, cert, &config),
-        None => Ok(None),
-    }
+    let Some(config) = entry.point(number) else {
+        return Ok(None);
+    };
+    configuration_fault(alloc, script, cert, &config)
 }
 
 /// The first obligation that an entry breaks, with the number of its point.

@@ -4,8 +4,8 @@ use Rattle.closure.specs.Findings.{ConfigurationFinding, NumberFinding}
 use Rattle.closure.proofs.FindingLemmas.{number_finding}
 use Rattle.closure.proofs.first_fault.number_fault.Goals as goal
 
-pub returns-in-Some : goal.returns-in-Some
-returns-in-Some c =
+pub returns : goal.returns
+returns c =
     let config = configuration_of c.in-Some.config in
     IfOk-weaker c.configuration_fault.result (ConfigurationFinding c.args.script.now c.args.cert.now config)
     (NumberFinding c.args.script.now c.args.cert.now c.args.entry.now c.args.number)
