@@ -1,4 +1,5 @@
 use crate::{ScriptFault, read_script};
+use std::alloc::AllocError;
 use std::test::Fail;
 
 /// What each small document of the table begins with, so that a row shows only what is wrong with it.
@@ -11,7 +12,7 @@ const STARTS: &str = "start = 's'\nrestart = 's'\n";
 const STATE: &str = "[[state]]\nname = 's'\n";
 
 /// Documents after the head and the starts, each with the number of its fault, or 0.
-const ROWS: [(&str, u8); 63] = [
+const ROWS: [(&str, u8); 64] = [
     ("[[state]]\nname = 's'\n", 0),
     (
         "[[state]]\nname = 's'\ndo = ['add $c a mode=SendReceive events=none signals=none', 'add c $e remote=none', 'topology c a e oneway']\nfault = 's'\n",
@@ -189,10 +190,14 @@ const ROWS: [(&str, u8); 63] = [
         "[[state]]\nname = 's'\ndo = ['modify - a', 'modify - a', 'modify - a', 'modify - a', 'modify - a', 'modify - a', 'modify - a', 'modify - a', 'modify - a', 'modify - a', 'modify - a', 'modify - a', 'modify - a', 'modify - a', 'modify - a', 'modify - a', 'modify - a']\nfault = 's'\n",
         13,
     ),
+    (
+        "[[state]]\nname = 's'\ndo = ['modify - a', 'modify - a', 'modify - a', 'modify - a', 'modify - a', 'modify - a', 'modify - a', 'modify - a', 'modify - a', 'modify - a', 'modify - a', 'modify - a', 'modify - a', 'modify - a', 'modify - a', 'modify - a']\nfault = 's'\n",
+        0,
+    ),
 ];
 
 /// Whole documents, each with the number of its fault.
-const WHOLE: [(&str, u8); 10] = [
+const WHOLE: [(&str, u8); 18] = [
     ("lines = ['a'", 1),
     ("lines = 'a'b", 1),
     ("= 1\nlines = ['A', 'b']", 1),
@@ -215,6 +220,154 @@ const WHOLE: [(&str, u8); 10] = [
         "lines = ['a', 'b']\nstart = 's'\nrestart = 's'\n[[state]]\nname = 's'",
         0,
     ),
+    (
+        "lines = ['a', 'b']\nstart = 'a'\nrestart = 's'\n[[state]]\nname = 's'",
+        7,
+    ),
+    (
+        "lines = ['a', 'b']\ncontexts = ['c']\nstart = 's'\nrestart = 'c'\n[[state]]\nname = 's'",
+        8,
+    ),
+    (
+        "lines = ['a', 'b']\ncontexts = ['c', 'd', 'e', 'f', 'g']\nstart = 's'\nrestart = 's'\n[[state]]\nname = 's'",
+        13,
+    ),
+    (
+        "lines = ['a', 'b']\nephemerals = ['c', 'd', 'e', 'f', 'g']\nstart = 's'\nrestart = 's'\n[[state]]\nname = 's'",
+        13,
+    ),
+    (
+        "lines = ['a', 'b', 'c', 'd']\nstart = 's'\nrestart = 's'\n[[state]]\nname = 's'",
+        0,
+    ),
+    (
+        "lines = ['a', 'b']\ncontexts = ['a']\nstart = 's'\nrestart = 's'\n[[state]]\nname = 's'",
+        4,
+    ),
+    (
+        "lines = ['a', 'b']\nlines = ['c', 'd']\nstart = 's'\nrestart = 's'\n[[state]]\nname = 's'",
+        1,
+    ),
+    (
+        "lines = ['a', 'b']\nstart = 'S'\nrestart = 's'\n[[state]]\nname = 's'",
+        7,
+    ),
+];
+
+/// Whole documents with two faults or more, each with the number of the lowest.
+const SEVERAL: [(&str, u8); 28] = [
+    (
+        "lines = ['a', 'b']\nbegin = 's'\ncontexts = ['a']\nstart = 's'\nrestart = 's'\n[[state]]\nname = 's'",
+        2,
+    ),
+    (
+        "lines = ['a', 'b']\ncontexts = ['gone']\nstart = 's'\nrestart = 's'\n[[state]]\nname = 's'\ntalk = 'a-b'",
+        2,
+    ),
+    (
+        "lines = ['a', 'b', 'c', 'd', 'e']\nstart = 3\nrestart = 's'\n[[state]]\nname = 's'",
+        2,
+    ),
+    (
+        "lines = ['a', 'armed']\nstart = 's'\n[[state]]\nname = 's'",
+        3,
+    ),
+    (
+        "lines = ['a', 'b', 'c', 'd', 'absent']\nstart = 's'\nrestart = 's'\n[[state]]\nname = 's'",
+        3,
+    ),
+    (
+        "lines = ['B', 'B']\nstart = 's'\nrestart = 's'\n[[state]]\nname = 's'",
+        3,
+    ),
+    (
+        "lines = ['a', 'b']\nstart = 's'\nrestart = 's'\n[[maps]]\nname = 'm-1'\nmap = '['\n[[state]]\nname = 's'",
+        3,
+    ),
+    (
+        "lines = ['a', 'a']\nrestart = 's'\n[[state]]\nname = 's'",
+        4,
+    ),
+    (
+        "lines = ['a', 'b']\ncontexts = ['c', 'd', 'e', 'f', 'c']\nstart = 's'\nrestart = 's'\n[[state]]\nname = 's'",
+        4,
+    ),
+    (
+        "lines = ['a', 'b']\ncontexts = ['c']\nstart = 's'\nrestart = 's'\n[[state]]\nname = 's'\ndo = ['add $c a', 'add $c b', 'subtract c *']\nfault = 's'",
+        4,
+    ),
+    (
+        "lines = ['a', 'b']\nstart = 'z'\nrestart = 's'\n[[state]]\nname = 's'\ntimer = 'zz'",
+        5,
+    ),
+    (
+        "lines = ['a', 'b']\nstart = 's'\nrestart = 's'\n[[state]]\nname = 's'\nend = true\ntimer = 'zz'",
+        5,
+    ),
+    (
+        "lines = ['a', 'b', 'c', 'd', 'e']\nstart = 's'\nrestart = 's'\n[[state]]\nname = 's'\ntalk = ['a-z']",
+        5,
+    ),
+    (
+        "lines = ['a', 'b']\nrestart = 's'\n[[maps]]\nname = 'm'\nmap = 'y'\n[[state]]\nname = 's'",
+        6,
+    ),
+    (
+        "lines = ['a', 'b']\nstart = 's'\nrestart = 's'\n[[maps]]\nname = 'm'\nmap = '[]'\n[[state]]\nname = 's'\nok = 's'",
+        6,
+    ),
+    (
+        "lines = ['a', 'b', 'c', 'd', 'e']\nstart = 's'\nrestart = 's'\n[[maps]]\nname = 'm'\nmap = '1||2'\n[[state]]\nname = 's'",
+        6,
+    ),
+    (
+        "lines = ['a', 'b', 'c', 'd', 'e']\nrestart = 's'\n[[state]]\nname = 's'",
+        7,
+    ),
+    (
+        "lines = ['a', 'b']\nstart = 'z'\nrestart = 's'\n[[state]]\nname = 's'\nend = true\ntimer = 's'",
+        7,
+    ),
+    (
+        "lines = ['a', 'b', 'c', 'd', 'e']\nstart = 's'\n[[state]]\nname = 's'",
+        8,
+    ),
+    (
+        "lines = ['a', 'b']\nstart = 's'\n[[state]]\nname = 's'\ndo = ['modify - a']",
+        8,
+    ),
+    (
+        "lines = ['a', 'b', 'c', 'd', 'e']\nstart = 's'\nrestart = 's'\n[[state]]\nname = 's'\ndo = ['modify - a']",
+        9,
+    ),
+    (
+        "lines = ['a', 'b']\ncontexts = ['c']\nephemerals = ['e']\nstart = 's'\nrestart = 's'\n[[state]]\nname = 's'\ndo = ['add c $e', 'subtract c e']",
+        9,
+    ),
+    (
+        "lines = ['a', 'b']\nstart = 's'\nrestart = 's'\n[[state]]\nname = 't'\nok = 's'\n[[state]]\nname = 's'\ndo = ['modify - a']",
+        9,
+    ),
+    (
+        "lines = ['a', 'b', 'c', 'd', 'e']\nstart = 's'\nrestart = 's'\n[[state]]\nname = 's'\nok = 's'",
+        10,
+    ),
+    (
+        "lines = ['a', 'b']\ncontexts = ['c']\nephemerals = ['e']\nstart = 's'\nrestart = 's'\n[[state]]\nname = 't'\ndo = ['add c $e', 'subtract c e']\nfault = 's'\n[[state]]\nname = 's'\nok = 's'",
+        10,
+    ),
+    (
+        "lines = ['a', 'b']\nephemerals = ['c', 'd', 'e', 'f', 'g']\nstart = 's'\nrestart = 's'\n[[state]]\nname = 's'\nend = true\ntimer = 's'",
+        11,
+    ),
+    (
+        "lines = ['a', 'b']\ncontexts = ['c']\nephemerals = ['e']\nstart = 's'\nrestart = 's'\n[[state]]\nname = 't'\ndo = ['add $c a', 'subtract c *']\nfault = 's'\n[[state]]\nname = 's'\nend = true\non.a.of = 's'",
+        11,
+    ),
+    (
+        "lines = ['a', 'b']\ncontexts = ['c', 'd', 'g', 'h', 'i']\nephemerals = ['e']\nstart = 's'\nrestart = 's'\n[[state]]\nname = 's'\ndo = ['add c $e', 'subtract c e']\nfault = 's'",
+        12,
+    ),
 ];
 
 /// The number of a document's fault, or 0.
@@ -229,6 +382,42 @@ fn answer(rt: &HostRuntime, text: &str) -> u8 {
 fn whole_documents(rt: HostRuntime) -> Result<(), Fail> {
     for (text, fault) in &WHOLE {
         assert!(rt; answer(&rt, text) == *fault, "{text}");
+    }
+    Ok(())
+}
+
+#[test]
+fn several_faults(rt: HostRuntime) -> Result<(), Fail> {
+    for (text, fault) in &SEVERAL {
+        assert!(rt; answer(&rt, text) == *fault, "{text}");
+    }
+    Ok(())
+}
+
+/// The head, and so many tables of one kind after it.
+fn many(rt: &HostRuntime, kind: &str, rest: &str, count: u8) -> Result<String, AllocError> {
+    let mut text = format!(in rt.alloc(); "{STARTS}{HEAD}{STATE}")?;
+    for number in 0..count {
+        text = format!(in rt.alloc(); "{text}[[{kind}]]\nname = 'x{number}'\n{rest}\n")?;
+    }
+    Ok(text)
+}
+
+/// Each kind of table, what such a table holds, and how many more than the head there may be.
+const LIMITS: [(&str, &str, u8); 4] = [
+    ("events", "list = []", 16),
+    ("signals", "list = []", 16),
+    ("maps", "map = '1'", 16),
+    ("state", "", 63),
+];
+
+#[test]
+fn limits(rt: HostRuntime) -> Result<(), Fail> {
+    for (kind, rest, limit) in &LIMITS {
+        let most = many(&rt, kind, rest, *limit)?;
+        assert!(rt; answer(&rt, most.as_str()) == 0, "{kind}");
+        let more = many(&rt, kind, rest, *limit + 1)?;
+        assert!(rt; answer(&rt, more.as_str()) == 13, "{kind}");
     }
     Ok(())
 }
