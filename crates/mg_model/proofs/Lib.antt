@@ -1,2 +1,4 @@
 pub mod ConfigurationLemmas
 pub mod BasicRows
+pub mod BoardRows
+pub mod LineRows

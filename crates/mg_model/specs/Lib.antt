@@ -7,3 +7,8 @@ pub mod Effects
 pub mod Steps
 pub mod Entries
 pub mod Obligations
+pub mod Board
+pub mod Items
+pub mod Media
+pub mod DigitMaps
+pub mod LineEvents

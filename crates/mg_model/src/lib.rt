@@ -6,6 +6,9 @@
 pub mod commands;
 pub mod components;
 pub mod faults;
+pub mod items;
+pub mod line_events;
 pub mod positions;
+pub mod rows;
 pub mod steps;
 pub mod transitions;

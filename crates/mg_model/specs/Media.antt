@@ -1,0 +1,41 @@
+-- Paths of media on the gateway, and joined lines. Within a context media goes by modes and topology (H.248.1 sections
+-- 7.1.5 and 7.1.18); from one context to another it crosses only between two ephemerals that name each other (this
+-- profile's own). The definition is about lists of crossings. A reader should check the direction: a hop needs that the
+-- first termination passes media into the context, and the second out of it.
+use Rattle.std.specs.Prelude.{ℕ, ◌==◌, Bool, false, not, ◌&&◌, IsTrue, List, [], ◌∷◌, Option, Some, None, ◌⊎◌}
+use Rattle.mg_names.specs.declared.identifiers.TermId.{TermId}
+use Rattle.mg_names.specs.declared.identifiers.TermId.TheVariants.{Line, Eph}
+use Rattle.mg_model.specs.Board.{Board, same_term, exists, place_of, mode_of, remote_of}
+use Rattle.mg_model.specs.Paths.{passes_in, passes_out}
+
+-- both stand in one context that is not the null context
+abbrev pub share_context : Board → TermId → TermId → Bool
+share_context b t u = not (place_of b t == 0) && place_of b t == place_of b u
+
+-- media goes from t to u, two different terminations of one context
+abbrev pub hops : Board → TermId → TermId → Bool
+hops b t u =
+    not (same_term t u) && share_context b t u && passes_in (mode_of b t) && passes_out (mode_of b u) && not (b.cut t u)
+
+abbrev pub is_number : Option ℕ → ℕ → Bool
+is_number None k = false
+is_number (Some i) k = i == k
+
+-- media crosses between two different ephemerals that exist and name each other
+abbrev pub crosses : Board → ℕ → ℕ → Bool
+crosses b k i =
+    not (k == i) && exists b (Eph k) && exists b (Eph i) && is_number (remote_of b (Eph k)) i && is_number (remote_of b (Eph i)) k
+
+-- media goes from one termination to another over these crossings, in order, with a hop before, between and after them
+abbrev pub goes_over : Board → TermId → List (ℕ × ℕ) → TermId → Bool
+goes_over b from [] to = hops b from to
+goes_over b from (crossing ∷ more) to =
+    hops b from (Eph crossing.0) && crosses b crossing.0 crossing.1 && goes_over b (Eph crossing.1) more to
+
+-- there is a path from the one line to the other
+abbrev pub HasPath : Board → ℕ → ℕ → Type 0
+HasPath b i j = (crossings : List (ℕ × ℕ)) × IsTrue (goes_over b (Line (record { 0 = i })) crossings (Line (record { 0 = j })))
+
+-- two lines are joined if there is a path either way
+abbrev pub AreJoined : Board → ℕ → ℕ → Type 0
+AreJoined b i j = HasPath b i j ⊎ HasPath b j i

@@ -1,0 +1,45 @@
+/// The hook state of a line (H.248.1 Annex E.9).
+#[derive(Clone, Copy, Debug, PartialEq, Eq)]
+pub enum Hook {
+    /// On hook.
+    On,
+    /// Off hook.
+    Off,
+}
+
+/// How a digit map was completed: the parameter `Meth` of `dd/ce` (H.248.1 Annex E.6).
+#[derive(Clone, Copy, Debug, PartialEq, Eq)]
+pub enum Method {
+    /// UM: no other alternative is left, and this one is matched.
+    Unambiguous,
+    /// FM: an alternative is matched, and no more can be.
+    Full,
+    /// PM: none is matched.
+    Partial,
+}
+
+/// The signals that play on a line (H.248.1 Annex E.7 and E.9).
+#[derive(Clone, Copy, Debug, PartialEq, Eq)]
+pub struct SignalSet {
+    /// `al/ri`.
+    pub ring: bool,
+    /// `cg/dt`.
+    pub dial_tone: bool,
+    /// `cg/rt`.
+    pub ringing_tone: bool,
+    /// `cg/bt`.
+    pub busy_tone: bool,
+    /// `cg/ct`.
+    pub congestion_tone: bool,
+}
+
+impl SignalSet {
+    /// No signal.
+    pub const SILENT: SignalSet = SignalSet {
+        ring: false,
+        dial_tone: false,
+        ringing_tone: false,
+        busy_tone: false,
+        congestion_tone: false,
+    };
+}
