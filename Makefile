@@ -1,7 +1,7 @@
 # make demo    checks examples/watch: builds the program without its proofs, or takes the proved one if it is there
 # make build   leaves the proved program in crates/mgcall/out/mgcall
 # make test    the whole gate
-# make bench   how time grows with the size of the input
+# make bench   how time grows with the size of the input, and what is checked in a second
 
 .PHONY: demo build test bench
 
@@ -16,6 +16,8 @@ build:
 test:
 	rt ci
 	tools/cases
+	$(MAKE) build
+	tools/refusals
 
 bench: build
 	tools/bench

@@ -23,3 +23,6 @@ mod written;
 pub use cert::{Cert, read_cert};
 pub use entry::Entry;
 pub use fault::CertFault;
+
+#[cfg(test)]
+mod tests;
