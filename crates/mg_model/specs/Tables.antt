@@ -1,6 +1,6 @@
 -- What a script's tables say at a place. A place that the table does not have is read as a state with nothing in it,
 -- or as a list with no item. A reader should check the two predefined events lists and the predefined signals list.
-use Rattle.std.specs.Prelude.{ℕ, ◌==◌, Bool, true, false, ◌&&◌, ◌||◌, List, [], ◌∷◌, Option, Some, None, unwrap_or, option_map, find, slice_get, if◌then◌else◌}
+use Rattle.std.specs.Prelude.{ℕ, ◌==◌, Bool, true, false, ◌&&◌, ◌||◌, List, [], ◌∷◌, Option, None, unwrap_or, option_map, find, slice_get}
 use Rattle.std.specs.List.{list_any}
 use Rattle.mg_names.specs.declared.kinds.Kind.{Kind}
 use Rattle.mg_names.specs.declared.kinds.Kind.TheVariants.{On, Of, Fl, Full, Part}
