@@ -70,18 +70,22 @@ after_request g request end failure =
 
 -- a request of this association whose number is greater than the last is executed. Where the numbers of notes could run out it
 -- can't happen (this profile's own)
-abbrev pub IsExecutedBy : Gateway → Request → Refusal → Gateway → Reply → List SentNote → Type 0
-IsExecutedBy g request refusal after reply notes =
-    (end : Running) × ((failure : Option Failure) × ((request.association ≡ g.association)
-    × ((last_executed g request.call < request.number) × (((g.link request.call).notes + length request.commands ≤ last_number)
-    × (RunsFrom request.number refusal (start_of g) 0 request.commands end failure
-    × ((after ≡ after_request g request end failure) × ((reply ≡ reply_of request end failure)
-    × (notes ≡ sent_notes request.call request.association (g.link request.call).notes end.notes))))))))
+pub record IsExecutedBy (g : Gateway) (request : Request) (refusal : Refusal) (after : Gateway) (reply : Reply) (notes : List SentNote) : Type 0 where
+  pub end : Running
+  pub failure : Option Failure
+  pub current : request.association ≡ g.association
+  pub newer : last_executed g request.call < request.number
+  pub room : (g.link request.call).notes + length request.commands ≤ last_number
+  pub runs : RunsFrom request.number refusal (start_of g) 0 request.commands end failure
+  pub after_is : after ≡ after_request g request end failure
+  pub reply_is : reply ≡ reply_of request end failure
+  pub notes_are : notes ≡ sent_notes request.call request.association (g.link request.call).notes end.notes
 
 -- a request with the number of the last one has its reply sent once more
-abbrev pub IsKept : Gateway → Request → Reply → Type 0
-IsKept g request reply =
-    (request.association ≡ g.association) × ((request.number ≡ reply.number) × ((g.link request.call).last ≡ Some reply))
+pub record IsKept (g : Gateway) (request : Request) (reply : Reply) : Type 0 where
+  pub current : request.association ≡ g.association
+  pub same_number : request.number ≡ reply.number
+  pub kept : (g.link request.call).last ≡ Some reply
 
 -- any other does nothing
 abbrev pub IsDiscarded : Gateway → Request → Type 0
@@ -116,11 +120,14 @@ abbrev pub with_notes : Gateway → ℕ → ℕ → Gateway
 with_notes g call count = with_link g call (record { last = (g.link call).last; notes = (g.link call).notes + count })
 
 -- an event of a line that a call holds; where no number for its note is left it can't happen (this profile's own)
-abbrev pub Happens : Gateway → ℕ → LineEvent → Gateway → List SentNote → Type 0
-Happens g l event after notes =
-    (call : ℕ) × ((outcome : Outcome) × ((g.holder l ≡ Some call) × ((outcome_of (g.line l) event ≡ Some outcome)
-    × ((notes ≡ notes_from g call l outcome.note) × (((g.link call).notes + length notes ≤ last_number)
-    × (after ≡ with_notes (with_line g l outcome.row) call (length notes)))))))
+pub record Happens (g : Gateway) (l : ℕ) (event : LineEvent) (after : Gateway) (notes : List SentNote) : Type 0 where
+  pub call : ℕ
+  pub outcome : Outcome
+  pub held : g.holder l ≡ Some call
+  pub happens : outcome_of (g.line l) event ≡ Some outcome
+  pub notes_are : notes ≡ notes_from g call l outcome.note
+  pub room : (g.link call).notes + length notes ≤ last_number
+  pub after_is : after ≡ with_notes (with_line g l outcome.row) call (length notes)
 
 -- ---- restart
 

@@ -136,11 +136,12 @@ is_chosen None place = None
 is_chosen (Some (at, code)) place = if at == place then Some code else None
 
 -- a command at a place is executed, and no refusal is chosen for it
-abbrev pub Executes : Running → RequestCommand → ℕ → Refusal → ℕ → Running → Type 0
-Executes r command place refusal number next =
-    (is_chosen refusal place ≡ None) × ((board : Board) × ((done : Done)
-    × (IsExecuted r.board (item_at r.results command) board done
-    × (next ≡ after_command r command (item_at r.results command) board done number))))
+pub record Executes (r : Running) (command : RequestCommand) (place : ℕ) (refusal : Refusal) (number : ℕ) (next : Running) : Type 0 where
+  pub board : Board
+  pub done : Done
+  pub not_chosen : is_chosen refusal place ≡ None
+  pub executed : IsExecuted r.board (item_at r.results command) board done
+  pub next_is : next ≡ after_command r command (item_at r.results command) board done number
 
 -- a command fails: it is refused by its own code, or else by the chosen one
 abbrev pub Fails : Running → RequestCommand → ℕ → Refusal → Code → Type 0
@@ -152,5 +153,5 @@ Fails r command place refusal code =
 unfoldable pub RunsFrom : ℕ → Refusal → Running → ℕ → List RequestCommand → Running → Option Failure → Type 0
 RunsFrom number refusal r place [] end failure = (end ≡ r) × (failure ≡ None)
 RunsFrom number refusal r place (command ∷ more) end failure =
-    ((next : Running) × (Executes r command place refusal number next × RunsFrom number refusal next (place + 1) more end failure))
-    ⊎ ((code : Code) × (Fails r command place refusal code × ((end ≡ r) × (failure ≡ Some (place, code)))))
+    ((next : Running) × Executes r command place refusal number next × RunsFrom number refusal next (place + 1) more end failure)
+    ⊎ ((code : Code) × Fails r command place refusal code × (end ≡ r) × (failure ≡ Some (place, code)))

@@ -53,27 +53,46 @@ with_agent w call a = record w { agent = λ c. if c == call then Some a else w.a
 abbrev pub agent_steps : World → ℕ → Agent → World
 agent_steps w call a = record (with_agent w call a) { requests = sent_in a.phase ++ w.requests }
 
-abbrev pub AgentSteps : World → ℕ → (Agent → Option Agent) → World → Type 0
-AgentSteps w call step after =
-    (before : Agent) × ((a : Agent) × ((w.agent call ≡ Some before) × ((step before ≡ Some a) × (after ≡ agent_steps w call a))))
+pub record AgentSteps (w : World) (call : ℕ) (step : Agent → Option Agent) (after : World) : Type 0 where
+  pub before : Agent
+  pub agent : Agent
+  pub open_call : w.agent call ≡ Some before
+  pub steps : step before ≡ Some agent
+  pub after_is : after ≡ agent_steps w call agent
 
 -- ---- the events
 
 abbrev pub with_gateway : World → Gateway → World
 with_gateway w g = record w { gateway = g }
 
--- a request that was sent reaches the gateway: it is executed, or the kept reply is sent once more, or nothing happens
+-- a request is executed, and its reply and its notes are sent
+pub record IsFirst (w : World) (request : Request) (refusal : Refusal) (after : World) : Type 0 where
+  pub gateway : Gateway
+  pub answer : Reply
+  pub sent : List SentNote
+  pub executed : IsExecutedBy w.gateway request refusal gateway answer sent
+  pub after_is : after ≡ record (with_gateway w gateway) { replies = answer ∷ w.replies; notes = sent ++ w.notes }
+
+-- the kept reply is sent once more
+pub record IsRepeat (w : World) (request : Request) (after : World) : Type 0 where
+  pub answer : Reply
+  pub kept : IsKept w.gateway request answer
+  pub after_is : after ≡ record w { replies = answer ∷ w.replies }
+
+-- a request that was sent reaches the gateway: it is executed, or its reply is sent once more, or nothing happens
 abbrev pub Executes : World → Request → Refusal → World → Type 0
 Executes w request refusal after =
-    ((g : Gateway) × ((answer : Reply) × ((sent : List SentNote) × (IsExecutedBy w.gateway request refusal g answer sent
-    × (after ≡ record (with_gateway w g) { replies = answer ∷ w.replies; notes = sent ++ w.notes })))))
-    ⊎ (((answer : Reply) × (IsKept w.gateway request answer × (after ≡ record w { replies = answer ∷ w.replies })))
-    ⊎ (IsDiscarded w.gateway request × (after ≡ w)))
+    IsFirst w request refusal after ⊎ (IsRepeat w request after ⊎ (IsDiscarded w.gateway request × (after ≡ w)))
+
+-- an event of a line, and its note is sent
+pub record LineOccurs (w : World) (line : ℕ) (event : LineEvent) (after : World) : Type 0 where
+  pub gateway : Gateway
+  pub sent : List SentNote
+  pub happens : Happens w.gateway line event gateway sent
+  pub after_is : after ≡ record (with_gateway w gateway) { notes = sent ++ w.notes }
 
 abbrev pub Occurs : Script → World → Event → World → Type 0
-Occurs script w (on_a_line line event) after =
-    (g : Gateway) × ((sent : List SentNote) × (Happens w.gateway line event g sent
-    × (after ≡ record (with_gateway w g) { notes = sent ++ w.notes })))
+Occurs script w (on_a_line line event) after = LineOccurs w line event after
 Occurs script w (execute request refusal) after = Contains w.requests request × Executes w request refusal after
 Occurs script w (reply answer) after =
     Contains w.replies answer × AgentSteps w answer.call (λ a. replied script a answer) after
@@ -124,7 +143,7 @@ pub record IsOpening (script : Script) (calls : List Opened) (w : World) : Type 
       → w.gateway.holder (one.lines i) ≡ Some one.call
   pub others_null : (l : ℕ) (row : Row) → w.gateway.board.row (Line (record { 0 = l })) ≡ Some row → row ≡ null_row
   pub held_alone : (l call : ℕ) → w.gateway.holder l ≡ Some call
-      → (one : Opened) × ((i : ℕ) × (Contains calls one × ((one.call ≡ call) × ((i < length script.lines) × (one.lines i ≡ l)))))
+      → (one : Opened) × (i : ℕ) × Contains calls one × (one.call ≡ call) × (i < length script.lines) × (one.lines i ≡ l)
   pub no_ephemeral : (k : ℕ) → w.gateway.board.row (Eph k) ≡ None
   pub nothing_cut : w.gateway.board.cut ≡ (λ t u. false)
   pub no_context_given : w.gateway.board.given_context ≡ (λ n. false)
@@ -132,7 +151,7 @@ pub record IsOpening (script : Script) (calls : List Opened) (w : World) : Type 
   pub no_creator : w.gateway.creator ≡ (λ k. None)
   pub no_reply_kept : w.gateway.link ≡ (λ call. record { last = None; notes = 0 })
   pub agents : (one : Opened) → Contains calls one → w.agent one.call ≡ Some (opened script one.call one.lines)
-  pub no_other_agent : (call : ℕ) (a : Agent) → w.agent call ≡ Some a → (one : Opened) × (Contains calls one × (one.call ≡ call))
+  pub no_other_agent : (call : ℕ) (a : Agent) → w.agent call ≡ Some a → (one : Opened) × Contains calls one × (one.call ≡ call)
   pub no_request : w.requests ≡ []
   pub no_answer : w.replies ≡ []
   pub no_note : w.notes ≡ []
@@ -146,17 +165,21 @@ pub record HasEnded (script : Script) (w : World) (a : Agent) : Type 0 where
   pub current : a.association ≡ w.gateway.association
 
 -- two lines are lines of one call whose current state marks the pair as talking
-abbrev pub IsMarkedPair : Script → World → ℕ → ℕ → Type 0
-IsMarkedPair script w l m =
-    (call : ℕ) × ((a : Agent) × ((i : ℕ) × ((j : ℕ) × ((w.agent call ≡ Some a) × ((i < length script.lines) × ((j < length script.lines)
-    × ((a.lines i ≡ l) × ((a.lines j ≡ m) × IsTrue (is_marked (state_of script a.state).talk i j)))))))))
+pub record IsMarkedPair (script : Script) (w : World) (l m : ℕ) : Type 0 where
+  pub call : ℕ
+  pub agent : Agent
+  pub i : ℕ
+  pub j : ℕ
+  pub open_call : w.agent call ≡ Some agent
+  pub first : (i < length script.lines) × (agent.lines i ≡ l)
+  pub second : (j < length script.lines) × (agent.lines j ≡ m)
+  pub marked : IsTrue (is_marked (state_of script agent.state).talk i j)
 
 -- of a call that has ended no ephemeral exists that it created, and each of its lines is silent, in the null context, with an events
 -- list that is exactly `al/of` with `strict=exact`
 pub record IsCleared (script : Script) (w : World) (call : ℕ) (a : Agent) : Type 0 where
   pub no_ephemeral : (k : ℕ) → w.gateway.creator k ≡ Some call → exists w.gateway.board (Eph k) ≡ false
-  pub in_null : (i : ℕ) → i < length script.lines → (row : Row) × ((w.gateway.board.row (Line (record { 0 = a.lines i })) ≡ Some row)
-      × (row.place.0 ≡ 0))
+  pub in_null : (i : ℕ) → i < length script.lines → (row : Row) × (w.gateway.board.row (Line (record { 0 = a.lines i })) ≡ Some row) × (row.place.0 ≡ 0)
   pub is_silent : (i : ℕ) → i < length script.lines → (w.gateway.line (a.lines i)).playing ≡ silent
   pub is_armed : (i : ℕ) → i < length script.lines → (w.gateway.line (a.lines i)).list ≡ OffHook Exact ∷ []
 
