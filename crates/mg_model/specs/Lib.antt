@@ -17,3 +17,4 @@ pub mod RequestRun
 pub mod Gateway
 pub mod Agent
 pub mod World
+pub mod Reports
