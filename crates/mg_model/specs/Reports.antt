@@ -35,7 +35,7 @@ pub data PlanStep : Type 0 where
   times_out : PlanStep
   hears : PlanStep
 
--- the steps of a call, epoch by epoch
+-- the steps of a call, epoch by epoch: as many as the plan's longest call has, empty ones where this call has none
 abbrev pub Epochs : Type 0
 Epochs = List (List PlanStep)
 
