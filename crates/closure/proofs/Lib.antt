@@ -5,5 +5,4 @@ pub mod GroupLemmas
 pub mod ObligationOrder
 pub mod RequestLemmas
 pub mod SettleLemmas
-pub mod StepLemmas
 pub mod SubtractLemmas

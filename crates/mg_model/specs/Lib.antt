@@ -12,3 +12,9 @@ pub mod Items
 pub mod Media
 pub mod DigitMaps
 pub mod LineEvents
+pub mod Messages
+pub mod RequestRun
+pub mod Gateway
+pub mod Agent
+pub mod World
+pub mod Reports

@@ -1,6 +1,6 @@
 -- What a script's tables say at a place. A place that the table does not have is read as a state with nothing in it,
 -- or as a list with no item. A reader should check the two predefined events lists and the predefined signals list.
-use Rattle.std.specs.Prelude.{ℕ, ◌==◌, Bool, true, false, ◌&&◌, ◌||◌, List, [], ◌∷◌, Option, Some, None, unwrap_or, option_map, slice_get, if◌then◌else◌}
+use Rattle.std.specs.Prelude.{ℕ, ◌==◌, Bool, true, false, ◌&&◌, ◌||◌, List, [], ◌∷◌, Option, None, unwrap_or, option_map, find, slice_get}
 use Rattle.std.specs.List.{list_any}
 use Rattle.mg_names.specs.declared.kinds.Kind.{Kind}
 use Rattle.mg_names.specs.declared.kinds.Kind.TheVariants.{On, Of, Fl, Full, Part}
@@ -73,11 +73,10 @@ same_kind Full Full = true
 same_kind Part Part = true
 same_kind _ _ = false
 
--- where a note of a line and kind leads
+-- where a note of a line and kind leads: by the first transition of the two
 abbrev pub target_in : List Transition → ℕ → Kind → Option ℕ
-target_in [] i kind = None
-target_in (transition ∷ more) i kind =
-    if (transition.line == i) && same_kind transition.kind kind then Some transition.target else target_in more i kind
+target_in on i kind =
+    option_map (λ (t : Transition). t.target) (find (λ (t : Transition). (t.line == i) && same_kind t.kind kind) on)
 
 -- a state marks two lines as talking, in either order
 abbrev pub is_marked : List Pair → ℕ → ℕ → Bool

@@ -1,6 +1,6 @@
 -- From the answer of a tree to that of the bytes.
 use Rattle.std.proofs.Common.{◌≡◌, ℕ, List, Bool, true, false, not, refl, Option, Some, None}
-use Rattle.std.specs.Prelude.{if◌then◌else◌, Result, Ok, Err}
+use Rattle.std.specs.Prelude.{if◌then◌else◌, is_some, Result, Ok, Err}
 use Rattle.toml.specs.Data.{Members}
 use Rattle.mg_model.specs.Script.{Script}
 use Rattle.scriptreader.specs.declared.fault.ScriptFault.{ScriptFault}
@@ -8,7 +8,10 @@ use Rattle.scriptreader.specs.declared.fault.ScriptFault.TheVariants.{NotToml, B
 use Rattle.scriptreader.specs.Written.{Document}
 use Rattle.std.specs.List.{list_any}
 use Rattle.scriptreader.specs.Faults.{fault_of, use_fault_of, state_fault_of, has_bad_name, has_duplicate, has_unknown, has_bad_map, names_state, lacks_fault, has_vain_outcome, is_end_that_goes_on, makes_and_subtracts, is_too_large}
-use Rattle.scriptreader.specs.Reading.{Answers, IsText, ReadsScript, tree_read}
+use Rattle.scriptreader.specs.Meaning.{script_meant}
+use Rattle.scriptreader.specs.Documents.{document_in}
+use Rattle.scriptreader.specs.Reading.{Answers, IsText, ReadsScript, document_read, fault_or_table, tree_read}
+use Rattle.scriptreader.proofs.Meanings.{table_found}
 
 -- where the fault is another one, and the rest is not this fault
 other : (b : Bool) (fault : ScriptFault) (rest : Option ScriptFault) → (fault ≡ NotToml → ⊥) → (rest ≡ Some NotToml → ⊥) → (if b then Some fault else rest) ≡ Some NotToml → ⊥
@@ -74,3 +77,20 @@ script_read bytes tree (Err OkWithoutActions) text e = (tree, text, e)
 script_read bytes tree (Err EndWithTransitions) text e = (tree, text, e)
 script_read bytes tree (Err MadeAndSubtracted) text e = (tree, text, e)
 script_read bytes tree (Err TooMany) text e = (tree, text, e)
+
+-- a document without a fault has a table, so every tree is read as something
+pub answered : (tree : Members) → is_some (tree_read tree) ≡ true
+unfolding tree_read
+answered tree = of_shape (document_in tree)
+  where
+    of_table : (table : Option Script) → is_some table ≡ true → is_some (fault_or_table None table) ≡ true
+    of_table None e = e
+    of_table (Some script) e = refl
+
+    of_fault : (d : Document) (fault : Option ScriptFault) → fault_of d ≡ fault → is_some (fault_or_table fault (script_meant d)) ≡ true
+    of_fault d (Some fault) e = refl
+    of_fault d None e = of_table (script_meant d) (table_found d e)
+
+    of_shape : (o : Option Document) → is_some (document_read o) ≡ true
+    of_shape None = refl
+    of_shape (Some d) = of_fault d (fault_of d) refl

@@ -1,5 +1,6 @@
 //! The reader of scripts.
-ghost use Rattle.std.specs.Prelude.{Some};
+ghost use Rattle.std.specs.Prelude.{◌≡◌, Some, is_some, true};
+ghost use Rattle.toml.specs.Data.{Members};
 ghost use Rattle.toml.specs.View.{table_view};
 ghost use Rattle.scriptreader.specs.Reading.{Answers, ReadsScript, document_read, tree_read};
 
@@ -37,8 +38,12 @@ fn of_tree(alloc: Global, tree: &Table) -> Result<Script, ScriptFault>
 
 /// Reads a script. The bytes are TOML; the format is this profile's own. Of all faults that the document has anywhere
 /// the lowest is given; `NoMemory` may come in place of any answer. Time goes up with the length of the bytes.
+#[tactic(auto, using(crate::proofs::Readings::answered))]
 pub fn read_script(alloc: Global, bytes: &[u8]) -> Result<Script, ScriptFault>
-    ensures { ReadsScript bytes.now result }
+    ensures reads { ReadsScript bytes.now result }
+
+    // Every tree is read as something: a document without a fault has a table.
+    ensures answered { (tree : Members) → is_some (tree_read tree) ≡ true }
 {
     match toml::table_from_slice(alloc, bytes) {
         Ok(tree) => of_tree(alloc, &tree),

@@ -1,7 +1,8 @@
 //! The table of a script.
 ghost use Rattle.std.specs.Prelude.{◌≡◌, ◌<◌, ◌≤◌, length, map, position, slice_get, IfSome, ◌==◌, option_copied, string_bytes};
 ghost use Rattle.std.specs.Str.{bytes_eq};
-ghost use Rattle.scriptreader.specs.Table.{place_of, state_named, list_named, items_of, signals_of, map_at};
+ghost use Rattle.mg_model.specs.Tables.{items_of, signals_of};
+ghost use Rattle.scriptreader.specs.Table.{place_of, state_named, list_named, map_at};
 
 use crate::lists::{EventsList, NamedMap, SignalsList};
 use crate::state::State;
@@ -176,7 +177,7 @@ impl Script {
 
     /// The items of an events list; none where the script has no such list.
     pub fn list(&self, name: EventsName) -> &[EventItem]
-        ensures { result.now ≡ items_of name self.now.lists }
+        ensures { result.now ≡ items_of self.now name }
     {
         match name {
             EventsName::Empty => &[],
@@ -190,7 +191,7 @@ impl Script {
 
     /// The items of a signals list; none where the script has no such list.
     pub fn signals(&self, name: SignalsName) -> &[Signal]
-        ensures { result.now ≡ signals_of name self.now.signals }
+        ensures { result.now ≡ signals_of self.now name }
     {
         match name {
             SignalsName::Silent => &[],
@@ -203,7 +204,7 @@ impl Script {
 
     /// Whether a signals list has no items.
     pub fn signals_empty(&self, name: SignalsName) -> bool
-        ensures { result ≡ (length (signals_of name self.now.signals) == 0) }
+        ensures { result ≡ (length (signals_of self.now name) == 0) }
     {
         self.signals(name).is_empty()
     }

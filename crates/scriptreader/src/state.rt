@@ -1,6 +1,6 @@
 //! A state of a script.
 ghost use Rattle.std.specs.Prelude.{◌≡◌, string_bytes};
-ghost use Rattle.scriptreader.specs.Table.{target_of};
+ghost use Rattle.mg_model.specs.Tables.{target_in};
 
 use mg_model::commands::Command;
 use mg_model::transitions::{Pair, Transition};
@@ -83,7 +83,7 @@ impl State {
 
     /// The state that a note of this line and kind leads to.
     pub fn target(&self, line: Slot, kind: Kind) -> Option<u8>
-        ensures { result ≡ target_of line kind self.now.on }
+        ensures { result ≡ target_in self.now.on line kind }
     {
         self.on
             .iter()

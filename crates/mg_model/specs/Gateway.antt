@@ -1,0 +1,160 @@
+-- The gateway whole: its association, the connection model, its lines, for each call the reply that its link keeps and the
+-- count of its notes, and what events do to it. A reader should check that a request is executed at most once (H.248.1
+-- section 8.1), that messages of another association do nothing, and what a restart takes away.
+use Rattle.std.specs.Prelude.{◌≡◌, ℕ, ◌+◌, ◌<◌, ◌≤◌, ◌==◌, false, if◌then◌else◌, List, [], ◌∷◌, length, Option, Some, None, ◌⊎◌}
+use Rattle.mg_names.specs.declared.identifiers.TermId.{TermId}
+use Rattle.mg_names.specs.declared.signals.Signal.{Signal}
+use Rattle.mg_names.specs.declared.symbols.Symbol.{Symbol}
+use Rattle.mg_model.specs.declared.line_events.Hook.{Hook}
+use Rattle.mg_model.specs.declared.rows.Row.{Row}
+use Rattle.mg_model.specs.Board.{Board}
+use Rattle.mg_model.specs.Items.{subtracted}
+use Rattle.mg_model.specs.LineEvents.{LineRow, Note, Outcome, cleared, hooked, flashed, dialled, paused, signal_ended}
+use Rattle.mg_model.specs.Messages.{Request, Reply, SentNote, Failure}
+use Rattle.mg_model.specs.RequestRun.{Running, Refusal, RunsFrom}
+
+-- the link of a call: the reply to the last request that was executed, if there is one, and how many notes were sent
+pub record CallLink : Type 0 where
+  pub last : Option Reply
+  pub notes : ℕ
+
+pub record Gateway : Type 0 where
+  pub association : ℕ
+  pub board : Board
+  pub line : ℕ → LineRow
+  -- the call with which a line is open
+  pub holder : ℕ → Option ℕ
+  -- the call whose request created an ephemeral, in this association
+  pub creator : ℕ → Option ℕ
+  pub link : ℕ → CallLink
+
+-- the greatest number of a transaction and of a note
+abbrev pub last_number : ℕ
+last_number = 4294967295
+
+-- ---- requests
+
+-- the number of the last request that was executed, 0 where there is none
+abbrev pub number_of : Option Reply → ℕ
+number_of None = 0
+number_of (Some reply) = reply.number
+
+abbrev pub last_executed : Gateway → ℕ → ℕ
+last_executed g call = number_of (g.link call).last
+
+abbrev pub with_link : Gateway → ℕ → CallLink → Gateway
+with_link g call link = record g { link = λ c. if c == call then link else g.link c }
+
+abbrev pub start_of : Gateway → Running
+start_of g = record { board = g.board; line = g.line; results = []; notes = [] }
+
+-- notes on their way, numbered on from a count
+abbrev pub sent_notes : ℕ → ℕ → ℕ → List (ℕ × Note) → List SentNote
+sent_notes call association count [] = []
+sent_notes call association count (n ∷ more) =
+    record { call = call; association = association; number = count + 1; line = n.0; note = n.1 } ∷ sent_notes call association (count + 1) more
+
+abbrev pub reply_of : Request → Running → Option Failure → Reply
+reply_of request end failure =
+    record { call = request.call; association = request.association; number = request.number; results = end.results; failure = failure }
+
+-- whose an ephemeral is after a request: what was not given out before is of its call
+abbrev pub creator_after : Gateway → Request → Running → ℕ → Option ℕ
+creator_after g request end k =
+    if end.board.given_ephemeral k then (if g.board.given_ephemeral k then g.creator k else Some request.call) else g.creator k
+
+abbrev pub after_request : Gateway → Request → Running → Option Failure → Gateway
+after_request g request end failure =
+    with_link (record g { board = end.board; line = end.line; creator = creator_after g request end }) request.call
+    (record { last = Some (reply_of request end failure); notes = (g.link request.call).notes + length end.notes })
+
+-- a request of this association whose number is greater than the last is executed. Where the numbers of notes could run out it
+-- can't happen (this profile's own)
+pub record IsExecutedBy (g : Gateway) (request : Request) (refusal : Refusal) (after : Gateway) (reply : Reply) (notes : List SentNote) : Type 0 where
+  pub end : Running
+  pub failure : Option Failure
+  pub current : request.association ≡ g.association
+  pub newer : last_executed g request.call < request.number
+  pub room : (g.link request.call).notes + length request.commands ≤ last_number
+  pub runs : RunsFrom request.number refusal (start_of g) 0 request.commands end failure
+  pub after_is : after ≡ after_request g request end failure
+  pub reply_is : reply ≡ reply_of request end failure
+  pub notes_are : notes ≡ sent_notes request.call request.association (g.link request.call).notes end.notes
+
+-- a request with the number of the last one has its reply sent once more
+pub record IsKept (g : Gateway) (request : Request) (reply : Reply) : Type 0 where
+  pub current : request.association ≡ g.association
+  pub same_number : request.number ≡ reply.number
+  pub kept : (g.link request.call).last ≡ Some reply
+
+-- any other does nothing
+abbrev pub IsDiscarded : Gateway → Request → Type 0
+IsDiscarded g request = (request.association ≡ g.association → ⊥) ⊎ (request.number < last_executed g request.call)
+
+-- ---- what users do, and signals that end
+
+pub data LineEvent : Type 0 where
+  hook : Hook → LineEvent
+  flash : LineEvent
+  digit : Symbol → LineEvent
+  pause : LineEvent
+  signal_end : Signal → LineEvent
+
+abbrev pub outcome_of : LineRow → LineEvent → Option Outcome
+outcome_of row (hook h) = hooked row h
+outcome_of row flash = flashed row
+outcome_of row (digit s) = dialled row s
+outcome_of row pause = paused row
+outcome_of row (signal_end s) = signal_ended row s
+
+abbrev pub with_line : Gateway → ℕ → LineRow → Gateway
+with_line g l row = record g { line = λ other. if other == l then row else g.line other }
+
+-- the note that an event of a line raises, on its way to the call that holds the line
+abbrev pub notes_from : Gateway → ℕ → ℕ → Option Note → List SentNote
+notes_from g call l None = []
+notes_from g call l (Some note) =
+    record { call = call; association = g.association; number = (g.link call).notes + 1; line = l; note = note } ∷ []
+
+abbrev pub with_notes : Gateway → ℕ → ℕ → Gateway
+with_notes g call count = with_link g call (record { last = (g.link call).last; notes = (g.link call).notes + count })
+
+-- an event of a line that a call holds; where no number for its note is left it can't happen (this profile's own)
+pub record Happens (g : Gateway) (l : ℕ) (event : LineEvent) (after : Gateway) (notes : List SentNote) : Type 0 where
+  pub call : ℕ
+  pub outcome : Outcome
+  pub held : g.holder l ≡ Some call
+  pub happens : outcome_of (g.line l) event ≡ Some outcome
+  pub notes_are : notes ≡ notes_from g call l outcome.note
+  pub room : (g.link call).notes + length notes ≤ last_number
+  pub after_is : after ≡ with_notes (with_line g l outcome.row) call (length notes)
+
+-- ---- restart
+
+-- a line is in the null context and Inactive, and an ephemeral is no more
+abbrev pub row_restarted : TermId → Option Row → Option Row
+row_restarted t None = None
+row_restarted t (Some row) = subtracted t
+
+abbrev pub board_restarted : Board → Board
+board_restarted b = record {
+  row = λ t. row_restarted t (b.row t);
+  cut = λ t u. false;
+  given_context = λ n. false;
+  given_ephemeral = λ n. false;
+}
+
+abbrev pub link_restarted : CallLink → CallLink
+link_restarted link = record link { last = None }
+
+-- a restart: contexts, ephemerals, descriptors, signals, modes and kept replies are lost, and the next association begins;
+-- hook states stay (H.248.1 section 11.2 on ServiceChange with the method Restart; a forced loss, this profile's own)
+abbrev pub restarted : Gateway → Gateway
+restarted g = record {
+  association = g.association + 1;
+  board = board_restarted g.board;
+  line = λ l. cleared (g.line l);
+  holder = g.holder;
+  creator = λ k. None;
+  link = λ call. link_restarted (g.link call);
+}

@@ -1,0 +1,157 @@
+-- What the gateway does with the commands of one request: one after the other, up to a chosen refusal, the first command that
+-- is refused, or the end (H.248.1 section 8.2.1; that what was done stays is this profile's own). A reader should check the
+-- order within a command (the connection model, then Signals, then Events), and which notes are sent at the end: those whose
+-- descriptor was neither replaced nor emptied by a later command of the same request (this profile's own).
+use Rattle.std.specs.Prelude.{◌≡◌, ℕ, ◌+◌, ◌==◌, Bool, false, not, ◌&&◌, ◌||◌, if◌then◌else◌, List, [], ◌∷◌, ◌++◌, filter, slice_get, Option, Some, None, unwrap_or, option_map, option_and_then, ◌⊎◌, is_some}
+use Rattle.mg_names.specs.declared.codes.Code.{Code}
+use Rattle.mg_names.specs.declared.identifiers.TermId.{TermId}
+use Rattle.mg_names.specs.declared.identifiers.TermId.TheVariants.{Line, Eph}
+use Rattle.mg_model.specs.declared.items.Added.TheVariants as added
+use Rattle.mg_model.specs.declared.items.Item.{Item}
+use Rattle.mg_model.specs.declared.items.Item.TheVariants.{Add, Modify, Move, Subtract, SubtractAll, SetTopology}
+use Rattle.mg_model.specs.declared.items.RemoteSetting.{RemoteSetting}
+use Rattle.mg_model.specs.declared.items.RemoteSetting.TheVariants.{Nothing, Ephemeral}
+use Rattle.mg_model.specs.declared.items.Settings.{Settings}
+use Rattle.mg_model.specs.declared.line_events.SignalSet.{SignalSet}
+use Rattle.mg_model.specs.Board.{Board}
+use Rattle.mg_model.specs.Items.{Done, IsLegal, IsRefused, IsExecuted, leaves}
+use Rattle.mg_model.specs.LineEvents.{ListItem, LineRow, Note, Outcome, armed, signalled, cleared, stays}
+use Rattle.mg_model.specs.Messages.{ContextRef, context, context_made_at, EphemeralRef, ephemeral, ephemeral_made_at, TerminationRef, on_line, on_ephemeral, RemoteRef, no_remote, remote_to, Descriptors, RequestCommand, add_line, add_ephemeral, modify, move, subtract, subtract_all, set_topology, Failure}
+
+-- ---- names, by what the earlier commands created
+
+-- a place at which no context was created stands for ALL, which is no context; one at which no ephemeral was created for 0,
+-- which is no ephemeral. So such commands are answered 411 and 430
+abbrev pub context_at : List Done → ContextRef → ℕ
+context_at results (context n) = n
+context_at results (context_made_at p) = unwrap_or (option_and_then (λ (done : Done). done.context) (slice_get results p)) 4294967295
+
+abbrev pub ephemeral_at : List Done → EphemeralRef → ℕ
+ephemeral_at results (ephemeral n) = n
+ephemeral_at results (ephemeral_made_at p) = unwrap_or (option_and_then (λ (done : Done). done.ephemeral) (slice_get results p)) 0
+
+abbrev pub termination_at : List Done → TerminationRef → TermId
+termination_at results (on_line l) = Line (record { 0 = l })
+termination_at results (on_ephemeral e) = Eph (ephemeral_at results e)
+
+abbrev pub remote_at : List Done → RemoteRef → RemoteSetting
+remote_at results no_remote = Nothing
+remote_at results (remote_to e) = Ephemeral (ephemeral_at results e)
+
+abbrev pub settings_at : List Done → Descriptors → Settings
+settings_at results d = record { mode = d.mode; remote = option_map (remote_at results) d.remote }
+
+-- the command on the connection model
+abbrev pub item_at : List Done → RequestCommand → Item
+item_at results (add_line c l d) = Add (record { 0 = context_at results c }) (added.Line (record { 0 = l })) (settings_at results d)
+item_at results (add_ephemeral c d) = Add (record { 0 = context_at results c }) added.NewEphemeral (settings_at results d)
+item_at results (modify c t d) = Modify (record { 0 = context_at results c }) (termination_at results t) (settings_at results d)
+item_at results (move c t d) = Move (record { 0 = context_at results c }) (termination_at results t) (settings_at results d)
+item_at results (subtract c t) = Subtract (record { 0 = context_at results c }) (termination_at results t)
+item_at results (subtract_all c) = SubtractAll (record { 0 = context_at results c })
+item_at results (set_topology c t u topology) =
+    SetTopology (record { 0 = context_at results c }) (termination_at results t) (termination_at results u) topology
+
+-- ---- descriptors of a line
+
+-- the line that a command's descriptors are for, with the descriptors
+abbrev pub of_termination : TerminationRef → Descriptors → Option (ℕ × Descriptors)
+of_termination (on_line l) d = Some (l, d)
+of_termination (on_ephemeral e) d = None
+
+abbrev pub described : RequestCommand → Option (ℕ × Descriptors)
+described (add_line c l d) = Some (l, d)
+described (modify c t d) = of_termination t d
+described (move c t d) = of_termination t d
+described command = None
+
+abbrev pub with_signals : LineRow → Option SignalSet → LineRow
+with_signals row None = row
+with_signals row (Some set) = (signalled row set).row
+
+abbrev pub with_events : LineRow → Option (List ListItem) → ℕ → Outcome
+with_events row None number = stays row
+with_events row (Some list) number = armed row list number
+
+-- a line after the descriptors of a command: Signals first, then Events, whose RequestID is the request's number
+abbrev pub with_descriptors : LineRow → Descriptors → ℕ → Outcome
+with_descriptors row d number = with_events (with_signals row d.signals) d.events number
+
+abbrev pub is_line : Option (ℕ × Descriptors) → ℕ → Bool
+is_line None l = false
+is_line (Some (line, d)) l = line == l
+
+-- the command replaces the line's Events descriptor
+abbrev pub rearms : Option (ℕ × Descriptors) → ℕ → Bool
+rearms None l = false
+rearms (Some (line, d)) l = (line == l) && is_some d.events
+
+-- ---- the run
+
+-- a request while it runs: the board, the lines, the results so far, and the notes to be sent, each with its line
+pub record Running : Type 0 where
+  pub board : Board
+  pub line : ℕ → LineRow
+  pub results : List Done
+  pub notes : List (ℕ × Note)
+
+-- what becomes of a line
+abbrev pub described_row : Option (ℕ × Descriptors) → LineRow → ℕ → ℕ → LineRow
+described_row None row l number = row
+described_row (Some (line, d)) row l number = if line == l then (with_descriptors row d number).row else row
+
+abbrev pub line_after : Running → RequestCommand → Item → ℕ → ℕ → LineRow
+line_after r command item number l =
+    if leaves r.board item (Line (record { 0 = l })) then cleared (r.line l) else described_row (described command) (r.line l) l number
+
+-- the note that a command raises
+abbrev pub note_from : ℕ → Option Note → List (ℕ × Note)
+note_from l None = []
+note_from l (Some note) = (l, note) ∷ []
+
+abbrev pub raised : Running → Option (ℕ × Descriptors) → ℕ → List (ℕ × Note)
+raised r None number = []
+raised r (Some (l, d)) number = note_from l (with_descriptors (r.line l) d number).note
+
+-- the notes whose descriptor still stands
+abbrev pub standing : Running → RequestCommand → Item → List (ℕ × Note)
+standing r command item =
+    filter (λ (n : ℕ × Note). not (leaves r.board item (Line (record { 0 = n.0 })) || rearms (described command) n.0)) r.notes
+
+-- after a command that was executed
+abbrev pub after_command : Running → RequestCommand → Item → Board → Done → ℕ → Running
+after_command r command item board done number = record {
+  board = board;
+  line = line_after r command item number;
+  results = r.results ++ done ∷ [];
+  notes = standing r command item ++ raised r (described command) number;
+}
+
+-- a refusal with 500 or 510 that is chosen for a place
+abbrev pub Refusal : Type 0
+Refusal = Option (ℕ × Code)
+
+abbrev pub is_chosen : Refusal → ℕ → Option Code
+is_chosen None place = None
+is_chosen (Some (at, code)) place = if at == place then Some code else None
+
+-- a command at a place is executed, and no refusal is chosen for it
+pub record Executes (r : Running) (command : RequestCommand) (place : ℕ) (refusal : Refusal) (number : ℕ) (next : Running) : Type 0 where
+  pub board : Board
+  pub done : Done
+  pub not_chosen : is_chosen refusal place ≡ None
+  pub executed : IsExecuted r.board (item_at r.results command) board done
+  pub next_is : next ≡ after_command r command (item_at r.results command) board done number
+
+-- a command fails: it is refused by its own code, or else by the chosen one
+abbrev pub Fails : Running → RequestCommand → ℕ → Refusal → Code → Type 0
+Fails r command place refusal code =
+    IsRefused r.board (item_at r.results command) code
+    ⊎ (IsLegal r.board (item_at r.results command) × (is_chosen refusal place ≡ Some code))
+
+-- the commands from a place on, up to the first that fails or to the end
+unfoldable pub RunsFrom : ℕ → Refusal → Running → ℕ → List RequestCommand → Running → Option Failure → Type 0
+RunsFrom number refusal r place [] end failure = (end ≡ r) × (failure ≡ None)
+RunsFrom number refusal r place (command ∷ more) end failure =
+    ((next : Running) × Executes r command place refusal number next × RunsFrom number refusal next (place + 1) more end failure)
+    ⊎ ((code : Code) × Fails r command place refusal code × (end ≡ r) × (failure ≡ Some (place, code)))

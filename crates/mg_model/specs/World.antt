@@ -1,0 +1,190 @@
+-- The whole: a gateway, the agents of the calls, and the set of all messages that were ever sent; what can happen to it; and
+-- when it is good. Any message may be delivered at any time, any number of times, or never. A reader should check that no
+-- event is missing, that each says of everything else that it stays, and what a good world is: that is the promise.
+use Rattle.std.specs.Prelude.{◌≡◌, ℕ, ◌<◌, ◌≤◌, ◌==◌, false, IsTrue, if◌then◌else◌, List, [], ◌∷◌, ◌++◌, length, Contains, Option, Some, None, ◌⊎◌}
+use Rattle.mg_names.specs.declared.identifiers.TermId.TheVariants.{Line, Eph}
+use Rattle.mg_names.specs.declared.modes.Mode.TheVariants.{Inactive}
+use Rattle.mg_names.specs.declared.strictness.Strict.TheVariants.{Exact}
+use Rattle.mg_model.specs.declared.rows.Row.{Row}
+use Rattle.mg_model.specs.Agent.{Agent, Phase, awaits_reply, awaits_pass, resting, replied, passed, noted, timed, heard, opened}
+use Rattle.mg_model.specs.Board.{exists}
+use Rattle.mg_model.specs.Gateway.{Gateway, LineEvent, IsExecutedBy, IsKept, IsDiscarded, Happens, restarted}
+use Rattle.mg_model.specs.LineEvents.{OffHook, LineRow, new_line, silent}
+use Rattle.mg_model.specs.Media.{AreJoined}
+use Rattle.mg_model.specs.Messages.{Request, Reply, SentNote}
+use Rattle.mg_model.specs.RequestRun.{Refusal}
+use Rattle.mg_model.specs.Script.{Script}
+use Rattle.mg_model.specs.Steps.{line_places}
+use Rattle.mg_model.specs.Tables.{state_of, is_marked}
+
+pub record World : Type 0 where
+  pub gateway : Gateway
+  -- the agent of each call that is open
+  pub agent : ℕ → Option Agent
+  -- all that was ever sent
+  pub requests : List Request
+  pub replies : List Reply
+  pub notes : List SentNote
+
+-- what can happen. The first is any of five: hook, flash, digit, pause, and the end of a signal
+pub data Event : Type 0 where
+  on_a_line : (line : ℕ) → LineEvent → Event
+  execute : Request → Refusal → Event
+  reply : Reply → Event
+  pass : (call : ℕ) → Event
+  note : SentNote → Event
+  timer : (call : ℕ) → Event
+  hear : (call association : ℕ) → Event
+  restart : Event
+
+-- ---- what an agent sends as it goes on
+
+-- the request that is outstanding in a phase
+abbrev pub sent_in : Phase → List Request
+sent_in (awaits_reply request) = request ∷ []
+sent_in awaits_pass = []
+sent_in resting = []
+
+abbrev pub with_agent : World → ℕ → Agent → World
+with_agent w call a = record w { agent = λ c. if c == call then Some a else w.agent c }
+
+-- an agent of a call steps, and the request of the state that it enters is sent. A step after which the agent awaits a reply
+-- has always entered a state, so nothing is sent twice
+abbrev pub agent_steps : World → ℕ → Agent → World
+agent_steps w call a = record (with_agent w call a) { requests = sent_in a.phase ++ w.requests }
+
+pub record AgentSteps (w : World) (call : ℕ) (step : Agent → Option Agent) (after : World) : Type 0 where
+  pub before : Agent
+  pub agent : Agent
+  pub open_call : w.agent call ≡ Some before
+  pub steps : step before ≡ Some agent
+  pub after_is : after ≡ agent_steps w call agent
+
+-- ---- the events
+
+abbrev pub with_gateway : World → Gateway → World
+with_gateway w g = record w { gateway = g }
+
+-- a request is executed, and its reply and its notes are sent
+pub record IsFirst (w : World) (request : Request) (refusal : Refusal) (after : World) : Type 0 where
+  pub gateway : Gateway
+  pub answer : Reply
+  pub sent : List SentNote
+  pub executed : IsExecutedBy w.gateway request refusal gateway answer sent
+  pub after_is : after ≡ record (with_gateway w gateway) { replies = answer ∷ w.replies; notes = sent ++ w.notes }
+
+-- the kept reply is sent once more
+pub record IsRepeat (w : World) (request : Request) (after : World) : Type 0 where
+  pub answer : Reply
+  pub kept : IsKept w.gateway request answer
+  pub after_is : after ≡ record w { replies = answer ∷ w.replies }
+
+-- a request that was sent reaches the gateway: it is executed, or its reply is sent once more, or nothing happens
+abbrev pub Executes : World → Request → Refusal → World → Type 0
+Executes w request refusal after =
+    IsFirst w request refusal after ⊎ (IsRepeat w request after ⊎ (IsDiscarded w.gateway request × (after ≡ w)))
+
+-- an event of a line, and its note is sent
+pub record LineOccurs (w : World) (line : ℕ) (event : LineEvent) (after : World) : Type 0 where
+  pub gateway : Gateway
+  pub sent : List SentNote
+  pub happens : Happens w.gateway line event gateway sent
+  pub after_is : after ≡ record (with_gateway w gateway) { notes = sent ++ w.notes }
+
+abbrev pub Occurs : Script → World → Event → World → Type 0
+Occurs script w (on_a_line line event) after = LineOccurs w line event after
+Occurs script w (execute request refusal) after = Contains w.requests request × Executes w request refusal after
+Occurs script w (reply answer) after =
+    Contains w.replies answer × AgentSteps w answer.call (λ a. replied script a answer) after
+Occurs script w (pass call) after = AgentSteps w call (passed script) after
+Occurs script w (note sent) after =
+    Contains w.notes sent × AgentSteps w sent.call (λ a. noted script a (line_places script) sent) after
+Occurs script w (timer call) after = AgentSteps w call (timed script) after
+Occurs script w (hear call association) after =
+    (association ≤ w.gateway.association) × AgentSteps w call (λ a. heard script a association) after
+Occurs script w restart after =
+    (w.gateway.association < 18446744073709551615) × (after ≡ with_gateway w (restarted w.gateway))
+
+-- the events of a list happen one after the other
+unfoldable pub Runs : Script → List Event → World → World → Type 0
+Runs script [] w end = end ≡ w
+Runs script (event ∷ more) w end = (next : World) × (Occurs script w event next × Runs script more next end)
+
+-- ---- openings
+
+-- a call of an opening: its number, and the line of the gateway for each line of the script
+pub record Opened : Type 0 where
+  pub call : ℕ
+  pub lines : ℕ → ℕ
+
+-- no call twice, and no line twice, within a call or in two
+pub record AreDistinct (script : Script) (calls : List Opened) : Type 0 where
+  pub calls_differ : (one other : Opened) → Contains calls one → Contains calls other → one.call ≡ other.call → one ≡ other
+  pub lines_differ : (one other : Opened) → Contains calls one → Contains calls other → (i j : ℕ) → i < length script.lines
+      → j < length script.lines → one.lines i ≡ other.lines j → (one ≡ other) × (i ≡ j)
+
+-- a line is armed by `al/of` with `strict=exact` alone, with RequestID 0, on hook and silent
+abbrev pub armed_line : LineRow
+armed_line = record new_line { list = OffHook Exact ∷ []; request = Some 0 }
+
+abbrev pub null_row : Row
+null_row = record { place = record { 0 = 0 }; mode = Inactive; remote = None }
+
+-- association 1; finitely many calls, each at rest in the start state, each of its lines in the null context, Inactive,
+-- silent, armed and on hook; nothing was sent
+pub record IsOpening (script : Script) (calls : List Opened) (w : World) : Type 0 where
+  pub distinct : AreDistinct script calls
+  pub association : w.gateway.association ≡ 1
+  pub lines_stand : (one : Opened) → Contains calls one → (i : ℕ) → i < length script.lines
+      → w.gateway.board.row (Line (record { 0 = one.lines i })) ≡ Some null_row
+  pub lines_armed : (one : Opened) → Contains calls one → (i : ℕ) → i < length script.lines
+      → w.gateway.line (one.lines i) ≡ armed_line
+  pub lines_held : (one : Opened) → Contains calls one → (i : ℕ) → i < length script.lines
+      → w.gateway.holder (one.lines i) ≡ Some one.call
+  pub others_null : (l : ℕ) (row : Row) → w.gateway.board.row (Line (record { 0 = l })) ≡ Some row → row ≡ null_row
+  pub held_alone : (l call : ℕ) → w.gateway.holder l ≡ Some call
+      → (one : Opened) × (i : ℕ) × Contains calls one × (one.call ≡ call) × (i < length script.lines) × (one.lines i ≡ l)
+  pub no_ephemeral : (k : ℕ) → w.gateway.board.row (Eph k) ≡ None
+  pub nothing_cut : w.gateway.board.cut ≡ (λ t u. false)
+  pub no_context_given : w.gateway.board.given_context ≡ (λ n. false)
+  pub no_ephemeral_given : w.gateway.board.given_ephemeral ≡ (λ n. false)
+  pub no_creator : w.gateway.creator ≡ (λ k. None)
+  pub no_reply_kept : w.gateway.link ≡ (λ call. record { last = None; notes = 0 })
+  pub agents : (one : Opened) → Contains calls one → w.agent one.call ≡ Some (opened script one.call one.lines)
+  pub no_other_agent : (call : ℕ) (a : Agent) → w.agent call ≡ Some a → (one : Opened) × Contains calls one × (one.call ≡ call)
+  pub no_request : w.requests ≡ []
+  pub no_answer : w.replies ≡ []
+  pub no_note : w.notes ≡ []
+
+-- ---- what is promised
+
+-- the call has ended: its state is marked end, it is at rest, and its association is the gateway's
+pub record HasEnded (script : Script) (w : World) (a : Agent) : Type 0 where
+  pub is_end : IsTrue (state_of script a.state).is_end
+  pub at_rest : a.phase ≡ resting
+  pub current : a.association ≡ w.gateway.association
+
+-- two lines are lines of one call whose current state marks the pair as talking
+pub record IsMarkedPair (script : Script) (w : World) (l m : ℕ) : Type 0 where
+  pub call : ℕ
+  pub agent : Agent
+  pub i : ℕ
+  pub j : ℕ
+  pub open_call : w.agent call ≡ Some agent
+  pub first : (i < length script.lines) × (agent.lines i ≡ l)
+  pub second : (j < length script.lines) × (agent.lines j ≡ m)
+  pub marked : IsTrue (is_marked (state_of script agent.state).talk i j)
+
+-- of a call that has ended no ephemeral exists that it created, and each of its lines is silent, in the null context, with an events
+-- list that is exactly `al/of` with `strict=exact`
+pub record IsCleared (script : Script) (w : World) (call : ℕ) (a : Agent) : Type 0 where
+  pub no_ephemeral : (k : ℕ) → w.gateway.creator k ≡ Some call → exists w.gateway.board (Eph k) ≡ false
+  pub in_null : (i : ℕ) → i < length script.lines → (row : Row) × (w.gateway.board.row (Line (record { 0 = a.lines i })) ≡ Some row) × (row.place.0 ≡ 0)
+  pub is_silent : (i : ℕ) → i < length script.lines → (w.gateway.line (a.lines i)).playing ≡ silent
+  pub is_armed : (i : ℕ) → i < length script.lines → (w.gateway.line (a.lines i)).list ≡ OffHook Exact ∷ []
+
+-- a good world: an audio path joins two lines only inside one call whose current state marks that pair as talking, and a call
+-- that has ended is cleared
+pub record IsGood (script : Script) (w : World) : Type 0 where
+  pub joined : (l m : ℕ) → (l ≡ m → ⊥) → AreJoined w.gateway.board l m → IsMarkedPair script w l m
+  pub ended : (call : ℕ) (a : Agent) → w.agent call ≡ Some a → HasEnded script w a → IsCleared script w call a

@@ -1,0 +1,3 @@
+pub mod AgentLaws
+pub mod CallLaws
+pub mod OpeningLaws

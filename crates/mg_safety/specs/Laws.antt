@@ -1,0 +1,83 @@
+-- The statements of small laws. Each is carried by an empty function of the same name.
+use Rattle.std.specs.Prelude.{◌≡◌, ℕ, ◌≤◌, ◌<◌, List, [], length, Contains, Some, None}
+use Rattle.mg_names.specs.declared.identifiers.TermId.TheVariants.{Line}
+use Rattle.mg_model.specs.declared.rows.Row.{Row}
+use Rattle.mg_model.specs.Agent.{Agent}
+use Rattle.mg_model.specs.Gateway.{last_executed}
+use Rattle.mg_model.specs.LineEvents.{silent}
+use Rattle.mg_model.specs.Media.{AreJoined}
+use Rattle.mg_model.specs.Messages.{Request, Reply, SentNote}
+use Rattle.mg_model.specs.RequestRun.{Refusal}
+use Rattle.mg_model.specs.Script.{Script}
+use Rattle.mg_model.specs.World.{World, Event, on_a_line, execute, reply, pass, note, timer, hear, restart, Occurs, Opened, IsOpening, IsGood, null_row}
+
+-- nothing but the replies that were sent
+pub record IsSameButReplies (w after : World) : Type 0 where
+  pub gateway : after.gateway ≡ w.gateway
+  pub agents : after.agent ≡ w.agent
+  pub requests : after.requests ≡ w.requests
+  pub notes : after.notes ≡ w.notes
+
+abbrev pub OldRequestsDoNothing : Type 0
+OldRequestsDoNothing =
+    (script : Script) (w after : World) (request : Request) (refusal : Refusal) → Occurs script w (execute request refusal) after
+    → request.number ≤ last_executed w.gateway request.call → IsSameButReplies w after
+
+pub record IsLineRestarted (w after : World) (l : ℕ) : Type 0 where
+  pub row : after.gateway.board.row (Line (record { 0 = l })) ≡ Some null_row
+  pub list : (after.gateway.line l).list ≡ []
+  pub request : (after.gateway.line l).request ≡ None
+  pub playing : (after.gateway.line l).playing ≡ silent
+  pub hook : (after.gateway.line l).hook ≡ (w.gateway.line l).hook
+
+abbrev pub RestartsClearLines : Type 0
+RestartsClearLines =
+    (script : Script) (w after : World) → Occurs script w restart after → (l : ℕ) (row : Row)
+    → w.gateway.board.row (Line (record { 0 = l })) ≡ Some row → IsLineRestarted w after l
+
+-- ---- other calls
+
+-- an event is of a call
+abbrev pub IsOfCall : World → Event → ℕ → Type 0
+IsOfCall w (on_a_line line event) call = w.gateway.holder line ≡ Some call
+IsOfCall w (execute request refusal) call = request.call ≡ call
+IsOfCall w (reply answer) call = answer.call ≡ call
+IsOfCall w (pass one) call = one ≡ call
+IsOfCall w (note sent) call = sent.call ≡ call
+IsOfCall w (timer one) call = one ≡ call
+IsOfCall w (hear one association) call = one ≡ call
+IsOfCall w restart call = ⊥
+
+-- each agent and each kept reply has the number of its call
+pub record AreNumbered (w : World) : Type 0 where
+  pub agents : (call : ℕ) (a : Agent) → w.agent call ≡ Some a → a.call ≡ call
+  pub replies : (call : ℕ) (answer : Reply) → (w.gateway.link call).last ≡ Some answer → answer.call ≡ call
+
+pub record IsSameFor (w after : World) (other : ℕ) : Type 0 where
+  pub agent : after.agent other ≡ w.agent other
+  pub link : after.gateway.link other ≡ w.gateway.link other
+  pub requests : (request : Request) → request.call ≡ other → Contains after.requests request → Contains w.requests request
+  pub replies : (answer : Reply) → answer.call ≡ other → Contains after.replies answer → Contains w.replies answer
+  pub notes : (sent : SentNote) → sent.call ≡ other → Contains after.notes sent → Contains w.notes sent
+
+abbrev pub EventsKeepOthers : Type 0
+EventsKeepOthers =
+    (script : Script) (w after : World) (event : Event) (call other : ℕ) → AreNumbered w → Occurs script w event after
+    → IsOfCall w event call → (call ≡ other → ⊥) → IsSameFor w after other
+
+-- ---- good worlds
+
+abbrev pub OpeningsAreGood : Type 0
+OpeningsAreGood = (script : Script) (calls : List Opened) (w : World) → IsOpening script calls w → IsGood script w
+
+-- no line is a line of two calls
+abbrev pub LinesAreApart : Script → World → Type 0
+LinesAreApart script w =
+    (call other : ℕ) (a b : Agent) (i j : ℕ) → w.agent call ≡ Some a → w.agent other ≡ Some b → i < length script.lines
+    → j < length script.lines → a.lines i ≡ b.lines j → call ≡ other
+
+abbrev pub CallsStayApart : Type 0
+CallsStayApart =
+    (script : Script) (w : World) → IsGood script w → LinesAreApart script w → (call other : ℕ) (a b : Agent) (i j : ℕ)
+    → w.agent call ≡ Some a → w.agent other ≡ Some b → i < length script.lines → j < length script.lines → (call ≡ other → ⊥)
+    → AreJoined w.gateway.board (a.lines i) (b.lines j) → ⊥

@@ -1,0 +1,29 @@
+//! Small laws of worlds, openings and events.
+ghost use Rattle.mg_safety.specs.Laws.{OldRequestsDoNothing, RestartsClearLines, EventsKeepOthers, OpeningsAreGood, CallsStayApart};
+
+/// A request whose number is not above the last one executed of its call changes nothing, but that the kept reply may be
+/// sent once more (H.248.1 section 8.1: a transaction is executed at most once).
+pub fn old_requests_do_nothing()
+    ensures { OldRequestsDoNothing }
+{}
+
+/// After a restart every line stands in the null context, Inactive and silent, with an empty Events descriptor, and its
+/// hook state is what it was. This profile's own.
+pub fn restarts_clear_lines()
+    ensures { RestartsClearLines }
+{}
+
+/// An event of one call, a restart apart, leaves the agent, the link and the messages of every other call as they were.
+pub fn events_keep_others()
+    ensures { EventsKeepOthers }
+{}
+
+/// An opening is a good world.
+pub fn openings_are_good()
+    ensures { OpeningsAreGood }
+{}
+
+/// In a good world, in which no line is a line of two calls, no line of one call is joined with a line of another.
+pub fn calls_stay_apart()
+    ensures { CallsStayApart }
+{}
