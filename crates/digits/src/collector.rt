@@ -110,7 +110,7 @@ impl Collector {
         ensures steps { told self.new.digits result ≡ with_pause map.now self.old.digits }
         ensures follows { Follows map.now self.new }
     {
-        if self.is_done {
+        if self.is_done() {
             return Step::Closed;
         }
         self.is_done = true;

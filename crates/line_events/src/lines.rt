@@ -11,7 +11,7 @@ use mg_model::line_events::{Hook, SignalSet};
 use mg_names::identifiers::LineNo;
 use mg_names::signals::Signal;
 use mg_names::symbols::Symbol;
-use std::alloc::Global;
+use std::alloc::{AllocError, Global};
 use std::collections::BTreeMap;
 use std::marker::Model;
 
@@ -43,6 +43,17 @@ impl LineSet {
             alloc,
             rows: BTreeMap::new(alloc),
         }
+    }
+
+    /// An equal value.
+    pub fn copy(&self) -> Result<LineSet, AllocError>
+        ensures { IfOk result (λ copied. copied ≡ self.now) }
+    {
+        let rows = rows::copy(&self.rows)?;
+        Ok(LineSet {
+            alloc: self.alloc,
+            rows,
+        })
     }
 
     /// The row of a line; `None` where there is no such line.

@@ -52,6 +52,11 @@ impl EventList {
         Ok(EventList { items })
     }
 
+    /// The allocator of its items.
+    pub(crate) fn allocator(&self) -> Global {
+        *self.items.allocator()
+    }
+
     /// Whether it names the hook event of going to this state.
     pub fn has_hook(&self, hook: Hook) -> bool
         ensures { result ≡ list_any (is_hook hook) self.now }

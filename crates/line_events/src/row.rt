@@ -38,6 +38,16 @@ impl Model for LineRow {
     ghost invariant = { λ r. IsFollowed (map_in r.list) r.collector };
 }
 
+impl Clone for LineRow {
+    ghost use Rattle.std.specs.Prelude.{◌≡◌};
+
+    ghost is_clone = { λ row copied. copied ≡ row };
+
+    fn clone(&self) -> Result<LineRow, AllocError> {
+        self.copy(self.list.allocator())
+    }
+}
+
 /// The kind of a hook event.
 fn kind_of(hook: Hook) -> Kind
     ensures { result ≡ kind_of hook }

@@ -143,3 +143,10 @@ pub(crate) fn clear(rows: &mut Rows, line: u32, alloc: Global) -> Result<Option<
         None => Err(LineFault::UnknownLine),
     }
 }
+
+/// An equal value.
+pub(crate) fn copy(rows: &Rows) -> Result<Rows, AllocError>
+    ensures { IfOk result (λ copied. copied.entries ≡ rows.now.entries) }
+{
+    rows.clone()
+}
