@@ -1,3 +1,4 @@
 pub mod Values
 pub mod Steps
 pub mod Parts
+pub mod Remaining

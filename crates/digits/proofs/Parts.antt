@@ -1,7 +1,7 @@
 -- The parts of a text between its bars, and where they begin.
-use Rattle.std.proofs.Common.{◌≡◌, ℕ, zero, suc, ◌+◌, ◌<◌, ◌≤◌, List, [], ◌∷◌, ◌++◌, length, map, drop, get_or, Result, Ok, Bor, refl, sym, ap, ◌∙◌, arith, Bool, true, false, cond, ◌==◌, drop-cons, add-one}
+use Rattle.std.proofs.Common.{◌≡◌, ℕ, zero, suc, ◌+◌, ◌<◌, ◌≤◌, List, [], ◌∷◌, ◌++◌, length, map, take, drop, get_or, Result, Ok, Bor, refl, sym, ap, ◌∙◌, arith, Bool, true, false, cond, ◌==◌, drop-cons, add-one}
 use Rattle.std.specs.List.{onto_first}
-use Rattle.std.proofs.lemmas.List.{append-nil, length-drop}
+use Rattle.std.proofs.lemmas.List.{append-nil, length-drop, length-map, map_push, take_more, get_or-map}
 use Rattle.mg_model.specs.declared.positions.Position.{Position}
 use Rattle.digits.specs.declared.fault.MapFault.{MapFault}
 use Rattle.digits.specs.Reading.{◌>>=◌, Fails, alternative_of, alternatives_of, parts, bytes_of, bar_before}
@@ -69,3 +69,9 @@ nothing_past xs index le = omega (arith, length-drop index xs)
 
 pub parts_over : (items : List (Bor (List ℕ))) (index : ℕ) → length items ≤ index → length (drop index (map (λ part. part.now) items)) ≡ 0
 parts_over items index le = nothing_past (map (λ part. part.now) items) index (omega (arith, length-now items))
+
+-- a copy of the alternatives so far, with the next one
+pub copied_more : {X : Type 0} (f : X → List Position) (found all : List X) (i : ℕ) (x d : X) → i < length all → f x ≡ f (get_or all i d) → map f found ≡ take i (map f all) → map f (found ++ x ∷ []) ≡ take (i + 1) (map f all)
+copied_more f found all i x d lt same so =
+    let within : i < length (map f all) = omega (arith, length-map all f) in
+    rw (map_push f found x, take_more (map f all) i [] within, get_or-map f all i d [] lt, so, same) refl

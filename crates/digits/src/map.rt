@@ -1,12 +1,12 @@
 //! A digit map.
-ghost use Rattle.std.specs.Prelude.{◌≡◌, map, length, nat_le};
+ghost use Rattle.std.specs.Prelude.{◌≡◌, IfOk, IsTrue, map, length, nat_le};
 ghost use Rattle.std.specs.List.{list_all};
 ghost use Rattle.digits.specs.Reading.{Gives, fits, map_of, unwrapped};
 
 use crate::fault::MapFault;
 use crate::reading;
 use mg_model::positions::Position;
-use std::alloc::Global;
+use std::alloc::{AllocError, Global};
 use std::marker::Model;
 
 /// The most alternatives of a map, and the most positions of an alternative. This profile's own limit.
@@ -19,12 +19,15 @@ pub struct DigitMap {
 }
 
 impl Model for DigitMap {
-    ghost use Rattle.std.specs.Prelude.{List, map};
+    ghost use Rattle.std.specs.Prelude.{IsTrue, List, map};
     ghost use Rattle.mg_model.specs.declared.positions.Position.{Position};
+    ghost use Rattle.digits.specs.Reading.{fits};
 
     ghost Value = { List (List Position) };
 
     ghost view = { λ m. map (λ alternative. alternative.items) m.alternatives.items };
+
+    ghost invariant = { λ m. IsTrue (fits (map (λ alternative. alternative.items) m.alternatives.items)) };
 }
 
 impl DigitMap {
@@ -40,6 +43,22 @@ impl DigitMap {
         }
         Ok(DigitMap { alternatives })
     }
+
+    /// An equal map.
+    pub fn copy(&self, alloc: Global) -> Result<DigitMap, AllocError>
+        ensures { IfOk result (λ copied. copied ≡ self.now) }
+    {
+        let alternatives = copied(alloc, self.alternatives())?;
+        Ok(DigitMap { alternatives })
+    }
+
+    /// The alternatives, each a list of positions: 16 at most, with 16 positions at most.
+    pub(crate) fn alternatives(&self) -> &[Vec<Position>]
+        ensures value { map (λ a. a.items) result.now ≡ self.now }
+        ensures short { IsTrue (fits self.now) }
+    {
+        self.alternatives.as_slice()
+    }
 }
 
 /// The alternatives, with or without parentheses round the whole text.
@@ -50,6 +69,27 @@ fn read(alloc: Global, text: &[u8]) -> Result<Vec<Vec<Position>>, MapFault>
         [b'(', inside @ .., b')'] => reading::alternatives(alloc, inside, 1),
         _ => reading::alternatives(alloc, text, 0),
     }
+}
+
+/// The same positions again.
+fn copied_positions(alloc: Global, positions: &[Position]) -> Result<Vec<Position>, AllocError>
+    ensures { IfOk result (λ v. v.items ≡ positions.now) }
+{
+    let mut found = Vec::new(alloc);
+    found.extend_from_slice(positions)?;
+    Ok(found)
+}
+
+/// The same alternatives again.
+fn copied(alloc: Global, alternatives: &[Vec<Position>]) -> Result<Vec<Vec<Position>>, AllocError>
+    ensures { IfOk result (λ v. map (λ a. a.items) v.items ≡ map (λ a. a.items) alternatives.now) }
+{
+    let mut found = Vec::new(alloc);
+    for alternative in alternatives {
+        let positions = copied_positions(alloc, alternative.as_slice())?;
+        found.push(positions)?;
+    }
+    Ok(found)
 }
 
 /// Whether each alternative is within the limit.

@@ -1,0 +1,5 @@
+pub mod Faults
+pub mod Items
+pub mod Collecting
+pub mod Answers
+pub mod Rows

@@ -1,0 +1,156 @@
+//! The lines of a gateway.
+ghost use Rattle.std.specs.Prelude.{◌≡◌, ℕ, Some, None, OnOk, OnErr, IfOk, option_map};
+ghost use Rattle.mg_model.specs.LineEvents.{new_line, armed, hooked, flashed, dialled, paused, signalled, signal_ended, cleared, stays};
+
+use crate::fault::LineFault;
+use crate::list::EventList;
+use crate::note::Note;
+use crate::row::LineRow;
+use crate::rows::{self, Rows};
+use mg_model::line_events::{Hook, SignalSet};
+use mg_names::identifiers::LineNo;
+use mg_names::signals::Signal;
+use mg_names::symbols::Symbol;
+use std::alloc::{AllocError, Global};
+use std::collections::BTreeMap;
+use std::marker::Model;
+
+/// The lines of a gateway, each with its hook state, its Events descriptor and the signals that play.
+#[derive(Drop)]
+pub struct LineSet {
+    alloc: Global,
+    rows: Rows,
+}
+
+impl Model for LineSet {
+    ghost use Rattle.std.specs.Prelude.{ℕ, List};
+    ghost use Rattle.mg_model.specs.LineEvents as model;
+
+    ghost Value = { List (ℕ × model.LineRow) };
+
+    ghost view = { λ s. s.rows.entries };
+}
+
+impl LineSet {
+    ghost use Rattle.line_events.specs.Rows.{row_of, row_with, rows_after, answer_on, IsOrNoMemory, IsAdded};
+
+    /// No line.
+    #[tactic(auto, unfolding(crate::specs::Rows::row_of))]
+    pub fn new(alloc: Global) -> LineSet
+        ensures { row_of result ≡ (λ n. None) }
+    {
+        LineSet {
+            alloc,
+            rows: BTreeMap::new(alloc),
+        }
+    }
+
+    /// An equal value.
+    pub fn copy(&self) -> Result<LineSet, AllocError>
+        ensures { IfOk result (λ copied. copied ≡ self.now) }
+    {
+        let rows = rows::copy(&self.rows)?;
+        Ok(LineSet {
+            alloc: self.alloc,
+            rows,
+        })
+    }
+
+    /// The row of a line; `None` where there is no such line.
+    pub fn row(&self, line: LineNo) -> Option<&LineRow>
+        ensures { option_map (λ row. row.now) result ≡ row_of self.now line.0 }
+    {
+        rows::row(&self.rows, line.0)
+    }
+
+    /// Adds a line: on hook, silent, with an empty Events descriptor. `CannotHappen` where it is there.
+    pub fn add_line(&mut self, line: LineNo) -> Result<(), LineFault>
+        ensures answer { IsAdded result (row_of self.old line.0) }
+        ensures rows { OnOk result (row_of self.new ≡ row_with (row_of self.old) line.0 (Some new_line)) }
+        ensures unchanged { OnErr result (row_of self.new ≡ row_of self.old) }
+    {
+        if rows::row(&self.rows, line.0).is_some() {
+            return Err(LineFault::CannotHappen);
+        }
+        match rows::add(&mut self.rows, self.alloc, line.0) {
+            Ok(()) => Ok(()),
+            Err(_) => Err(LineFault::NoMemory),
+        }
+    }
+
+    /// Gives a line a new Events descriptor in place of the one that it has.
+    pub fn arm(
+        &mut self,
+        line: LineNo,
+        list: &EventList,
+        request: u32,
+    ) -> Result<Option<Note>, LineFault>
+        ensures answer { IsOrNoMemory result (answer_on (row_of self.old line.0) (λ row. Some (armed row list.now request))) }
+        ensures rows { OnOk result (row_of self.new ≡ rows_after (row_of self.old) line.0 (λ row. Some (armed row list.now request))) }
+        ensures unchanged { OnErr result (row_of self.new ≡ row_of self.old) }
+    {
+        if rows::row(&self.rows, line.0).is_none() {
+            return Err(LineFault::UnknownLine);
+        }
+        let Ok(list) = list.copy(self.alloc) else {
+            return Err(LineFault::NoMemory);
+        };
+        rows::arm(&mut self.rows, line.0, list, request)
+    }
+
+    /// The hook of a line goes to a state.
+    pub fn hook(&mut self, line: LineNo, hook: Hook) -> Result<Option<Note>, LineFault>
+        ensures answer { result ≡ answer_on (row_of self.old line.0) (λ row. hooked row hook) }
+        ensures rows { row_of self.new ≡ rows_after (row_of self.old) line.0 (λ row. hooked row hook) }
+    {
+        rows::hook(&mut self.rows, line.0, hook)
+    }
+
+    /// The user of a line flashes the hook.
+    pub fn flash(&mut self, line: LineNo) -> Result<Option<Note>, LineFault>
+        ensures answer { result ≡ answer_on (row_of self.old line.0) (λ row. flashed row) }
+        ensures rows { row_of self.new ≡ rows_after (row_of self.old) line.0 (λ row. flashed row) }
+    {
+        rows::flash(&mut self.rows, line.0)
+    }
+
+    /// The user of a line dials a symbol.
+    pub fn digit(&mut self, line: LineNo, symbol: Symbol) -> Result<Option<Note>, LineFault>
+        ensures answer { result ≡ answer_on (row_of self.old line.0) (λ row. dialled row symbol) }
+        ensures rows { row_of self.new ≡ rows_after (row_of self.old) line.0 (λ row. dialled row symbol) }
+    {
+        rows::digit(&mut self.rows, line.0, symbol)
+    }
+
+    /// The timer of a line's digit map ends.
+    pub fn pause(&mut self, line: LineNo) -> Result<Option<Note>, LineFault>
+        ensures answer { result ≡ answer_on (row_of self.old line.0) (λ row. paused row) }
+        ensures rows { row_of self.new ≡ rows_after (row_of self.old) line.0 (λ row. paused row) }
+    {
+        rows::pause(&mut self.rows, line.0)
+    }
+
+    /// A line is given a new Signals descriptor.
+    pub fn signal(&mut self, line: LineNo, set: SignalSet) -> Result<Option<Note>, LineFault>
+        ensures answer { result ≡ answer_on (row_of self.old line.0) (λ row. Some (signalled row set)) }
+        ensures rows { row_of self.new ≡ rows_after (row_of self.old) line.0 (λ row. Some (signalled row set)) }
+    {
+        rows::signal(&mut self.rows, line.0, set)
+    }
+
+    /// A signal that plays on a line ends.
+    pub fn signal_end(&mut self, line: LineNo, signal: Signal) -> Result<Option<Note>, LineFault>
+        ensures answer { result ≡ answer_on (row_of self.old line.0) (λ row. signal_ended row signal) }
+        ensures rows { row_of self.new ≡ rows_after (row_of self.old) line.0 (λ row. signal_ended row signal) }
+    {
+        rows::signal_end(&mut self.rows, line.0, signal)
+    }
+
+    /// A line is silent and its Events descriptor empty; its hook state stays.
+    pub fn clear(&mut self, line: LineNo) -> Result<Option<Note>, LineFault>
+        ensures answer { result ≡ answer_on (row_of self.old line.0) (λ row. Some (stays (cleared row))) }
+        ensures rows { row_of self.new ≡ rows_after (row_of self.old) line.0 (λ row. Some (stays (cleared row))) }
+    {
+        rows::clear(&mut self.rows, line.0, self.alloc)
+    }
+}

@@ -1,0 +1,129 @@
+//! The list of an Events descriptor.
+ghost use Rattle.std.specs.Prelude.{◌≡◌, [], IfOk, map, option_map};
+ghost use Rattle.std.specs.List.{list_any};
+ghost use Rattle.mg_model.specs.LineEvents.{is_hook, is_standing, is_flash, map_in};
+ghost use Rattle.line_events.specs.Items.{item_of};
+
+use crate::item::EventItem;
+use digits::DigitMap;
+use mg_model::line_events::Hook;
+use std::alloc::{AllocError, Global};
+use std::marker::Model;
+
+/// The list of an Events descriptor (ITU-T H.248.1 v1 / RFC 3525, 7.1.9).
+#[derive(Drop)]
+pub struct EventList {
+    items: Vec<EventItem>,
+}
+
+impl Model for EventList {
+    ghost use Rattle.std.specs.Prelude.{List, map};
+    ghost use Rattle.mg_model.specs.LineEvents.{ListItem};
+    ghost use Rattle.line_events.specs.Items.{item_of};
+
+    ghost Value = { List ListItem };
+
+    ghost view = { λ l. map item_of l.items.items };
+}
+
+#[tactic(auto, using(crate::proofs::Lists::any_map))]
+impl EventList {
+    /// The list of these items.
+    pub fn new(items: Vec<EventItem>) -> EventList
+        ensures { result ≡ map item_of items.items }
+    {
+        EventList { items }
+    }
+
+    /// No item.
+    pub fn empty(alloc: Global) -> EventList
+        ensures { result ≡ [] }
+    {
+        EventList {
+            items: Vec::new(alloc),
+        }
+    }
+
+    /// An equal list.
+    pub fn copy(&self, alloc: Global) -> Result<EventList, AllocError>
+        ensures { IfOk result (λ copied. copied ≡ self.now) }
+    {
+        let items = copied(alloc, self.items.as_slice())?;
+        Ok(EventList { items })
+    }
+
+    /// The allocator of its items.
+    pub(crate) fn allocator(&self) -> Global {
+        *self.items.allocator()
+    }
+
+    /// Whether it names the hook event of going to this state.
+    pub fn has_hook(&self, hook: Hook) -> bool
+        ensures { result ≡ list_any (is_hook hook) self.now }
+    {
+        has_hook(self.items.as_slice(), hook)
+    }
+
+    /// Whether it recognises this hook state as it stands.
+    pub fn has_standing(&self, hook: Hook) -> bool
+        ensures { result ≡ list_any (is_standing hook) self.now }
+    {
+        has_standing(self.items.as_slice(), hook)
+    }
+
+    /// Whether it names the flash.
+    pub fn has_flash(&self) -> bool
+        ensures { result ≡ list_any is_flash self.now }
+    {
+        has_flash(self.items.as_slice())
+    }
+
+    /// Its digit map.
+    pub fn map(&self) -> Option<&DigitMap>
+        ensures { option_map (λ m. m.now) result ≡ map_in self.now }
+    {
+        map_among(self.items.as_slice())
+    }
+}
+
+/// The first digit map among items.
+fn map_among(items: &[EventItem]) -> Option<&DigitMap>
+    ensures { option_map (λ m. m.now) result ≡ map_in (map item_of items.now) }
+{
+    for item in items {
+        if let EventItem::DialledBy(map) = item {
+            return Some(map);
+        }
+    }
+    None
+}
+
+fn has_hook(items: &[EventItem], hook: Hook) -> bool
+    ensures { result ≡ list_any (λ item. is_hook hook (item_of item)) items.now }
+{
+    items.iter().any(|item| item.is_hook(hook))
+}
+
+fn has_standing(items: &[EventItem], hook: Hook) -> bool
+    ensures { result ≡ list_any (λ item. is_standing hook (item_of item)) items.now }
+{
+    items.iter().any(|item| item.is_standing(hook))
+}
+
+fn has_flash(items: &[EventItem]) -> bool
+    ensures { result ≡ list_any (λ item. is_flash (item_of item)) items.now }
+{
+    items.iter().any(|item| item.is_flash())
+}
+
+/// The same items again.
+fn copied(alloc: Global, items: &[EventItem]) -> Result<Vec<EventItem>, AllocError>
+    ensures { IfOk result (λ v. v.items ≡ items.now) }
+{
+    let mut found = Vec::new(alloc);
+    for item in items {
+        let item = item.copy(alloc)?;
+        found.push(item)?;
+    }
+    Ok(found)
+}
