@@ -18,3 +18,4 @@ pub mod Gateway
 pub mod Agent
 pub mod World
 pub mod Reports
+pub mod Delivery
