@@ -19,3 +19,6 @@ pub use lines::LineSet;
 pub use list::EventList;
 pub use note::Note;
 pub use row::LineRow;
+
+#[cfg(test)]
+mod tests;
