@@ -1,7 +1,7 @@
 -- What a table of terminations shows: lists of rows by number, and the last number that an ephemeral was given; from them the
 -- row of a termination, and which numbers were given. A reader should check that each change speaks of the one row that it
 -- names, and that a number counts as given from 1 to the last.
-use Rattle.std.specs.Prelude.{◌≡◌, ℕ, ◌<◌, ◌==◌, nat_lt, nat_le, Bool, true, false, ◌&&◌, if◌then◌else◌, List, Option, Some, None, Result, Ok, Err, IfSome}
+use Rattle.std.specs.Prelude.{◌≡◌, ℕ, ◌+◌, ◌<◌, ◌==◌, nat_lt, nat_le, Bool, true, false, ◌&&◌, if◌then◌else◌, List, Option, Some, None, Result, Ok, Err, IfSome}
 use Rattle.std.specs.Ordering.{nat_cmp}
 use Rattle.std.specs.BTreeMap.{is_at}
 use Rattle.std.specs.Map.{lookup}
@@ -37,6 +37,10 @@ is_given last n = nat_lt 0 n && nat_le n last
 
 unfoldable pub given_of : Table → ℕ → Bool
 given_of table n = is_given table.last n
+
+-- the ephemeral that is created next
+abbrev pub next_of : Table → Option TermId
+next_of table = if nat_lt table.last 4294967295 then Some (Eph (table.last + 1)) else None
 
 -- the rows with one of them changed
 abbrev pub row_with : (TermId → Option Row) → TermId → Option Row → TermId → Option Row

@@ -35,7 +35,7 @@ impl Model for Terms {
 
 #[tactic(auto, unfolding(crate::specs::Table::row_of, crate::specs::Table::given_of))]
 impl Terms {
-    ghost use Rattle.terminations.specs.Table.{row_of, given_of, row_with, idle, put, left, destroyed, with_mode, with_remote, cleared, known, unless_taken, known_ephemeral, overwritten, IsBare, IsOrdinary, IsCreated};
+    ghost use Rattle.terminations.specs.Table.{row_of, given_of, row_with, idle, put, left, destroyed, with_mode, with_remote, cleared, known, unless_taken, known_ephemeral, overwritten, IsBare, IsOrdinary, IsCreated, next_of};
 
     /// No termination, and no number given.
     pub fn new(alloc: Global) -> Terms
@@ -77,10 +77,20 @@ impl Terms {
         }
     }
 
+    /// The ephemeral that the next `create` gives, which doesn't exist; `None` where no number is left.
+    pub fn next(&self) -> Option<TermId>
+        ensures next { result ≡ next_of self.now }
+        ensures absent { IfSome result (λ t. row_of self.now t ≡ None) }
+    {
+        let number = self.last.checked_add(1)?;
+        Some(TermId::Eph(number))
+    }
+
     /// Creates an ephemeral in the null context, Inactive and with no Remote. Its number wasn't given before.
     pub fn create(&mut self) -> Result<TermId, CreateFault>
         ensures full { result ≡ Err CreateFault.Full → (n : ℕ) → is_ephemeral_number n → IsTrue (given_of self.old n) }
         ensures fresh { IfOk result (λ t. IsCreated self.old self.new t) }
+        ensures next { IfOk result (λ t. next_of self.old ≡ Some t) }
         ensures unchanged { OnErr result (self.new ≡ self.old) }
     {
         let Some(number) = self.last.checked_add(1) else {

@@ -1,0 +1,7 @@
+//! The connection model of a gateway (H.248.1 section 6): which terminations stand in which contexts, between which of them media
+//! is cut, and where media goes. `Board::exec` carries out a command or refuses it with the first code that applies.
+#![tactic(auto)]
+
+mod cuts;
+mod members;
+mod same;
