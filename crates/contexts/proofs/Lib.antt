@@ -1,0 +1,3 @@
+pub mod TermLemmas
+pub mod TieLemmas
+pub mod CountLemmas

@@ -2,6 +2,9 @@
 //! is cut, and where media goes. `Board::exec` carries out a command or refuses it with the first code that applies.
 #![tactic(auto)]
 
+mod board;
 mod cuts;
 mod members;
 mod same;
+
+pub use board::Board;
