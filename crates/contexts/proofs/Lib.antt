@@ -1,3 +1,4 @@
 pub mod TermLemmas
 pub mod TieLemmas
 pub mod CountLemmas
+pub mod RowLemmas

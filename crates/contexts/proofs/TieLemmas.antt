@@ -167,3 +167,142 @@ cut_entered rows after m n k t row c enters tied = rw enters.rows_are (λ i x y.
         (λ e. let is = same_is x t e in let there : place_in (rows x) ≡ 0 = rw is enters.was in
             not_cut rows m k tied (place_in (row_with rows t row x)) x y (stands_not rows _ x there) ∙ sym (not_cut rows m k tied (place_in (rows x)) x y (stands_not rows _ x there)))
         (λ e. rw e refl)
+
+-- ---- a termination leaves a context
+
+pub record Leaves (rows after : TermId → Option Row) (m n : ℕ → Option (List TermId)) (k j : ℕ → Option (List Cut)) (t : TermId) (row : Option Row) (c : ℕ) : Type 0 where
+  pub was : place_in (rows t) ≡ c
+  pub place : place_in row ≡ 0
+  pub rows_are : after ≡ row_with rows t row
+  pub members : (d : ℕ) → n d ≡ (if d == c then without_member t (m c) else m d)
+  pub cuts : (d : ℕ) → j d ≡ (if d == c then without_cuts_of t (k c) else k d)
+
+pub member_without : (t u : TermId) (g : Option (List TermId)) → has_member (without_member t g) u ≡ (not (same_term u t) && has_member g u)
+member_without t u None = both_false (not (same_term u t))
+  where
+    both_false : (b : Bool) → false ≡ (b && false)
+    both_false true = refl
+    both_false false = refl
+member_without t u (Some xs) = listed_kept (filter (λ x. not (same_term x t)) xs) ∙ any-filter_same (same_term u) (λ x. not (same_term x t)) (not (same_term u t)) (λ x e. ap (λ (y : TermId). not (same_term y t)) (sym (same_is u x e))) xs
+  where
+    listed_kept : (ys : List TermId) → has_member (kept ys) u ≡ list_any (same_term u) ys
+    listed_kept [] = refl
+    listed_kept (y ∷ ys) = refl
+
+pub kept_not_empty : (t : TermId) (g : Option (List TermId)) → without_member t g ≡ Some [] → ⊥
+kept_not_empty t None e = cc
+kept_not_empty t (Some xs) e = go (filter (λ x. not (same_term x t)) xs) e
+  where
+    go : (ys : List TermId) → kept ys ≡ Some [] → ⊥
+    go [] e = cc
+    go (y ∷ ys) e = cc
+
+pub cut_without : (t x y : TermId) (g : Option (List Cut)) → has_cut (without_cuts_of t g) x y ≡ (not (same_term x t || same_term y t) && has_cut g x y)
+cut_without t x y None = both_false (not (same_term x t || same_term y t))
+  where
+    both_false : (b : Bool) → false ≡ (b && false)
+    both_false true = refl
+    both_false false = refl
+cut_without t x y (Some cs) = any-filter_same (is_of x y) (λ cut. not (touches t cut)) (not (same_term x t || same_term y t)) (λ cut e. of_pair cut e) cs
+  where
+    of_pair : (cut : Cut) → is_of x y cut ≡ true → not (touches t cut) ≡ not (same_term x t || same_term y t)
+    of_pair cut e =
+        let parts = split_and (same_term cut.source x) (same_term cut.sink y) e in
+        rw (same_is cut.source x parts.0, same_is cut.sink y parts.1) refl
+
+pub stands_left : (rows : TermId → Option Row) (t : TermId) (row : Option Row) (d : ℕ) (u : TermId) → place_in row ≡ 0 →
+    stands_in (row_with rows t row) d u ≡ (not (same_term u t) && stands_in rows d u)
+stands_left rows t row d u place = by_value (same_term u t) (λ e. rw (e, place) (none d)) (λ e. rw e refl)
+  where
+    none : (d : ℕ) → (not (d == 0) && 0 == d) ≡ false
+    none d = grind (arith, common_steps)
+
+pub tied_left : (rows after : TermId → Option Row) (m n : ℕ → Option (List TermId)) (k j : ℕ → Option (List Cut)) (t : TermId) (row : Option Row) (c : ℕ) →
+    Leaves rows after m n k j t row c → IsTied rows m k → IsTied after n j
+tied_left rows after m n k j t row c leaves tied = rw leaves.rows_are record {
+  stands = λ d u. stands d u;
+  not_empty = λ d e. not_empty d e;
+  inside = λ d x y h. inside d x y h;
+}
+  where
+    elsewhere : (d : ℕ) (u : TermId) → (d == c) ≡ false → stands_in rows d u ≡ (not (same_term u t) && stands_in rows d u)
+    elsewhere d u e = by_value (same_term u t)
+        (λ is. let same = same_is u t is in let there : place_in (rows u) ≡ c = rw same leaves.was in rw (is, there) (apart d e))
+        (λ is. rw is refl)
+      where
+        apart : (d : ℕ) → (d == c) ≡ false → (not (d == 0) && c == d) ≡ false
+        apart d e = grind (arith, common_steps)
+
+    stands : (d : ℕ) (u : TermId) → has_member (n d) u ≡ stands_in (row_with rows t row) d u
+    stands d u = by_value (d == c)
+        (λ e. let same : d ≡ c = grind (arith, common_steps) in rw (leaves.members d, stands_left rows t row d u leaves.place, e, member_without t u (m c)) (ap (λ (a : Bool). not (same_term u t) && a) (tied.stands c u ∙ ap (λ (i : ℕ). stands_in rows i u) (sym same))))
+        (λ e. rw (leaves.members d, stands_left rows t row d u leaves.place, e) (tied.stands d u ∙ elsewhere d u e))
+
+    not_empty : (d : ℕ) → n d ≡ Some [] → ⊥
+    not_empty d h = by_value (d == c)
+        (λ e. let at : (if d == c then without_member t (m c) else m d) ≡ Some [] = sym (leaves.members d) ∙ h in let bad : without_member t (m c) ≡ Some [] = rw e at at in kept_not_empty t (m c) bad)
+        (λ e. let at : (if d == c then without_member t (m c) else m d) ≡ Some [] = sym (leaves.members d) ∙ h in let bad : m d ≡ Some [] = rw e at at in tied.not_empty d bad)
+
+    stays : (d : ℕ) (x : TermId) → same_term x t ≡ false → stands_in rows d x ≡ true → stands_in (row_with rows t row) d x ≡ true
+    stays d x e h = rw e h
+
+    neither : (a b : Bool) → not (a || b) ≡ true → (a ≡ false) × (b ≡ false)
+    neither true b h = absurd (search rules)
+    neither false true h = absurd (search rules)
+    neither false false h = (refl, refl)
+
+    not_there : (d : ℕ) (x : TermId) → (d == c) ≡ false → stands_in rows d x ≡ true → same_term x t ≡ false
+    not_there d x e h = by_value (same_term x t)
+        (λ is. not_both (stands_in rows d x) h (elsewhere d x e ∙ rw is refl))
+        (λ is. is)
+
+    inside : (d : ℕ) (x y : TermId) → has_cut (j d) x y ≡ true → (stands_in (row_with rows t row) d x ≡ true) × (stands_in (row_with rows t row) d y ≡ true)
+    inside d x y h = by_value (d == c)
+        (λ e. let same : d ≡ c = grind (arith, common_steps) in
+            let at : has_cut (if d == c then without_cuts_of t (k c) else k d) x y ≡ true = ap (λ (g : Option (List Cut)). has_cut g x y) (sym (leaves.cuts d)) ∙ h in
+            let here : has_cut (without_cuts_of t (k c)) x y ≡ true = rw e at at in
+            let parts = split_and (not (same_term x t || same_term y t)) (has_cut (k c) x y) (sym (cut_without t x y (k c)) ∙ here) in
+            let apart = neither (same_term x t) (same_term y t) parts.0 in
+            let both = tied.inside c x y parts.1 in
+            (stays d x apart.0 (ap (λ (i : ℕ). stands_in rows i x) same ∙ both.0), stays d y apart.1 (ap (λ (i : ℕ). stands_in rows i y) same ∙ both.1)))
+        (λ e. let at : has_cut (if d == c then without_cuts_of t (k c) else k d) x y ≡ true = ap (λ (g : Option (List Cut)). has_cut g x y) (sym (leaves.cuts d)) ∙ h in
+            let here : has_cut (k d) x y ≡ true = rw e at at in
+            let both = tied.inside d x y here in
+            (stays d x (not_there d x e both.0) both.0, stays d y (not_there d y e both.1) both.1))
+
+pub cut_left : (rows after : TermId → Option Row) (m n : ℕ → Option (List TermId)) (k j : ℕ → Option (List Cut)) (t : TermId) (row : Option Row) (c : ℕ) →
+    Leaves rows after m n k j t row c → IsTied rows m k → cut_of after j ≡ without_cuts (λ u. same_term u t) (cut_of rows k)
+cut_left rows after m n k j t row c leaves tied = rw leaves.rows_are (λ i x y. at x y i)
+  where
+    with_value : (d : ℕ) (x y : TermId) → has_cut (j d) x y ≡ has_cut (if d == c then without_cuts_of t (k c) else k d) x y
+    with_value d x y = ap (λ (g : Option (List Cut)). has_cut g x y) (leaves.cuts d)
+
+    not_any : (d : ℕ) (x y : TermId) → stands_in rows d x ≡ false → has_cut (j d) x y ≡ false
+    not_any d x y h = with_value d x y ∙ by_value (d == c)
+        (λ e. let same : d ≡ c = grind (arith, common_steps) in rw (e, cut_without t x y (k c), not_cut rows m k tied c x y (ap (λ (i : ℕ). stands_in rows i x) (sym same) ∙ h)) (and_false (not (same_term x t || same_term y t))))
+        (λ e. rw e (not_cut rows m k tied d x y h))
+      where
+        and_false : (b : Bool) → (b && false) ≡ false
+        and_false true = refl
+        and_false false = refl
+
+    goes : (d : ℕ) (x y : TermId) → same_term x t ≡ false → same_term y t ≡ true → (d == c) ≡ false → has_cut (k d) x y ≡ false
+    goes d x y ex ey e = by_value (has_cut (k d) x y)
+        (λ h. let is = same_is y t ey in let there : place_in (rows y) ≡ c = rw is leaves.was in
+            let at = stands_splits rows d y (tied.inside d x y h).1 in
+            let same : d ≡ c = sym at.1 ∙ there in absurd (grind (arith, common_steps)))
+        (λ h. h)
+
+    at : (x y : TermId) → has_cut (j (place_in (row_with rows t row x))) x y ≡ without_cuts (λ u. same_term u t) (cut_of rows k) x y
+    at x y = by_value (same_term x t)
+        (λ e. rw (e, leaves.place) (not_any 0 x y (null x)))
+        (λ e. rw e (with_value (place_in (rows x)) x y ∙ by_value (same_term y t)
+            (λ ey. by_value (place_in (rows x) == c)
+                (λ here. rw (here, ey, cut_without t x y (k c), e, ey) refl)
+                (λ other. rw (other, ey) (goes (place_in (rows x)) x y e ey other)))
+            (λ ey. by_value (place_in (rows x) == c)
+                (λ here. let same : place_in (rows x) ≡ c = grind (arith, common_steps) in rw (here, ey, cut_without t x y (k c), e, ey, same) refl)
+                (λ other. rw (other, ey) refl))))
+      where
+        null : (x : TermId) → stands_in rows 0 x ≡ false
+        null x = refl

@@ -13,11 +13,11 @@ use terminations::Terms;
 /// The connection model of a gateway.
 #[derive(Drop)]
 pub struct Board {
-    alloc: Global,
-    terms: Terms,
-    members: Members,
-    cuts: Cuts,
-    last: u32,
+    pub(crate) alloc: Global,
+    pub(crate) terms: Terms,
+    pub(crate) members: Members,
+    pub(crate) cuts: Cuts,
+    pub(crate) last: u32,
 }
 
 impl Model for Board {

@@ -5,6 +5,8 @@
 mod board;
 mod cuts;
 mod members;
+mod rows;
 mod same;
+mod subtract;
 
 pub use board::Board;
