@@ -1,5 +1,5 @@
 -- Members and cuts tied to rows: what stays so when a termination enters a context, leaves it, or changes within it.
-use Rattle.std.proofs.Common.{◌≡◌, ℕ, ◌==◌, Bool, true, false, not, ◌&&◌, ◌||◌, IsTrue, is_some, if◌then◌else◌, refl, ap, sym, ◌∙◌, subst, arith, rules, List, [], ◌∷◌, ◌++◌, map, cond, Option, Some, None, Vec, nat_cmp, ◌↔◌, filter}
+use Rattle.std.proofs.Common.{◌≡◌, ℕ, ◌<◌, ◌==◌, Bool, true, false, not, ◌&&◌, ◌||◌, IsTrue, is_some, if◌then◌else◌, refl, ap, sym, ◌∙◌, subst, arith, rules, List, [], ◌∷◌, ◌++◌, map, cond, Option, Some, None, Vec, nat_cmp, ◌↔◌, filter}
 use Rattle.std.proofs.lemmas.Grind.{common_steps}
 use Rattle.std.proofs.lemmas.List.Folds.{list_any-append}
 use Rattle.std.proofs.lemmas.Map.Views.{any-filter_same}
@@ -306,3 +306,6 @@ cut_left rows after m n k j t row c leaves tied = rw leaves.rows_are (λ i x y. 
       where
         null : (x : TermId) → stands_in rows 0 x ≡ false
         null x = refl
+
+pub positive : (n : ℕ) → 0 < n → n ≡ 0 → ⊥
+positive n h e = omega (arith, h, e)

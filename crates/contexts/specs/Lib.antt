@@ -1,3 +1,4 @@
 pub mod Groups
 pub mod Sheet
 pub mod Rows
+pub mod Steps

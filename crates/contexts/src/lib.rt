@@ -2,11 +2,17 @@
 //! is cut, and where media goes. `Board::exec` carries out a command or refuses it with the first code that applies.
 #![tactic(auto)]
 
+mod add;
 mod board;
 mod cuts;
 mod members;
+mod modify;
+mod move_to;
+mod refusals;
 mod rows;
 mod same;
 mod subtract;
+mod subtract_all;
+mod topology;
 
 pub use board::Board;

@@ -38,9 +38,9 @@ is_given last n = nat_lt 0 n && nat_le n last
 unfoldable pub given_of : Table → ℕ → Bool
 given_of table n = is_given table.last n
 
--- the ephemeral that is created next
-abbrev pub next_of : Table → Option TermId
-next_of table = if nat_lt table.last 4294967295 then Some (Eph (table.last + 1)) else None
+-- the number of the ephemeral that is created next
+abbrev pub next_of : Table → Option ℕ
+next_of table = if nat_lt table.last 4294967295 then Some (table.last + 1) else None
 
 -- the rows with one of them changed
 abbrev pub row_with : (TermId → Option Row) → TermId → Option Row → TermId → Option Row

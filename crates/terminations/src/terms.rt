@@ -1,5 +1,5 @@
 //! The table of terminations.
-ghost use Rattle.std.specs.Prelude.{◌≡◌, ℕ, ◌<◌, Bool, true, false, Some, None, Err, IsTrue, IfOk, IfSome, OnOk, OnErr, is_some};
+ghost use Rattle.std.specs.Prelude.{◌≡◌, ℕ, ◌<◌, Bool, true, false, Some, None, Err, IsTrue, IfOk, IfSome, OnOk, OnErr, is_some, option_map, ◌↔◌};
 ghost use Rattle.mg_names.specs.declared.identifiers.TermId.TheVariants.{Line, Eph};
 ghost use Rattle.mg_model.specs.Items.{is_ephemeral_number};
 ghost use Rattle.terminations.specs.declared.faults.AddLineFault.TheVariants as AddLineFault;
@@ -77,20 +77,21 @@ impl Terms {
         }
     }
 
-    /// The ephemeral that the next `create` gives, which doesn't exist; `None` where no number is left.
-    pub fn next(&self) -> Option<TermId>
+    /// The number that the next `create` gives, at which nothing is; `None` where no number is left.
+    pub fn next(&self) -> Option<u32>
         ensures next { result ≡ next_of self.now }
-        ensures absent { IfSome result (λ t. row_of self.now t ≡ None) }
+        ensures absent { IfSome result (λ number. row_of self.now (Eph number) ≡ None) }
+        ensures none { result ≡ None ↔ ((n : ℕ) → is_ephemeral_number n → IsTrue (given_of self.now n)) }
     {
-        let number = self.last.checked_add(1)?;
-        Some(TermId::Eph(number))
+        let next = self.last.checked_add(1)?;
+        Some(next)
     }
 
     /// Creates an ephemeral in the null context, Inactive and with no Remote. Its number wasn't given before.
     pub fn create(&mut self) -> Result<TermId, CreateFault>
         ensures full { result ≡ Err CreateFault.Full → (n : ℕ) → is_ephemeral_number n → IsTrue (given_of self.old n) }
         ensures fresh { IfOk result (λ t. IsCreated self.old self.new t) }
-        ensures next { IfOk result (λ t. next_of self.old ≡ Some t) }
+        ensures next { IfOk result (λ t. option_map Eph (next_of self.old) ≡ Some t) }
         ensures unchanged { OnErr result (self.new ≡ self.old) }
     {
         let Some(number) = self.last.checked_add(1) else {
