@@ -5,3 +5,6 @@ pub mod RowLemmas
 pub mod CutLemmas
 pub mod MoveLemmas
 pub mod ClearLemmas
+pub mod NumberLemmas
+pub mod ExecLemmas
+pub mod AddLemmas

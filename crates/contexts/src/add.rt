@@ -1,8 +1,7 @@
 //! Add (H.248.1 section 7.2.1).
-ghost use Rattle.std.specs.Prelude.{◌≡◌, true, OnOk, OnErr, IfOk, IsSome};
+ghost use Rattle.std.specs.Prelude.{◌≡◌, ◌≢◌, true, OnOk, OnErr, IfOk};
 ghost use Rattle.mg_model.specs.Board.{place_of, exists};
-ghost use Rattle.mg_model.specs.Items.{placed};
-ghost use Rattle.terminations.specs.Table.{IsOrdinary, next_of};
+ghost use Rattle.mg_model.specs.Items.{placed, NoEphemeralLeft};
 ghost use Rattle.contexts.specs.Rows.{fits};
 ghost use Rattle.contexts.specs.Sheet.{board_of};
 ghost use Rattle.contexts.specs.Steps.{IsEntered};
@@ -23,9 +22,10 @@ impl Board {
     ) -> Result<(), AllocError>
         requires exists { exists (board_of self.old) t ≡ true }
         requires free { place_of (board_of self.old) t ≡ 0 }
-        requires ordinary { IsOrdinary context }
+        requires to_context { context.0 ≢ 0 }
         requires fits { fits t settings.now.remote ≡ true }
         ensures ok { OnOk result (board_of self.new ≡ placed (board_of self.old) t context.0 settings.now) }
+        ensures last { self.new.last ≡ self.old.last }
         ensures err { OnErr result (board_of self.new ≡ board_of self.old) }
     {
         let Ok(_) = members::enter(&mut self.members, self.alloc, context.0, t) else {
@@ -43,9 +43,10 @@ impl Board {
         context: ContextId,
         settings: &Settings,
     ) -> Result<u32, AllocError>
-        requires left { IsSome (next_of self.old.table) }
-        requires ordinary { IsOrdinary context }
+        requires left { NoEphemeralLeft (board_of self.old) → ⊥ }
+        requires to_context { context.0 ≢ 0 }
         ensures ok { IfOk result (λ number. IsEntered (board_of self.old) (board_of self.new) context.0 settings.now number) }
+        ensures last { self.new.last ≡ self.old.last }
         ensures err { OnErr result (board_of self.new ≡ board_of self.old) }
     {
         let Some(number) = self.terms.next() else {

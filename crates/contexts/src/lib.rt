@@ -5,6 +5,10 @@
 mod add;
 mod board;
 mod cuts;
+mod done;
+mod exec;
+mod exec_add;
+mod exec_subtract;
 mod members;
 mod modify;
 mod move_to;
@@ -16,3 +20,4 @@ mod subtract_all;
 mod topology;
 
 pub use board::Board;
+pub use done::Done;

@@ -2,7 +2,6 @@
 ghost use Rattle.std.specs.Prelude.{◌≡◌, ◌≢◌, true, OnOk, OnErr};
 ghost use Rattle.mg_model.specs.Board.{same_term, place_of, exists};
 ghost use Rattle.mg_model.specs.Items.{placed, without_cuts};
-ghost use Rattle.terminations.specs.Table.{IsOrdinary};
 ghost use Rattle.contexts.specs.Rows.{fits};
 ghost use Rattle.contexts.specs.Sheet.{board_of};
 
@@ -25,7 +24,7 @@ impl Board {
         requires stands { place_of (board_of self.old) t ≡ from }
         requires other { from ≢ context.0 }
         requires not_null { from ≢ 0 }
-        requires ordinary { IsOrdinary context }
+        requires to_context { context.0 ≢ 0 }
         requires fits { fits t settings.now.remote ≡ true }
         ensures ok { OnOk result (board_of self.new ≡ placed (record (board_of self.old) { cut = without_cuts (same_term t) (board_of self.old).cut }) t context.0 settings.now) }
         ensures err { OnErr result (board_of self.new ≡ board_of self.old) }

@@ -177,10 +177,14 @@ impl Board {
     }
 
     /// Whether each number of an ephemeral was given.
+    #[tactic(auto, unfolding(crate::specs::Sheet::board_of))]
     fn has_no_ephemeral_left(&self) -> bool
         ensures { IsTrue result ↔ NoEphemeralLeft (board_of self.now) }
     {
-        self.terms.next().is_none()
+        match self.terms.next() {
+            Some(_) => false,
+            None => true,
+        }
     }
 
     /// Whether no number is left for a new ephemeral.

@@ -1,7 +1,7 @@
 //! How the rows of terminations change in a command.
 ghost use Rattle.std.specs.Prelude.{◌≡◌, ℕ, ◌<◌, true, false, Some, None, IsTrue, is_some};
 ghost use Rattle.mg_model.specs.Board.{place_in};
-ghost use Rattle.terminations.specs.Table.{row_of, given_of, row_with, cleared, IsOrdinary};
+ghost use Rattle.terminations.specs.Table.{row_of, given_of, row_with, cleared};
 ghost use Rattle.contexts.specs.Rows.{mode_applied, remote_number, remote_applied, fits, row_in, IsLine};
 
 use mg_model::items::{RemoteSetting, Settings};
@@ -56,7 +56,6 @@ pub(crate) fn apply(terms: &mut Terms, t: TermId, settings: &Settings)
 pub(crate) fn place(terms: &mut Terms, t: TermId, context: ContextId, settings: &Settings)
     requires exists { IsTrue (is_some (row_of terms.old t)) }
     requires free { place_in (row_of terms.old t) ≡ 0 }
-    requires ordinary { IsOrdinary context }
     requires fits { fits t settings.now.remote ≡ true }
     ensures rows { row_of terms.new ≡ row_with (row_of terms.old) t (row_in context.0 settings.now (row_of terms.old t)) }
     ensures given { given_of terms.new ≡ given_of terms.old }

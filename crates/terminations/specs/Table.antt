@@ -121,10 +121,6 @@ pub record IsSound (lines ephemerals : List (ℕ × Row)) (last : ℕ) : Type 0 
   pub above : NoneAbove ephemerals last
   pub lines_bare : NoRemotes lines
 
--- a context other than NULL, CHOOSE and ALL
-abbrev pub IsOrdinary : ContextId → Type 0
-IsOrdinary context = (0 < context.0) × (context.0 < 4294967294)
-
 -- t is an ephemeral with a number that wasn't given, and it is the one thing that is new
 pub record IsCreated (old new : Table) (t : TermId) : Type 0 where
   pub number : ℕ

@@ -35,7 +35,7 @@ impl Model for Terms {
 
 #[tactic(auto, unfolding(crate::specs::Table::row_of, crate::specs::Table::given_of))]
 impl Terms {
-    ghost use Rattle.terminations.specs.Table.{row_of, given_of, row_with, idle, put, left, destroyed, with_mode, with_remote, cleared, known, unless_taken, known_ephemeral, overwritten, IsBare, IsOrdinary, IsCreated, next_of};
+    ghost use Rattle.terminations.specs.Table.{row_of, given_of, row_with, idle, put, left, destroyed, with_mode, with_remote, cleared, known, unless_taken, known_ephemeral, overwritten, IsBare, IsCreated, next_of};
 
     /// No termination, and no number given.
     pub fn new(alloc: Global) -> Terms
@@ -118,7 +118,6 @@ impl Terms {
 
     /// Puts a termination that is in the null context into another one.
     pub fn put(&mut self, t: TermId, context: ContextId) -> Result<(), Code>
-        requires { IsOrdinary context }
         ensures answer { result ≡ unless_taken (row_of self.old t) }
         ensures rows { row_of self.new ≡ row_with (row_of self.old) t (put context (row_of self.old t)) }
         ensures given { given_of self.new ≡ given_of self.old }

@@ -4,7 +4,7 @@ use Rattle.terminations.specs.Table.{row_of, row_with}
 use Rattle.contexts.specs.Groups.{group_at}
 use Rattle.contexts.specs.Rows.{row_in}
 use Rattle.contexts.specs.Sheet.{board_of, cuts_at}
-use Rattle.contexts.proofs.TieLemmas.{Enters, tied_entered, cut_entered, same_boards, cut_of_same, cuts_viewed, positive}
+use Rattle.contexts.proofs.TieLemmas.{Enters, tied_entered, cut_entered, same_boards, cut_of_same, cuts_viewed}
 use Rattle.contexts.proofs.board.Board.enter.Goals as goal
 
 pub place-requires-clause-exists : goal.place-requires-clause-exists
@@ -20,7 +20,7 @@ enters : (c : goal.After-place) → Enters (row_of c.self.inside.terms) (row_of 
 unfolding board_of
 enters c = record {
   was = rw (← c.self.view_is) at c.requires.free;
-  not_null = positive c.args.context.0 c.requires.ordinary.0;
+  not_null = c.requires.to_context;
   place = refl;
   rows_are = c.place.ensures.rows;
   members = rw c.in-Ok.is at c.enter.ensures.ok;

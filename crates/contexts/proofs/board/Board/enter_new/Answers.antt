@@ -8,7 +8,7 @@ use Rattle.terminations.specs.Table.{row_of, row_with, idle, next_of}
 use Rattle.contexts.specs.Groups.{group_at}
 use Rattle.contexts.specs.Rows.{row_in}
 use Rattle.contexts.specs.Sheet.{board_of, cut_of, cuts_at}
-use Rattle.contexts.proofs.TieLemmas.{Enters, tied_entered, cut_entered, same_boards, cut_of_same, cuts_viewed, positive, stands_not}
+use Rattle.contexts.proofs.TieLemmas.{Enters, tied_entered, cut_entered, same_boards, cut_of_same, cuts_viewed, stands_not}
 use Rattle.contexts.proofs.RowLemmas.{row_with_here, changes_twice}
 use Rattle.contexts.proofs.CutLemmas.{cut_of_none}
 use Rattle.contexts.proofs.MoveLemmas.{CreatedAt, created_at, tied_undone, some_same, changed_new}
@@ -35,7 +35,7 @@ enters : (c : goal.After-place) → Enters (row_of c.self.inside.terms) (row_of 
     (Eph c.in-Some.number) (row_in c.args.context.0 c.args.settings.now (Some idle)) c.args.context.0
 enters c = record {
   was = rw (created c).absent refl;
-  not_null = positive c.args.context.0 c.requires.ordinary.0;
+  not_null = c.requires.to_context;
   place = refl;
   rows_are = rows_after c;
   members = rw c.in-Ok.is at c.enter.ensures.ok;

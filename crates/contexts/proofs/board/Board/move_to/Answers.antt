@@ -7,7 +7,7 @@ use Rattle.terminations.specs.Table.{row_of, row_with, left}
 use Rattle.contexts.specs.Groups.{group_at}
 use Rattle.contexts.specs.Rows.{row_in}
 use Rattle.contexts.specs.Sheet.{board_of}
-use Rattle.contexts.proofs.TieLemmas.{same_boards, cut_of_same, cuts_viewed, positive}
+use Rattle.contexts.proofs.TieLemmas.{same_boards, cut_of_same, cuts_viewed}
 use Rattle.contexts.proofs.RowLemmas.{row_with_here, changes_twice}
 use Rattle.contexts.proofs.MoveLemmas.{Moves, tied_moved, cut_moved, left_exists, left_place, left_row_in}
 use Rattle.contexts.proofs.board.Board.move_to.Goals as goal
@@ -26,7 +26,7 @@ unfolding board_of
 moves c = record {
   was = rw (← c.self.view_is) at c.requires.stands;
   other = c.requires.other;
-  not_null = positive c.args.context.0 c.requires.ordinary.0;
+  not_null = c.requires.to_context;
   first = left_place _;
   second = refl;
   between_is = c.leave-2.ensures.rows;
