@@ -11,7 +11,7 @@ use Rattle.mg_model.specs.declared.items.Item.TheVariants.{Add, Modify, Move, Su
 use Rattle.mg_model.specs.declared.items.RemoteSetting.{RemoteSetting}
 use Rattle.mg_model.specs.declared.items.Settings.{Settings}
 use Rattle.mg_model.specs.Board.{Board, same_term, exists, place_of, ContextExists}
-use Rattle.mg_model.specs.Items.{Lists, IsLegal, IsExecuted, IsResult, IsFresh, Chosen, creates_context, creates_ephemeral, leaves, effect, remote_refused, is_misplaced, IsRising}
+use Rattle.mg_model.specs.Items.{Done, Lists, IsLegal, IsExecuted, IsResult, IsFresh, Chosen, creates_context, creates_ephemeral, leaves, effect, remote_refused, is_misplaced, IsRising}
 use Rattle.contexts.specs.Rows.{fits}
 use Rattle.contexts.specs.Steps.{created}
 use Rattle.contexts.proofs.TermLemmas.{by_value, not_both}
@@ -74,3 +74,28 @@ not_null b c h e = h (λ there. there.0 e)
 pub either_false : (a b : Bool) → (a || b) ≡ false → (a ≡ false) × (b ≡ false)
 either_false true b h = absurd (search rules)
 either_false false b h = (refl, h)
+
+pub is_true_from : (a : Bool) → (IsTrue (not a) → ⊥) → a ≡ true
+is_true_from true h = refl
+is_true_from false h = absurd (h (search rules))
+
+-- a command that creates nothing
+pub executed_out : (b : Board) (item : Item) (after : Board) (done : Done) → creates_context item ≡ false → creates_ephemeral item ≡ false →
+    IsLegal b item → after ≡ effect b item none_chosen → done.context ≡ None → done.ephemeral ≡ None →
+    Lists (λ n. leaves b item (Line (record { 0 = n })) && exists b (Line (record { 0 = n }))) done.lines → Lists (λ n. leaves b item (Eph n) && exists b (Eph n)) done.ephemerals →
+    IsExecuted b item after done
+executed_out b item after done no_context no_ephemeral legal is context ephemeral lines ephemerals = record {
+  chosen = none_chosen;
+  fresh = record {
+    context = λ h. not_both (creates_context item) h no_context;
+    ephemeral = λ h. not_both (creates_ephemeral item) h no_ephemeral;
+  };
+  legal = legal;
+  effect_is = is;
+  result = record {
+    context = rw no_context context;
+    ephemeral = rw no_ephemeral ephemeral;
+    lines = lines;
+    ephemerals = ephemerals;
+  };
+}

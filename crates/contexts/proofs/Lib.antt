@@ -8,3 +8,4 @@ pub mod ClearLemmas
 pub mod NumberLemmas
 pub mod ExecLemmas
 pub mod AddLemmas
+pub mod ListsLemmas

@@ -19,3 +19,6 @@ next_given last = λ i n. at n i
   where
     at : (n : ℕ) → is_given (last + 1) n ≡ given true (last + 1) (is_given last) n
     at n = grind (arith, common_steps)
+
+pub room_left : (last : ℕ) → (AllGiven last → ⊥) → last < 4294967293
+room_left last h = by_value (leb 4294967293 last) (λ e. absurd (h (used_up last e))) (λ e. grind (arith, common_steps))

@@ -2,3 +2,4 @@ pub mod Groups
 pub mod Sheet
 pub mod Rows
 pub mod Steps
+pub mod Faults

@@ -9,6 +9,7 @@ use Rattle.mg_model.specs.declared.items.Added.TheVariants as added
 use Rattle.mg_model.specs.Board.{Board, ContextExists, exists, place_of, same_term}
 use Rattle.mg_model.specs.Items.{Done, Lists, is_ephemeral_number, with_ephemeral, given, choose, NoContextLeft, NoEphemeralLeft, EphemeralsUsedUp, placed}
 use Rattle.contexts.specs.Rows.{fits}
+use Rattle.contexts.specs.Sheet.{stands_in}
 
 -- a new ephemeral stands in a context, and its number was not given
 pub record IsEntered (old new : Board) (context : ℕ) (settings : Settings) (number : ℕ) : Type 0 where
@@ -46,3 +47,10 @@ pub record IsTakenOut (group : List TermId) (done : Done) : Type 0 where
   pub ephemeral : done.ephemeral ≡ None
   pub lines : Lists (λ n. list_any (same_term (Line (record { 0 = n }))) group) done.lines
   pub ephemerals : Lists (λ n. list_any (same_term (Eph n)) group) done.ephemerals
+
+-- what a command tells that takes all terminations out of a context
+pub record IsEmptied (b : Board) (c : ℕ) (done : Done) : Type 0 where
+  pub context : done.context ≡ None
+  pub ephemeral : done.ephemeral ≡ None
+  pub lines : Lists (λ n. stands_in b.row c (Line (record { 0 = n }))) done.lines
+  pub ephemerals : Lists (λ n. stands_in b.row c (Eph n)) done.ephemerals

@@ -90,3 +90,22 @@ impl Board {
         Ok(created(self.alloc, Some(target), number))
     }
 }
+
+impl Board {
+    /// Add.
+    pub(crate) fn exec_add(
+        &mut self,
+        context: ContextId,
+        added: &Added,
+        settings: &Settings,
+    ) -> Result<Done, AllocError>
+        requires { IsLegal (board_of self.old) (item.Add context added.now settings.now) }
+        ensures ok { IfOk result (IsExecuted (board_of self.old) (item.Add context added.now settings.now) (board_of self.new)) }
+        ensures err { OnErr result (board_of self.new ≡ board_of self.old) }
+    {
+        if context.0 == 0xFFFF_FFFE {
+            return self.exec_add_new(context, added, settings);
+        }
+        self.exec_add_to(context, added, settings)
+    }
+}

@@ -9,6 +9,7 @@ mod done;
 mod exec;
 mod exec_add;
 mod exec_subtract;
+mod fault;
 mod members;
 mod modify;
 mod move_to;
@@ -21,3 +22,4 @@ mod topology;
 
 pub use board::Board;
 pub use done::Done;
+pub use fault::ExecFault;
