@@ -9,3 +9,4 @@ pub mod NumberLemmas
 pub mod ExecLemmas
 pub mod AddLemmas
 pub mod ListsLemmas
+pub mod CopyLemmas

@@ -309,3 +309,16 @@ cut_left rows after m n k j t row c leaves tied = rw leaves.rows_are (λ i x y. 
 
 pub positive : (n : ℕ) → 0 < n → n ≡ 0 → ⊥
 positive n h e = omega (arith, h, e)
+
+-- ---- nothing stands in a context
+
+pub tied_none : (rows : TermId → Option Row) (m : ℕ → Option (List TermId)) (k : ℕ → Option (List Cut)) → ((t : TermId) → place_in (rows t) ≡ 0) →
+    ((c : ℕ) → m c ≡ None) → ((c : ℕ) → k c ≡ None) → IsTied rows m k
+tied_none rows m k null no_members no_cuts = record {
+  stands = λ c t. rw (no_members c) (sym (stands_not rows c t (null t)));
+  not_empty = λ c h. none (m c) h (no_members c);
+  inside = λ c t u h. let at : has_cut None t u ≡ true = rw (no_cuts c) at h in absurd (search rules);
+}
+  where
+    none : (g : Option (List TermId)) → g ≡ Some [] → g ≡ None → ⊥
+    none g h e = cc

@@ -65,3 +65,13 @@ pub record IsCount (has : ℕ → Type 0) (count : ℕ) : Type 0 where
   pub rising : IsRising numbers
   pub exactly : (n : ℕ) → Contains numbers n ↔ has n
   pub is : count ≡ length numbers
+
+-- a line that is there stays
+abbrev pub or_idle : Option Row → Row
+or_idle None = idle
+or_idle (Some row) = row
+
+-- rows with lines added
+abbrev pub filled : List LineNo → (TermId → Option Row) → TermId → Option Row
+filled lines rows (Line l) = if is_among lines l.0 then Some (or_idle (rows (Line l))) else rows (Line l)
+filled lines rows (Eph k) = rows (Eph k)

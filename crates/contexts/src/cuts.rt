@@ -116,3 +116,11 @@ pub(crate) fn clear(cuts: &mut Cuts, context: u32)
 {
     cuts.remove(&context);
 }
+
+/// An equal value.
+pub(crate) fn copy(cuts: &Cuts) -> Result<Cuts, AllocError>
+    ensures { IfOk result (λ copied. (c : ℕ) → group_at copied.entries c ≡ group_at cuts.now.entries c) }
+{
+    let copied = cuts.clone()?;
+    Ok(copied)
+}

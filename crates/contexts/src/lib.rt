@@ -1,5 +1,5 @@
 //! The connection model of a gateway (H.248.1 section 6): which terminations stand in which contexts, between which of them media
-//! is cut, and where media goes. `Board::exec` carries out a command or refuses it with the first code that applies.
+//! is cut. `Board::exec` carries out a command or refuses it with the first code that applies.
 #![tactic(auto)]
 
 mod add;
@@ -13,6 +13,7 @@ mod fault;
 mod members;
 mod modify;
 mod move_to;
+mod opening;
 mod refusals;
 mod rows;
 mod same;
@@ -23,3 +24,6 @@ mod topology;
 pub use board::Board;
 pub use done::Done;
 pub use fault::ExecFault;
+
+#[cfg(test)]
+mod tests;

@@ -87,3 +87,11 @@ pub(crate) fn clear(members: &mut Members, context: u32)
 {
     members.remove(&context);
 }
+
+/// An equal value.
+pub(crate) fn copy(members: &Members) -> Result<Members, AllocError>
+    ensures { IfOk result (λ copied. (c : ℕ) → group_at copied.entries c ≡ group_at members.now.entries c) }
+{
+    let copied = members.clone()?;
+    Ok(copied)
+}
