@@ -87,7 +87,7 @@ tied_cleared rows after m n k j c clears tied = record {
   inside = λ d x y h. by_value (d == c)
       (λ e. let at : has_cut None x y ≡ true = rw (clears.cuts d, e) at h in absurd (search rules))
       (λ e. let at : has_cut (k d) x y ≡ true = rw (clears.cuts d, e) at h in
-          (stood d x ∙ rw e (tied.inside d x y at).0, stood d y ∙ rw e (tied.inside d x y at).1));
+      (stood d x ∙ rw e (tied.inside d x y at).0, stood d y ∙ rw e (tied.inside d x y at).1));
 }
   where
     stood : (d : ℕ) (u : TermId) → stands_in after d u ≡ (not (d == c) && stands_in rows d u)
@@ -112,12 +112,12 @@ cut_cleared rows after m n k j c clears tied = λ i x y. at x y i
     apart : (x y : TermId) → (place_in (rows x) == c) ≡ false → (place_in (rows y) == c) ≡ true → has_cut (k (place_in (rows x))) x y ≡ false
     apart x y e f = by_value (has_cut (k (place_in (rows x))) x y)
         (λ h. let same = (stands_splits rows (place_in (rows x)) y (tied.inside (place_in (rows x)) x y h).1).1 in
-            let there : (place_in (rows y) == c) ≡ false = rw same e in not_both (place_in (rows y) == c) f there)
+        let there : (place_in (rows y) == c) ≡ false = rw same e in not_both (place_in (rows y) == c) f there)
         (λ h. h)
 
     at : (x y : TermId) → has_cut (j (place_in (after x))) x y ≡ without_cuts (λ u. place_in (rows u) == c) (cut_of rows k) x y
     at x y = by_value (place_in (rows x) == c)
         (λ e. rw (e, cleared_rows.there x e, cleared_place x (rows x)) (with_value 0 x y ∙ rw (is_not 0 c (λ z. clears.not_null (sym z))) (not_cut rows m k tied 0 x y (not_null x))))
         (λ e. rw (e, cleared_rows.elsewhere x e) (with_value (place_in (rows x)) x y ∙ rw e (by_value (place_in (rows y) == c)
-            (λ f. rw f (apart x y e f))
-            (λ f. rw f refl))))
+        (λ f. rw f (apart x y e f))
+        (λ f. rw f refl))))

@@ -106,9 +106,9 @@ cut_set rows k j t u forward backward c sets = λ i x y. at x y i
     at : (x y : TermId) → has_cut (j (place_in (rows x))) x y ≡ with_cut (with_cut (cut_of rows k) t u forward) u t backward x y
     at x y = by_value (place_in (rows x) == c)
         (λ here. let same : place_in (rows x) ≡ c = grind (arith, common_steps) in
-            with_value (place_in (rows x)) x y ∙ rw (here, same) (set_has t u forward backward (k c) x y sets.differ))
+        with_value (place_in (rows x)) x y ∙ rw (here, same) (set_has t u forward backward (k c) x y sets.differ))
         (λ other. with_value (place_in (rows x)) x y ∙ rw other
-            (sym (with_cut_elsewhere (with_cut (cut_of rows k) t u forward) u t backward x y (elsewhere x u other sets.second) ∙ with_cut_elsewhere (cut_of rows k) t u forward x y (elsewhere x t other sets.first))))
+        (sym (with_cut_elsewhere (with_cut (cut_of rows k) t u forward) u t backward x y (elsewhere x u other sets.second) ∙ with_cut_elsewhere (cut_of rows k) t u forward x y (elsewhere x t other sets.first))))
 
 pub tied_set : (rows : TermId → Option Row) (m : ℕ → Option (List TermId)) (k j : ℕ → Option (List Cut)) (t u : TermId) (forward backward : Bool) (c : ℕ) → Sets rows k j t u forward backward c →
     IsTied rows m k → IsTied rows m j
@@ -126,13 +126,13 @@ tied_set rows m k j t u forward backward c sets tied = record {
         let at : has_cut (if d == c then Some (set_between t u forward backward (listed (k c))) else k d) x y ≡ true = ap (λ (g : Option (List Cut)). has_cut g x y) (sym (sets.cuts d)) ∙ h in
         by_value (d == c)
         (λ e. let same : d ≡ c = grind (arith, common_steps) in
-            let here : has_cut (Some (set_between t u forward backward (listed (k c)))) x y ≡ true = rw e at at in
-            let set : with_cut (with_cut (has_cut (k c)) t u forward) u t backward x y ≡ true = sym (set_has t u forward backward (k c) x y sets.differ) ∙ here in
-            by_value (same_term x u && same_term y t)
-            (λ two. let parts = split_and (same_term x u) (same_term y t) two in (stands u x d sets.second parts.0 same, stands t y d sets.first parts.1 same))
-            (λ not_two. by_value (same_term x t && same_term y u)
-                (λ one. let parts = split_and (same_term x t) (same_term y u) one in (stands t x d sets.first parts.0 same, stands u y d sets.second parts.1 same))
-                (λ not_one. let old : has_cut (k c) x y ≡ true = rw (not_two, not_one) at set in rw same (tied.inside c x y old))))
+        let here : has_cut (Some (set_between t u forward backward (listed (k c)))) x y ≡ true = rw e at at in
+        let set : with_cut (with_cut (has_cut (k c)) t u forward) u t backward x y ≡ true = sym (set_has t u forward backward (k c) x y sets.differ) ∙ here in
+        by_value (same_term x u && same_term y t)
+        (λ two. let parts = split_and (same_term x u) (same_term y t) two in (stands u x d sets.second parts.0 same, stands t y d sets.first parts.1 same))
+        (λ not_two. by_value (same_term x t && same_term y u)
+        (λ one. let parts = split_and (same_term x t) (same_term y u) one in (stands t x d sets.first parts.0 same, stands u y d sets.second parts.1 same))
+        (λ not_one. let old : has_cut (k c) x y ≡ true = rw (not_two, not_one) at set in rw same (tied.inside c x y old))))
         (λ e. let here : has_cut (k d) x y ≡ true = rw e at at in tied.inside d x y here)
 
 -- nothing is cut of what stands in no context
@@ -144,8 +144,8 @@ cut_of_none rows m k tied t null = λ i x y. at x y i
     at x y = by_value (same_term t x)
         (λ e. let is = same_is t x e in let there : place_in (rows x) ≡ 0 = rw (← is) null in rw e (not_cut rows m k tied (place_in (rows x)) x y (stands_not rows _ x there)))
         (λ e. by_value (same_term t y)
-            (λ f. let is = same_is t y f in let there : place_in (rows y) ≡ 0 = rw (← is) null in
-                rw (e, f) (by_value (has_cut (k (place_in (rows x))) x y)
-                (λ h. not_both (stands_in rows (place_in (rows x)) y) (tied.inside (place_in (rows x)) x y h).1 (stands_not rows _ y there))
-                (λ h. h)))
-            (λ f. rw (e, f) refl))
+        (λ f. let is = same_is t y f in let there : place_in (rows y) ≡ 0 = rw (← is) null in
+        rw (e, f) (by_value (has_cut (k (place_in (rows x))) x y)
+        (λ h. not_both (stands_in rows (place_in (rows x)) y) (tied.inside (place_in (rows x)) x y h).1 (stands_not rows _ y there))
+        (λ h. h)))
+        (λ f. rw (e, f) refl))

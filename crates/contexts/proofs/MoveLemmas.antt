@@ -83,8 +83,8 @@ moves_enters rows between after m e n k j t one two from to moves = record {
     at d = moves.left d ∙ by_value (d == from)
         (λ here. let is = is_number d from here in rw (is, from_not, is_same_number from, moves.entered from, from_not) refl)
         (λ there. by_value (d == to)
-            (λ here. rw (there, moves.entered d, here, to_not) refl)
-            (λ other. rw (there, moves.entered d, other) refl))
+        (λ here. rw (there, moves.entered d, here, to_not) refl)
+        (λ other. rw (there, moves.entered d, other) refl))
 
 pub tied_moved : (rows between after : TermId → Option Row) (m e n : ℕ → Option (List TermId)) (k j : ℕ → Option (List Cut)) (t : TermId) (one two : Option Row) (from to : ℕ) →
     Moves rows between after m e n k j t one two from to → IsTied rows m k → IsTied after n j

@@ -165,7 +165,7 @@ cut_entered rows after m n k t row c enters tied = rw enters.rows_are (λ i x y.
     at : (x y : TermId) → has_cut (k (place_in (row_with rows t row x))) x y ≡ has_cut (k (place_in (rows x))) x y
     at x y = by_value (same_term x t)
         (λ e. let is = same_is x t e in let there : place_in (rows x) ≡ 0 = rw is enters.was in
-            not_cut rows m k tied (place_in (row_with rows t row x)) x y (stands_not rows _ x there) ∙ sym (not_cut rows m k tied (place_in (rows x)) x y (stands_not rows _ x there)))
+        not_cut rows m k tied (place_in (row_with rows t row x)) x y (stands_not rows _ x there) ∙ sym (not_cut rows m k tied (place_in (rows x)) x y (stands_not rows _ x there)))
         (λ e. rw e refl)
 
 -- ---- a termination leaves a context
@@ -259,16 +259,16 @@ tied_left rows after m n k j t row c leaves tied = rw leaves.rows_are record {
     inside : (d : ℕ) (x y : TermId) → has_cut (j d) x y ≡ true → (stands_in (row_with rows t row) d x ≡ true) × (stands_in (row_with rows t row) d y ≡ true)
     inside d x y h = by_value (d == c)
         (λ e. let same : d ≡ c = grind (arith, common_steps) in
-            let at : has_cut (if d == c then without_cuts_of t (k c) else k d) x y ≡ true = ap (λ (g : Option (List Cut)). has_cut g x y) (sym (leaves.cuts d)) ∙ h in
-            let here : has_cut (without_cuts_of t (k c)) x y ≡ true = rw e at at in
-            let parts = split_and (not (same_term x t || same_term y t)) (has_cut (k c) x y) (sym (cut_without t x y (k c)) ∙ here) in
-            let apart = neither (same_term x t) (same_term y t) parts.0 in
-            let both = tied.inside c x y parts.1 in
-            (stays d x apart.0 (ap (λ (i : ℕ). stands_in rows i x) same ∙ both.0), stays d y apart.1 (ap (λ (i : ℕ). stands_in rows i y) same ∙ both.1)))
+        let at : has_cut (if d == c then without_cuts_of t (k c) else k d) x y ≡ true = ap (λ (g : Option (List Cut)). has_cut g x y) (sym (leaves.cuts d)) ∙ h in
+        let here : has_cut (without_cuts_of t (k c)) x y ≡ true = rw e at at in
+        let parts = split_and (not (same_term x t || same_term y t)) (has_cut (k c) x y) (sym (cut_without t x y (k c)) ∙ here) in
+        let apart = neither (same_term x t) (same_term y t) parts.0 in
+        let both = tied.inside c x y parts.1 in
+        (stays d x apart.0 (ap (λ (i : ℕ). stands_in rows i x) same ∙ both.0), stays d y apart.1 (ap (λ (i : ℕ). stands_in rows i y) same ∙ both.1)))
         (λ e. let at : has_cut (if d == c then without_cuts_of t (k c) else k d) x y ≡ true = ap (λ (g : Option (List Cut)). has_cut g x y) (sym (leaves.cuts d)) ∙ h in
-            let here : has_cut (k d) x y ≡ true = rw e at at in
-            let both = tied.inside d x y here in
-            (stays d x (not_there d x e both.0) both.0, stays d y (not_there d y e both.1) both.1))
+        let here : has_cut (k d) x y ≡ true = rw e at at in
+        let both = tied.inside d x y here in
+        (stays d x (not_there d x e both.0) both.0, stays d y (not_there d y e both.1) both.1))
 
 pub cut_left : (rows after : TermId → Option Row) (m n : ℕ → Option (List TermId)) (k j : ℕ → Option (List Cut)) (t : TermId) (row : Option Row) (c : ℕ) →
     Leaves rows after m n k j t row c → IsTied rows m k → cut_of after j ≡ without_cuts (λ u. same_term u t) (cut_of rows k)
@@ -289,20 +289,20 @@ cut_left rows after m n k j t row c leaves tied = rw leaves.rows_are (λ i x y. 
     goes : (d : ℕ) (x y : TermId) → same_term x t ≡ false → same_term y t ≡ true → (d == c) ≡ false → has_cut (k d) x y ≡ false
     goes d x y ex ey e = by_value (has_cut (k d) x y)
         (λ h. let is = same_is y t ey in let there : place_in (rows y) ≡ c = rw is leaves.was in
-            let at = stands_splits rows d y (tied.inside d x y h).1 in
-            let same : d ≡ c = sym at.1 ∙ there in absurd (grind (arith, common_steps)))
+        let at = stands_splits rows d y (tied.inside d x y h).1 in
+        let same : d ≡ c = sym at.1 ∙ there in absurd (grind (arith, common_steps)))
         (λ h. h)
 
     at : (x y : TermId) → has_cut (j (place_in (row_with rows t row x))) x y ≡ without_cuts (λ u. same_term u t) (cut_of rows k) x y
     at x y = by_value (same_term x t)
         (λ e. rw (e, leaves.place) (not_any 0 x y (null x)))
         (λ e. rw e (with_value (place_in (rows x)) x y ∙ by_value (same_term y t)
-            (λ ey. by_value (place_in (rows x) == c)
-                (λ here. rw (here, ey, cut_without t x y (k c), e, ey) refl)
-                (λ other. rw (other, ey) (goes (place_in (rows x)) x y e ey other)))
-            (λ ey. by_value (place_in (rows x) == c)
-                (λ here. let same : place_in (rows x) ≡ c = grind (arith, common_steps) in rw (here, ey, cut_without t x y (k c), e, ey, same) refl)
-                (λ other. rw (other, ey) refl))))
+        (λ ey. by_value (place_in (rows x) == c)
+        (λ here. rw (here, ey, cut_without t x y (k c), e, ey) refl)
+        (λ other. rw (other, ey) (goes (place_in (rows x)) x y e ey other)))
+        (λ ey. by_value (place_in (rows x) == c)
+        (λ here. let same : place_in (rows x) ≡ c = grind (arith, common_steps) in rw (here, ey, cut_without t x y (k c), e, ey, same) refl)
+        (λ other. rw (other, ey) refl))))
       where
         null : (x : TermId) → stands_in rows 0 x ≡ false
         null x = refl

@@ -78,10 +78,7 @@ impl Board {
     fn taken_out_of(&self, context: ContextId) -> Result<Done, AllocError>
         ensures { IfOk result (IsEmptied (board_of self.now) context.0) }
     {
-        taken_out(
-            self.alloc,
-            members::of_context(&self.members, context.0),
-        )
+        taken_out(self.alloc, members::of_context(&self.members, context.0))
     }
 
     /// Subtract of one termination.

@@ -19,7 +19,7 @@ invariant_of-self c = tied_within (row_of c.self.inside.terms) (row_of c.apply.n
 
 pub returns : goal.returns
 unfolding board_of
-returns c = rw (← c.self.view_is) (same_boards _ _ c.apply.ensures.rows 
+returns c = rw (← c.self.view_is) (same_boards _ _ c.apply.ensures.rows
     (cut_of_same (row_of c.apply.new.terms) _ _ (cuts_viewed c.self.inside.cuts.entries) ∙ cut_within (row_of c.self.inside.terms) (row_of c.apply.new.terms) (group_at c.self.inside.cuts.entries) (kept c)
     ∙ sym (cut_of_same (row_of c.self.inside.terms) _ _ (cuts_viewed c.self.inside.cuts.entries)))
-     refl c.apply.ensures.given)
+    refl c.apply.ensures.given)
