@@ -1,0 +1,12 @@
+pub mod TermLemmas
+pub mod TieLemmas
+pub mod CountLemmas
+pub mod RowLemmas
+pub mod CutLemmas
+pub mod MoveLemmas
+pub mod ClearLemmas
+pub mod NumberLemmas
+pub mod ExecLemmas
+pub mod AddLemmas
+pub mod ListsLemmas
+pub mod CopyLemmas

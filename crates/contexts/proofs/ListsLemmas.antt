@@ -1,0 +1,36 @@
+-- Numbers in rising order that pass a test.
+use Rattle.std.proofs.Common.{◌≡◌, ◌≢◌, ℕ, ◌==◌, Bool, true, false, not, ◌&&◌, ◌||◌, IsTrue, is_some, refl, ap, subst, sym, ◌∙◌, arith, rules, List, [], ◌∷◌, Option, Some, None, nat_cmp, BTreeSet}
+use Rattle.std.proofs.lemmas.Grind.{common_steps}
+use Rattle.std.proofs.lemmas.Cmp.{nat_cmp_total}
+use Rattle.std.proofs.lemmas.Map.Views.{btree_set_contains_iff}
+use Rattle.std.proofs.lemmas.Map.Lookups.{exact_unsigned}
+use Rattle.std.specs.BTreeSet.{IsOrdered, contains}
+use Rattle.mg_names.specs.declared.identifiers.TermId.{TermId}
+use Rattle.mg_model.specs.declared.rows.Row.{Row}
+use Rattle.mg_model.specs.Board.{Board, same_term, exists, place_of, place_in}
+use Rattle.mg_model.specs.Items.{Lists}
+use Rattle.contexts.specs.Sheet.{stands_in}
+use Rattle.contexts.proofs.TermLemmas.{same_is, by_value}
+use Rattle.contexts.proofs.MoveLemmas.{is_number, is_not}
+use Rattle.contexts.proofs.CountLemmas.{rising}
+
+pub lists_keys : (s : BTreeSet ℕ) → IsOrdered nat_cmp s → Lists (λ n. contains nat_cmp s n) s.keys
+lists_keys s ordered = record {
+  rising = rising s.keys ordered;
+  exactly = λ n. let there = btree_set_contains_iff nat_cmp_total exact_unsigned s n in (λ h. there.1 h, λ h. there.0 h);
+}
+
+pub lists_same : (f g : ℕ → Bool) (numbers : List ℕ) → ((n : ℕ) → f n ≡ g n) → Lists f numbers → Lists g numbers
+lists_same f g numbers same lists = subst (λ (h : ℕ → Bool). Lists h numbers) (λ i n. same n i) lists
+
+-- one that exists is taken out
+pub one_leaves : (b : Board) (t u : TermId) → exists b t ≡ true → (same_term u t || false) ≡ (same_term u t && exists b u)
+one_leaves b t u there = by_value (same_term u t) (λ e. let is = same_is u t e in let here : exists b u ≡ true = rw is there in rw (e, here) refl) (λ e. rw e refl)
+
+-- all that stand in a context are taken out
+pub all_leave : (b : Board) (c : ℕ) (u : TermId) → c ≢ 0 → stands_in b.row c u ≡ ((place_of b u == c) && exists b u)
+all_leave b c u not_null = rw (is_not c 0 not_null) (go (b.row u))
+  where
+    go : (row : Option Row) → (place_in row == c) ≡ ((place_in row == c) && is_some row)
+    go None = by_value (0 == c) (λ e. absurd (not_null (sym (is_number 0 c e)))) (λ e. rw e refl)
+    go (Some row) = by_value (row.place.0 == c) (λ e. rw e refl) (λ e. rw e refl)

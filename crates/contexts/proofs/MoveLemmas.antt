@@ -1,0 +1,164 @@
+-- A termination leaves one context and enters another.
+use Rattle.std.proofs.Common.{◌≡◌, ◌≢◌, ℕ, ◌==◌, Bool, true, false, not, IsTrue, is_some, if◌then◌else◌, refl, ap, sym, ◌∙◌, arith, rules, List, [], ◌∷◌, ◌++◌, Option, Some, None, filter, ◌||◌, option_map}
+use Rattle.std.proofs.lemmas.Grind.{common_steps}
+use Rattle.std.specs.List.{list_any}
+use Rattle.mg_names.specs.declared.identifiers.TermId.{TermId}
+use Rattle.mg_names.specs.declared.identifiers.TermId.TheVariants.{Line, Eph}
+use Rattle.mg_model.specs.declared.items.Settings.{Settings}
+use Rattle.mg_model.specs.declared.rows.Row.{Row}
+use Rattle.mg_model.specs.Board.{same_term, place_in}
+use Rattle.mg_model.specs.Items.{without_cuts, is_ephemeral_number, given}
+use Rattle.terminations.specs.Table.{Table, row_of, given_of, row_with, left, idle, IsCreated}
+use Rattle.contexts.specs.declared.cuts.Cut.{Cut}
+use Rattle.contexts.specs.Groups.{listed, kept, has_member, with_member, without_member, without_cuts_of}
+use Rattle.contexts.specs.Rows.{row_in}
+use Rattle.contexts.specs.Sheet.{cut_of, IsTied}
+use Rattle.contexts.proofs.TermLemmas.{same_itself, same_is, same_back, by_value, not_both}
+use Rattle.contexts.proofs.TieLemmas.{Leaves, tied_left, cut_left, Enters, tied_entered, cut_entered}
+use Rattle.contexts.proofs.RowLemmas.{row_with_here, changes_twice}
+
+pub left_exists : (row : Option Row) → IsTrue (is_some row) → IsTrue (is_some (left row))
+left_exists None there = there
+left_exists (Some row) there = search rules
+
+pub left_place : (row : Option Row) → place_in (left row) ≡ 0
+left_place None = refl
+left_place (Some row) = refl
+
+pub left_row_in : (c : ℕ) (settings : Settings) (row : Option Row) → row_in c settings (left row) ≡ row_in c settings row
+left_row_in c settings None = refl
+left_row_in c settings (Some row) = refl
+
+pub record Moves (rows between after : TermId → Option Row) (m e n : ℕ → Option (List TermId)) (k j : ℕ → Option (List Cut)) (t : TermId) (one two : Option Row) (from to : ℕ) : Type 0 where
+  pub was : place_in (rows t) ≡ from
+  pub other : from ≢ to
+  pub not_null : to ≡ 0 → ⊥
+  pub first : place_in one ≡ 0
+  pub second : place_in two ≡ to
+  pub between_is : between ≡ row_with rows t one
+  pub after_is : after ≡ row_with between t two
+  pub entered : (d : ℕ) → e d ≡ (if d == to then with_member t (m to) else m d)
+  pub left : (d : ℕ) → n d ≡ (if d == from then without_member t (e from) else e d)
+  pub cuts : (d : ℕ) → j d ≡ (if d == from then without_cuts_of t (k from) else k d)
+
+abbrev pub members_between : (ℕ → Option (List TermId)) → TermId → ℕ → ℕ → Option (List TermId)
+members_between m t from d = if d == from then without_member t (m from) else m d
+
+pub is_number : (n m : ℕ) → (n == m) ≡ true → n ≡ m
+is_number n m e = grind (arith, common_steps)
+
+pub is_not : (n m : ℕ) → n ≢ m → (n == m) ≡ false
+is_not n m e = grind (arith, common_steps)
+
+pub is_same_number : (n : ℕ) → (n == n) ≡ true
+is_same_number n = grind (arith, common_steps)
+
+pub moves_leaves : (rows between after : TermId → Option Row) (m e n : ℕ → Option (List TermId)) (k j : ℕ → Option (List Cut)) (t : TermId) (one two : Option Row) (from to : ℕ) →
+    Moves rows between after m e n k j t one two from to → Leaves rows between m (members_between m t from) k j t one from
+moves_leaves rows between after m e n k j t one two from to moves = record {
+  was = moves.was;
+  place = moves.first;
+  rows_are = moves.between_is;
+  members = λ d. refl;
+  cuts = moves.cuts;
+}
+
+pub moves_enters : (rows between after : TermId → Option Row) (m e n : ℕ → Option (List TermId)) (k j : ℕ → Option (List Cut)) (t : TermId) (one two : Option Row) (from to : ℕ) →
+    Moves rows between after m e n k j t one two from to → Enters between after (members_between m t from) n t two to
+moves_enters rows between after m e n k j t one two from to moves = record {
+  was = ap (λ (h : TermId → Option Row). place_in (h t)) moves.between_is ∙ ap place_in (row_with_here rows t one) ∙ moves.first;
+  not_null = moves.not_null;
+  place = moves.second;
+  rows_are = moves.after_is;
+  members = λ d. at d;
+}
+  where
+    to_not : (to == from) ≡ false
+    to_not = is_not to from (λ e. moves.other (sym e))
+
+    from_not : (from == to) ≡ false
+    from_not = is_not from to moves.other
+
+    at : (d : ℕ) → n d ≡ (if d == to then with_member t (members_between m t from to) else members_between m t from d)
+    at d = moves.left d ∙ by_value (d == from)
+        (λ here. let is = is_number d from here in rw (is, from_not, is_same_number from, moves.entered from, from_not) refl)
+        (λ there. by_value (d == to)
+        (λ here. rw (there, moves.entered d, here, to_not) refl)
+        (λ other. rw (there, moves.entered d, other) refl))
+
+pub tied_moved : (rows between after : TermId → Option Row) (m e n : ℕ → Option (List TermId)) (k j : ℕ → Option (List Cut)) (t : TermId) (one two : Option Row) (from to : ℕ) →
+    Moves rows between after m e n k j t one two from to → IsTied rows m k → IsTied after n j
+tied_moved rows between after m e n k j t one two from to moves tied =
+    tied_entered _ _ _ _ _ _ _ _ (moves_enters rows between after m e n k j t one two from to moves)
+    (tied_left _ _ _ _ _ _ _ _ _ (moves_leaves rows between after m e n k j t one two from to moves) tied)
+
+pub same_turned : (t : TermId) → (λ (u : TermId). same_term u t) ≡ same_term t
+same_turned t = λ i u. same_back u t i
+
+pub cut_moved : (rows between after : TermId → Option Row) (m e n : ℕ → Option (List TermId)) (k j : ℕ → Option (List Cut)) (t : TermId) (one two : Option Row) (from to : ℕ) →
+    Moves rows between after m e n k j t one two from to → IsTied rows m k → cut_of after j ≡ without_cuts (same_term t) (cut_of rows k)
+cut_moved rows between after m e n k j t one two from to moves tied =
+    cut_entered _ _ _ _ _ _ _ _ (moves_enters rows between after m e n k j t one two from to moves)
+    (tied_left _ _ _ _ _ _ _ _ _ (moves_leaves rows between after m e n k j t one two from to moves) tied)
+    ∙ cut_left _ _ _ _ _ _ _ _ _ (moves_leaves rows between after m e n k j t one two from to moves) tied
+    ∙ ap (λ (f : TermId → Bool). without_cuts f (cut_of rows k)) (same_turned t)
+
+-- ---- a member that was added and is taken out again
+
+pub filter_none : (t : TermId) (xs : List TermId) → list_any (same_term t) xs ≡ false → filter (λ u. not (same_term u t)) (xs ++ t ∷ []) ≡ xs
+filter_none t [] h = rw (same_itself t) refl
+filter_none t (x ∷ xs) h = by_test (same_term t x) refl h (filter_none t xs)
+  where
+    by_test : (b : Bool) → same_term t x ≡ b → (same_term t x || list_any (same_term t) xs) ≡ false →
+        (list_any (same_term t) xs ≡ false → filter (λ u. not (same_term u t)) (xs ++ t ∷ []) ≡ xs) → filter (λ u. not (same_term u t)) (x ∷ (xs ++ t ∷ [])) ≡ x ∷ xs
+    by_test true e h more = let bad : (true || list_any (same_term t) xs) ≡ false = rw e at h in absurd (search rules)
+    by_test false e h more =
+        let rest : list_any (same_term t) xs ≡ false = rw e at h in
+        let turned : same_term x t ≡ false = same_back x t ∙ e in rw turned (ap (λ (ys : List TermId). x ∷ ys) (more rest))
+
+pub undone : (t : TermId) (g : Option (List TermId)) → has_member g t ≡ false → (g ≡ Some [] → ⊥) → without_member t (with_member t g) ≡ g
+undone t None h full = rw (same_itself t) refl
+undone t (Some []) h full = absurd (full refl)
+undone t (Some (x ∷ xs)) h full = ap kept (filter_none t (x ∷ xs) h)
+
+pub tied_undone : (rows : TermId → Option Row) (m e n : ℕ → Option (List TermId)) (k : ℕ → Option (List Cut)) (t : TermId) (c : ℕ) → has_member (m c) t ≡ false →
+    ((d : ℕ) → e d ≡ (if d == c then with_member t (m c) else m d)) → ((d : ℕ) → n d ≡ (if d == c then without_member t (e c) else e d)) → IsTied rows m k → IsTied rows n k
+tied_undone rows m e n k t c absent entered left tied = record {
+  stands = λ d u. ap (λ (g : Option (List TermId)). has_member g u) (same d) ∙ tied.stands d u;
+  not_empty = λ d h. tied.not_empty d (sym (same d) ∙ h);
+  inside = tied.inside;
+}
+  where
+    same : (d : ℕ) → n d ≡ m d
+    same d = left d ∙ by_value (d == c)
+        (λ here. let is = is_number d c here in rw (is, is_same_number c, entered c, is_same_number c) (undone t (m c) absent (tied.not_empty c)))
+        (λ there. rw (there, entered d, there) refl)
+
+-- ---- the ephemeral that was created
+
+pub record CreatedAt (old new : Table) (number : ℕ) : Type 0 where
+  pub fits : is_ephemeral_number number
+  pub fresh : given_of old number ≡ false
+  pub absent : row_of old (Eph number) ≡ None
+  pub rows : row_of new ≡ row_with (row_of old) (Eph number) (Some idle)
+  pub numbers : given_of new ≡ given true number (given_of old)
+
+pub same_number : (i j : ℕ) → Eph i ≡ Eph j → i ≡ j
+same_number i j e = cc
+
+pub created_at : (old new : Table) (t : TermId) (number : ℕ) → t ≡ Eph number → IsCreated old new t → CreatedAt old new number
+created_at old new t number is created =
+    let same : created.number ≡ number = same_number created.number number (sym created.is ∙ is) in record {
+      fits = rw (← same) created.fits;
+      fresh = rw (← same) created.fresh;
+      absent = rw (← is) created.absent;
+      rows = rw (← is) created.rows;
+      numbers = rw (← same) created.numbers;
+    }
+
+pub some_same : (t : TermId) (number : ℕ) (next : Option ℕ) → next ≡ Some number → option_map Eph next ≡ Some t → t ≡ Eph number
+some_same t number next is same = let at : option_map Eph (Some number) ≡ Some t = rw is at same in cc
+
+pub changed_new : (rows between after : TermId → Option Row) (t : TermId) (c : ℕ) (settings : Settings) → between ≡ row_with rows t (Some idle) →
+    after ≡ row_with between t (row_in c settings (between t)) → after ≡ row_with rows t (row_in c settings (Some idle))
+changed_new rows between after t c settings first second = changes_twice rows between after t (λ o. Some idle) (row_in c settings) first second

@@ -1,0 +1,37 @@
+use Rattle.std.proofs.Common.{◌≡◌, ◌<◌, ℕ, ◌∙◌, sym, ap, refl, rules, arith}
+use Rattle.std.proofs.lemmas.Grind.{common_steps}
+use Rattle.terminations.specs.Table.{row_of, row_with}
+use Rattle.contexts.specs.Groups.{group_at}
+use Rattle.contexts.specs.Rows.{row_in}
+use Rattle.contexts.specs.Sheet.{board_of, cuts_at}
+use Rattle.contexts.proofs.TieLemmas.{Enters, tied_entered, cut_entered, same_boards, cut_of_same, cuts_viewed}
+use Rattle.contexts.proofs.board.Board.enter.Goals as goal
+
+pub place-requires-clause-exists : goal.place-requires-clause-exists
+unfolding board_of
+place-requires-clause-exists c = rw (← c.self.view_is) at c.requires.exists
+
+pub place-requires-clause-free : goal.place-requires-clause-free
+unfolding board_of
+place-requires-clause-free c = rw (← c.self.view_is) at c.requires.free
+
+enters : (c : goal.After-place) → Enters (row_of c.self.inside.terms) (row_of c.place.new.terms) (group_at c.self.inside.members.entries) (group_at c.enter.new.members.entries)
+    c.args.t (row_in c.args.context.0 c.args.settings.now (row_of c.self.inside.terms c.args.t)) c.args.context.0
+unfolding board_of
+enters c = record {
+  was = rw (← c.self.view_is) at c.requires.free;
+  not_null = c.requires.to_context;
+  place = refl;
+  rows_are = c.place.ensures.rows;
+  members = rw c.in-Ok.is at c.enter.ensures.ok;
+}
+
+pub invariant_of-self-2 : goal.invariant_of-self-2
+invariant_of-self-2 c = tied_entered _ _ _ _ _ _ _ _ (enters c) c.self.invariant
+
+pub returns-clause-ok : goal.returns-clause-ok
+unfolding board_of
+returns-clause-ok c = rw (← c.self.view_is) (same_boards _ _ c.place.ensures.rows
+    (cut_of_same (row_of c.place.new.terms) _ _ (cuts_viewed c.self.inside.cuts.entries) ∙ cut_entered _ _ _ _ _ _ _ _ (enters c) c.self.invariant
+    ∙ sym (cut_of_same (row_of c.self.inside.terms) _ _ (cuts_viewed c.self.inside.cuts.entries)))
+    refl c.place.ensures.given)

@@ -1,0 +1,25 @@
+use Rattle.std.proofs.Common.{◌≡◌, ◌∙◌, sym, ap, refl, rules}
+use Rattle.terminations.specs.Table.{row_of, row_with}
+use Rattle.contexts.specs.Groups.{group_at}
+use Rattle.contexts.specs.Sheet.{board_of, cuts_at}
+use Rattle.mg_model.specs.Board.{place_in}
+use Rattle.mg_names.specs.declared.identifiers.TermId.{TermId}
+use Rattle.contexts.proofs.TieLemmas.{tied_within, cut_within, same_boards, place_kept, cut_of_same, cuts_viewed}
+use Rattle.contexts.proofs.board.Board.modify.Goals as goal
+
+pub apply-requires-clause-exists : goal.apply-requires-clause-exists
+unfolding board_of
+apply-requires-clause-exists c = rw (← c.self.view_is) at c.requires.exists
+
+kept : (c : goal.After-apply) (u : TermId) → place_in (row_of c.apply.new.terms u) ≡ place_in (row_of c.self.inside.terms u)
+kept c u = rw c.apply.ensures.rows (place_kept (row_of c.self.inside.terms) c.args.t _ refl u)
+
+pub invariant_of-self : goal.invariant_of-self
+invariant_of-self c = tied_within (row_of c.self.inside.terms) (row_of c.apply.new.terms) _ _ (kept c) c.self.invariant
+
+pub returns : goal.returns
+unfolding board_of
+returns c = rw (← c.self.view_is) (same_boards _ _ c.apply.ensures.rows
+    (cut_of_same (row_of c.apply.new.terms) _ _ (cuts_viewed c.self.inside.cuts.entries) ∙ cut_within (row_of c.self.inside.terms) (row_of c.apply.new.terms) (group_at c.self.inside.cuts.entries) (kept c)
+    ∙ sym (cut_of_same (row_of c.self.inside.terms) _ _ (cuts_viewed c.self.inside.cuts.entries)))
+    refl c.apply.ensures.given)

@@ -1,0 +1,22 @@
+use Rattle.std.proofs.Common.{◌≡◌, ◌∙◌, ℕ, Bool, Option, None, false, sym, ap, refl, rules}
+use Rattle.mg_names.specs.declared.identifiers.TermId.{TermId}
+use Rattle.mg_names.specs.declared.identifiers.TermId.TheVariants.{Line, Eph}
+use Rattle.mg_names.specs.declared.identifiers.LineNo.{LineNo}
+use Rattle.mg_model.specs.declared.rows.Row.{Row}
+use Rattle.std.proofs.Common.{List}
+use Rattle.terminations.specs.Table.{row_of}
+use Rattle.contexts.specs.Sheet.{board_of, opened, started, filled}
+use Rattle.contexts.proofs.TieLemmas.{same_boards}
+use Rattle.contexts.proofs.board.Board.new.Goals as goal
+
+from_nothing : (lines : List LineNo) (t : TermId) → filled lines (λ u. None) t ≡ started lines t
+from_nothing lines (Line l) = refl
+from_nothing lines (Eph k) = refl
+
+pub returns : goal.returns
+unfolding board_of
+returns c = same_boards _ _
+    (λ i t. (c.in_ok-add_lines.ensures.rows t ∙ ap (λ (rows : TermId → Option Row). filled c.args.lines.now rows t) c.new-terms.ensures.rows ∙ from_nothing c.args.lines.now t) i)
+    (rw c.new-2.ensures.empty refl)
+    (search rules)
+    (c.in_ok-add_lines.ensures.given ∙ c.new-terms.ensures.given)

@@ -1,0 +1,32 @@
+use Rattle.std.proofs.Common.{◌≡◌, ◌∙◌, sym, ap, refl, rules, true, is_some}
+use Rattle.mg_model.specs.Board.{place_in, same_term}
+use Rattle.mg_model.specs.Items.{without_cuts}
+use Rattle.terminations.specs.Table.{row_of, cleared}
+use Rattle.contexts.specs.Groups.{group_at}
+use Rattle.contexts.specs.Sheet.{board_of, cut_of, IsTied}
+use Rattle.contexts.proofs.TieLemmas.{Leaves, tied_left, cut_left, same_boards, cut_of_same, cuts_viewed}
+use Rattle.contexts.proofs.RowLemmas.{cleared_place, subtracted_one}
+use Rattle.contexts.proofs.board.Board.subtract.Goals as goal
+
+leaves : (c : goal.After-release) → Leaves (row_of c.self.inside.terms) (row_of c.release.new.terms) (group_at c.self.inside.members.entries) (group_at c.leave.new.members.entries)
+    (group_at c.self.inside.cuts.entries) (group_at c.forget.new.cuts.entries) c.args.t (cleared c.args.t (row_of c.self.inside.terms c.args.t)) c.args.context
+unfolding board_of
+leaves c = record {
+  was = rw (← c.self.view_is) at c.requires.stands;
+  place = cleared_place c.args.t _;
+  rows_are = c.release.ensures.rows;
+  members = c.leave.ensures;
+  cuts = c.forget.ensures;
+}
+
+pub invariant_of-self : goal.invariant_of-self
+invariant_of-self c = tied_left _ _ _ _ _ _ _ _ _ (leaves c) c.self.invariant
+
+pub returns : goal.returns
+unfolding board_of
+returns c = rw (← c.self.view_is) (same_boards _ _
+    (c.release.ensures.rows ∙ subtracted_one (row_of c.self.inside.terms) c.args.t (rw (← c.self.view_is) at c.requires.exists))
+    (cut_of_same (row_of c.release.new.terms) _ _ (cuts_viewed c.forget.new.cuts.entries) ∙ cut_left _ _ _ _ _ _ _ _ _ (leaves c) c.self.invariant
+    ∙ ap (without_cuts (λ u. same_term u c.args.t)) (sym (cut_of_same (row_of c.self.inside.terms) _ _ (cuts_viewed c.self.inside.cuts.entries))))
+    refl
+    c.release.ensures.given)

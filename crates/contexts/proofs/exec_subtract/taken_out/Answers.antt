@@ -1,0 +1,11 @@
+use Rattle.std.proofs.Common.{◌≡◌, refl, rules}
+use Rattle.contexts.proofs.ListsLemmas.{lists_same}
+use Rattle.contexts.proofs.exec_subtract.taken_out.Goals as goal
+
+pub returns : goal.returns
+returns c = record {
+  context = refl;
+  ephemeral = refl;
+  lines = lists_same _ _ _ c.in_ok-line_set.ensures c.in_ok-lines.ensures;
+  ephemerals = lists_same _ _ _ c.in_ok-ephemeral_set.ensures c.in_ok-ephemerals.ensures;
+}

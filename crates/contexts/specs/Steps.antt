@@ -1,0 +1,56 @@
+-- What a step of a command does to the board.
+use Rattle.std.specs.Prelude.{◌≡◌, ℕ, false, true, ◌⊎◌, Option, Some, None, List, []}
+use Rattle.std.specs.List.{list_any}
+use Rattle.mg_names.specs.declared.identifiers.TermId.{TermId}
+use Rattle.mg_names.specs.declared.identifiers.TermId.TheVariants.{Line, Eph}
+use Rattle.mg_model.specs.declared.items.Settings.{Settings}
+use Rattle.mg_model.specs.declared.items.Added.{Added}
+use Rattle.mg_model.specs.declared.items.Added.TheVariants as added
+use Rattle.mg_model.specs.Board.{Board, ContextExists, exists, place_of, same_term}
+use Rattle.mg_model.specs.Items.{Done, Lists, is_ephemeral_number, with_ephemeral, given, choose, NoContextLeft, NoEphemeralLeft, EphemeralsUsedUp, placed}
+use Rattle.contexts.specs.Rows.{fits}
+use Rattle.contexts.specs.Sheet.{stands_in}
+
+-- a new ephemeral stands in a context, and its number was not given
+pub record IsEntered (old new : Board) (context : ℕ) (settings : Settings) (number : ℕ) : Type 0 where
+  pub fits : is_ephemeral_number number
+  pub fresh : old.given_ephemeral number ≡ false
+  pub board : new ≡ record (with_ephemeral old number context settings) { given_ephemeral = given true number old.given_ephemeral }
+
+-- a context doesn't exist; another one may be named
+abbrev pub IsUnknown : Board → ℕ → Type 0
+IsUnknown b c = ContextExists b c → ⊥
+
+abbrev pub IsUnknownBut : Board → ℕ → ℕ → Type 0
+IsUnknownBut b c but = (c ≡ but → ⊥) × (ContextExists b c → ⊥)
+
+abbrev pub NoneLeftFor : Board → ℕ → Added → Type 0
+NoneLeftFor b c added = ((c ≡ choose) × NoContextLeft b) ⊎ EphemeralsUsedUp b added
+
+-- what a command tells that takes nothing out of its context
+abbrev pub created : Option ℕ → Option ℕ → Done
+created context ephemeral = record { context = context; ephemeral = ephemeral; lines = []; ephemerals = [] }
+
+-- what is added stands in the null context, or can be created
+abbrev pub CanBeAdded : Board → Added → Settings → Type 0
+CanBeAdded b (added.Line l) settings = (exists b (Line l) ≡ true) × (place_of b (Line l) ≡ 0) × (fits (Line l) settings.remote ≡ true)
+CanBeAdded b added.NewEphemeral settings = NoEphemeralLeft b → ⊥
+
+abbrev pub IsAdded : Board → Board → ℕ → Added → Settings → Option ℕ → Type 0
+IsAdded old new c (added.Line l) settings number = (number ≡ None) × (new ≡ placed old (Line l) c settings)
+IsAdded old new c added.NewEphemeral settings None = ⊥
+IsAdded old new c added.NewEphemeral settings (Some number) = IsEntered old new c settings number
+
+-- what a command tells that takes terminations out of their context and creates nothing
+pub record IsTakenOut (group : List TermId) (done : Done) : Type 0 where
+  pub context : done.context ≡ None
+  pub ephemeral : done.ephemeral ≡ None
+  pub lines : Lists (λ n. list_any (same_term (Line (record { 0 = n }))) group) done.lines
+  pub ephemerals : Lists (λ n. list_any (same_term (Eph n)) group) done.ephemerals
+
+-- what a command tells that takes all terminations out of a context
+pub record IsEmptied (b : Board) (c : ℕ) (done : Done) : Type 0 where
+  pub context : done.context ≡ None
+  pub ephemeral : done.ephemeral ≡ None
+  pub lines : Lists (λ n. stands_in b.row c (Line (record { 0 = n }))) done.lines
+  pub ephemerals : Lists (λ n. stands_in b.row c (Eph n)) done.ephemerals

@@ -1,0 +1,66 @@
+//! Add (H.248.1 section 7.2.1).
+ghost use Rattle.std.specs.Prelude.{◌≡◌, ◌≢◌, true, OnOk, OnErr, IfOk};
+ghost use Rattle.mg_model.specs.Board.{place_of, exists};
+ghost use Rattle.mg_model.specs.Items.{placed, NoEphemeralLeft};
+ghost use Rattle.contexts.specs.Rows.{fits};
+ghost use Rattle.contexts.specs.Sheet.{board_of};
+ghost use Rattle.contexts.specs.Steps.{IsEntered};
+
+use crate::board::Board;
+use crate::{members, rows};
+use mg_model::items::Settings;
+use mg_names::identifiers::{ContextId, TermId};
+use std::alloc::AllocError;
+
+impl Board {
+    /// Puts a termination of the null context into another one.
+    pub(crate) fn enter(
+        &mut self,
+        context: ContextId,
+        t: TermId,
+        settings: &Settings,
+    ) -> Result<(), AllocError>
+        requires exists { exists (board_of self.old) t ≡ true }
+        requires free { place_of (board_of self.old) t ≡ 0 }
+        requires to_context { context.0 ≢ 0 }
+        requires fits { fits t settings.now.remote ≡ true }
+        ensures ok { OnOk result (board_of self.new ≡ placed (board_of self.old) t context.0 settings.now) }
+        ensures last { self.new.last ≡ self.old.last }
+        ensures err { OnErr result (board_of self.new ≡ board_of self.old) }
+    {
+        let Ok(_) = members::enter(&mut self.members, self.alloc, context.0, t) else {
+            return Err(AllocError);
+        };
+        rows::place(&mut self.terms, t, context, settings);
+        Ok(())
+    }
+}
+
+impl Board {
+    /// Creates an ephemeral in a context. The number is the one that was next.
+    pub(crate) fn enter_new(
+        &mut self,
+        context: ContextId,
+        settings: &Settings,
+    ) -> Result<u32, AllocError>
+        requires left { NoEphemeralLeft (board_of self.old) → ⊥ }
+        requires to_context { context.0 ≢ 0 }
+        ensures ok { IfOk result (λ number. IsEntered (board_of self.old) (board_of self.new) context.0 settings.now number) }
+        ensures last { self.new.last ≡ self.old.last }
+        ensures err { OnErr result (board_of self.new ≡ board_of self.old) }
+    {
+        let Some(number) = self.terms.next() else {
+            return Err(AllocError);
+        };
+        let t = TermId::Eph(number);
+        let Ok(_) = members::enter(&mut self.members, self.alloc, context.0, t) else {
+            return Err(AllocError);
+        };
+        let Ok(_) = self.terms.create() else {
+            members::leave(&mut self.members, context.0, t);
+            return Err(AllocError);
+        };
+        rows::place(&mut self.terms, t, context, settings);
+        Ok(number)
+    }
+}

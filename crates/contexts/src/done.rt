@@ -1,0 +1,51 @@
+//! What a command tells of itself.
+ghost use Rattle.std.specs.Prelude.{◌≡◌};
+
+use std::marker::Model;
+
+/// What a command created, and what it took out of its context.
+#[derive(Drop)]
+pub struct Done {
+    pub(crate) context: Option<u32>,
+    pub(crate) ephemeral: Option<u32>,
+    pub(crate) lines: Vec<u32>,
+    pub(crate) ephemerals: Vec<u32>,
+}
+
+impl Model for Done {
+    ghost use Rattle.mg_model.specs.Items as items;
+
+    ghost Value = { items.Done };
+
+    ghost view = { λ d. record { context = d.context; ephemeral = d.ephemeral; lines = d.lines.items; ephemerals = d.ephemerals.items } };
+}
+
+impl Done {
+    /// The number of the context that the command created.
+    pub fn context(&self) -> Option<u32>
+        ensures { result ≡ self.now.context }
+    {
+        self.context
+    }
+
+    /// The number of the ephemeral that the command created.
+    pub fn ephemeral(&self) -> Option<u32>
+        ensures { result ≡ self.now.ephemeral }
+    {
+        self.ephemeral
+    }
+
+    /// The numbers of the lines that went to the null context, in rising order.
+    pub fn lines(&self) -> &[u32]
+        ensures { result.now ≡ self.now.lines }
+    {
+        self.lines.as_slice()
+    }
+
+    /// The numbers of the ephemerals that were destroyed, in rising order.
+    pub fn ephemerals(&self) -> &[u32]
+        ensures { result.now ≡ self.now.ephemerals }
+    {
+        self.ephemerals.as_slice()
+    }
+}

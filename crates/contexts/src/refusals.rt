@@ -1,0 +1,241 @@
+//! Why a command is refused: the codes in their order, each with its own test.
+ghost use Rattle.std.specs.Prelude.{◌≡◌, not, ◌||◌, IsTrue, ◌↔◌, MatchOption};
+ghost use Rattle.mg_model.specs.Board.{exists, place_of, ContextExists};
+ghost use Rattle.mg_model.specs.Items.{LacksContext, names_nothing, remote_refused, lacks_termination, is_taken, is_misplaced, NoContextLeft, NoEphemeralLeft, EphemeralsUsedUp, IsUsedUp, IsLegal, IsRefused};
+ghost use Rattle.contexts.specs.Sheet.{board_of};
+ghost use Rattle.contexts.specs.Steps.{IsUnknown, IsUnknownBut, NoneLeftFor};
+
+use crate::board::Board;
+use crate::same::is_same;
+use mg_model::items::{Added, Item, RemoteSetting};
+use mg_names::codes::Code;
+use mg_names::identifiers::{ContextId, TermId};
+
+/// The last number that a context may have.
+const LAST_CONTEXT: u32 = 0xFFFF_FFFD;
+
+impl Board {
+    /// Whether a context doesn't exist.
+    fn is_unknown(&self, context: ContextId) -> bool
+        ensures { IsTrue result ↔ IsUnknown (board_of self.now) context.0 }
+    {
+        !self.has_context(context.0)
+    }
+
+    /// Whether a context doesn't exist and isn't another one that may be named.
+    fn is_unknown_but(&self, context: ContextId, but: ContextId) -> bool
+        ensures { IsTrue result ↔ IsUnknownBut (board_of self.now) context.0 but.0 }
+    {
+        if context.0 == but.0 {
+            return false;
+        }
+        self.is_unknown(context)
+    }
+
+    /// 411: the context doesn't exist.
+    fn lacks_context(&self, item: &Item) -> bool
+        ensures { IsTrue result ↔ LacksContext (board_of self.now) item.now }
+    {
+        match *item {
+            Item::Add { context, .. } => self.is_unknown_but(context, ContextId(0xFFFF_FFFE)),
+            Item::Modify { context, .. } => self.is_unknown_but(context, ContextId(0)),
+            Item::Move { context, .. } => self.is_unknown(context),
+            Item::Subtract { context, .. } => self.is_unknown(context),
+            Item::SubtractAll { context } => self.is_unknown(context),
+            Item::SetTopology { context, .. } => self.is_unknown(context),
+        }
+    }
+
+    /// Whether a termination exists.
+    #[tactic(auto, unfolding(crate::specs::Sheet::board_of))]
+    pub(crate) fn exists(&self, t: TermId) -> bool
+        ensures { result ≡ exists (board_of self.now) t }
+    {
+        self.get(t).is_some()
+    }
+
+    /// The number of the context of a termination; 0 where it doesn't exist.
+    #[tactic(auto, unfolding(crate::specs::Sheet::board_of))]
+    pub(crate) fn place_of(&self, t: TermId) -> u32
+        ensures { result ≡ place_of (board_of self.now) t }
+    {
+        match self.get(t) {
+            Some(row) => row.place.0,
+            None => 0,
+        }
+    }
+
+    /// Whether a Remote names an ephemeral that doesn't exist.
+    fn names_nothing(&self, remote: Option<RemoteSetting>) -> bool
+        ensures { result ≡ names_nothing (board_of self.now) remote }
+    {
+        match remote {
+            Some(RemoteSetting::Ephemeral(number)) => !self.exists(TermId::Eph(number)),
+            _ => false,
+        }
+    }
+
+    /// Whether a Remote can't be set.
+    fn is_remote_refused(&self, t: &TermId, remote: Option<RemoteSetting>) -> bool
+        ensures { result ≡ remote_refused (board_of self.now) t.now remote }
+    {
+        match *t {
+            TermId::Line(_) => remote.is_some(),
+            TermId::Eph(_) => self.names_nothing(remote),
+        }
+    }
+
+    /// Whether a termination is unknown, or a Remote can't be set on it.
+    fn is_unknown_or_refused(&self, t: &TermId, remote: Option<RemoteSetting>) -> bool
+        ensures { result ≡ (not (exists (board_of self.now) t.now) || remote_refused (board_of self.now) t.now remote) }
+    {
+        !self.exists(*t) || self.is_remote_refused(t, remote)
+    }
+
+    /// 430: a termination or the Remote is unknown.
+    fn lacks_termination(&self, item: &Item) -> bool
+        ensures { result ≡ lacks_termination (board_of self.now) item.now }
+    {
+        match *item {
+            Item::Add {
+                added: Added::Line(line),
+                settings,
+                ..
+            } => self.is_unknown_or_refused(&TermId::Line(line), settings.remote),
+            Item::Add {
+                added: Added::NewEphemeral,
+                settings,
+                ..
+            } => self.names_nothing(settings.remote),
+            Item::Modify {
+                termination,
+                settings,
+                ..
+            } => self.is_unknown_or_refused(&termination, settings.remote),
+            Item::Move {
+                termination,
+                settings,
+                ..
+            } => self.is_unknown_or_refused(&termination, settings.remote),
+            Item::Subtract { termination, .. } => !self.exists(termination),
+            Item::SubtractAll { .. } => false,
+            Item::SetTopology { first, second, .. } => !self.exists(first) || !self.exists(second),
+        }
+    }
+
+    /// 433: the line that is added stands in a context.
+    fn is_taken(&self, item: &Item) -> bool
+        ensures { result ≡ is_taken (board_of self.now) item.now }
+    {
+        match *item {
+            Item::Add {
+                added: Added::Line(line),
+                ..
+            } => self.place_of(TermId::Line(line)) != 0,
+            _ => false,
+        }
+    }
+
+    /// 435: the termination isn't where the command has to find it.
+    fn is_misplaced(&self, item: &Item) -> bool
+        ensures { result ≡ is_misplaced (board_of self.now) item.now }
+    {
+        match *item {
+            Item::Add { .. } => false,
+            Item::Modify {
+                context,
+                termination,
+                ..
+            } => self.place_of(termination) != context.0,
+            Item::Move {
+                context,
+                termination,
+                ..
+            } => self.place_of(termination) == 0 || self.place_of(termination) == context.0,
+            Item::Subtract {
+                context,
+                termination,
+            } => self.place_of(termination) != context.0,
+            Item::SubtractAll { .. } => false,
+            Item::SetTopology {
+                context,
+                first,
+                second,
+                ..
+            } => {
+                self.place_of(first) != context.0
+                    || (self.place_of(second) != context.0 || is_same(&first, &second))
+            }
+        }
+    }
+
+    /// Whether each number of a context was given.
+    fn has_no_context_left(&self) -> bool
+        ensures { IsTrue result ↔ NoContextLeft (board_of self.now) }
+    {
+        self.last >= LAST_CONTEXT
+    }
+
+    /// Whether each number of an ephemeral was given.
+    #[tactic(auto, unfolding(crate::specs::Sheet::board_of))]
+    fn has_no_ephemeral_left(&self) -> bool
+        ensures { IsTrue result ↔ NoEphemeralLeft (board_of self.now) }
+    {
+        match self.terms.next() {
+            Some(_) => false,
+            None => true,
+        }
+    }
+
+    /// Whether no number is left for a new ephemeral.
+    fn has_none_left_for(&self, added: &Added) -> bool
+        ensures { IsTrue result ↔ EphemeralsUsedUp (board_of self.now) added.now }
+    {
+        match *added {
+            Added::Line(_) => false,
+            Added::NewEphemeral => self.has_no_ephemeral_left(),
+        }
+    }
+
+    /// Whether no number is left for what an Add creates.
+    fn is_add_used_up(&self, context: ContextId, added: &Added) -> bool
+        ensures { IsTrue result ↔ NoneLeftFor (board_of self.now) context.0 added.now }
+    {
+        if context.0 == 0xFFFF_FFFE && self.has_no_context_left() {
+            return true;
+        }
+        self.has_none_left_for(added)
+    }
+
+    /// 510: no number is left for what the command creates.
+    fn is_used_up(&self, item: &Item) -> bool
+        ensures { IsTrue result ↔ IsUsedUp (board_of self.now) item.now }
+    {
+        match *item {
+            Item::Add { context, added, .. } => self.is_add_used_up(context, &added),
+            _ => false,
+        }
+    }
+
+    /// The code that refuses a command: the first one that applies.
+    pub(crate) fn refusal(&self, item: &Item) -> Option<Code>
+        ensures { MatchOption result (IsLegal (board_of self.now) item.now) (IsRefused (board_of self.now) item.now) }
+    {
+        if self.lacks_context(item) {
+            return Some(Code::UnknownContext);
+        }
+        if self.lacks_termination(item) {
+            return Some(Code::UnknownTermination);
+        }
+        if self.is_taken(item) {
+            return Some(Code::AlreadyInContext);
+        }
+        if self.is_misplaced(item) {
+            return Some(Code::NotInContext);
+        }
+        if self.is_used_up(item) {
+            return Some(Code::InsufficientResources);
+        }
+        None
+    }
+}

@@ -1,0 +1,28 @@
+-- Rows by number: each of them made idle.
+use Rattle.std.proofs.Common.{◌≡◌, ℕ, Bool, true, false, cond, List, [], ◌∷◌, map, Option, Some, refl}
+use Rattle.mg_model.specs.declared.rows.Row.{Row}
+use Rattle.std.specs.Map.{lookup}
+use Rattle.mg_names.specs.declared.identifiers.TermId.{TermId}
+use Rattle.mg_names.specs.declared.identifiers.TermId.TheVariants.{Eph}
+use Rattle.std.proofs.Common.{◌+◌, IsTrue, arith}
+use Rattle.std.proofs.lemmas.Grind.{common_steps}
+use Rattle.terminations.specs.Table.{overwritten, idle, with_remote, is_given}
+
+-- what a look-up finds in rows that were all made idle
+pub lookup-idle : (test : ℕ → Bool) (rows : List (ℕ × Row)) → lookup test (map (λ (e : ℕ × Row). (e.0, idle)) rows) ≡ overwritten idle (lookup test rows)
+lookup-idle test [] = refl
+lookup-idle test (e ∷ rows) = by_test (test e.0) (lookup-idle test rows)
+  where
+    by_test : (b : Bool) → lookup test (map (λ (e : ℕ × Row). (e.0, idle)) rows) ≡ overwritten idle (lookup test rows) →
+        cond b (Some idle) (lookup test (map (λ (e : ℕ × Row). (e.0, idle)) rows)) ≡ overwritten idle (cond b (Some e.1) (lookup test rows))
+    by_test true more = refl
+    by_test false more = more
+
+-- the row of an ephemeral with another Remote
+pub remote_overwritten : (t : TermId) (k : ℕ) → t ≡ Eph k → (old : Option Row) (row : Row) (remote : Option ℕ) → old ≡ Some row →
+    overwritten (record row { remote = remote }) old ≡ with_remote t remote old
+remote_overwritten t k is old row remote there = rw is (rw there refl)
+
+-- the number after the last one wasn't given
+pub next_not_given : (last : ℕ) → IsTrue (is_given last (last + 1)) → ⊥
+next_not_given last h = grind (arith, common_steps)

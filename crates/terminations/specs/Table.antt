@@ -1,0 +1,132 @@
+-- What a table of terminations shows: lists of rows by number, and the last number that an ephemeral was given; from them the
+-- row of a termination, and which numbers were given. A reader should check that each change speaks of the one row that it
+-- names, and that a number counts as given from 1 to the last.
+use Rattle.std.specs.Prelude.{◌≡◌, ℕ, ◌+◌, ◌<◌, ◌==◌, nat_lt, nat_le, Bool, true, false, ◌&&◌, if◌then◌else◌, List, Option, Some, None, Result, Ok, Err, IfSome}
+use Rattle.std.specs.Ordering.{nat_cmp}
+use Rattle.std.specs.BTreeMap.{is_at}
+use Rattle.std.specs.Map.{lookup}
+use Rattle.mg_names.specs.declared.codes.Code.{Code}
+use Rattle.mg_names.specs.declared.codes.Code.TheVariants.{UnknownTermination, AlreadyInContext}
+use Rattle.mg_names.specs.declared.identifiers.ContextId.{ContextId}
+use Rattle.mg_names.specs.declared.identifiers.TermId.{TermId}
+use Rattle.mg_names.specs.declared.identifiers.TermId.TheVariants.{Line, Eph}
+use Rattle.mg_names.specs.declared.modes.Mode.{Mode}
+use Rattle.mg_names.specs.declared.modes.Mode.TheVariants.{Inactive}
+use Rattle.mg_model.specs.declared.rows.Row.{Row}
+use Rattle.mg_model.specs.Board.{same_term}
+use Rattle.mg_model.specs.Items.{given, is_ephemeral_number}
+
+pub record Table : Type 0 where
+  pub lines : List (ℕ × Row)
+  pub ephemerals : List (ℕ × Row)
+  -- the last number that an ephemeral was given, or 0
+  pub last : ℕ
+
+-- the row at a number
+abbrev pub row_at : List (ℕ × Row) → ℕ → Option Row
+row_at rows n = lookup (is_at (nat_cmp n)) rows
+
+-- the row of a termination; nothing where it doesn't exist
+unfoldable pub row_of : Table → TermId → Option Row
+row_of table (Line l) = row_at table.lines l.0
+row_of table (Eph k) = row_at table.ephemerals k
+
+-- whether an ephemeral was given this number
+abbrev pub is_given : ℕ → ℕ → Bool
+is_given last n = nat_lt 0 n && nat_le n last
+
+unfoldable pub given_of : Table → ℕ → Bool
+given_of table n = is_given table.last n
+
+-- the number of the ephemeral that is created next
+abbrev pub next_of : Table → Option ℕ
+next_of table = if nat_lt table.last 4294967295 then Some (table.last + 1) else None
+
+-- the rows with one of them changed
+abbrev pub row_with : (TermId → Option Row) → TermId → Option Row → TermId → Option Row
+row_with rows t row u = if same_term u t then row else rows u
+
+-- the row of a termination in the null context on which nothing is set
+abbrev pub idle : Row
+idle = record { place = record { 0 = 0 }; mode = Inactive; remote = None }
+
+-- ---- how a row changes; a row that isn't there stays so
+
+abbrev pub overwritten : Row → Option Row → Option Row
+overwritten row None = None
+overwritten row (Some old) = Some row
+
+-- it goes from the null context to another one; from any other it doesn't go
+abbrev pub put_in : ContextId → Row → Row
+put_in context row = if row.place.0 == 0 then record row { place = context } else row
+
+abbrev pub put : ContextId → Option Row → Option Row
+put context None = None
+put context (Some row) = Some (put_in context row)
+
+abbrev pub left : Option Row → Option Row
+left None = None
+left (Some row) = Some (record row { place = record { 0 = 0 } })
+
+-- an ephemeral is no more; a line stays
+abbrev pub destroyed : TermId → Option Row → Option Row
+destroyed (Line l) row = row
+destroyed (Eph k) row = None
+
+abbrev pub with_mode : Mode → Option Row → Option Row
+with_mode mode None = None
+with_mode mode (Some row) = Some (record row { mode = mode })
+
+-- a line has no Remote
+abbrev pub with_remote : TermId → Option ℕ → Option Row → Option Row
+with_remote (Line l) remote row = row
+with_remote (Eph k) remote None = None
+with_remote (Eph k) remote (Some row) = Some (record row { remote = remote })
+
+-- a line goes to the null context, Inactive; an ephemeral is no more
+abbrev pub cleared : TermId → Option Row → Option Row
+cleared (Line l) None = None
+cleared (Line l) (Some row) = Some idle
+cleared (Eph k) row = None
+
+-- ---- the answers
+
+abbrev pub known : Option Row → Result (Unit {0}) Code
+known None = Err UnknownTermination
+known (Some row) = Ok tt
+
+abbrev pub unless_taken : Option Row → Result (Unit {0}) Code
+unless_taken None = Err UnknownTermination
+unless_taken (Some row) = if row.place.0 == 0 then Ok tt else Err AlreadyInContext
+
+abbrev pub known_ephemeral : TermId → Option Row → Result (Unit {0}) Code
+known_ephemeral (Line l) row = Err UnknownTermination
+known_ephemeral (Eph k) row = known row
+
+-- ---- what is so of every table
+
+-- nothing stands at a number that wasn't given
+abbrev pub NoneAbove : List (ℕ × Row) → ℕ → Type 0
+NoneAbove rows last = (n : ℕ) → last < n → row_at rows n ≡ None
+
+abbrev pub NoRemotes : List (ℕ × Row) → Type 0
+NoRemotes rows = (n : ℕ) → IfSome (row_at rows n) (λ row. row.remote ≡ None)
+
+-- a line's row has no Remote
+abbrev pub IsBare : TermId → Row → Type 0
+IsBare (Line l) row = row.remote ≡ None
+IsBare (Eph k) row = Unit {0}
+
+pub record IsSound (lines ephemerals : List (ℕ × Row)) (last : ℕ) : Type 0 where
+  pub above : NoneAbove ephemerals last
+  pub lines_bare : NoRemotes lines
+
+-- t is an ephemeral with a number that wasn't given, and it is the one thing that is new
+pub record IsCreated (old new : Table) (t : TermId) : Type 0 where
+  pub number : ℕ
+  pub is : t ≡ Eph number
+  pub fits : is_ephemeral_number number
+  pub fresh : given_of old number ≡ false
+  pub absent : row_of old t ≡ None
+  pub rows : row_of new ≡ row_with (row_of old) t (Some idle)
+  pub numbers : given_of new ≡ given true number (given_of old)
