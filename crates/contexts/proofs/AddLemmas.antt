@@ -1,19 +1,17 @@
 -- Add, from its step on the board to the command as it is defined.
-use Rattle.std.proofs.Common.{◌≡◌, ◌≢◌, ℕ, ◌<◌, ◌+◌, ◌==◌, Bool, true, false, not, ◌&&◌, ◌||◌, IsTrue, if◌then◌else◌, refl, ap, sym, ◌∙◌, arith, rules, Option, Some, None, inr}
+use Rattle.std.proofs.Common.{◌≡◌, ◌≢◌, ℕ, ◌<◌, ◌+◌, ◌==◌, Bool, true, false, if◌then◌else◌, refl, ap, sym, ◌∙◌, arith, rules, Option, Some, None, inr}
 use Rattle.std.proofs.lemmas.Grind.{common_steps}
-use Rattle.mg_names.specs.declared.codes.Code.TheVariants.{UnknownContext, UnknownTermination, AlreadyInContext, NotInContext, InsufficientResources}
+use Rattle.mg_names.specs.declared.codes.Code.TheVariants.{UnknownContext, UnknownTermination, AlreadyInContext, InsufficientResources}
 use Rattle.mg_names.specs.declared.identifiers.ContextId.{ContextId}
-use Rattle.mg_names.specs.declared.identifiers.TermId.{TermId}
-use Rattle.mg_names.specs.declared.identifiers.TermId.TheVariants.{Line, Eph}
+use Rattle.mg_names.specs.declared.identifiers.TermId.TheVariants.{Line}
 use Rattle.mg_model.specs.declared.items.Added.{Added}
 use Rattle.mg_model.specs.declared.items.Added.TheVariants as added
 use Rattle.mg_model.specs.declared.items.Item.TheVariants.{Add}
 use Rattle.mg_model.specs.declared.items.Settings.{Settings}
 use Rattle.mg_model.specs.Board.{Board}
-use Rattle.mg_model.specs.Items.{IsLegal, IsExecuted, is_context_number, choose, given, only_if, Chosen, null}
+use Rattle.mg_model.specs.Items.{IsLegal, IsExecuted, is_context_number, choose, given, only_if}
 use Rattle.terminations.specs.Table.{is_given}
-use Rattle.contexts.specs.Steps.{created, CanBeAdded, IsAdded, IsEntered}
-use Rattle.contexts.proofs.TermLemmas.{by_value, not_both}
+use Rattle.contexts.specs.Steps.{created, CanBeAdded, IsAdded}
 use Rattle.contexts.proofs.ExecLemmas.{both_known, is_place, fits_from, no_numbers, not_null}
 
 pub can_be_added : (b : Board) (context : ContextId) (what : Added) (settings : Settings) → IsLegal b (Add context what settings) → CanBeAdded b what settings

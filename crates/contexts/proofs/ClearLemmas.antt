@@ -1,5 +1,5 @@
 -- Terminations taken out of their context one after the other, or all at once.
-use Rattle.std.proofs.Common.{◌≡◌, ◌≢◌, ℕ, ◌<◌, ◌+◌, suc, zero, ◌==◌, Bool, true, false, not, ◌&&◌, ◌||◌, IsTrue, is_some, if◌then◌else◌, refl, ap, sym, ◌∙◌, subst, arith, rules, List, [], ◌∷◌, Option, Some, None, drop, length, get_or}
+use Rattle.std.proofs.Common.{◌≡◌, ◌≢◌, ℕ, ◌==◌, Bool, true, false, not, ◌&&◌, if◌then◌else◌, refl, ap, sym, ◌∙◌, arith, rules, List, [], ◌∷◌, Option, Some, None}
 use Rattle.std.proofs.lemmas.Grind.{common_steps}
 use Rattle.std.specs.List.{list_any}
 use Rattle.mg_names.specs.declared.identifiers.TermId.{TermId}
@@ -9,10 +9,10 @@ use Rattle.mg_model.specs.Board.{same_term, place_in}
 use Rattle.mg_model.specs.Items.{without_cuts, subtracted}
 use Rattle.terminations.specs.Table.{row_with, cleared}
 use Rattle.contexts.specs.declared.cuts.Cut.{Cut}
-use Rattle.contexts.specs.Groups.{listed, has_member, has_cut}
+use Rattle.contexts.specs.Groups.{listed, has_cut}
 use Rattle.contexts.specs.Sheet.{cut_of, stands_in, IsTied}
-use Rattle.contexts.proofs.TermLemmas.{same_itself, same_is, by_value, not_both}
-use Rattle.contexts.proofs.TieLemmas.{not_cut, stands_splits, stands_from}
+use Rattle.contexts.proofs.TermLemmas.{same_is, by_value, not_both}
+use Rattle.contexts.proofs.TieLemmas.{not_cut, stands_splits}
 use Rattle.contexts.proofs.RowLemmas.{cleared_place}
 use Rattle.contexts.proofs.MoveLemmas.{is_number, is_not}
 

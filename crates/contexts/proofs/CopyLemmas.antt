@@ -1,10 +1,9 @@
 -- Lists by context, copied item by item.
-use Rattle.std.proofs.Common.{◌≡◌, ℕ, refl, ap, rules, List, [], ◌∷◌, Option, Some, None, Vec, nat_cmp, Bool, true, false, cond}
+use Rattle.std.proofs.Common.{◌≡◌, ℕ, refl, ap, rules, List, Option, Some, None, Vec, nat_cmp}
 use Rattle.std.specs.List.{AllZip}
 use Rattle.std.specs.Option.{MatchOption, IsSomeAnd}
 use Rattle.std.specs.BTreeMap.{is_at}
 use Rattle.std.specs.Map.{lookup}
-use Rattle.std.proofs.lemmas.List.Elements.{same_from_all_zip}
 use Rattle.std.proofs.lemmas.Map.Entries.{lookup_clone}
 use Rattle.contexts.specs.Groups.{group_at, items_in}
 

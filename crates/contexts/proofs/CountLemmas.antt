@@ -1,8 +1,7 @@
 -- The contexts of an index, in rising number.
-use Rattle.std.proofs.Common.{◌≡◌, ℕ, zero, suc, ◌<◌, Bool, true, false, IsTrue, is_some, IsSome, ◌↔◌, refl, sym, ◌∙◌, arith, rules, List, [], ◌∷◌, Contains, Option, Some, None, Vec, nat_cmp, length, BTreeMap, Less}
+use Rattle.std.proofs.Common.{◌≡◌, ℕ, zero, suc, ◌<◌, IsTrue, is_some, IsSome, ◌↔◌, refl, arith, rules, List, [], ◌∷◌, Contains, Option, Some, None, Vec, nat_cmp, length, BTreeMap, Less}
 use Rattle.std.proofs.lemmas.Grind.{common_steps}
 use Rattle.std.proofs.lemmas.Cmp.{nat_cmp_total}
-use Rattle.std.proofs.lemmas.List.Elements.{All-contains}
 use Rattle.std.proofs.lemmas.Map.Views.{btree_map_contains_key_iff}
 use Rattle.std.proofs.lemmas.Map.Lookups.{exact_unsigned}
 use Rattle.std.specs.BTreeMap.{IsOrdered, keys, get}

@@ -1,5 +1,5 @@
 -- What is cut between two terminations, set anew both ways.
-use Rattle.std.proofs.Common.{◌≡◌, ℕ, ◌==◌, Bool, true, false, not, ◌&&◌, ◌||◌, if◌then◌else◌, refl, ap, sym, ◌∙◌, arith, rules, List, [], ◌∷◌, ◌++◌, Option, Some, None, filter}
+use Rattle.std.proofs.Common.{◌≡◌, ℕ, ◌==◌, Bool, true, false, not, ◌&&◌, ◌||◌, if◌then◌else◌, refl, ap, sym, ◌∙◌, arith, List, [], ◌∷◌, Option, Some, filter}
 use Rattle.std.proofs.lemmas.Grind.{common_steps}
 use Rattle.std.proofs.lemmas.List.Folds.{list_any-append}
 use Rattle.std.proofs.lemmas.Map.Views.{any-filter_same}
@@ -12,7 +12,7 @@ use Rattle.contexts.specs.declared.cuts.Cut.{Cut}
 use Rattle.contexts.specs.Groups.{listed, has_cut, is_of, is_between, cut_if, set_between}
 use Rattle.contexts.specs.Sheet.{cut_of, stands_in, IsTied}
 use Rattle.contexts.proofs.TermLemmas.{same_is, same_back, split_and, by_value, not_both}
-use Rattle.contexts.proofs.TieLemmas.{not_cut, stands_not, stands_splits, stands_from}
+use Rattle.contexts.proofs.TieLemmas.{not_cut, stands_not, stands_from}
 
 pub cut_if_has : (wanted : Bool) (t u x y : TermId) (cs : List Cut) → list_any (is_of x y) (cut_if wanted t u cs) ≡ (list_any (is_of x y) cs || (wanted && (same_term t x && same_term u y)))
 cut_if_has true t u x y cs = list_any-append (is_of x y) cs (record { source = t; sink = u } ∷ []) ∙ or_false (list_any (is_of x y) cs) (same_term t x && same_term u y)

@@ -1,17 +1,12 @@
 -- From a command's step on the board to the command as it is defined.
-use Rattle.std.proofs.Common.{◌≡◌, ◌≢◌, ℕ, ◌<◌, ◌==◌, Bool, true, false, not, ◌&&◌, ◌||◌, IsTrue, ◌↔◌, refl, ap, sym, ◌∙◌, arith, rules, List, [], Contains, Option, Some, None}
+use Rattle.std.proofs.Common.{◌≡◌, ◌≢◌, ℕ, ◌==◌, Bool, true, false, not, ◌&&◌, ◌||◌, IsTrue, refl, arith, rules, [], Option, Some, None}
 use Rattle.std.proofs.lemmas.Grind.{common_steps}
-use Rattle.mg_names.specs.declared.codes.Code.TheVariants.{UnknownContext, UnknownTermination, AlreadyInContext, NotInContext, InternalFailure, InsufficientResources}
-use Rattle.mg_names.specs.declared.identifiers.ContextId.{ContextId}
 use Rattle.mg_names.specs.declared.identifiers.TermId.{TermId}
 use Rattle.mg_names.specs.declared.identifiers.TermId.TheVariants.{Line, Eph}
-use Rattle.mg_names.specs.declared.topologies.Topology.{Topology}
 use Rattle.mg_model.specs.declared.items.Item.{Item}
-use Rattle.mg_model.specs.declared.items.Item.TheVariants.{Add, Modify, Move, Subtract, SubtractAll, SetTopology}
 use Rattle.mg_model.specs.declared.items.RemoteSetting.{RemoteSetting}
-use Rattle.mg_model.specs.declared.items.Settings.{Settings}
-use Rattle.mg_model.specs.Board.{Board, same_term, exists, place_of, ContextExists}
-use Rattle.mg_model.specs.Items.{Done, Lists, IsLegal, IsExecuted, IsResult, IsFresh, Chosen, creates_context, creates_ephemeral, leaves, effect, remote_refused, is_misplaced, IsRising}
+use Rattle.mg_model.specs.Board.{Board, exists, ContextExists}
+use Rattle.mg_model.specs.Items.{Done, Lists, IsLegal, IsExecuted, Chosen, creates_context, creates_ephemeral, leaves, effect, remote_refused}
 use Rattle.contexts.specs.Rows.{fits}
 use Rattle.contexts.specs.Steps.{created}
 use Rattle.contexts.proofs.TermLemmas.{by_value, not_both}

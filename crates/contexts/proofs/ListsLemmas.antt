@@ -1,6 +1,5 @@
 -- Numbers in rising order that pass a test.
-use Rattle.std.proofs.Common.{◌≡◌, ◌≢◌, ℕ, ◌==◌, Bool, true, false, not, ◌&&◌, ◌||◌, IsTrue, is_some, refl, ap, subst, sym, ◌∙◌, arith, rules, List, [], ◌∷◌, Option, Some, None, nat_cmp, BTreeSet}
-use Rattle.std.proofs.lemmas.Grind.{common_steps}
+use Rattle.std.proofs.Common.{◌≡◌, ◌≢◌, ℕ, ◌==◌, Bool, true, false, ◌&&◌, ◌||◌, is_some, refl, subst, sym, List, Option, Some, None, nat_cmp, BTreeSet}
 use Rattle.std.proofs.lemmas.Cmp.{nat_cmp_total}
 use Rattle.std.proofs.lemmas.Map.Views.{btree_set_contains_iff}
 use Rattle.std.proofs.lemmas.Map.Lookups.{exact_unsigned}

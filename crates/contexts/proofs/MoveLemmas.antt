@@ -3,17 +3,17 @@ use Rattle.std.proofs.Common.{◌≡◌, ◌≢◌, ℕ, ◌==◌, Bool, true, f
 use Rattle.std.proofs.lemmas.Grind.{common_steps}
 use Rattle.std.specs.List.{list_any}
 use Rattle.mg_names.specs.declared.identifiers.TermId.{TermId}
-use Rattle.mg_names.specs.declared.identifiers.TermId.TheVariants.{Line, Eph}
+use Rattle.mg_names.specs.declared.identifiers.TermId.TheVariants.{Eph}
 use Rattle.mg_model.specs.declared.items.Settings.{Settings}
 use Rattle.mg_model.specs.declared.rows.Row.{Row}
 use Rattle.mg_model.specs.Board.{same_term, place_in}
 use Rattle.mg_model.specs.Items.{without_cuts, is_ephemeral_number, given}
 use Rattle.terminations.specs.Table.{Table, row_of, given_of, row_with, left, idle, IsCreated}
 use Rattle.contexts.specs.declared.cuts.Cut.{Cut}
-use Rattle.contexts.specs.Groups.{listed, kept, has_member, with_member, without_member, without_cuts_of}
+use Rattle.contexts.specs.Groups.{kept, has_member, with_member, without_member, without_cuts_of}
 use Rattle.contexts.specs.Rows.{row_in}
 use Rattle.contexts.specs.Sheet.{cut_of, IsTied}
-use Rattle.contexts.proofs.TermLemmas.{same_itself, same_is, same_back, by_value, not_both}
+use Rattle.contexts.proofs.TermLemmas.{same_itself, same_back, by_value}
 use Rattle.contexts.proofs.TieLemmas.{Leaves, tied_left, cut_left, Enters, tied_entered, cut_entered}
 use Rattle.contexts.proofs.RowLemmas.{row_with_here, changes_twice}
 

@@ -1,5 +1,5 @@
 -- When the numbers of contexts are used up.
-use Rattle.std.proofs.Common.{◌≡◌, ℕ, ◌+◌, ◌<◌, ◌≤◌, ◌≢◌, ◌==◌, Bool, true, false, ◌||◌, ◌&&◌, IsTrue, leb, arith, refl, rules}
+use Rattle.std.proofs.Common.{◌≡◌, ℕ, ◌+◌, ◌<◌, true, IsTrue, leb, arith}
 use Rattle.std.proofs.lemmas.Grind.{common_steps}
 use Rattle.mg_model.specs.Items.{is_context_number, given}
 use Rattle.terminations.specs.Table.{is_given}

@@ -1,18 +1,16 @@
 -- Rows with one changed: nothing, twice, and by what a command sets.
-use Rattle.std.proofs.Common.{◌≡◌, ℕ, Bool, true, false, IsTrue, is_some, if◌then◌else◌, refl, ap, sym, ◌∙◌, rules, Option, Some, None}
-use Rattle.std.proofs.lemmas.Grind.{common_steps}
+use Rattle.std.proofs.Common.{◌≡◌, true, IsTrue, is_some, if◌then◌else◌, refl, ap, ◌∙◌, rules, Option, Some, None}
 use Rattle.mg_names.specs.declared.identifiers.TermId.{TermId}
 use Rattle.mg_names.specs.declared.identifiers.TermId.TheVariants.{Line, Eph}
 use Rattle.mg_names.specs.declared.modes.Mode.{Mode}
-use Rattle.mg_names.specs.declared.modes.Mode.TheVariants.{Inactive}
 use Rattle.mg_model.specs.declared.items.RemoteSetting.{RemoteSetting}
 use Rattle.mg_model.specs.declared.items.RemoteSetting.TheVariants.{Nothing, Ephemeral}
 use Rattle.mg_model.specs.declared.items.Settings.{Settings}
 use Rattle.mg_model.specs.declared.rows.Row.{Row}
 use Rattle.mg_model.specs.Board.{same_term, place_in}
 use Rattle.mg_model.specs.Items.{subtracted}
-use Rattle.terminations.specs.Table.{row_with, cleared, left, with_mode, idle, put, IsBare}
-use Rattle.contexts.specs.Rows.{mode_applied, remote_applied, fits, row_in, IsLine}
+use Rattle.terminations.specs.Table.{row_with, cleared}
+use Rattle.contexts.specs.Rows.{mode_applied, remote_applied, fits, row_in}
 use Rattle.contexts.proofs.TermLemmas.{same_itself, same_is, by_value}
 
 pub row_with_same : (rows : TermId → Option Row) (t : TermId) → rows ≡ row_with rows t (rows t)

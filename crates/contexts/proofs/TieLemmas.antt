@@ -1,5 +1,5 @@
 -- Members and cuts tied to rows: what stays so when a termination enters a context, leaves it, or changes within it.
-use Rattle.std.proofs.Common.{◌≡◌, ℕ, ◌<◌, ◌==◌, Bool, true, false, not, ◌&&◌, ◌||◌, IsTrue, is_some, if◌then◌else◌, refl, ap, sym, ◌∙◌, subst, arith, rules, List, [], ◌∷◌, ◌++◌, map, cond, Option, Some, None, Vec, nat_cmp, ◌↔◌, filter}
+use Rattle.std.proofs.Common.{◌≡◌, ℕ, ◌<◌, ◌==◌, Bool, true, false, not, ◌&&◌, ◌||◌, IsTrue, is_some, if◌then◌else◌, refl, ap, sym, ◌∙◌, arith, rules, List, [], ◌∷◌, ◌++◌, map, cond, Option, Some, None, Vec, nat_cmp, ◌↔◌, filter}
 use Rattle.std.proofs.lemmas.Grind.{common_steps}
 use Rattle.std.proofs.lemmas.List.Folds.{list_any-append}
 use Rattle.std.proofs.lemmas.Map.Views.{any-filter_same}
@@ -13,8 +13,8 @@ use Rattle.mg_model.specs.Items.{without_cuts}
 use Rattle.terminations.specs.Table.{row_with}
 use Rattle.contexts.specs.declared.cuts.Cut.{Cut}
 use Rattle.contexts.specs.Groups.{items_in, group_at, listed, kept, has_member, has_cut, with_member, without_member, without_cuts_of, touches, is_of}
-use Rattle.contexts.specs.Sheet.{cuts_at, cut_of, stands_in, IsTied, opened}
-use Rattle.contexts.proofs.TermLemmas.{same_itself, same_is, same_back, split_and, by_value, not_both}
+use Rattle.contexts.specs.Sheet.{cuts_at, cut_of, stands_in, IsTied}
+use Rattle.contexts.proofs.TermLemmas.{same_itself, same_is, split_and, by_value, not_both}
 
 -- the cuts that the view lists are those of the fields
 pub cuts_viewed : {Z : Type 0} (es : List (ℕ × Vec Cut Z)) (c : ℕ) → cuts_at (map (λ (e : ℕ × Vec Cut Z). (e.0, e.1.items)) es) c ≡ group_at es c

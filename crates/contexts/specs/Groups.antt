@@ -1,6 +1,6 @@
 -- What a board keeps beside the rows, by context: its members, and the pairs of terminations between which media is cut. A reader
 -- should check that a context without members is not kept, and that a pair is cut the way in which it is listed.
-use Rattle.std.specs.Prelude.{◌≡◌, ℕ, ◌==◌, Bool, true, false, not, ◌&&◌, ◌||◌, if◌then◌else◌, List, [], ◌∷◌, ◌++◌, Option, Some, None, filter, Vec}
+use Rattle.std.specs.Prelude.{ℕ, Bool, not, ◌&&◌, ◌||◌, if◌then◌else◌, List, [], ◌∷◌, ◌++◌, Option, Some, None, filter, Vec}
 use Rattle.std.specs.Ordering.{nat_cmp}
 use Rattle.std.specs.BTreeMap.{is_at}
 use Rattle.std.specs.List.{list_any}

@@ -1,5 +1,5 @@
 -- How the rows of terminations change in a command. A reader should check that a setting that is left out changes nothing.
-use Rattle.std.specs.Prelude.{◌≡◌, ℕ, Bool, true, false, IsTrue, is_some, Option, Some, None}
+use Rattle.std.specs.Prelude.{ℕ, Bool, true, false, Option, Some, None}
 use Rattle.mg_names.specs.declared.identifiers.TermId.{TermId}
 use Rattle.mg_names.specs.declared.identifiers.TermId.TheVariants.{Line, Eph}
 use Rattle.mg_names.specs.declared.modes.Mode.{Mode}
@@ -7,7 +7,7 @@ use Rattle.mg_model.specs.declared.items.RemoteSetting.{RemoteSetting}
 use Rattle.mg_model.specs.declared.items.RemoteSetting.TheVariants.{Nothing, Ephemeral}
 use Rattle.mg_model.specs.declared.items.Settings.{Settings}
 use Rattle.mg_model.specs.declared.rows.Row.{Row}
-use Rattle.mg_model.specs.Board.{place_in, mode_in, remote_in}
+use Rattle.mg_model.specs.Board.{mode_in, remote_in}
 use Rattle.mg_model.specs.Items.{row_at}
 use Rattle.terminations.specs.Table.{with_mode, with_remote}
 

@@ -1,7 +1,7 @@
 -- What a board shows: the table of terminations, the cuts of each context, and the last number that a context was given; from
 -- them the pointwise board. A reader should check that media is cut between two terminations where the context of the first
 -- one lists the pair.
-use Rattle.std.specs.Prelude.{◌≡◌, ℕ, ◌==◌, ◌<◌, Bool, true, false, not, ◌&&◌, if◌then◌else◌, List, [], ◌∷◌, length, Contains, Option, Some, None, ◌↔◌, IsTrue}
+use Rattle.std.specs.Prelude.{◌≡◌, ℕ, ◌==◌, Bool, true, false, not, ◌&&◌, if◌then◌else◌, List, [], length, Contains, Option, Some, None, ◌↔◌}
 use Rattle.std.specs.Ordering.{nat_cmp}
 use Rattle.std.specs.BTreeMap.{is_at}
 use Rattle.std.specs.List.{list_any}
@@ -10,9 +10,9 @@ use Rattle.mg_names.specs.declared.identifiers.LineNo.{LineNo}
 use Rattle.mg_names.specs.declared.identifiers.TermId.{TermId}
 use Rattle.mg_names.specs.declared.identifiers.TermId.TheVariants.{Line, Eph}
 use Rattle.mg_model.specs.declared.rows.Row.{Row}
-use Rattle.mg_model.specs.Board.{Board, same_term, place_in}
+use Rattle.mg_model.specs.Board.{Board, place_in}
 use Rattle.mg_model.specs.Items.{IsRising}
-use Rattle.terminations.specs.Table.{Table, row_of, given_of, is_given, idle, cleared}
+use Rattle.terminations.specs.Table.{Table, row_of, given_of, is_given, idle}
 use Rattle.contexts.specs.declared.cuts.Cut.{Cut}
 use Rattle.contexts.specs.Groups.{has_member, has_cut}
 

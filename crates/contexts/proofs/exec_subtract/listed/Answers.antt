@@ -1,4 +1,3 @@
-use Rattle.std.proofs.Common.{◌≡◌, rules}
 use Rattle.contexts.proofs.ListsLemmas.{lists_keys}
 use Rattle.contexts.proofs.exec_subtract.listed.Goals as goal
 

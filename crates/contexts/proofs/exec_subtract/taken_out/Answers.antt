@@ -1,4 +1,4 @@
-use Rattle.std.proofs.Common.{◌≡◌, refl, rules}
+use Rattle.std.proofs.Common.{refl}
 use Rattle.contexts.proofs.ListsLemmas.{lists_same}
 use Rattle.contexts.proofs.exec_subtract.taken_out.Goals as goal
 

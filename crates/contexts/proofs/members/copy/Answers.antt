@@ -1,4 +1,3 @@
-use Rattle.std.proofs.Common.{◌≡◌, rules, refl}
 use Rattle.std.proofs.lemmas.List.Elements.{same_from_all_zip}
 use Rattle.contexts.proofs.CopyLemmas.{groups_copied}
 use Rattle.contexts.proofs.members.copy.Goals as goal

@@ -1,4 +1,4 @@
-use Rattle.std.proofs.Common.{◌≡◌, ◌∙◌, ap, sym, rules}
+use Rattle.std.proofs.Common.{◌∙◌, ap}
 use Rattle.terminations.specs.Table.{row_of, row_with}
 use Rattle.contexts.specs.Rows.{mode_applied, remote_applied}
 use Rattle.contexts.proofs.RowLemmas.{changes_twice, applied_is}

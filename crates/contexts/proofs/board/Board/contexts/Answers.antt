@@ -1,4 +1,3 @@
-use Rattle.std.proofs.Common.{◌≡◌, sym, ◌∙◌, rules, refl, length}
 use Rattle.std.proofs.lemmas.Map.Entries.{length-keys_of}
 use Rattle.contexts.specs.Sheet.{board_of}
 use Rattle.contexts.proofs.CountLemmas.{counts}

@@ -1,5 +1,5 @@
-use Rattle.std.proofs.Common.{◌≡◌, ◌∙◌, sym, ap, refl, rules}
-use Rattle.terminations.specs.Table.{row_of, given_of}
+use Rattle.std.proofs.Common.{◌∙◌, sym, refl}
+use Rattle.terminations.specs.Table.{row_of}
 use Rattle.contexts.specs.Sheet.{board_of}
 use Rattle.contexts.proofs.TieLemmas.{same_boards, cut_of_same, cuts_viewed}
 use Rattle.contexts.proofs.board.Board.copy.Goals as goal

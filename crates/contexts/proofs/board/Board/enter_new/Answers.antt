@@ -1,15 +1,12 @@
-use Rattle.std.proofs.Common.{◌≡◌, ◌∙◌, Option, Some, sym, ap, refl, rules, true, None}
-use Rattle.std.proofs.lemmas.Grind.{common_steps}
-use Rattle.mg_names.specs.declared.identifiers.TermId.{TermId}
+use Rattle.std.proofs.Common.{◌≡◌, ◌∙◌, Some, sym, ap, refl, None}
 use Rattle.mg_names.specs.declared.identifiers.TermId.TheVariants.{Eph}
 use Rattle.mg_model.specs.Board.{same_term, place_in}
 use Rattle.mg_model.specs.Items.{without_cuts}
 use Rattle.terminations.specs.Table.{row_of, row_with, idle, next_of}
 use Rattle.contexts.specs.Groups.{group_at}
 use Rattle.contexts.specs.Rows.{row_in}
-use Rattle.contexts.specs.Sheet.{board_of, cut_of, cuts_at}
+use Rattle.contexts.specs.Sheet.{board_of}
 use Rattle.contexts.proofs.TieLemmas.{Enters, tied_entered, cut_entered, same_boards, cut_of_same, cuts_viewed, stands_not}
-use Rattle.contexts.proofs.RowLemmas.{row_with_here, changes_twice}
 use Rattle.contexts.proofs.CutLemmas.{cut_of_none}
 use Rattle.contexts.proofs.MoveLemmas.{CreatedAt, created_at, tied_undone, some_same, changed_new}
 use Rattle.contexts.proofs.board.Board.enter_new.Goals as goal

@@ -1,4 +1,4 @@
-use Rattle.std.proofs.Common.{◌≡◌, rules, inl}
+use Rattle.std.proofs.Common.{rules, inl}
 use Rattle.mg_names.specs.declared.codes.Code.TheVariants.{InsufficientResources}
 use Rattle.contexts.specs.Sheet.{board_of}
 use Rattle.contexts.proofs.NumberLemmas.{room_left}

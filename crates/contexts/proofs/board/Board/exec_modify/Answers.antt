@@ -1,4 +1,4 @@
-use Rattle.std.proofs.Common.{◌≡◌, ◌∙◌, ap, sym, refl, rules, ℕ}
+use Rattle.std.proofs.Common.{◌∙◌, ap, refl, ℕ}
 use Rattle.mg_names.specs.declared.codes.Code.TheVariants.{UnknownTermination, NotInContext}
 use Rattle.mg_model.specs.Items.{placed}
 use Rattle.contexts.specs.Sheet.{board_of}

@@ -1,4 +1,4 @@
-use Rattle.std.proofs.Common.{◌≡◌, ◌∙◌, ap, sym, refl, rules, ℕ}
+use Rattle.std.proofs.Common.{refl}
 use Rattle.mg_names.specs.declared.codes.Code.TheVariants.{UnknownContext, UnknownTermination, NotInContext}
 use Rattle.contexts.specs.Sheet.{board_of}
 use Rattle.contexts.proofs.ExecLemmas.{executed_plain, both_known, fits_from, either_known, number_not, not_null}

@@ -1,4 +1,4 @@
-use Rattle.std.proofs.Common.{◌≡◌, refl, rules, true}
+use Rattle.std.proofs.Common.{refl}
 use Rattle.mg_names.specs.declared.codes.Code.TheVariants.{UnknownContext}
 use Rattle.mg_names.specs.declared.identifiers.TermId.TheVariants.{Line, Eph}
 use Rattle.contexts.specs.Sheet.{board_of}

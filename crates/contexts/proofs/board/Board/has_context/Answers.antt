@@ -1,7 +1,4 @@
-use Rattle.std.proofs.Common.{◌≡◌, IsTrue, ◌↔◌, sym, rules, is_some, subst, Bool}
-use Rattle.mg_model.specs.Board.{ContextExists}
-use Rattle.contexts.specs.Groups.{group_at}
-use Rattle.contexts.specs.Sheet.{board_of, Sheet}
+use Rattle.contexts.specs.Sheet.{board_of}
 use Rattle.contexts.proofs.TieLemmas.{exists_iff}
 use Rattle.contexts.proofs.board.Board.has_context.Goals as goal
 

@@ -1,4 +1,4 @@
-use Rattle.std.proofs.Common.{◌≡◌, ◌∙◌, Option, sym, ap, refl, rules}
+use Rattle.std.proofs.Common.{◌≡◌, ◌∙◌, Option, sym, ap, refl}
 use Rattle.mg_names.specs.declared.identifiers.TermId.{TermId}
 use Rattle.mg_model.specs.declared.rows.Row.{Row}
 use Rattle.mg_model.specs.Items.{without_cuts}

@@ -1,11 +1,10 @@
-use Rattle.std.proofs.Common.{◌≡◌, ◌∙◌, ℕ, Bool, Option, None, false, sym, ap, refl, rules}
+use Rattle.std.proofs.Common.{◌≡◌, ◌∙◌, Option, None, ap, refl, rules}
 use Rattle.mg_names.specs.declared.identifiers.TermId.{TermId}
 use Rattle.mg_names.specs.declared.identifiers.TermId.TheVariants.{Line, Eph}
 use Rattle.mg_names.specs.declared.identifiers.LineNo.{LineNo}
 use Rattle.mg_model.specs.declared.rows.Row.{Row}
 use Rattle.std.proofs.Common.{List}
-use Rattle.terminations.specs.Table.{row_of}
-use Rattle.contexts.specs.Sheet.{board_of, opened, started, filled}
+use Rattle.contexts.specs.Sheet.{board_of, started, filled}
 use Rattle.contexts.proofs.TieLemmas.{same_boards}
 use Rattle.contexts.proofs.board.Board.new.Goals as goal
 

@@ -1,5 +1,5 @@
-use Rattle.std.proofs.Common.{◌≡◌, refl, sym, ◌∙◌, rules, ap}
-use Rattle.contexts.specs.Sheet.{board_of, opened}
+use Rattle.std.proofs.Common.{refl, rules}
+use Rattle.contexts.specs.Sheet.{board_of}
 use Rattle.contexts.proofs.TieLemmas.{same_boards}
 use Rattle.contexts.proofs.board.Board.reset.Goals as goal
 

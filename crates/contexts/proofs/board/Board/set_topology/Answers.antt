@@ -1,10 +1,10 @@
-use Rattle.std.proofs.Common.{◌≡◌, Bool, ℕ, ◌∙◌, sym, ap, refl, rules}
+use Rattle.std.proofs.Common.{Bool, ◌∙◌, sym, ap, refl}
 use Rattle.mg_names.specs.declared.identifiers.TermId.{TermId}
 use Rattle.mg_model.specs.Effects.{cuts_forward, cuts_backward}
 use Rattle.mg_model.specs.Items.{with_cut}
 use Rattle.terminations.specs.Table.{row_of}
 use Rattle.contexts.specs.Groups.{group_at}
-use Rattle.contexts.specs.Sheet.{board_of, cuts_at}
+use Rattle.contexts.specs.Sheet.{board_of}
 use Rattle.contexts.proofs.TieLemmas.{same_boards, cut_of_same, cuts_viewed}
 use Rattle.contexts.proofs.CutLemmas.{Sets, cut_set, tied_set}
 use Rattle.contexts.proofs.board.Board.set_topology.Goals as goal

@@ -1,9 +1,9 @@
-use Rattle.std.proofs.Common.{◌≡◌, ◌∙◌, sym, ap, refl, rules, true, is_some}
-use Rattle.mg_model.specs.Board.{place_in, same_term}
+use Rattle.std.proofs.Common.{◌∙◌, sym, ap, refl}
+use Rattle.mg_model.specs.Board.{same_term}
 use Rattle.mg_model.specs.Items.{without_cuts}
 use Rattle.terminations.specs.Table.{row_of, cleared}
 use Rattle.contexts.specs.Groups.{group_at}
-use Rattle.contexts.specs.Sheet.{board_of, cut_of, IsTied}
+use Rattle.contexts.specs.Sheet.{board_of}
 use Rattle.contexts.proofs.TieLemmas.{Leaves, tied_left, cut_left, same_boards, cut_of_same, cuts_viewed}
 use Rattle.contexts.proofs.RowLemmas.{cleared_place, subtracted_one}
 use Rattle.contexts.proofs.board.Board.subtract.Goals as goal

@@ -1,5 +1,4 @@
-use Rattle.std.proofs.Common.{◌≡◌, ◌==◌, ◌∙◌, sym, ap, refl, rules, Bool}
-use Rattle.mg_names.specs.declared.identifiers.TermId.{TermId}
+use Rattle.std.proofs.Common.{◌==◌, ◌∙◌, sym, ap, refl}
 use Rattle.mg_model.specs.Board.{place_in}
 use Rattle.mg_model.specs.Items.{without_cuts}
 use Rattle.terminations.specs.Table.{row_of}
