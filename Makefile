@@ -20,4 +20,5 @@ test:
 	tools/refusals
 
 bench: build
+	cd crates/boardbench && rt run boardbench -- 100 20
 	tools/bench
