@@ -53,7 +53,7 @@ impl Inbox {
         ensures answer { IfOk result (λ found. arrived found ≡ arrival (inbox_of self.old) assoc.0 note) }
         ensures accepted { OnOk result (inbox_of self.new ≡ after_arrival (inbox_of self.old) assoc.0 note) }
         ensures unchanged { OnErr result (self.new ≡ self.old) }
-        ensures refused { OnErr result (arrival (inbox_of self.old) assoc.0 note ≡ arrives_new) }
+        ensures only_new { OnErr result (arrival (inbox_of self.old) assoc.0 note ≡ arrives_new) }
     {
         if assoc != self.association {
             return Ok(Arrival::Old);

@@ -11,11 +11,7 @@ pub(crate) fn add(numbers: &mut BTreeSet<u32>, number: u32) -> Result<bool, Allo
     ensures answer { IfOk result (λ added. added ≡ not (is_among numbers.old.keys number)) }
     ensures added { OnOk result ((n : ℕ) → is_among numbers.new.keys n ≡ (if n == number then true else is_among numbers.old.keys n)) }
     ensures unchanged { OnErr result (numbers.new.keys ≡ numbers.old.keys) }
-    ensures refused { OnErr result (is_among numbers.old.keys number ≡ false) }
+    ensures only_new { OnErr result (is_among numbers.old.keys number ≡ false) }
 {
-    if numbers.contains(&number) {
-        return Ok(false);
-    }
-    numbers.insert(number)?;
-    Ok(true)
+    Ok(numbers.insert(number)?)
 }
