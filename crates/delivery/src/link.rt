@@ -28,8 +28,6 @@ impl<R> Model for Link<R> {
 
     ghost Value = { model.Link R };
 
-    ghost coded = { model.link_code R.code };
-
     ghost view = { λ l. record { association = l.association.0; last = l.last } };
 }
 

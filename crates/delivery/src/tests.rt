@@ -1,4 +1,4 @@
-use crate::{Arrival, Inbox, Link, Offer};
+use crate::{Arrival, Inbox, Link, Offer, laws};
 use mg_names::identifiers::Assoc;
 use std::test::Fail;
 
@@ -63,4 +63,12 @@ fn notes(rt: HostRuntime) -> Result<(), Fail> {
     assert_eq!(rt; inbox.accept(Assoc(1), 2)?, Arrival::Old);
     assert_eq!(rt; inbox.accept(Assoc(2), 1)?, Arrival::New);
     Ok(())
+}
+
+#[test]
+fn laws_at_a_type(_rt: HostRuntime) {
+    laws::fresh_exactly_above::<Vec<u8>>();
+    laws::fresh_at_most_once::<Vec<u8>>();
+    laws::new_exactly_once();
+    laws::seen_once_accepted();
 }

@@ -1,18 +1,12 @@
 -- What a link says of a request that arrives, and an inbox of a note (H.248.1 section 8.1: a transaction is executed at most
 -- once; that a new number confirms all lower ones is this profile's own). A reader should check that a number is fresh only
 -- where it is above the last one that was kept, in the link's association.
-use Rattle.std.specs.Prelude.{ℕ, ◌==◌, Bool, true, false, if◌then◌else◌, nat_lt, Option, Some, None, refl}
-use Rattle.std.specs.Coded.{Coded, code_by, coded×, coded_ℕ, coded_option}
+use Rattle.std.specs.Prelude.{ℕ, ◌==◌, Bool, true, false, if◌then◌else◌, nat_lt, Option, Some, None}
 
 -- a link: its association, and the last request's number with what is kept of it
 pub record Link (R : Type 0) : Type 0 where
   pub association : ℕ
   pub last : Option (ℕ × R)
-
--- a link is stored as the pair of its fields
-abbrev pub link_code : {R : Type 0} → Coded R → Coded (Link R)
-link_code {R} r =
-    code_by (ℕ × Option (ℕ × R)) (coded× coded_ℕ (coded_option (coded× coded_ℕ r))) (λ l. (l.association, l.last)) (λ p. record { association = p.0; last = p.1 }) (λ _. refl)
 
 pub data Offer (R : Type 0) : Type 0 where
   -- a new number: to be executed
