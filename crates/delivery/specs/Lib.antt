@@ -1,0 +1,3 @@
+pub mod Offers
+pub mod Inboxes
+pub mod Laws

@@ -1,0 +1,76 @@
+//! What a controller keeps of the notes of one call.
+ghost use Rattle.std.specs.Prelude.{◌≡◌, IfOk, OnOk, OnErr};
+ghost use Rattle.mg_model.specs.Delivery.{new_inbox, arrival, after_arrival, arrives_new};
+
+use crate::numbers;
+use mg_names::identifiers::Assoc;
+use std::alloc::{AllocError, Global};
+use std::collections::BTreeSet;
+use std::marker::Model;
+
+/// What an inbox says of a note that arrives.
+#[derive(Clone, Copy, Debug, PartialEq, Eq)]
+pub enum Arrival {
+    /// A new number: the note is accepted.
+    New,
+    /// A number that was accepted before.
+    Seen,
+    /// Another association.
+    Old,
+}
+
+/// An inbox: its association, and the numbers of the notes that were accepted in it.
+#[derive(Drop)]
+pub struct Inbox {
+    association: Assoc,
+    accepted: BTreeSet<u32>,
+}
+
+impl Model for Inbox {
+    ghost use Rattle.delivery.specs.Inboxes.{Accepted};
+
+    ghost Value = { Accepted };
+
+    ghost view = { λ i. record { association = i.association.0; numbers = i.accepted.keys } };
+}
+
+impl Inbox {
+    ghost use Rattle.delivery.specs.Inboxes.{inbox_of, arrived};
+
+    /// The inbox of a new association: no note was accepted.
+    #[tactic(auto, unfolding(crate::specs::Inboxes::is_among))]
+    pub fn new(alloc: Global, assoc: Assoc) -> Inbox
+        ensures { inbox_of result ≡ new_inbox assoc.0 }
+    {
+        Inbox {
+            association: assoc,
+            accepted: BTreeSet::new(alloc),
+        }
+    }
+
+    /// A note of this association and number arrives. On want of memory nothing changes, and only a new number needs memory.
+    pub fn accept(&mut self, assoc: Assoc, note: u32) -> Result<Arrival, AllocError>
+        ensures answer { IfOk result (λ found. arrived found ≡ arrival (inbox_of self.old) assoc.0 note) }
+        ensures accepted { OnOk result (inbox_of self.new ≡ after_arrival (inbox_of self.old) assoc.0 note) }
+        ensures unchanged { OnErr result (self.new ≡ self.old) }
+        ensures only_new { OnErr result (arrival (inbox_of self.old) assoc.0 note ≡ arrives_new) }
+    {
+        if assoc != self.association {
+            return Ok(Arrival::Old);
+        }
+        if numbers::add(&mut self.accepted, note)? {
+            Ok(Arrival::New)
+        } else {
+            Ok(Arrival::Seen)
+        }
+    }
+
+    /// A new association begins: no note was accepted.
+    #[tactic(auto, unfolding(crate::specs::Inboxes::is_among))]
+    pub fn restart(&mut self, assoc: Assoc)
+        ensures { inbox_of self.new ≡ new_inbox assoc.0 }
+    {
+        self.association = assoc;
+        self.accepted.clear();
+    }
+}

@@ -1,0 +1,17 @@
+//! Numbers that were accepted.
+ghost use Rattle.std.specs.Prelude.{◌≡◌, ◌==◌, ℕ, true, false, not, if◌then◌else◌, IfOk, OnOk, OnErr};
+ghost use Rattle.delivery.specs.Inboxes.{is_among};
+
+use std::alloc::AllocError;
+use std::collections::BTreeSet;
+
+/// Adds a number, and says whether it is new.
+#[tactic(auto, using(crate::proofs::Members::among_by_order))]
+pub(crate) fn add(numbers: &mut BTreeSet<u32>, number: u32) -> Result<bool, AllocError>
+    ensures answer { IfOk result (λ added. added ≡ not (is_among numbers.old.keys number)) }
+    ensures added { OnOk result ((n : ℕ) → is_among numbers.new.keys n ≡ (if n == number then true else is_among numbers.old.keys n)) }
+    ensures unchanged { OnErr result (numbers.new.keys ≡ numbers.old.keys) }
+    ensures only_new { OnErr result (is_among numbers.old.keys number ≡ false) }
+{
+    Ok(numbers.insert(number)?)
+}
