@@ -87,9 +87,10 @@ pub record IsKept (g : Gateway) (request : Request) (reply : Reply) : Type 0 whe
   pub same_number : request.number ≡ reply.number
   pub kept : (g.link request.call).last ≡ Some reply
 
--- any other does nothing
+-- any other does nothing: one of another association, one with a lower number, and one with the number 0, which no request has
 abbrev pub IsDiscarded : Gateway → Request → Type 0
-IsDiscarded g request = (request.association ≡ g.association → ⊥) ⊎ (request.number < last_executed g request.call)
+IsDiscarded g request =
+    (request.association ≡ g.association → ⊥) ⊎ ((request.number < last_executed g request.call) ⊎ (request.number ≡ 0))
 
 -- ---- what users do, and signals that end
 
