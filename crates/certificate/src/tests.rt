@@ -17,14 +17,17 @@ end = true
 ";
 
 /// All values of each component but the links.
-const REST: &str = "\"lines\":{\"a\":{\"at\":[\"-\",\"c\"],\"mode\":[\"Inactive\",\"SendOnly\",\"ReceiveOnly\",\"SendReceive\"],
+const REST: &str =
+    "\"lines\":{\"a\":{\"at\":[\"-\",\"c\"],\"mode\":[\"Inactive\",\"SendOnly\",\"ReceiveOnly\",\"SendReceive\"],
 \"events\":[\"none\",\"armed\",\"hang\"],\"plays\":[\"no\",\"may\"]},\"b\":{\"at\":[\"-\",\"c\"],\"mode\":[\"Inactive\",
 \"SendOnly\",\"ReceiveOnly\",\"SendReceive\"],\"events\":[\"none\",\"armed\",\"hang\"],\"plays\":[\"no\",\"may\"]}},
 \"contexts\":{\"c\":[\"free\",\"live\",\"stale\"]},\"cuts\":{\"a>b\":[\"no\",\"yes\"],\"b>a\":[\"no\",\"yes\"]}}]}";
 
 /// A certificate whose one entry has these links and all values of the other components.
 fn certificate(alloc: Global, script: &Script, links: &str) -> Result<Cert, CertFault> {
-    let text = format!(in alloc; "{{\"version\":1,\"entries\":[{{\"state\":\"done\",\"link\":[{links}],{REST}")?;
+    let text = format!(in alloc;
+        "{{\"version\":1,\"entries\":[{{\"state\":\"done\",\"link\":[{links}],{REST}"
+    )?;
     read_cert(alloc, text.as_bytes(), script)
 }
 
