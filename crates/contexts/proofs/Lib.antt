@@ -1,5 +1,6 @@
 pub mod TermLemmas
 pub mod TieLemmas
+pub mod PathLemmas
 pub mod CountLemmas
 pub mod RowLemmas
 pub mod CutLemmas

@@ -3,3 +3,4 @@ pub mod Sheet
 pub mod Rows
 pub mod Steps
 pub mod Faults
+pub mod Paths

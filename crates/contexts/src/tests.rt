@@ -3,6 +3,8 @@ use mg_model::items::{Added, Item, RemoteSetting, Settings};
 use mg_names::codes::Code;
 use mg_names::identifiers::{ContextId, LineNo, TermId};
 use mg_names::modes::Mode;
+use mg_names::topologies::Topology;
+use std::alloc::Global;
 use std::test::Fail;
 
 const LINES: [LineNo; 2] = [LineNo(1), LineNo(2)];
@@ -12,13 +14,18 @@ fn settings(mode: Option<Mode>, remote: Option<RemoteSetting>) -> Settings {
     Settings { mode, remote }
 }
 
-/// Add of a line.
-fn add(context: ContextId, line: u32) -> Item {
+/// Add of a line in a mode.
+fn add_in(context: ContextId, line: u32, mode: Mode) -> Item {
     Item::Add {
         context,
         added: Added::Line(LineNo(line)),
-        settings: settings(Some(Mode::SendReceive), None),
+        settings: settings(Some(mode), None),
     }
+}
+
+/// Add of a line.
+fn add(context: ContextId, line: u32) -> Item {
+    add_in(context, line, Mode::SendReceive)
 }
 
 /// Add of a new ephemeral.
@@ -81,4 +88,156 @@ fn a_destroyed_ephemeral_is_unknown(rt: HostRuntime) -> Result<(), Fail> {
     assert_eq!(rt; board.contexts(), 1);
     assert!(rt; board.get(TermId::Line(LineNo(1))).is_some());
     Ok(())
+}
+
+const MODES: [Mode; 4] = [
+    Mode::Inactive,
+    Mode::SendOnly,
+    Mode::ReceiveOnly,
+    Mode::SendReceive,
+];
+
+/// Whether media goes from line 1 to line 2, by the mode of line 1 and then by that of line 2, in the order of `MODES`.
+const GOES: [[bool; 4]; 4] = [
+    [false, false, false, false],
+    [false, false, false, false],
+    [false, true, false, true],
+    [false, true, false, true],
+];
+
+/// Lines 1 and 2 in one context.
+#[derive(Drop)]
+struct Pair {
+    board: Board,
+    context: ContextId,
+}
+
+impl Pair {
+    fn new(alloc: Global, one: Mode, two: Mode) -> Option<Pair> {
+        let mut board = Board::new(alloc, &LINES).ok()?;
+        let made = board.exec(&add_in(ContextId::CHOOSE, 1, one)).ok()?;
+        let context = ContextId(made.context()?);
+        let _added = board.exec(&add_in(context, 2, two)).ok()?;
+        Some(Pair { board, context })
+    }
+
+    /// Sets the topology from line 1 to line 2.
+    fn set(&mut self, topology: Topology) -> bool {
+        let item = Item::SetTopology {
+            context: self.context,
+            first: TermId::Line(LineNo(1)),
+            second: TermId::Line(LineNo(2)),
+            topology,
+        };
+        self.board.exec(&item).is_ok()
+    }
+
+    /// Takes line 2 out of the context and adds it again.
+    fn add_again(&mut self) -> bool {
+        let out = Item::Subtract {
+            context: self.context,
+            termination: TermId::Line(LineNo(2)),
+        };
+        self.board.exec(&out).is_ok() && self.board.exec(&add(self.context, 2)).is_ok()
+    }
+}
+
+/// Lines 1 and 2 in a context each, with an ephemeral in either that names the other one.
+#[derive(Drop)]
+struct Crossed {
+    board: Board,
+    other: ContextId,
+    far: u32,
+}
+
+impl Crossed {
+    fn new(alloc: Global) -> Option<Crossed> {
+        let mut board = Board::new(alloc, &LINES).ok()?;
+        let one = board.exec(&add(ContextId::CHOOSE, 1)).ok()?;
+        let one = ContextId(one.context()?);
+        let near = board.exec(&add_new(one)).ok()?;
+        let near = near.ephemeral()?;
+        let other = board.exec(&add(ContextId::CHOOSE, 2)).ok()?;
+        let other = ContextId(other.context()?);
+        let far = board.exec(&add_new(other)).ok()?;
+        let far = far.ephemeral()?;
+        let mut crossed = Crossed { board, other, far };
+        let _there = crossed.modify(one, near, None, Some(RemoteSetting::Ephemeral(far)))?;
+        let _back = crossed.modify(other, far, None, Some(RemoteSetting::Ephemeral(near)))?;
+        Some(crossed)
+    }
+
+    /// Modify of an ephemeral.
+    fn modify(
+        &mut self,
+        context: ContextId,
+        number: u32,
+        mode: Option<Mode>,
+        remote: Option<RemoteSetting>,
+    ) -> Option<Done> {
+        let item = Item::Modify {
+            context,
+            termination: TermId::Eph(number),
+            settings: settings(mode, remote),
+        };
+        self.board.exec(&item).ok()
+    }
+
+    /// Modify of the ephemeral beside line 2.
+    fn modify_far(&mut self, mode: Option<Mode>, remote: Option<RemoteSetting>) -> Option<Done> {
+        self.modify(self.other, self.far, mode, remote)
+    }
+}
+
+/// Whether media goes from line 1 to line 2, and back.
+fn ways(board: &Board) -> (bool, bool) {
+    (
+        board.path(LineNo(1), LineNo(2)),
+        board.path(LineNo(2), LineNo(1)),
+    )
+}
+
+#[test]
+fn media_goes_by_modes(rt: HostRuntime) {
+    for (one, row) in MODES.iter().zip(GOES.iter()) {
+        for (two, goes) in MODES.iter().zip(row.iter()) {
+            let Some(pair) = Pair::new(rt.alloc(), *one, *two) else {
+                panic!(rt; "two lines");
+            };
+            assert_eq!(rt; pair.board.path(LineNo(1), LineNo(2)), *goes);
+        }
+    }
+}
+
+#[test]
+fn media_goes_by_topology(rt: HostRuntime) {
+    let Some(mut pair) = Pair::new(rt.alloc(), Mode::SendReceive, Mode::SendReceive) else {
+        panic!(rt; "two lines");
+    };
+    assert!(rt; pair.set(Topology::Oneway));
+    assert!(rt; ways(&pair.board) == (true, false));
+    assert!(rt; pair.board.joined(LineNo(2), LineNo(1)));
+    assert!(rt; pair.set(Topology::Isolate));
+    assert!(rt; ways(&pair.board) == (false, false));
+    assert!(rt; !pair.board.joined(LineNo(1), LineNo(2)));
+    assert!(rt; pair.set(Topology::Oneway));
+    assert!(rt; pair.add_again());
+    assert!(rt; ways(&pair.board) == (true, true));
+}
+
+#[test]
+fn media_crosses_between_ephemerals(rt: HostRuntime) {
+    let Some(mut crossed) = Crossed::new(rt.alloc()) else {
+        panic!(rt; "two contexts");
+    };
+    assert!(rt; ways(&crossed.board) == (true, true));
+    assert!(rt; crossed.modify_far(Some(Mode::SendOnly), None).is_some());
+    assert!(rt; ways(&crossed.board) == (false, true));
+    assert!(rt;
+        crossed
+            .modify_far(Some(Mode::SendReceive), Some(RemoteSetting::Nothing))
+            .is_some()
+    );
+    assert!(rt; ways(&crossed.board) == (false, false));
+    assert!(rt; !crossed.board.joined(LineNo(1), LineNo(2)));
 }

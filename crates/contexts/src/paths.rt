@@ -1,0 +1,72 @@
+//! The search for a path of media. It goes on from each ephemeral that it arrives at, and never arrives at one again that is on
+//! its trail.
+ghost use Rattle.std.specs.Prelude.{◌≡◌, IsTrue, ◌↔◌};
+ghost use Rattle.mg_names.specs.declared.identifiers.TermId.TheVariants.{Eph};
+ghost use Rattle.mg_model.specs.Board.{remote_of};
+ghost use Rattle.mg_model.specs.Media.{HasPath, AreJoined};
+ghost use Rattle.contexts.specs.Paths.{arrived, is_trail, arrival, crossed, Leads};
+ghost use Rattle.contexts.specs.Sheet.{board_of};
+
+use crate::board::Board;
+use crate::members;
+use crate::trail::Trail;
+use mg_names::identifiers::{LineNo, TermId};
+
+impl Board {
+    /// Where media crosses from an ephemeral, if it has not arrived there before.
+    fn crossed(&self, ephemeral: u32, trail: &Trail<'_>) -> Option<u32>
+        ensures { result ≡ crossed (board_of self.now) (arrived trail.now) ephemeral (remote_of (board_of self.now) (Eph ephemeral)) }
+    {
+        let next = self.remote_of(TermId::Eph(ephemeral))?;
+        if self.crosses(ephemeral, next) && !trail.has(next) {
+            Some(next)
+        } else {
+            None
+        }
+    }
+
+    /// Where media arrives next by way of a termination.
+    fn arrival(&self, from: &TermId, t: &TermId, trail: &Trail<'_>) -> Option<u32>
+        ensures { result ≡ arrival (board_of self.now) (arrived trail.now) from.now t.now }
+    {
+        let TermId::Eph(ephemeral) = *t else {
+            return None;
+        };
+        if !self.hops(from, t) {
+            return None;
+        }
+        self.crossed(ephemeral, trail)
+    }
+
+    /// Whether media goes from the one termination to the other without arriving at an ephemeral of the trail.
+    fn leads(&self, from: &TermId, to: &TermId, trail: &Trail<'_>) -> bool
+        requires { IsTrue (is_trail (board_of self.now) (arrived trail.now)) }
+        ensures { IsTrue result ↔ Leads (board_of self.now) (arrived trail.now) from.now to.now }
+    {
+        if self.hops(from, to) {
+            return true;
+        }
+        for t in members::of_context(&self.members, self.place_of(*from)) {
+            if let Some(next) = self.arrival(from, t, trail) {
+                if self.leads(&TermId::Eph(next), to, &Trail::After(next, &*trail)) {
+                    return true;
+                }
+            }
+        }
+        false
+    }
+
+    /// Whether there is a path of media from the one line to the other.
+    pub fn path(&self, from: LineNo, to: LineNo) -> bool
+        ensures { IsTrue result ↔ HasPath (board_of self.now) from.0 to.0 }
+    {
+        self.leads(&TermId::Line(from), &TermId::Line(to), &Trail::Start)
+    }
+
+    /// Whether two lines are joined: there is a path of media from one to the other, either way.
+    pub fn joined(&self, one: LineNo, other: LineNo) -> bool
+        ensures { IsTrue result ↔ AreJoined (board_of self.now) one.0 other.0 }
+    {
+        self.path(one, other) || self.path(other, one)
+    }
+}
