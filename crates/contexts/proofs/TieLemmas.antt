@@ -203,8 +203,12 @@ cut_without t x y None = both_false (not (same_term x t || same_term y t))
     both_false : (b : Bool) → false ≡ (b && false)
     both_false true = refl
     both_false false = refl
-cut_without t x y (Some cs) = any-filter_same (is_of x y) (λ cut. not (touches t cut)) (not (same_term x t || same_term y t)) (λ cut e. of_pair cut e) cs
+cut_without t x y (Some cs) = listed_kept (filter (λ cut. not (touches t cut)) cs) ∙ any-filter_same (is_of x y) (λ cut. not (touches t cut)) (not (same_term x t || same_term y t)) (λ cut e. of_pair cut e) cs
   where
+    listed_kept : (ds : List Cut) → has_cut (kept ds) x y ≡ list_any (is_of x y) ds
+    listed_kept [] = refl
+    listed_kept (d ∷ ds) = refl
+
     of_pair : (cut : Cut) → is_of x y cut ≡ true → not (touches t cut) ≡ not (same_term x t || same_term y t)
     of_pair cut e =
         let parts = split_and (same_term cut.source x) (same_term cut.sink y) e in

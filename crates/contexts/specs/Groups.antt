@@ -65,4 +65,4 @@ set_between t u forward backward cuts =
 
 abbrev pub without_cuts_of : TermId → Option (List Cut) → Option (List Cut)
 without_cuts_of t None = None
-without_cuts_of t (Some cuts) = Some (filter (λ cut. not (touches t cut)) cuts)
+without_cuts_of t (Some cuts) = kept (filter (λ cut. not (touches t cut)) cuts)

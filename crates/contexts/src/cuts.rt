@@ -101,12 +101,16 @@ fn drop_cuts(group: &mut Vec<Cut>, t: TermId)
     group.retain(|cut| !(is_same(&cut.source, &t) || is_same(&cut.sink, &t)));
 }
 
-/// Forgets what was set for the pairs of a termination.
+/// Forgets what was set for the pairs of a termination. An empty list is not kept.
 pub(crate) fn forget(cuts: &mut Cuts, context: u32, t: TermId)
     ensures { (c : ℕ) → group_at cuts.new.entries c ≡ (if c == context then without_cuts_of t (group_at cuts.old.entries context) else group_at cuts.old.entries c) }
 {
-    if let Some(group) = cuts.get_mut(&context) {
-        drop_cuts(group, t);
+    let Some(group) = cuts.get_mut(&context) else {
+        return;
+    };
+    drop_cuts(group, t);
+    if group.is_empty() {
+        cuts.remove(&context);
     }
 }
 
