@@ -1,3 +1,4 @@
 pub mod AgentLaws
+pub mod BoardLaws
 pub mod CallLaws
 pub mod OpeningLaws

@@ -1,11 +1,17 @@
 -- The statements of small laws. Each is carried by an empty function of the same name.
-use Rattle.std.specs.Prelude.{◌≡◌, ℕ, ◌≤◌, ◌<◌, List, [], length, Contains, Some, None}
-use Rattle.mg_names.specs.declared.identifiers.TermId.TheVariants.{Line}
+use Rattle.std.specs.Prelude.{◌≡◌, ℕ, ◌≤◌, ◌<◌, Bool, false, IsTrue, List, [], length, Contains, Some, None}
+use Rattle.mg_names.specs.declared.identifiers.TermId.{TermId}
+use Rattle.mg_names.specs.declared.identifiers.TermId.TheVariants.{Line, Eph}
+use Rattle.mg_model.specs.declared.items.Added.TheVariants as added
+use Rattle.mg_model.specs.declared.items.Item.{Item}
+use Rattle.mg_model.specs.declared.items.Item.TheVariants.{Add, Modify, Move, Subtract, SubtractAll, SetTopology}
 use Rattle.mg_model.specs.declared.rows.Row.{Row}
 use Rattle.mg_model.specs.Agent.{Agent}
+use Rattle.mg_model.specs.Board.{Board, place_of}
 use Rattle.mg_model.specs.Gateway.{last_executed}
+use Rattle.mg_model.specs.Items.{Chosen, effect}
 use Rattle.mg_model.specs.LineEvents.{silent}
-use Rattle.mg_model.specs.Media.{AreJoined}
+use Rattle.mg_model.specs.Media.{share_context, crosses, goes_over, AreJoined}
 use Rattle.mg_model.specs.Messages.{Request, Reply, SentNote}
 use Rattle.mg_model.specs.RequestRun.{Refusal}
 use Rattle.mg_model.specs.Script.{Script}
@@ -81,3 +87,35 @@ CallsStayApart =
     (script : Script) (w : World) → IsGood script w → LinesAreApart script w → (call other : ℕ) (a b : Agent) (i j : ℕ)
     → w.agent call ≡ Some a → w.agent other ≡ Some b → i < length script.lines → j < length script.lines → (call ≡ other → ⊥)
     → AreJoined w.gateway.board (a.lines i) (b.lines j) → ⊥
+
+-- ---- the connection model
+
+-- what a command names, what it creates and what it takes out of a context is among these terminations
+abbrev pub NamesOnly : (TermId → Bool) → Board → Item → Chosen → Type 0
+NamesOnly mine b (Add context (added.Line l) settings) chosen = IsTrue (mine (Line l))
+NamesOnly mine b (Add context added.NewEphemeral settings) chosen = IsTrue (mine (Eph chosen.ephemeral))
+NamesOnly mine b (Modify context t settings) chosen = IsTrue (mine t)
+NamesOnly mine b (Move context t settings) chosen = IsTrue (mine t)
+NamesOnly mine b (Subtract context t) chosen = IsTrue (mine t)
+NamesOnly mine b (SubtractAll context) chosen = (t : TermId) → place_of b t ≡ context.0 → IsTrue (mine t)
+NamesOnly mine b (SetTopology context t u topology) chosen = IsTrue (mine t) × IsTrue (mine u)
+
+-- a command leaves the row of every other termination, and every cut between others, as it was
+pub record KeepsOthers (mine : TermId → Bool) (b after : Board) : Type 0 where
+  pub rows : (u : TermId) → mine u ≡ false → after.row u ≡ b.row u
+  pub cuts : (u v : TermId) → mine u ≡ false → mine v ≡ false → after.cut u v ≡ b.cut u v
+
+abbrev pub CommandsKeepOthers : Type 0
+CommandsKeepOthers =
+    (mine : TermId → Bool) (b : Board) (item : Item) (chosen : Chosen) → NamesOnly mine b item chosen
+    → KeepsOthers mine b (effect b item chosen)
+
+-- these terminations are closed under standing in one context, and under crossing to one another
+pub record AreClosed (b : Board) (mine : TermId → Bool) : Type 0 where
+  pub contexts : (t u : TermId) → IsTrue (mine t) → IsTrue (share_context b t u) → IsTrue (mine u)
+  pub crossings : (k i : ℕ) → IsTrue (mine (Eph k)) → IsTrue (crosses b k i) → IsTrue (mine (Eph i))
+
+abbrev pub PathsStayInside : Type 0
+PathsStayInside =
+    (b : Board) (mine : TermId → Bool) → AreClosed b mine → (from to : TermId) (crossings : List (ℕ × ℕ))
+    → IsTrue (goes_over b from crossings to) → IsTrue (mine from) → IsTrue (mine to)

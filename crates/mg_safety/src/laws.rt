@@ -1,5 +1,5 @@
 //! Small laws of worlds, openings and events.
-ghost use Rattle.mg_safety.specs.Laws.{OldRequestsDoNothing, RestartsClearLines, EventsKeepOthers, OpeningsAreGood, CallsStayApart};
+ghost use Rattle.mg_safety.specs.Laws.{OldRequestsDoNothing, RestartsClearLines, EventsKeepOthers, OpeningsAreGood, CallsStayApart, CommandsKeepOthers, PathsStayInside};
 
 /// A request whose number is not above the last one executed of its call changes nothing, but that the kept reply may be
 /// sent once more (H.248.1 section 8.1: a transaction is executed at most once).
@@ -26,4 +26,15 @@ pub fn openings_are_good()
 /// In a good world, in which no line is a line of two calls, no line of one call is joined with a line of another.
 pub fn calls_stay_apart()
     ensures { CallsStayApart }
+{}
+
+/// A command leaves the row of every termination, and every cut between two, that it neither names nor creates nor takes out
+/// of a context.
+pub fn commands_keep_others()
+    ensures { CommandsKeepOthers }
+{}
+
+/// A path stays among terminations that are closed under standing in one context and under naming each other as Remote.
+pub fn paths_stay_inside()
+    ensures { PathsStayInside }
 {}

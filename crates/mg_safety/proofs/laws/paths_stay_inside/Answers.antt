@@ -1,0 +1,6 @@
+-- The law.
+use Rattle.mg_safety.proofs.BoardLaws.{paths_inside}
+use Rattle.mg_safety.proofs.laws.paths_stay_inside.Goals as goal
+
+pub returns : goal.returns
+returns c = paths_inside
