@@ -16,7 +16,6 @@ build:
 test:
 	rt ci
 	tools/cases
-	$(MAKE) build
 	tools/refusals
 
 bench: build
