@@ -146,9 +146,9 @@ pub enum Command {
     SetTopology {
         /// The context.
         context: Slot,
-        /// T1 of the descriptor.
+        /// The first termination of the descriptor.
         first: Termination,
-        /// T2 of the descriptor.
+        /// The second one.
         second: Termination,
         /// What it says of them.
         topology: Topology,

@@ -1,12 +1,12 @@
 ghost use Rattle.std.specs.Prelude.{◌≡◌, Some, IfSome};
 ghost use Rattle.mg_names.specs.Words.{topology_text, topology_named};
 
-/// What a Topology descriptor says of two terminations T1 and T2 (H.248.1 section 7.1.18).
+/// What a Topology descriptor says of a first and a second termination (H.248.1 section 7.1.18).
 #[derive(Clone, Copy, Debug, PartialEq, Eq, Hash)]
 pub enum Topology {
     /// Neither receives from the other.
     Isolate,
-    /// T2 receives from T1, and T1 nothing from T2.
+    /// The second receives from the first, and the first nothing from the second.
     Oneway,
     /// Both receive from each other.
     Bothway,
