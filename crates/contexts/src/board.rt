@@ -10,7 +10,7 @@ use std::alloc::Global;
 use std::marker::Model;
 use terminations::Terms;
 
-/// The connection model of a gateway.
+/// The connection model of a gateway (H.248.1 section 6).
 #[derive(Drop)]
 pub struct Board {
     pub(crate) alloc: Global,
@@ -61,7 +61,7 @@ impl Board {
     }
 
     /// Every line goes to the null context and is Inactive; no context, no ephemeral and no cut is left, and numbers may be given
-    /// again.
+    /// again, as in a new association (this profile's own).
     pub fn reset(&mut self)
         ensures { board_of self.new ≡ opened (λ t. cleared t ((board_of self.old).row t)) }
     {

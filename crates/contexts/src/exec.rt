@@ -110,7 +110,8 @@ impl Board {
         }
     }
 
-    /// Executes a command, or refuses it with the first code that applies; a command that is not executed leaves the board as it was.
+    /// Executes a command (H.248.1 section 7.2), or refuses it with the first code that applies, in the order 411, 430, 433, 435,
+    /// 510 (this profile's own); 510 comes only where no number is left. A command that is not executed leaves the board as it was.
     pub fn exec(&mut self, item: &Item) -> Result<Done, ExecFault>
         ensures executed { IfOk result (IsExecuted (board_of self.old) item.now (board_of self.new)) }
         ensures refused { IfErr result (IsFault (board_of self.old) item.now) }

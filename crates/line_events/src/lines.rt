@@ -15,7 +15,8 @@ use std::alloc::{AllocError, Global};
 use std::collections::BTreeMap;
 use std::marker::Model;
 
-/// The lines of a gateway, each with its hook state, its Events descriptor and the signals that play.
+/// The lines of a gateway, each with its hook state, its Events descriptor and the signals that play. A call that names a line
+/// that isn't there answers `UnknownLine`; only `add_line`, `arm` and `copy` take memory, and want of it changes nothing.
 #[derive(Drop)]
 pub struct LineSet {
     alloc: Global,
@@ -78,7 +79,8 @@ impl LineSet {
         }
     }
 
-    /// Gives a line a new Events descriptor in place of the one that it has.
+    /// Gives a line a new Events descriptor in place of the one that it has (H.248.1 section 7.1.9). A hook state that stands and
+    /// that an item with `strict=state` names is detected at once (Annex E.9).
     pub fn arm(
         &mut self,
         line: LineNo,
@@ -98,7 +100,7 @@ impl LineSet {
         rows::arm(&mut self.rows, line.0, list, request)
     }
 
-    /// The hook of a line goes to a state.
+    /// The hook of a line goes to a state (Annex E.9). `CannotHappen` where it is in that state.
     pub fn hook(&mut self, line: LineNo, hook: Hook) -> Result<Option<Note>, LineFault>
         ensures answer { result ≡ answer_on (row_of self.old line.0) (λ row. hooked row hook) }
         ensures rows { row_of self.new ≡ rows_after (row_of self.old) line.0 (λ row. hooked row hook) }
@@ -106,7 +108,7 @@ impl LineSet {
         rows::hook(&mut self.rows, line.0, hook)
     }
 
-    /// The user of a line flashes the hook.
+    /// The user of a line flashes the hook (Annex E.9). `CannotHappen` on hook (this profile's own).
     pub fn flash(&mut self, line: LineNo) -> Result<Option<Note>, LineFault>
         ensures answer { result ≡ answer_on (row_of self.old line.0) (λ row. flashed row) }
         ensures rows { row_of self.new ≡ rows_after (row_of self.old) line.0 (λ row. flashed row) }
@@ -114,7 +116,7 @@ impl LineSet {
         rows::flash(&mut self.rows, line.0)
     }
 
-    /// The user of a line dials a symbol.
+    /// The user of a line dials a symbol (Annex E.6). `CannotHappen` on hook (this profile's own).
     pub fn digit(&mut self, line: LineNo, symbol: Symbol) -> Result<Option<Note>, LineFault>
         ensures answer { result ≡ answer_on (row_of self.old line.0) (λ row. dialled row symbol) }
         ensures rows { row_of self.new ≡ rows_after (row_of self.old) line.0 (λ row. dialled row symbol) }
@@ -122,7 +124,7 @@ impl LineSet {
         rows::digit(&mut self.rows, line.0, symbol)
     }
 
-    /// The timer of a line's digit map ends.
+    /// The timer of a line's digit map ends (H.248.1 section 7.1.14). `CannotHappen` where no map collects.
     pub fn pause(&mut self, line: LineNo) -> Result<Option<Note>, LineFault>
         ensures answer { result ≡ answer_on (row_of self.old line.0) (λ row. paused row) }
         ensures rows { row_of self.new ≡ rows_after (row_of self.old) line.0 (λ row. paused row) }
@@ -130,7 +132,7 @@ impl LineSet {
         rows::pause(&mut self.rows, line.0)
     }
 
-    /// A line is given a new Signals descriptor.
+    /// A line is given a new Signals descriptor (H.248.1 section 7.1.11): exactly what it names plays.
     pub fn signal(&mut self, line: LineNo, set: SignalSet) -> Result<Option<Note>, LineFault>
         ensures answer { result ≡ answer_on (row_of self.old line.0) (λ row. Some (signalled row set)) }
         ensures rows { row_of self.new ≡ rows_after (row_of self.old) line.0 (λ row. Some (signalled row set)) }
@@ -138,7 +140,7 @@ impl LineSet {
         rows::signal(&mut self.rows, line.0, set)
     }
 
-    /// A signal that plays on a line ends.
+    /// A signal that plays on a line ends, at any moment (this profile's own). `CannotHappen` where it doesn't play.
     pub fn signal_end(&mut self, line: LineNo, signal: Signal) -> Result<Option<Note>, LineFault>
         ensures answer { result ≡ answer_on (row_of self.old line.0) (λ row. signal_ended row signal) }
         ensures rows { row_of self.new ≡ rows_after (row_of self.old) line.0 (λ row. signal_ended row signal) }
@@ -146,7 +148,7 @@ impl LineSet {
         rows::signal_end(&mut self.rows, line.0, signal)
     }
 
-    /// A line is silent and its Events descriptor empty; its hook state stays.
+    /// A line is silent and its Events descriptor empty, with no RequestID; its hook state stays (this profile's own).
     pub fn clear(&mut self, line: LineNo) -> Result<Option<Note>, LineFault>
         ensures answer { result ≡ answer_on (row_of self.old line.0) (λ row. Some (stays (cleared row))) }
         ensures rows { row_of self.new ≡ rows_after (row_of self.old) line.0 (λ row. Some (stays (cleared row))) }

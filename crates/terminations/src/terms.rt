@@ -60,7 +60,8 @@ impl Terms {
         }
     }
 
-    /// Adds a line in the null context, Inactive.
+    /// Adds a line in the null context, Inactive (H.248.1 section 6.2: a physical termination always exists). `Known` where it
+    /// is there.
     pub fn add_line(&mut self, line: LineNo) -> Result<(), AddLineFault>
         ensures known { result ≡ Err AddLineFault.Known → IsTrue (is_some (row_of self.old (Line line))) }
         ensures new { OnOk result (row_of self.old (Line line) ≡ None) }
@@ -87,7 +88,8 @@ impl Terms {
         Some(next)
     }
 
-    /// Creates an ephemeral in the null context, Inactive and with no Remote. Its number wasn't given before.
+    /// Creates an ephemeral in the null context, Inactive and with no Remote. Its number wasn't given before; `Full` where each
+    /// was. This profile's own, as is every number.
     pub fn create(&mut self) -> Result<TermId, CreateFault>
         ensures full { result ≡ Err CreateFault.Full → (n : ℕ) → is_ephemeral_number n → IsTrue (given_of self.old n) }
         ensures fresh { IfOk result (λ t. IsCreated self.old self.new t) }
@@ -116,7 +118,8 @@ impl Terms {
         }
     }
 
-    /// Puts a termination that is in the null context into another one.
+    /// Puts a termination that is in the null context into another one. 430 where it doesn't exist, 433 where it stands in a
+    /// context already (H.248.1 section 7.2.1 on Add).
     pub fn put(&mut self, t: TermId, context: ContextId) -> Result<(), Code>
         ensures answer { result ≡ unless_taken (row_of self.old t) }
         ensures rows { row_of self.new ≡ row_with (row_of self.old) t (put context (row_of self.old t)) }
@@ -139,7 +142,7 @@ impl Terms {
         Ok(())
     }
 
-    /// Takes a termination into the null context. An ephemeral stays there until `destroy`.
+    /// Takes a termination into the null context. An ephemeral stays there until `destroy`. 430 where it doesn't exist.
     pub fn leave(&mut self, t: TermId) -> Result<(), Code>
         ensures answer { result ≡ known (row_of self.old t) }
         ensures rows { row_of self.new ≡ row_with (row_of self.old) t (left (row_of self.old t)) }
@@ -159,7 +162,8 @@ impl Terms {
         Ok(())
     }
 
-    /// Destroys an ephemeral, in whichever context it stands.
+    /// Destroys an ephemeral, in whichever context it stands (H.248.1 section 7.2.3 on Subtract). 430 where it doesn't exist,
+    /// and for a line.
     pub fn destroy(&mut self, t: TermId) -> Result<(), Code>
         ensures answer { result ≡ known_ephemeral t (row_of self.old t) }
         ensures rows { row_of self.new ≡ row_with (row_of self.old) t (destroyed t (row_of self.old t)) }
@@ -176,7 +180,7 @@ impl Terms {
         Ok(())
     }
 
-    /// Sets the mode of a termination.
+    /// Sets the mode of a termination (H.248.1 section 7.1.5). 430 where it doesn't exist.
     pub fn set_mode(&mut self, t: TermId, mode: Mode) -> Result<(), Code>
         ensures answer { result ≡ known (row_of self.old t) }
         ensures rows { row_of self.new ≡ row_with (row_of self.old) t (with_mode mode (row_of self.old t)) }
@@ -190,7 +194,8 @@ impl Terms {
         Ok(())
     }
 
-    /// Sets the Remote of an ephemeral. A line has none.
+    /// Sets the Remote of an ephemeral; whether what it names exists is not asked here. 430 where the ephemeral doesn't exist,
+    /// and for a line, which has none. This profile's own.
     pub fn set_remote(&mut self, t: TermId, remote: Option<u32>) -> Result<(), Code>
         ensures answer { result ≡ known_ephemeral t (row_of self.old t) }
         ensures rows { row_of self.new ≡ row_with (row_of self.old) t (with_remote t remote (row_of self.old t)) }
