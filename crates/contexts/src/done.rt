@@ -1,6 +1,7 @@
 //! What a command tells of itself.
-ghost use Rattle.std.specs.Prelude.{◌≡◌};
+ghost use Rattle.std.specs.Prelude.{◌≡◌, IfOk};
 
+use std::alloc::AllocError;
 use std::marker::Model;
 
 /// What a command created, and what it took out of its context.
@@ -20,7 +21,36 @@ impl Model for Done {
     ghost view = { λ d. record { context = d.context; ephemeral = d.ephemeral; lines = d.lines.items; ephemerals = d.ephemerals.items } };
 }
 
+impl Clone for Done {
+    ghost use Rattle.std.specs.Prelude.{◌≡◌};
+
+    ghost is_clone = { λ done copied. copied ≡ done };
+
+    fn clone(&self) -> Result<Done, AllocError> {
+        self.copy()
+    }
+}
+
+/// The same numbers again.
+fn copied(numbers: &Vec<u32>) -> Result<Vec<u32>, AllocError>
+    ensures { IfOk result (λ found. found.items ≡ numbers.now.items) }
+{
+    numbers.clone()
+}
+
 impl Done {
+    /// An equal value.
+    pub(crate) fn copy(&self) -> Result<Done, AllocError>
+        ensures { IfOk result (λ found. found ≡ self.now) }
+    {
+        Ok(Done {
+            context: self.context,
+            ephemeral: self.ephemeral,
+            lines: copied(&self.lines)?,
+            ephemerals: copied(&self.ephemerals)?,
+        })
+    }
+
     /// The number of the context that the command created.
     pub fn context(&self) -> Option<u32>
         ensures { result ≡ self.now.context }

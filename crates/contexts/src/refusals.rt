@@ -217,8 +217,9 @@ impl Board {
         }
     }
 
-    /// The code that refuses a command: the first one that applies.
-    pub(crate) fn refusal(&self, item: &Item) -> Option<Code>
+    /// The code that refuses a command: the first one that applies, in the order 411, 430, 433, 435, 510 (this profile's own);
+    /// `None` for a command that is legal. 510 comes only where no number is left.
+    pub fn refusal(&self, item: &Item) -> Option<Code>
         ensures { MatchOption result (IsLegal (board_of self.now) item.now) (IsRefused (board_of self.now) item.now) }
     {
         if self.lacks_context(item) {

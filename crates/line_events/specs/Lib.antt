@@ -3,3 +3,4 @@ pub mod Items
 pub mod Collecting
 pub mod Answers
 pub mod Rows
+pub mod Raising

@@ -9,6 +9,7 @@ mod item;
 mod lines;
 mod list;
 mod note;
+mod raising;
 mod row;
 mod rows;
 mod signals;

@@ -155,4 +155,11 @@ impl LineSet {
     {
         rows::clear(&mut self.rows, line.0, self.alloc)
     }
+
+    /// Every line is silent and its Events descriptor empty, with no RequestID; hook states stay (this profile's own).
+    pub fn clear_all(&mut self)
+        ensures { row_of self.new ≡ (λ n. option_map cleared (row_of self.old n)) }
+    {
+        rows::clear_all(&mut self.rows, self.alloc);
+    }
 }

@@ -1,6 +1,7 @@
 //! The row of a line.
 ghost use Rattle.std.specs.Prelude.{◌≡◌, None, [], IfOk, option_map};
-ghost use Rattle.mg_model.specs.LineEvents.{new_line, armed, hooked, flashed, dialled, paused, signalled, signal_ended, cleared, kind_of};
+ghost use Rattle.mg_model.specs.LineEvents.{new_line, armed, hooked, flashed, dialled, paused, signalled, signal_ended, cleared, kind_of, map_in};
+ghost use Rattle.line_events.specs.Collecting.{digits_in, IsFollowed};
 ghost use Rattle.line_events.specs.Answers.{row_after, answer};
 
 use crate::fault::LineFault;
@@ -115,6 +116,14 @@ impl LineRow {
         ensures { result ≡ self.now.request }
     {
         self.request
+    }
+
+    /// The collector for the digit map of the list.
+    pub(crate) fn collector(&self) -> &Option<Collector>
+        ensures digits { digits_in result.now ≡ self.now.digits }
+        ensures followed { IsFollowed (map_in self.now.list) result.now }
+    {
+        &self.collector
     }
 
     /// The signals that play.

@@ -144,6 +144,17 @@ pub(crate) fn clear(rows: &mut Rows, line: u32, alloc: Global) -> Result<Option<
     }
 }
 
+/// Every line is silent and its Events descriptor empty; hook states stay.
+#[tactic(auto, unfolding(crate::specs::Rows::row_of))]
+pub(crate) fn clear_all(rows: &mut Rows, alloc: Global)
+    ensures { (n : ℕ) → row_of rows.new.entries n ≡ option_map cleared (row_of rows.old.entries n) }
+{
+    rows.retain(|_, row| {
+        row.clear(alloc);
+        true
+    });
+}
+
 /// An equal value.
 pub(crate) fn copy(rows: &Rows) -> Result<Rows, AllocError>
     ensures { IfOk result (λ copied. copied.entries ≡ rows.now.entries) }
