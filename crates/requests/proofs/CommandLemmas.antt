@@ -1,0 +1,146 @@
+-- A command that is executed: which lines it finds, which stay, which leave, and what is left to do once the board did it.
+use Rattle.std.proofs.Common.{◌≡◌, ◌≢◌, ℕ, ◌==◌, Bool, true, false, not, ◌&&◌, ◌||◌, IsTrue, if◌then◌else◌, List, [], ◌∷◌, ◌++◌, Contains, filter, Option, Some, None, is_some, refl, ap, sym, ◌∙◌, arith, rules}
+use Rattle.std.proofs.lemmas.Grind.{common_steps}
+use Rattle.std.proofs.lemmas.List.Folds.{list_any_at}
+use Rattle.std.proofs.lemmas.Map.Views.{Contains-from_any}
+use Rattle.mg_names.specs.declared.codes.Code.TheVariants.{UnknownContext, UnknownTermination}
+use Rattle.mg_names.specs.declared.identifiers.TermId.{TermId}
+use Rattle.mg_names.specs.declared.identifiers.TermId.TheVariants.{Line}
+use Rattle.mg_model.specs.declared.items.Added.TheVariants as added
+use Rattle.mg_model.specs.declared.items.Item.{Item}
+use Rattle.mg_model.specs.declared.items.Item.TheVariants.{Add, Modify, Move, Subtract, SubtractAll, SetTopology}
+use Rattle.mg_model.specs.declared.rows.Row.{Row}
+use Rattle.mg_model.specs.Board.{Board, exists, same_term, place_in}
+use Rattle.mg_model.specs.Items.{Chosen, Done, IsLegal, IsExecuted, effect, leaves}
+use Rattle.mg_model.specs.LineEvents.{LineRow, cleared, Note}
+use Rattle.mg_model.specs.Messages.{Descriptors, RequestCommand, add_line, add_ephemeral, modify, move, subtract, subtract_all, set_topology, on_line, on_ephemeral}
+use Rattle.mg_model.specs.RequestRun.{Running, item_at, described, described_row, rearms, raised, line_after, after_command}
+use Rattle.contexts.proofs.ExecLemmas.{both_known, is_true_from, not_null}
+use Rattle.contexts.proofs.TermLemmas.{same_is, split_and}
+use Rattle.requests.specs.Commands.{is_among, IsThere, raised_on, row_in, finished}
+use Rattle.requests.specs.Connected.{has_line}
+
+-- ---- lines that a command finds
+
+abbrev line : ℕ → TermId
+line l = Line (record { 0 = l })
+
+place_not_null : (row : Option Row) (c : ℕ) → c ≢ 0 → (place_in row == c) ≡ true → is_some row ≡ true
+place_not_null None c not_zero h = absurd (not_zero (grind (arith, common_steps)))
+place_not_null (Some row) c not_zero h = refl
+
+pub leaves_exist : (b : Board) (item : Item) (l : ℕ) → IsLegal b item → leaves b item (line l) ≡ true → has_line b l ≡ true
+leaves_exist b (Add context what settings) l legal h = absurd (search rules)
+leaves_exist b (Modify context t settings) l legal h = absurd (search rules)
+leaves_exist b (Move context t settings) l legal h = absurd (search rules)
+leaves_exist b (Subtract context t) l legal h = ap (λ (u : TermId). exists b u) (same_is (line l) t h) ∙ is_true_from (exists b t) (legal UnknownTermination)
+leaves_exist b (SubtractAll context) l legal h = place_not_null (b.row (line l)) context.0 (not_null b context.0 (legal UnknownContext)) h
+leaves_exist b (SetTopology context t u topology) l legal h = absurd (search rules)
+
+set_stays : (b : Board) (t : TermId) (row : Row) (l : ℕ) (same : Bool) → same_term (line l) t ≡ same → exists b t ≡ true →
+    is_some (if same then Some row else b.row (line l)) ≡ has_line b l
+set_stays b t row l true e there = sym (ap (λ (u : TermId). exists b u) (same_is (line l) t e) ∙ there)
+set_stays b t row l false e there = refl
+
+out_stays : (b : Board) (row : Row) (l : ℕ) (gone : Bool) → (gone ≡ true → has_line b l ≡ true) → is_some (if gone then Some row else b.row (line l)) ≡ has_line b l
+out_stays b row l true there = sym (there refl)
+out_stays b row l false there = refl
+
+effect_stays : (b : Board) (item : Item) (chosen : Chosen) (l : ℕ) → IsLegal b item → has_line (effect b item chosen) l ≡ has_line b l
+effect_stays b (Add context (added.Line k) settings) chosen l legal = set_stays b (Line k) _ l _ refl (both_known _ _ (legal UnknownTermination)).0
+effect_stays b (Add context added.NewEphemeral settings) chosen l legal = refl
+effect_stays b (Modify context t settings) chosen l legal = set_stays b t _ l _ refl (both_known _ _ (legal UnknownTermination)).0
+effect_stays b (Move context t settings) chosen l legal = set_stays b t _ l _ refl (both_known _ _ (legal UnknownTermination)).0
+effect_stays b (Subtract context t) chosen l legal = out_stays b _ l (leaves b (Subtract context t) (line l)) (leaves_exist b (Subtract context t) l legal)
+effect_stays b (SubtractAll context) chosen l legal = out_stays b _ l (leaves b (SubtractAll context) (line l)) (leaves_exist b (SubtractAll context) l legal)
+effect_stays b (SetTopology context t u topology) chosen l legal = refl
+
+-- the lines of the board stay
+pub lines_stay : (b : Board) (item : Item) (after : Board) (done : Done) → IsExecuted b item after done → (l : ℕ) → has_line after l ≡ has_line b l
+lines_stay b item after done e l = ap (λ (c : Board). has_line c l) e.effect_is ∙ effect_stays b item e.chosen l e.legal
+
+there_stays : (b after : Board) → ((l : ℕ) → has_line after l ≡ has_line b l) → (d : Option (ℕ × Descriptors)) → IsThere b d → IsThere after d
+there_stays b after stays None there = tt
+there_stays b after stays (Some (l, d)) there = stays l ∙ there
+
+there_before : (b : Board) (results : List Done) (command : RequestCommand) → IsLegal b (item_at results command) → IsThere b (described command)
+there_before b results (add_line c l d) legal = (both_known _ _ (legal UnknownTermination)).0
+there_before b results (add_ephemeral c d) legal = tt
+there_before b results (modify c (on_line l) d) legal = (both_known _ _ (legal UnknownTermination)).0
+there_before b results (modify c (on_ephemeral e) d) legal = tt
+there_before b results (move c (on_line l) d) legal = (both_known _ _ (legal UnknownTermination)).0
+there_before b results (move c (on_ephemeral e) d) legal = tt
+there_before b results (subtract c t) legal = tt
+there_before b results (subtract_all c) legal = tt
+there_before b results (set_topology c t u topology) legal = tt
+
+-- the line that a command describes is there after it
+pub there_after : (b : Board) (results : List Done) (command : RequestCommand) (after : Board) (done : Done) → IsExecuted b (item_at results command) after done → IsThere after (described command)
+there_after b results command after done e = there_stays b after (lines_stay b _ after done e) (described command) (there_before b results command e.legal)
+
+-- ---- lines that leave
+
+abbrev is_equal : ℕ → ℕ → Bool
+is_equal n m = n == m
+
+equal_is : (n m : ℕ) → is_equal n m ≡ true → n ≡ m
+equal_is n m h = grind (arith, common_steps)
+
+equal_itself : (n : ℕ) → is_equal n n ≡ true
+equal_itself n = grind (arith, common_steps)
+
+among_from : (numbers : List ℕ) (n : ℕ) → Contains numbers n → is_among numbers n ≡ true
+among_from numbers n (i, bound, is) = list_any_at (λ m. n == m) numbers i n bound (ap (λ (m : ℕ). n == m) is ∙ equal_itself n)
+
+-- two tests that are true together
+equal_tests : (a b : Bool) → (a ≡ true → b ≡ true) → (b ≡ true → a ≡ true) → a ≡ b
+equal_tests true b f g = sym (f refl)
+equal_tests false true f g = g refl
+equal_tests false false f g = refl
+
+both : (a b : Bool) → a ≡ true → b ≡ true → IsTrue (a && b)
+both a b h k = rw (h, k) (search rules)
+
+-- the lines that leave are those that the result lists
+pub among_leaves : (b : Board) (item : Item) (after : Board) (done : Done) → IsExecuted b item after done → (l : ℕ) → is_among done.lines l ≡ leaves b item (line l)
+among_leaves b item after done e l = equal_tests (is_among done.lines l) (leaves b item (line l))
+    (λ h. (split_and (leaves b item (line l)) (has_line b l) ((e.result.lines.exactly l).0 (Contains-from_any equal_is l done.lines h))).0)
+    (λ h. among_from done.lines l ((e.result.lines.exactly l).1 (both (leaves b item (line l)) (has_line b l) h (leaves_exist b item l e.legal h))))
+
+-- ---- the rest of a command
+
+described_none : (b : Board) (results : List Done) (command : RequestCommand) (u : TermId) → leaves b (item_at results command) u ≡ true → described command ≡ None
+described_none b results (add_line c l d) u h = absurd (search rules)
+described_none b results (add_ephemeral c d) u h = refl
+described_none b results (modify c t d) u h = absurd (search rules)
+described_none b results (move c t d) u h = absurd (search rules)
+described_none b results (subtract c t) u h = refl
+described_none b results (subtract_all c) u h = refl
+described_none b results (set_topology c t v topology) u h = refl
+
+row_either : (d : Option (ℕ × Descriptors)) (row : LineRow) (l number : ℕ) (gone : Bool) → (gone ≡ true → d ≡ None) →
+    (if gone then cleared (described_row d row l number) else described_row d row l number) ≡ (if gone then cleared row else described_row d row l number)
+row_either d row l number true none = rw (none refl) refl
+row_either d row l number false none = refl
+
+raised_same : (r : Running) (d : Option (ℕ × Descriptors)) (number : ℕ) → raised_on r.line d number ≡ raised r d number
+raised_same r None number = refl
+raised_same r (Some (l, d)) number = refl
+
+line_same : (r : Running) (command : RequestCommand) (gone : List ℕ) (number : ℕ) → ((l : ℕ) → is_among gone l ≡ leaves r.board (item_at r.results command) (line l)) →
+    (l : ℕ) → row_in gone (described command) r.line number l ≡ line_after r command (item_at r.results command) number l
+line_same r command gone number same l =
+    ap (λ (g : Bool). if g then cleared (described_row (described command) (r.line l) l number) else described_row (described command) (r.line l) l number) (same l)
+    ∙ row_either (described command) (r.line l) l number _ (λ h. described_none r.board r.results command (line l) h)
+
+-- what is left to do once the board did a command is the rest of the command
+pub finished_is : (r : Running) (command : RequestCommand) (after : Board) (done : Done) (number : ℕ) → IsExecuted r.board (item_at r.results command) after done →
+    finished (record r { board = after }) (described command) done number ≡ after_command r command (item_at r.results command) after done number
+finished_is r command after done number e =
+    let same : (l : ℕ) → is_among done.lines l ≡ leaves r.board (item_at r.results command) (line l) = among_leaves r.board (item_at r.results command) after done e in
+    λ i. record {
+      board = after;
+      line = λ l. line_same r command done.lines number same l i;
+      results = r.results ++ done ∷ [];
+      notes = filter (λ (n : ℕ × Note). not (same n.0 i || rearms (described command) n.0)) r.notes ++ raised_same r (described command) number i;
+    }

@@ -1,0 +1,4 @@
+pub mod CommandLemmas
+pub mod RunLemmas
+pub mod SameLemmas
+pub mod IdleLemmas

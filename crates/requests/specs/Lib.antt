@@ -1,0 +1,4 @@
+pub mod Views
+pub mod Connected
+pub mod Idle
+pub mod Commands

@@ -1,0 +1,134 @@
+//! A command of a request as a command on the connection model: names stand for what the earlier commands created.
+ghost use Rattle.std.specs.Prelude.{◌≡◌, option_map};
+ghost use Rattle.mg_model.specs.RequestRun.{context_at, ephemeral_at, termination_at, remote_at, settings_at, item_at};
+ghost use Rattle.requests.specs.Views.{context_ref, ephemeral_ref, termination_ref, remote_ref, descriptors_of, command_of};
+
+use crate::command::{Descriptors, RequestCommand};
+use crate::references::{ContextRef, EphemeralRef, RemoteRef, TerminationRef};
+use contexts::Done;
+use mg_model::items::{Added, Item, RemoteSetting, Settings};
+use mg_names::identifiers::{ContextId, TermId};
+
+/// The number of a context; ALL, which is no context, where none was created at the place.
+pub(crate) fn context_at(results: &[Done], context: ContextRef) -> ContextId
+    ensures { result.0 ≡ context_at results.now (context_ref context) }
+{
+    match context {
+        ContextRef::Number(context) => context,
+        ContextRef::MadeAt(place) => match results.get(place) {
+            Some(done) => ContextId(done.context().unwrap_or(0xFFFF_FFFF)),
+            None => ContextId(0xFFFF_FFFF),
+        },
+    }
+}
+
+/// The number of an ephemeral; 0, which no ephemeral has, where none was created at the place.
+pub(crate) fn ephemeral_at(results: &[Done], ephemeral: EphemeralRef) -> u32
+    ensures { result ≡ ephemeral_at results.now (ephemeral_ref ephemeral) }
+{
+    match ephemeral {
+        EphemeralRef::Number(number) => number,
+        EphemeralRef::MadeAt(place) => match results.get(place) {
+            Some(done) => done.ephemeral().unwrap_or(0),
+            None => 0,
+        },
+    }
+}
+
+/// The termination.
+fn termination_at(results: &[Done], termination: TerminationRef) -> TermId
+    ensures { result ≡ termination_at results.now (termination_ref termination) }
+{
+    match termination {
+        TerminationRef::Line(line) => TermId::Line(line),
+        TerminationRef::Ephemeral(ephemeral) => TermId::Eph(ephemeral_at(results, ephemeral)),
+    }
+}
+
+/// The Remote.
+fn remote_at(results: &[Done], remote: RemoteRef) -> RemoteSetting
+    ensures { result ≡ remote_at results.now (remote_ref remote) }
+{
+    match remote {
+        RemoteRef::Nothing => RemoteSetting::Nothing,
+        RemoteRef::To(ephemeral) => RemoteSetting::Ephemeral(ephemeral_at(results, ephemeral)),
+    }
+}
+
+/// What the descriptors set on the connection model.
+fn settings_at(results: &[Done], descriptors: &Descriptors) -> Settings
+    ensures { result ≡ settings_at results.now (descriptors_of descriptors.now) }
+{
+    let remote = match descriptors.remote {
+        Some(remote) => Some(remote_at(results, remote)),
+        None => None,
+    };
+    Settings {
+        mode: descriptors.mode,
+        remote,
+    }
+}
+
+/// The command on the connection model.
+pub(crate) fn item_at(results: &[Done], command: &RequestCommand) -> Item
+    ensures { result ≡ item_at results.now (command_of command.now) }
+{
+    match command {
+        RequestCommand::AddLine {
+            context,
+            line,
+            descriptors,
+        } => Item::Add {
+            context: context_at(results, *context),
+            added: Added::Line(*line),
+            settings: settings_at(results, descriptors),
+        },
+        RequestCommand::AddEphemeral {
+            context,
+            descriptors,
+        } => Item::Add {
+            context: context_at(results, *context),
+            added: Added::NewEphemeral,
+            settings: settings_at(results, descriptors),
+        },
+        RequestCommand::Modify {
+            context,
+            termination,
+            descriptors,
+        } => Item::Modify {
+            context: context_at(results, *context),
+            termination: termination_at(results, *termination),
+            settings: settings_at(results, descriptors),
+        },
+        RequestCommand::Move {
+            context,
+            termination,
+            descriptors,
+        } => Item::Move {
+            context: context_at(results, *context),
+            termination: termination_at(results, *termination),
+            settings: settings_at(results, descriptors),
+        },
+        RequestCommand::Subtract {
+            context,
+            termination,
+        } => Item::Subtract {
+            context: context_at(results, *context),
+            termination: termination_at(results, *termination),
+        },
+        RequestCommand::SubtractAll { context } => Item::SubtractAll {
+            context: context_at(results, *context),
+        },
+        RequestCommand::SetTopology {
+            context,
+            first,
+            second,
+            topology,
+        } => Item::SetTopology {
+            context: context_at(results, *context),
+            first: termination_at(results, *first),
+            second: termination_at(results, *second),
+            topology: *topology,
+        },
+    }
+}

@@ -1,0 +1,32 @@
+//! The messages between a call's agent and the gateway, and what the gateway does with the commands of one request
+//! (H.248.1 section 8): each one on the connection model, then the Signals and Events descriptors of its line.
+#![tactic(auto)]
+
+mod command;
+mod connections;
+mod descriptors;
+mod event;
+mod idle;
+mod items;
+mod note;
+mod outcome;
+mod progress;
+mod raising;
+mod references;
+mod refusal;
+mod reply;
+mod request;
+mod run;
+
+pub use command::{Descriptors, RequestCommand};
+pub use connections::Connections;
+pub use event::LineEvent;
+pub use note::SentNote;
+pub use outcome::{LineNote, Outcome};
+pub use references::{ContextRef, EphemeralRef, RemoteRef, TerminationRef};
+pub use refusal::Refusal;
+pub use reply::Reply;
+pub use request::Request;
+
+#[cfg(test)]
+mod tests;

@@ -1,0 +1,156 @@
+//! A request while it runs.
+ghost use Rattle.std.specs.Prelude.{◌≡◌, [], ◌∷◌, ◌++◌, map, IfOk, OnOk};
+ghost use Rattle.mg_model.specs.RequestRun.{RunsFrom, is_chosen, rearms, described};
+ghost use Rattle.requests.specs.Commands.{is_among, running, IsThere, notes_left, noted, finished, IsStep};
+ghost use Rattle.requests.specs.Connected.{board_in, start_in};
+ghost use Rattle.requests.specs.Views.{chosen_of, command_of, line_described, line_notes};
+
+use crate::command::{Descriptors, RequestCommand};
+use crate::connections::Connections;
+use crate::descriptors::described;
+use crate::items::item_at;
+use crate::outcome::LineNote;
+use crate::refusal::Refusal;
+use contexts::{Done, ExecFault};
+use mg_names::codes::Code;
+use mg_names::identifiers::LineNo;
+use std::alloc::AllocError;
+
+/// A request while it runs: the connections, the results so far, and the notes to be sent.
+#[derive(Drop)]
+pub(crate) struct Progress {
+    pub(crate) connections: Connections,
+    pub(crate) results: Vec<Done>,
+    pub(crate) notes: Vec<LineNote>,
+}
+
+/// The code that is chosen for a place.
+fn chosen_at(refusal: Option<(usize, Refusal)>, place: usize) -> Option<Code>
+    ensures { result ≡ is_chosen (chosen_of refusal) place }
+{
+    let Some((at, refusal)) = refusal else {
+        return None;
+    };
+    if at == place {
+        return Some(refusal.code());
+    }
+    None
+}
+
+/// Whether a line is among those that left.
+fn is_among(gone: &[u32], line: LineNo) -> bool
+    ensures { result ≡ is_among gone.now line.0 }
+{
+    gone.iter().any(|number| line.0 == *number)
+}
+
+/// Whether a command replaces the Events descriptor of a line.
+fn rearms(described: &Option<(LineNo, &Descriptors)>, line: LineNo) -> bool
+    ensures { result ≡ rearms (line_described described.now) line.0 }
+{
+    match described {
+        Some((described, descriptors)) => described.0 == line.0 && descriptors.events.is_some(),
+        None => false,
+    }
+}
+
+/// Keeps the notes whose descriptor still stands.
+fn keep_standing(
+    notes: &mut Vec<LineNote>,
+    gone: &[u32],
+    described: &Option<(LineNo, &Descriptors)>,
+)
+    ensures { line_notes notes.new.items ≡ notes_left gone.now (line_described described.now) (line_notes notes.old.items) }
+{
+    notes.retain(|note| !(is_among(gone, note.line) || rearms(described, note.line)));
+}
+
+/// Adds a note, if there is one.
+fn add_note(notes: &mut Vec<LineNote>, note: Option<LineNote>) -> Result<(), AllocError>
+    ensures { OnOk result (line_notes notes.new.items ≡ line_notes notes.old.items ++ noted note) }
+{
+    if let Some(note) = note {
+        notes.push(note)?;
+    }
+    Ok(())
+}
+
+/// Adds a result.
+fn add_result(results: &mut Vec<Done>, done: Done) -> Result<(), AllocError>
+    ensures { OnOk result (results.new.items ≡ results.old.items ++ done ∷ []) }
+{
+    results.push(done)?;
+    Ok(())
+}
+
+impl Progress {
+    /// A request that starts.
+    pub(crate) fn start(connections: Connections) -> Progress
+        ensures { running result ≡ start_in connections }
+    {
+        let alloc = connections.alloc;
+        Progress {
+            connections,
+            results: Vec::new(alloc),
+            notes: Vec::new(alloc),
+        }
+    }
+
+    /// The rest of a command that the board did.
+    fn finish(
+        &mut self,
+        command: &RequestCommand,
+        done: Done,
+        number: u32,
+    ) -> Result<(), AllocError>
+        requires { IsThere (board_in self.old.connections) (described (command_of command.now)) }
+        ensures { OnOk result (running self.new ≡ finished (running self.old) (described (command_of command.now)) done number) }
+    {
+        let described = described(command);
+        let note = self.connections.describe(&described, done.lines(), number)?;
+        keep_standing(&mut self.notes, done.lines(), &described);
+        add_note(&mut self.notes, note)?;
+        add_result(&mut self.results, done)
+    }
+
+    /// One command: it is executed, or fails with a code.
+    fn step(
+        &mut self,
+        command: &RequestCommand,
+        place: usize,
+        refusal: Option<(usize, Refusal)>,
+        number: u32,
+    ) -> Result<Option<Code>, AllocError>
+        ensures { IfOk result (IsStep (running self.old) (command_of command.now) place (chosen_of refusal) number (running self.new)) }
+    {
+        let item = item_at(self.results.as_slice(), command);
+        if let Some(code) = chosen_at(refusal, place) {
+            return Ok(Some(self.connections.refused(&item, code)));
+        }
+        match self.connections.exec(&item) {
+            Ok(done) => {
+                self.finish(command, done, number)?;
+                Ok(None)
+            }
+            Err(ExecFault::Code(code)) => Ok(Some(code)),
+            Err(ExecFault::NoMemory) => Err(AllocError),
+        }
+    }
+
+    /// The commands in their order, up to the first that fails or to the end; the failure, if there is one.
+    pub(crate) fn run(
+        &mut self,
+        commands: &[RequestCommand],
+        refusal: Option<(usize, Refusal)>,
+        number: u32,
+    ) -> Result<Option<(usize, Code)>, AllocError>
+        ensures { IfOk result (RunsFrom number (chosen_of refusal) (running self.old) 0 (map command_of commands.now) (running self.new)) }
+    {
+        for place in 0..commands.len() {
+            if let Some(code) = self.step(&commands[place], place, refusal, number)? {
+                return Ok(Some((place, code)));
+            }
+        }
+        Ok(None)
+    }
+}

@@ -1,0 +1,39 @@
+//! How a command of a request names what it is about.
+use mg_names::identifiers::{ContextId, LineNo};
+
+/// A context: by its number, CHOOSE and NULL among them, or the one that an earlier command of the request created. The place of
+/// that command, from 0, is this profile's own.
+#[derive(Clone, Copy, Debug, PartialEq, Eq)]
+pub enum ContextRef {
+    /// The context with this number.
+    Number(ContextId),
+    /// The one that the command at this place created.
+    MadeAt(usize),
+}
+
+/// An ephemeral: by its number, or the one that an earlier command of the request created.
+#[derive(Clone, Copy, Debug, PartialEq, Eq)]
+pub enum EphemeralRef {
+    /// The ephemeral with this number.
+    Number(u32),
+    /// The one that the command at this place created.
+    MadeAt(usize),
+}
+
+/// A termination.
+#[derive(Clone, Copy, Debug, PartialEq, Eq)]
+pub enum TerminationRef {
+    /// A line.
+    Line(LineNo),
+    /// An ephemeral.
+    Ephemeral(EphemeralRef),
+}
+
+/// The Remote that a command gives to an ephemeral. This profile's own.
+#[derive(Clone, Copy, Debug, PartialEq, Eq)]
+pub enum RemoteRef {
+    /// No Remote.
+    Nothing,
+    /// An ephemeral.
+    To(EphemeralRef),
+}

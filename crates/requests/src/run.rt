@@ -1,0 +1,82 @@
+//! The run of a request.
+ghost use Rattle.std.specs.Prelude.{◌≡◌, IsTrue, Option, map, IfOk, IfSome};
+ghost use Rattle.mg_model.specs.RequestRun.{Running, RunsFrom};
+ghost use Rattle.mg_model.specs.Messages.{Failure};
+ghost use Rattle.requests.specs.Commands.{created};
+ghost use Rattle.requests.specs.Connected.{board_in, line_in, start_in, end_in};
+ghost use Rattle.requests.specs.Views.{chosen_of, line_notes};
+
+use crate::connections::Connections;
+use crate::outcome::Outcome;
+use crate::progress::Progress;
+use crate::refusal::Refusal;
+use crate::request::Request;
+use contexts::Done;
+use std::alloc::AllocError;
+
+/// Whether a command created what another one did.
+fn is_same_created(one: &Done, other: &Done) -> bool
+    ensures { IsTrue result → created one.now ≡ created other.now }
+{
+    if one.context() != other.context() {
+        return false;
+    }
+    one.ephemeral() == other.ephemeral()
+}
+
+/// Whether the same identifiers were created, command by command.
+fn are_same_created(one: &[Done], other: &[Done]) -> bool
+    ensures { IsTrue result → map created one.now ≡ map created other.now }
+{
+    if one.len() != other.len() {
+        return false;
+    }
+    for place in 0..one.len() {
+        if !is_same_created(&one[place], &other[place]) {
+            return false;
+        }
+    }
+    true
+}
+
+impl Connections {
+    /// The commands of a request in their order, up to the chosen refusal, the first command that is refused, or the end
+    /// (H.248.1 section 8.2.1); what was done before a failure stays (this profile's own). On want of memory the value is gone.
+    pub fn run(
+        self,
+        request: &Request,
+        refusal: Option<(usize, Refusal)>,
+    ) -> Result<(Connections, Outcome), AllocError>
+        ensures { IfOk result (λ ended. RunsFrom request.now.number (chosen_of refusal) (start_in self) 0 request.now.commands (end_in ended.0 ended.1.results.items (line_notes ended.1.notes.items)) ended.1.failure) }
+    {
+        let mut progress = Progress::start(self);
+        let failure = progress.run(request.commands(), refusal, request.number())?;
+        Ok((
+            progress.connections,
+            Outcome {
+                results: progress.results,
+                failure,
+                notes: progress.notes,
+            },
+        ))
+    }
+
+    /// The same once more on an equal value: what every run leaves whose results are these. `None` where memory ran
+    /// out, or where other identifiers were chosen.
+    pub fn follow(
+        self,
+        request: &Request,
+        refusal: Option<(usize, Refusal)>,
+        results: &[Done],
+    ) -> Option<Connections>
+        ensures { IfSome result (λ c. (e : Running) (failure : Option Failure) → RunsFrom request.now.number (chosen_of refusal) (start_in self) 0 request.now.commands e failure → e.results ≡ results.now → (board_in c ≡ e.board) × (line_in c ≡ e.line)) }
+    {
+        let Ok((connections, again)) = self.run(request, refusal) else {
+            return None;
+        };
+        if !are_same_created(again.results.as_slice(), results) {
+            return None;
+        }
+        Some(connections)
+    }
+}
