@@ -1,0 +1,97 @@
+-- What is found of a request before it runs, and what its run leaves.
+use Rattle.std.proofs.Common.{◌≡◌, ◌∙◌, ℕ, ◌+◌, ◌<◌, ◌≤◌, List, length, Option, Some, None, is_some, inl, inr, refl, sym, ap, subst, arith, true≢false}
+use Rattle.std.proofs.lemmas.List.{length-map}
+use Rattle.mg_model.specs.Delivery.{offer, kept as kept_again, discard, fresh}
+use Rattle.mg_model.specs.Gateway.{IsKept, IsDiscarded, number_of, last_number, sent_notes}
+use Rattle.mg_model.specs.LineEvents.{Note}
+use Rattle.mg_model.specs.Messages.{Request, Reply, SentNote, Failure}
+use Rattle.mg_model.specs.Items.{Done}
+use Rattle.mg_model.specs.RequestRun.{Refusal}
+use Rattle.requests.specs.declared.outcome.LineNote.{LineNote}
+use Rattle.requests.specs.Connected.{Connected, start_in, end_in}
+use Rattle.requests.specs.Views.{line_notes}
+use Rattle.gateway.specs.Answers.{IsAddressed, HasNoRoom}
+use Rattle.gateway.specs.Calls.{OpenCall, call_in, delivery_link, link_of}
+use Rattle.gateway.specs.Execution.{IsNew, IsRun}
+use Rattle.gateway.specs.Standby.{IsEnd}
+use Rattle.gateway.specs.Whole.{Whole, gateway_of, is_open}
+use Rattle.gateway.proofs.NoteLemmas.{notes_at_most}
+use Rattle.gateway.proofs.OfferLemmas.{fresh_offer, kept_offer, discard_offer}
+
+pub nobody : (w : Whole) (call : ℕ) (request : Request) → call_in w.calls call ≡ None → IsAddressed w call request → ⊥
+unfolding is_open
+nobody w call request e addressed = true≢false (sym addressed.0 ∙ ap is_some e)
+
+module _ (w : Whole) (call : ℕ) (request : Request) (state : OpenCall) (found : call_in w.calls call ≡ Some state)
+    (of_association : state.association ≡ w.association) (ours : request.call ≡ call) where
+  pub addressed : IsAddressed w call request
+  unfolding is_open
+  addressed = (ap is_some found, ours)
+
+  found_request : call_in w.calls request.call ≡ Some state
+  found_request = ap (call_in w.calls) ours ∙ found
+
+  -- what holds of the state holds of the link
+  pub by_link : (P : Option OpenCall → Type 0) → P (Some state) → P (call_in w.calls request.call)
+  by_link P h = subst P (sym found_request) h
+
+  pub is_discarded : offer (delivery_link state) request.association request.number ≡ discard → (creator : ℕ → Option ℕ) → IsDiscarded (gateway_of creator w) request
+  unfolding gateway_of
+  is_discarded e creator =
+      elim (discard_offer state request.association request.number e) [
+        | inl other ↦ inl (λ (same : request.association ≡ w.association). other (same ∙ sym of_association))
+        | inr rest ↦ inr (elim rest [
+          | inl lower ↦ inl (by_link (λ (o : Option OpenCall). request.number < number_of (link_of o).last) lower)
+          | inr zeroth ↦ inr zeroth
+        ])
+      ]
+
+  pub is_kept : (reply : Reply) → offer (delivery_link state) request.association request.number ≡ kept_again reply → (creator : ℕ → Option ℕ) → IsKept (gateway_of creator w) request reply
+  unfolding gateway_of
+  is_kept reply e creator =
+      let offered = kept_offer state request.association request.number reply e in
+      record {
+        current = offered.0 ∙ of_association;
+        same_number = offered.1.1;
+        kept = ap (λ (o : Option OpenCall). (link_of o).last) found_request ∙ offered.1.0;
+      }
+
+  pub has_no_room : offer (delivery_link state) request.association request.number ≡ fresh → last_number < state.notes + length request.commands
+      → (creator : ℕ → Option ℕ) → HasNoRoom (gateway_of creator w) request
+  unfolding gateway_of
+  has_no_room e full creator =
+      let offered = fresh_offer state request.association request.number e in
+      record {
+        current = offered.0 ∙ of_association;
+        newer = by_link (λ (o : Option OpenCall). number_of (link_of o).last < request.number) offered.1;
+        full = by_link (λ (o : Option OpenCall). last_number < (link_of o).notes + length request.commands) full;
+      }
+
+-- ---- the run
+
+-- there is room for the notes that it raises
+pub room_for : (w : Whole) (request : Request) (last : ℕ) (start ended : Connected) (refusal : Refusal) (results : List Done) (notes : List LineNote)
+    (failure : Option Failure) → IsNew w request last → IsEnd start request refusal ended results (line_notes notes) failure → last + length notes ≤ last_number
+room_for w request last start ended refusal results notes failure new runs =
+    let most : length (line_notes notes) ≤ 0 + length request.commands =
+    notes_at_most request.number refusal (start_in start) 0 request.commands (end_in ended results (line_notes notes)) failure runs in
+    let same : length (line_notes notes) ≡ length notes = rw length-map refl in
+    let room : last + length request.commands ≤ last_number = new.room in
+    omega arith
+
+pub run_made : (start : Connected) (request : Request) (refusal : Refusal) (last : ℕ) (ended : Connected) (results : List Done) (raised : List (ℕ × Note))
+    (failure : Option Failure) (reply kept : Reply) (notes : List SentNote) (last_after : ℕ) → IsEnd start request refusal ended results raised failure
+    → reply ≡ record { call = request.call; association = request.association; number = request.number; results = results; failure = failure }
+    → kept ≡ reply → notes ≡ sent_notes request.call request.association last raised → last_after ≡ last + length raised
+    → IsRun start request refusal last ended reply kept notes last_after
+run_made start request refusal last ended results raised failure reply kept notes last_after runs reply_is kept_is notes_are last_is =
+    let results_are : reply.results ≡ results = ap (λ (r : Reply). r.results) reply_is in
+    record {
+      raised = raised;
+      failure = failure;
+      is_end = subst (λ (rs : List Done). IsEnd start request refusal ended rs raised failure) (sym results_are) runs;
+      reply_is = reply_is ∙ ap (λ (rs : List Done). record { call = request.call; association = request.association; number = request.number; results = rs; failure = failure }) (sym results_are);
+      kept_is = kept_is;
+      notes_are = notes_are;
+      last_is = last_is;
+    }

@@ -1,0 +1,194 @@
+-- A gateway that starts, and one whose call was opened.
+use Rattle.std.proofs.Common.{◌≡◌, ◌∙◌, ℕ, ◌==◌, ◌&&◌, ◌||◌, Bool, true, false, not, if◌then◌else◌, List, [], ◌∷◌, Option, Some, None, is_some, Result, Ok, Err, refl, sym, ap, rules, true≢false}
+use Rattle.std.specs.List.{list_all}
+use Rattle.std.proofs.lemmas.Bool.{eqb-true}
+use Rattle.mg_names.specs.declared.identifiers.LineNo.{LineNo}
+use Rattle.mg_names.specs.declared.identifiers.TermId.{TermId}
+use Rattle.mg_names.specs.declared.identifiers.TermId.TheVariants.{Line, Eph}
+use Rattle.mg_model.specs.declared.rows.Row.{Row}
+use Rattle.mg_model.specs.Board.{Board, place_in}
+use Rattle.mg_model.specs.Gateway.{CallLink}
+use Rattle.mg_model.specs.LineEvents.{LineRow, new_line}
+use Rattle.contexts.specs.Sheet.{is_among, started}
+use Rattle.contexts.specs.Sheet as sheet
+use Rattle.requests.specs.Connected.{board_in, line_in, has_line, is_idle, opened_line}
+use Rattle.requests.specs.Idle.{idle_row}
+use Rattle.gateway.specs.declared.fault.OpenFault.{OpenFault}
+use Rattle.gateway.specs.declared.fault.OpenFault.TheVariants.{NoMemory, UnknownLine, Taken}
+use Rattle.gateway.specs.Calls.{OpenCall, call_in, line_entry, link_of, holder_of, new_call}
+use Rattle.gateway.specs.Openings.{first_gateway, inactive_row, rows_opened, board_opened, lines_opened, opened, is_free, are_there, has_twice, opening_on, IsOrNoMemory}
+use Rattle.gateway.specs.Standby.{rows_idled, board_idled, lines_armed, ShowsOpened}
+use Rattle.gateway.specs.Whole.{Whole, AreTied, gateway_of, holder_in, is_open}
+
+-- ---- a gateway that starts
+
+nobody_in : (n : ℕ) → call_in [] n ≡ None
+unfolding call_in
+nobody_in n = refl
+
+no_call_in : (calls : List (ℕ × OpenCall)) → calls ≡ [] → (n : ℕ) → call_in calls n ≡ None
+no_call_in calls e n = ap (λ (cs : List (ℕ × OpenCall)). call_in cs n) e ∙ nobody_in n
+
+abbrev free_entry : Bool → Option (Option ℕ)
+free_entry among = if among then Some None else None
+
+started_there : (lines : List LineNo) (l : ℕ) (among : Bool) → is_among lines l ≡ among → has_line (sheet.opened (started lines)) l ≡ is_some (free_entry among)
+started_there lines l true e = rw e refl
+started_there lines l false e = rw e refl
+
+nobody_holds : (among : Bool) → holder_of (free_entry among) ≡ None
+nobody_holds true = refl
+nobody_holds false = refl
+
+not_held : (among : Bool) (call : ℕ) → free_entry among ≡ Some (Some call) → ⊥
+not_held true call e = cc
+not_held false call e = cc
+
+pub starts_tied : (w : Whole) (lines : List LineNo) → board_in w.connected ≡ sheet.opened (started lines) → w.calls ≡ []
+    → ((l : ℕ) → line_entry w.holders l ≡ (if is_among lines l then Some None else None)) → AreTied w
+starts_tied w lines board calls entries = record {
+  links = λ n c e. let k : None ≡ Some c = sym (no_call_in w.calls calls n) ∙ e in cc;
+  lines = λ l. ap (λ (b : Board). has_line b l) board ∙ started_there lines l (is_among lines l) refl ∙ ap is_some (sym (entries l));
+  holders = λ l call e. absurd (not_held (is_among lines l) call (sym (entries l) ∙ e));
+}
+
+pub first_is : (w : Whole) (lines : List LineNo) → w.association ≡ 1 → board_in w.connected ≡ sheet.opened (started lines) → line_in w.connected ≡ (λ l. new_line)
+    → w.calls ≡ [] → ((l : ℕ) → line_entry w.holders l ≡ (if is_among lines l then Some None else None))
+    → (creator : ℕ → Option ℕ) → gateway_of creator w ≡ first_gateway lines creator
+unfolding gateway_of
+first_is w lines association board rows calls entries creator = λ i. record {
+  association = association i;
+  board = board i;
+  line = rows i;
+  holder = λ l. (ap holder_of (entries l) ∙ nobody_holds (is_among lines l)) i;
+  creator = creator;
+  link = λ call. ap link_of (no_call_in w.calls calls call) i;
+}
+
+pub none_open : (w : Whole) → w.calls ≡ [] → (call : ℕ) → is_open w call ≡ false
+unfolding is_open
+none_open w calls call = ap is_some (no_call_in w.calls calls call)
+
+-- ---- what is answered to an opening
+
+pub or_no_memory : (r expected : Result (Unit {0}) OpenFault) → r ≡ expected → IsOrNoMemory r expected
+or_no_memory (Ok done) expected e = sym e
+or_no_memory (Err NoMemory) expected e = tt
+or_no_memory (Err UnknownLine) expected e = sym e
+or_no_memory (Err Taken) expected e = sym e
+
+-- where a call can be opened
+record CanOpen (b : Board) (holder : ℕ → Option ℕ) (call_is_open : Bool) (lines : List LineNo) : Type 0 where
+  pub there : are_there b lines ≡ true
+  pub closed : call_is_open ≡ false
+  pub free : list_all (is_free b holder) lines ≡ true
+
+abbrev answer_by : Bool → Bool → Bool → Bool → Result (Unit {0}) OpenFault
+answer_by there already free twice =
+    if not there then Err UnknownLine else if already then Err Taken else if not (free && not twice) then Err Taken else Ok tt
+
+can_open : (b : Board) (holder : ℕ → Option ℕ) (call_is_open : Bool) (lines : List LineNo) → opening_on b holder call_is_open lines ≡ Ok tt → CanOpen b holder call_is_open lines
+can_open b holder call_is_open lines h = by_tests (are_there b lines) call_is_open (list_all (is_free b holder) lines) (has_twice lines) refl refl refl h
+  where
+    by_tests : (there already free twice : Bool) → are_there b lines ≡ there → call_is_open ≡ already → list_all (is_free b holder) lines ≡ free
+        → answer_by there already free twice ≡ Ok (tt {0})
+        → CanOpen b holder call_is_open lines
+    by_tests true false true twice t o f h = record { there = t; closed = o; free = f }
+    by_tests false already free twice t o f h = cc
+    by_tests true true free twice t o f h = cc
+    by_tests true false false twice t o f h = cc
+
+-- ---- what an opening leaves
+
+split : (a b : Bool) → (a && b) ≡ true → (a ≡ true) × (b ≡ true)
+split true b e = (refl, e)
+split false b e = absurd (search rules)
+
+all_among : (test : ℕ → Bool) (lines : List LineNo) (n : ℕ) → list_all (λ (l : LineNo). test l.0) lines ≡ true → is_among lines n ≡ true → test n ≡ true
+all_among test [] n all among = absurd (search rules)
+all_among test (l ∷ lines) n all among =
+    let both = split (test l.0) (list_all (λ (l : LineNo). test l.0) lines) all in
+    by_first both.0 (n == l.0) refl (all_among test lines n both.1)
+  where
+    by_first : test l.0 ≡ true → (same : Bool) → (n == l.0) ≡ same → (is_among lines n ≡ true → test n ≡ true) → test n ≡ true
+    by_first first true e later = ap test (eqb-true n l.0 e) ∙ first
+    by_first first false e later = later (sym (ap (λ (b : Bool). b || is_among lines n) e) ∙ among)
+
+idle_inactive : (row : Option Row) → (is_some row && (place_in row == 0)) ≡ true → idle_row row ≡ inactive_row row
+idle_inactive None e = refl
+idle_inactive (Some row) e = rw e refl
+
+abbrev free_number : Board → (ℕ → Option ℕ) → ℕ → Bool
+free_number b holder n = is_idle b n && not (is_some (holder n))
+
+idled_is : (b : Board) (holder : ℕ → Option ℕ) (lines : List LineNo) → list_all (is_free b holder) lines ≡ true → (t : TermId)
+    → rows_idled lines b.row t ≡ rows_opened lines b.row t
+idled_is b holder lines free (Line l) = by_test (is_among lines l.0) refl
+  where
+    by_test : (among : Bool) → is_among lines l.0 ≡ among
+        → (if among then idle_row (b.row (Line l)) else b.row (Line l)) ≡ (if among then inactive_row (b.row (Line l)) else b.row (Line l))
+    by_test true e = idle_inactive (b.row (Line l)) (split (is_idle b l.0) _ (all_among (free_number b holder) lines l.0 free e)).0
+    by_test false e = refl
+idled_is b holder lines free (Eph k) = refl
+
+armed_is : (b : Board) (lines : List LineNo) → are_there b lines ≡ true → (rows : ℕ → LineRow) (n : ℕ) → lines_armed b lines rows n ≡ lines_opened lines rows n
+armed_is b lines there rows n = by_test (is_among lines n) refl (has_line b n) refl
+  where
+    by_test : (among : Bool) → is_among lines n ≡ among → (is_there : Bool) → has_line b n ≡ is_there
+        → (if is_there && among then opened_line (rows n) else rows n) ≡ (if among then opened_line (rows n) else rows n)
+    by_test true e true h = refl
+    by_test true e false h = absurd (true≢false (sym (all_among (has_line b) lines n there e) ∙ h))
+    by_test false e true h = refl
+    by_test false e false h = refl
+
+held_is : (w : Whole) → AreTied w → (lines : List LineNo) → are_there (board_in w.connected) lines ≡ true → (call n : ℕ)
+    → holder_of (if is_among lines n && is_some (line_entry w.holders n) then Some (Some call) else line_entry w.holders n)
+    ≡ (if is_among lines n then Some call else holder_in w n)
+held_is w tied lines there call n = by_test (is_among lines n) refl (is_some (line_entry w.holders n)) refl
+  where
+    by_test : (among : Bool) → is_among lines n ≡ among → (listed : Bool) → is_some (line_entry w.holders n) ≡ listed
+        → holder_of (if among && listed then Some (Some call) else line_entry w.holders n) ≡ (if among then Some call else holder_in w n)
+    by_test true e true h = refl
+    by_test true e false h = absurd (true≢false (sym (all_among (has_line (board_in w.connected)) lines n there e) ∙ tied.lines n ∙ h))
+    by_test false e true h = refl
+    by_test false e false h = refl
+
+abbrev linked : Bool → CallLink → CallLink
+linked new link = if new then record { last = None; notes = 0 } else link
+
+link_opened : (association : ℕ) (o : Option OpenCall) (new : Bool) → link_of (if new then Some (new_call association) else o) ≡ linked new (link_of o)
+link_opened association o true = refl
+link_opened association o false = refl
+
+pub opened_is : (w new : Whole) (call : ℕ) (lines : List LineNo) → AreTied w
+    → opening_on (board_in w.connected) (holder_in w) (is_open w call) lines ≡ Ok tt → new.association ≡ w.association
+    → ShowsOpened w.connected lines new.connected
+    → ((l : ℕ) → line_entry new.holders l ≡ (if is_among lines l && is_some (line_entry w.holders l) then Some (Some call) else line_entry w.holders l))
+    → ((n : ℕ) → call_in new.calls n ≡ (if n == call then Some (new_call w.association) else call_in w.calls n))
+    → (creator : ℕ → Option ℕ) → gateway_of creator new ≡ opened (gateway_of creator w) call lines
+unfolding gateway_of
+opened_is w new call lines tied answer association shows holders calls creator =
+    let can : CanOpen (board_in w.connected) (holder_in w) (is_open w call) lines = can_open (board_in w.connected) (holder_in w) (is_open w call) lines answer in
+    let idled : board_idled lines (board_in w.connected) ≡ board_opened lines (board_in w.connected) =
+    λ i. record (board_in w.connected) { row = λ t. idled_is (board_in w.connected) (holder_in w) lines can.free t i } in
+    let armed : lines_armed (board_in w.connected) lines (line_in w.connected) ≡ lines_opened lines (line_in w.connected) =
+    λ i n. armed_is (board_in w.connected) lines can.there (line_in w.connected) n i in
+    let board : board_in new.connected ≡ board_opened lines (board_in w.connected) = shows.board ∙ idled in
+    let rows : line_in new.connected ≡ lines_opened lines (line_in w.connected) = shows.rows ∙ armed in
+    λ i. record {
+      association = association i;
+      board = board i;
+      line = rows i;
+      holder = λ l. (ap holder_of (holders l) ∙ held_is w tied lines can.there call l) i;
+      creator = creator;
+      link = λ c. (ap link_of (calls c) ∙ link_opened w.association (call_in w.calls c) (c == call)) i;
+    }
+
+some_opened : (association : ℕ) (o : Option OpenCall) (new : Bool) → is_some (if new then Some (new_call association) else o) ≡ (new || is_some o)
+some_opened association o true = refl
+some_opened association o false = refl
+
+pub open_after : (w new : Whole) (call : ℕ) → ((n : ℕ) → call_in new.calls n ≡ (if n == call then Some (new_call w.association) else call_in w.calls n))
+    → (other : ℕ) → is_open new other ≡ ((other == call) || is_open w other)
+unfolding is_open
+open_after w new call calls other = ap is_some (calls other) ∙ some_opened w.association (call_in w.calls other) (other == call)

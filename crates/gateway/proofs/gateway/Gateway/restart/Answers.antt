@@ -1,0 +1,9 @@
+use Rattle.std.proofs.Common.{refl}
+use Rattle.gateway.proofs.TieLemmas.{next_is}
+use Rattle.gateway.proofs.gateway.Gateway.restart.Goals as goal
+
+pub returns : goal.returns
+returns c = next_is (record { association = c.self.inside.association.0; connected = c.self.inside.connections; holders = c.self.inside.holders.entries; calls = c.self.inside.calls.entries })
+    c.args.self.now
+    (record { association = c.in-Some.number; connected = c.restart.new.self; holders = c.self.inside.holders.entries; calls = c.restart-2.new.calls.entries })
+    c.self.view_is c.in-Some.ensures.0 c.in-Some.ensures.1 c.restart.ensures.board c.restart.ensures.lines refl c.restart-2.ensures

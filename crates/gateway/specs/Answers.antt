@@ -1,0 +1,77 @@
+-- What a gateway answers to a request, an event and a restart, and what becomes of it. A reader should check that each answer but
+-- that of an execution leaves the gateway as it was, and when each one comes.
+use Rattle.std.specs.Prelude.{◌≡◌, ℕ, ◌+◌, ◌<◌, true, List, [], ◌∷◌, length, Option, Some, None, Result, Ok, Err, ◌⊎◌}
+use Rattle.mg_names.specs.declared.identifiers.Assoc.{Assoc}
+use Rattle.mg_model.specs.Gateway.{Gateway, LineEvent, last_executed, last_number, IsExecutedBy, IsKept, IsDiscarded, Happens, restarted}
+use Rattle.mg_model.specs.Messages.{Request, Reply, SentNote}
+use Rattle.mg_model.specs.RequestRun.{Refusal}
+use Rattle.gateway.specs.declared.answer.Answer.{Answer}
+use Rattle.gateway.specs.declared.answer.Answer.TheVariants.{Executed, Kept, Discarded, CannotHappen, NoMemory}
+use Rattle.gateway.specs.declared.fault.CannotHappen as fault
+use Rattle.gateway.specs.Whole.{Whole, gateway_of, is_open}
+
+-- the same calls are open
+abbrev pub SameOpen : Whole → Whole → Type 0
+SameOpen old new = (call : ℕ) → is_open new call ≡ is_open old call
+
+-- the gateway of the model is the same, whoever created the ephemerals, and the same calls are open
+abbrev pub IsSame : Whole → Whole → Type 0
+IsSame old new = ((creator : ℕ → Option ℕ) → gateway_of creator new ≡ gateway_of creator old) × SameOpen old new
+
+-- ---- a request
+
+-- the call is open, and it is the request's
+abbrev pub IsAddressed : Whole → ℕ → Request → Type 0
+IsAddressed old call request = (is_open old call ≡ true) × (request.call ≡ call)
+
+-- whoever created the ephemerals, the request is executed
+abbrev pub IsExecution : Whole → Request → Refusal → Whole → Reply → List SentNote → Type 0
+IsExecution old request refusal new reply notes =
+    (creator : ℕ → Option ℕ)
+    → (after : Gateway) × (IsExecutedBy (gateway_of creator old) request refusal after reply notes × (after ≡ gateway_of after.creator new))
+
+-- it would be executed, but the numbers of notes could run out
+pub record HasNoRoom (g : Gateway) (request : Request) : Type 0 where
+  pub current : request.association ≡ g.association
+  pub newer : last_executed g request.call < request.number
+  pub full : last_number < (g.link request.call).notes + length request.commands
+
+abbrev pub IsAnswered : Whole → ℕ → Request → Refusal → Whole → Answer → Type 0
+IsAnswered old call request refusal new (Executed reply notes) =
+    IsAddressed old call request × (IsExecution old request refusal new reply notes.items × SameOpen old new)
+IsAnswered old call request refusal new (Kept reply) =
+    IsAddressed old call request × (((creator : ℕ → Option ℕ) → IsKept (gateway_of creator old) request reply) × (new ≡ old))
+IsAnswered old call request refusal new Discarded =
+    ((IsAddressed old call request → ⊥) ⊎ ((creator : ℕ → Option ℕ) → IsDiscarded (gateway_of creator old) request)) × (new ≡ old)
+IsAnswered old call request refusal new CannotHappen =
+    IsAddressed old call request × (((creator : ℕ → Option ℕ) → HasNoRoom (gateway_of creator old) request) × (new ≡ old))
+IsAnswered old call request refusal new NoMemory = new ≡ old
+
+-- ---- an event of a line
+
+abbrev pub note_listed : Option SentNote → List SentNote
+note_listed None = []
+note_listed (Some note) = note ∷ []
+
+abbrev pub CannotOccur : Whole → ℕ → LineEvent → Type 0
+CannotOccur old line event =
+    (creator : ℕ → Option ℕ) (after : Gateway) (notes : List SentNote) → Happens (gateway_of creator old) line event after notes → ⊥
+
+-- it happens, or it can't
+abbrev pub IsHappened : Whole → ℕ → LineEvent → Whole → Result (Option SentNote) fault.CannotHappen → Type 0
+IsHappened old line event new (Ok note) =
+    ((creator : ℕ → Option ℕ) → Happens (gateway_of creator old) line event (gateway_of creator new) (note_listed note)) × SameOpen old new
+IsHappened old line event new (Err _) = CannotOccur old line event × IsSame old new
+
+-- ---- a restart
+
+-- the next association begins; only after the last one none can
+pub record IsNext (old new : Whole) (association : ℕ) : Type 0 where
+  pub restarts : (creator : ℕ → Option ℕ) → gateway_of (λ k. None) new ≡ restarted (gateway_of creator old)
+  pub answered : association ≡ new.association
+  pub room : old.association < 18446744073709551615
+  pub open_calls : SameOpen old new
+
+abbrev pub IsRestarted : Whole → Whole → Result Assoc fault.CannotHappen → Type 0
+IsRestarted old new (Ok association) = IsNext old new association.0
+IsRestarted old new (Err _) = (old.association ≡ 18446744073709551615) × (new ≡ old)

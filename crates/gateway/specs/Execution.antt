@@ -1,0 +1,43 @@
+-- What is found of a request before it runs, and what its run leaves to be put in place. A reader should check each variant against
+-- the answer that it leads to.
+use Rattle.std.specs.Prelude.{◌≡◌, ℕ, ◌+◌, ◌≤◌, List, length, Option, Some, ◌⊎◌}
+use Rattle.mg_model.specs.Delivery.{offer, fresh}
+use Rattle.mg_model.specs.Gateway.{last_number, IsKept, IsDiscarded, reply_of, sent_notes}
+use Rattle.mg_model.specs.LineEvents.{Note}
+use Rattle.mg_model.specs.Messages.{Request, Reply, SentNote, Failure}
+use Rattle.mg_model.specs.RequestRun.{Refusal}
+use Rattle.requests.specs.Connected.{Connected, end_in}
+use Rattle.gateway.specs.declared.execute.Judged.{Judged}
+use Rattle.gateway.specs.declared.execute.Judged.TheVariants.{New, Again, Nothing, Full, NoMemory}
+use Rattle.gateway.specs.Answers.{IsAddressed, HasNoRoom}
+use Rattle.gateway.specs.Calls.{OpenCall, call_in, delivery_link}
+use Rattle.gateway.specs.Standby.{IsEnd}
+use Rattle.gateway.specs.Whole.{Whole, gateway_of}
+
+-- the request is new to its call, whose last note has this number, and there is room for its notes
+pub record IsNew (w : Whole) (request : Request) (last : ℕ) : Type 0 where
+  pub state : OpenCall
+  pub is_state : call_in w.calls request.call ≡ Some state
+  pub of_association : state.association ≡ w.association
+  pub is_fresh : offer (delivery_link state) request.association request.number ≡ fresh
+  pub last_is : last ≡ state.notes
+  pub room : last + length request.commands ≤ last_number
+
+abbrev pub IsJudged : Whole → ℕ → Request → Judged → Type 0
+IsJudged w call request (New last) = IsNew w request last × (request.call ≡ call)
+IsJudged w call request (Again reply) = IsAddressed w call request × ((creator : ℕ → Option ℕ) → IsKept (gateway_of creator w) request reply)
+IsJudged w call request Nothing =
+    (IsAddressed w call request → ⊥) ⊎ ((creator : ℕ → Option ℕ) → IsDiscarded (gateway_of creator w) request)
+IsJudged w call request Full = IsAddressed w call request × ((creator : ℕ → Option ℕ) → HasNoRoom (gateway_of creator w) request)
+IsJudged w call request NoMemory = Unit {0}
+
+-- where a request ended that ran from a start, with its reply twice, its notes and the number of the last one
+pub record IsRun (start : Connected) (request : Request) (refusal : Refusal) (last : ℕ) (ended : Connected) (reply kept : Reply)
+    (notes : List SentNote) (last_after : ℕ) : Type 0 where
+  pub raised : List (ℕ × Note)
+  pub failure : Option Failure
+  pub is_end : IsEnd start request refusal ended reply.results raised failure
+  pub reply_is : reply ≡ reply_of request (end_in ended reply.results raised) failure
+  pub kept_is : kept ≡ reply
+  pub notes_are : notes ≡ sent_notes request.call request.association last raised
+  pub last_is : last_after ≡ last + length raised

@@ -1,0 +1,7 @@
+pub mod Calls
+pub mod Whole
+pub mod Standby
+pub mod Openings
+pub mod Faults
+pub mod Answers
+pub mod Execution

@@ -1,0 +1,147 @@
+//! A request reaches the gateway.
+ghost use Rattle.std.specs.Prelude.{◌≡◌, IfOk, OnOk, OnErr};
+ghost use Rattle.requests.specs.Views.{chosen_of};
+ghost use Rattle.gateway.specs.Answers.{IsAnswered, IsExecution, SameOpen};
+ghost use Rattle.gateway.specs.Execution.{IsJudged, IsNew, IsRun};
+
+use crate::answer::Answer;
+use crate::gateway::Gateway;
+use crate::{calls, numbering};
+use delivery::Offer;
+use mg_names::identifiers::CallNo;
+use requests::{Connections, Outcome, Refusal, Reply, Request, SentNote};
+use std::alloc::AllocError;
+
+/// What is to be done with a request.
+#[derive(Drop)]
+pub(crate) enum Judged {
+    /// It is to be executed. The number is that of the last note of its call.
+    New(u32),
+    /// Its reply is to be sent once more.
+    Again(Reply),
+    /// Nothing.
+    Nothing,
+    /// The numbers of notes could run out.
+    Full,
+    /// Memory ran out.
+    NoMemory,
+}
+
+/// Where a request ended: the connections, its reply twice, and its notes with the number of the last one.
+#[derive(Drop)]
+pub(crate) struct Ended {
+    connections: Connections,
+    reply: Reply,
+    kept: Reply,
+    notes: Vec<SentNote>,
+    last: u32,
+}
+
+impl Gateway {
+    /// What is to be done with a request to a call.
+    fn judge(&self, call: CallNo, request: &Request) -> Judged
+        ensures { IsJudged self.now call.0 request.now result }
+    {
+        if request.call() != call {
+            return Judged::Nothing;
+        }
+        let Some(state) = calls::call(&self.calls, call.0) else {
+            return Judged::Nothing;
+        };
+        match state.offer(request.association(), request.number()) {
+            Offer::Discard => Judged::Nothing,
+            Offer::Kept(reply) => match reply.copy() {
+                Ok(reply) => Judged::Again(reply),
+                Err(_) => Judged::NoMemory,
+            },
+            Offer::Fresh => {
+                let last = state.notes();
+                if request.commands().len() > (u32::MAX - last) as usize {
+                    Judged::Full
+                } else {
+                    Judged::New(last)
+                }
+            }
+        }
+    }
+
+    /// The run of a request that is new, with all that is to be put in place and sent.
+    fn run(
+        &mut self,
+        request: &Request,
+        refusal: Option<(usize, Refusal)>,
+        last: u32,
+    ) -> Result<Ended, AllocError>
+        requires { IsNew self.old request.now last }
+        ensures runs { IfOk result (λ e. IsRun self.old.connected request.now (chosen_of refusal) last e.connections e.reply e.kept e.notes.items e.last) }
+        ensures unchanged { self.new ≡ self.old }
+    {
+        let (connections, outcome) = self.connections.run(request, refusal)?;
+        let Outcome {
+            results,
+            failure,
+            notes,
+        } = outcome;
+        let count = notes.len() as u32;
+        let call = request.call();
+        let association = request.association();
+        let notes = numbering::numbered(self.alloc, call, association, last, notes)?;
+        let reply = Reply::new(call, association, request.number(), results, failure);
+        let kept = reply.copy()?;
+        Ok(Ended {
+            connections,
+            reply,
+            kept,
+            notes,
+            last: last + count,
+        })
+    }
+
+    /// Where a request ended is put in place.
+    fn put(
+        &mut self,
+        request: &Request,
+        refusal: Option<(usize, Refusal)>,
+        last: u32,
+        ended: Ended,
+    ) -> Answer
+        requires new { IsNew self.old request.now last }
+        requires runs { IsRun self.old.connected request.now (chosen_of refusal) last ended.connections ended.reply ended.kept ended.notes.items ended.last }
+        ensures { IsAnswered self.old request.now.call request.now (chosen_of refusal) self.new result }
+    {
+        let Ended {
+            connections,
+            reply,
+            kept,
+            notes,
+            last,
+        } = ended;
+        self.connections
+            .change_places(connections, request, refusal, reply.results());
+        calls::keep(&mut self.calls, request.call().0, kept, last);
+        Answer::Executed { reply, notes }
+    }
+
+    /// A request reaches the gateway for a call (H.248.1 section 8.1). `refuse_at` chooses a refusal for the command at a place, from 0.
+    pub fn execute(
+        &mut self,
+        call: CallNo,
+        request: &Request,
+        refuse_at: Option<(usize, Refusal)>,
+    ) -> Answer
+        ensures { IsAnswered self.old call.0 request.now (chosen_of refuse_at) self.new result }
+    {
+        match self.judge(call, request) {
+            Judged::Again(reply) => Answer::Kept(reply),
+            Judged::Nothing => Answer::Discarded,
+            Judged::Full => Answer::CannotHappen,
+            Judged::NoMemory => Answer::NoMemory,
+            Judged::New(last) => {
+                let Ok(ended) = self.run(request, refuse_at, last) else {
+                    return Answer::NoMemory;
+                };
+                self.put(request, refuse_at, last, ended)
+            }
+        }
+    }
+}
