@@ -20,4 +20,5 @@ test:
 
 bench: build
 	cd crates/boardbench && rt run boardbench -- 100 20
+	cd crates/gatebench && rt run gatebench -- 10 20
 	tools/bench
