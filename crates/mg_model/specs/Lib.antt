@@ -19,3 +19,4 @@ pub mod Agent
 pub mod World
 pub mod Reports
 pub mod Delivery
+pub mod Accepted
