@@ -1,17 +1,16 @@
 -- What an agent sends is its call's.
-use Rattle.std.proofs.Common.{◌≡◌, ◌∙◌, ◌+◌, ℕ, Bool, true, false, List, [], ◌∷◌, Option, Some, None, is_some, refl, sym, ap, subst, arith, true≢false, ◌<◌, zero, suc, get_or}
-use Rattle.std.specs.Prelude.{◌==◌, ◌&&◌, not, if◌then◌else◌, nat_lt, nat_le, Contains, unwrap_or}
-use Rattle.mg_model.specs.declared.commands.Command.{Command}
-use Rattle.mg_model.specs.declared.commands.Command.TheVariants.{AddLine, AddEphemeral, ModifyLine, ModifyEphemeral, MoveLine, MoveEphemeral, Subtract, SubtractAll, SetTopology}
-use Rattle.mg_model.specs.declared.commands.Termination.TheVariants as termination
-use Rattle.mg_model.specs.Agent.{Agent, Phase, awaits_reply, awaits_pass, resting, entered_with, entered, entered_or_rests, entered_if, entered_or_stays, built_by, request_of, after_result, after_results, leads_on, replied_to, replied, passed_in, passed, may_accept, target_of, line_in, noted, is_resting, timed, forgotten, heard}
+use Rattle.std.proofs.Common.{◌≡◌, ◌+◌, ℕ, Bool, true, false, List, Option, Some, None, is_some, refl, sym, ap, subst, true≢false}
+use Rattle.std.specs.Prelude.{◌==◌, ◌&&◌, not, if◌then◌else◌, nat_lt, nat_le, Contains}
+use Rattle.mg_model.specs.Agent.{Agent, Phase, awaits_reply, awaits_pass, resting, entered_with, entered, entered_or_rests, entered_if, entered_or_stays, built_by, request_of, after_results, leads_on, replied_to, replied, passed_in, passed, may_accept, target_of, line_in, noted, is_resting, timed, forgotten, heard}
 use Rattle.mg_model.specs.Configuration.{with_at}
 use Rattle.mg_model.specs.Gateway.{last_number}
-use Rattle.mg_model.specs.Items.{Done}
 use Rattle.mg_model.specs.Messages.{Request, Reply, SentNote, Failure}
 use Rattle.mg_model.specs.Script.{Script}
 use Rattle.mg_model.specs.Tables.{state_of, is_empty}
 use Rattle.mg_model.specs.World.{sent_in}
+use Rattle.mg_safety.proofs.EffectiveAgent.{results_keep}
+use Rattle.mg_safety.proofs.Single.{none_in, only_one}
+use Rattle.mg_safety.proofs.Cases.{the_some}
 
 -- each request that is outstanding in a phase is of the call
 abbrev pub IsOwn : ℕ → Phase → Type 0
@@ -21,36 +20,23 @@ IsOwn call phase = (request : Request) → Contains (sent_in phase) request → 
 abbrev pub GivesOwn : ℕ → Option Agent → Type 0
 GivesOwn call o = (b : Agent) → o ≡ Some b → IsOwn call b.phase
 
-the_same : (b c : Agent) → Some c ≡ Some b → c ≡ b
-the_same b c e = ap (λ (x : Option Agent). unwrap_or x b) e
-
 gives_none : (call : ℕ) → GivesOwn call None
 gives_none call b e = absurd (true≢false (sym (ap is_some e)))
 
 gives : (call : ℕ) (c : Agent) → IsOwn call c.phase → GivesOwn call (Some c)
-gives call c own b e = subst (λ (x : Agent). IsOwn call x.phase) (the_same b c e) own
-
-nothing_in : (request : Request) → Contains [] request → ⊥
-nothing_in request among = let below : among.0 < 0 = among.1 in omega (arith, below)
-
-only_in : (one request : Request) → Contains (one ∷ []) request → request ≡ one
-only_in one request among = at_first among.0 among.1 among.2
-  where
-    at_first : (n : ℕ) → n < 1 → get_or (one ∷ []) n request ≡ request → request ≡ one
-    at_first zero within is = sym is
-    at_first (suc n) within is = absurd (let below : suc n < 1 = within in omega (arith, below))
+gives call c own b e = subst (λ (x : Agent). IsOwn call x.phase) (the_some c b e) own
 
 no_request : (call : ℕ) → IsOwn call resting
-no_request call request among = absurd (nothing_in request among)
+no_request call request among = absurd (none_in request among)
 
 entered_own : (script : Script) (a : Agent) (state : ℕ) (empty : Bool) → GivesOwn a.call (entered_with script a state empty)
-entered_own script a state true = gives a.call (record a { state = state; phase = awaits_pass }) (λ request among. absurd (nothing_in request among))
+entered_own script a state true = gives a.call (record a { state = state; phase = awaits_pass }) (λ request among. absurd (none_in request among))
 entered_own script a state false = numbered (nat_le a.next last_number)
   where
     numbered : (room : Bool) → GivesOwn a.call (if room
         then Some (record a { state = state; phase = awaits_reply (request_of script a state); next = a.next + 1 }) else None)
     numbered true = gives a.call (record a { state = state; phase = awaits_reply (request_of script a state); next = a.next + 1 })
-        (λ request among. ap (λ (r : Request). r.call) (only_in (request_of script a state) request among))
+        (λ request among. ap (λ (r : Request). r.call) (sym (only_one (request_of script a state) request among)))
     numbered false = gives_none a.call
 
 enters_own : (script : Script) (a : Agent) (state : ℕ) → GivesOwn a.call (entered script a state)
@@ -64,25 +50,6 @@ if_own : (script : Script) (a : Agent) (target : Option ℕ) → GivesOwn a.call
 if_own script a None = gives_none a.call
 if_own script a (Some state) = enters_own script a state
 
--- what a reply binds leaves the call's number
-result_call : (a : Agent) (command : Command) (done : Done) (number : ℕ) → (after_result a command done number).call ≡ a.call
-result_call a (AddLine create j i o) done number = refl
-result_call a (AddEphemeral create j k o) done number = refl
-result_call a (ModifyLine place i o) done number = refl
-result_call a (ModifyEphemeral place k o) done number = refl
-result_call a (MoveLine j i o) done number = refl
-result_call a (MoveEphemeral j k o) done number = refl
-result_call a (Subtract j (termination.Line i)) done number = refl
-result_call a (Subtract j (termination.Ephemeral k)) done number = refl
-result_call a (SubtractAll j) done number = refl
-result_call a (SetTopology j t u topology) done number = refl
-
-results_call : (a : Agent) (commands : List Command) (results : List Done) (number : ℕ) → (after_results a commands results number).call ≡ a.call
-results_call a [] results number = refl
-results_call a (command ∷ more) [] number = refl
-results_call a (command ∷ more) (done ∷ results) number =
-    results_call (after_result a command done number) more results number ∙ result_call a command done number
-
 leads_own : (script : Script) (was a : Agent) (failure : Option Failure) → GivesOwn a.call (leads_on script was a failure)
 leads_own script was a None = rests_own script a (state_of script was.state).ok
 leads_own script was a (Some failure) = if_own script a (state_of script was.state).fault
@@ -93,7 +60,7 @@ replied_own script a reply = in_phase a.phase
     answered : (request : Request) (fits : Bool) → GivesOwn a.call (if fits
         then leads_on script a (after_results a (built_by script a a.state) reply.results reply.number) reply.failure else None)
     answered request true = subst (λ call. GivesOwn call (leads_on script a (after_results a (built_by script a a.state) reply.results reply.number) reply.failure))
-        (results_call a (built_by script a a.state) reply.results reply.number)
+        (results_keep a (built_by script a a.state) reply.results reply.number).call
         (leads_own script a (after_results a (built_by script a a.state) reply.results reply.number) reply.failure)
     answered request false = gives_none a.call
 

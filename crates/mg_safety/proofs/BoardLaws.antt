@@ -1,5 +1,5 @@
 -- What a command leaves alone, and where a path stays.
-use Rattle.std.proofs.Common.{◌≡◌, ◌∙◌, ℕ, Bool, true, false, [], ◌∷◌, Option, refl, sym, ap, arith, true≢false}
+use Rattle.std.proofs.Common.{◌≡◌, ◌∙◌, ℕ, Bool, true, false, [], ◌∷◌, refl, sym, ap, arith, true≢false}
 use Rattle.std.specs.Prelude.{◌==◌, ◌&&◌, not, IsTrue}
 use Rattle.std.proofs.lemmas.Bool.{eqb-true}
 use Rattle.std.proofs.lemmas.Grind.{common_steps}
@@ -7,44 +7,32 @@ use Rattle.mg_names.specs.declared.identifiers.TermId.{TermId}
 use Rattle.mg_names.specs.declared.identifiers.TermId.TheVariants.{Line, Eph}
 use Rattle.mg_model.specs.declared.items.Added.TheVariants as added
 use Rattle.mg_model.specs.declared.items.Item.TheVariants.{Add, Modify, Move, Subtract, SubtractAll, SetTopology}
-use Rattle.mg_model.specs.declared.rows.Row.{Row}
 use Rattle.mg_model.specs.Board.{Board, same_term, place_of, mode_of}
-use Rattle.mg_model.specs.Items.{with_row, without_cuts, with_cut}
+use Rattle.mg_model.specs.Items.{without_cuts}
 use Rattle.mg_model.specs.Media.{share_context, hops, crosses, goes_over}
 use Rattle.mg_model.specs.Paths.{passes_in, passes_out}
 use Rattle.mg_safety.specs.Laws.{CommandsKeepOthers, AreClosed, PathsStayInside}
-
-same_is : (t u : TermId) → same_term t u ≡ true → t ≡ u
-same_is (Line i) (Line j) e = ap (λ n. Line (record { 0 = n })) (eqb-true i.0 j.0 e)
-same_is (Line i) (Eph j) e = absurd (true≢false (sym e))
-same_is (Eph i) (Line j) e = absurd (true≢false (sym e))
-same_is (Eph i) (Eph j) e = ap (λ n. Eph n) (eqb-true i j e)
+use Rattle.mg_safety.proofs.Components.{same_term_is}
+use Rattle.mg_safety.proofs.Cases.{three_parts}
 
 -- another termination than one of these
 differs : (mine : TermId → Bool) (t u : TermId) → IsTrue (mine t) → mine u ≡ false → same_term u t ≡ false
 differs mine t u among other = go (same_term u t) refl
   where
     go : (b : Bool) → same_term u t ≡ b → b ≡ false
-    go true e = absurd (true≢false (sym (ap mine (same_is u t e) ∙ among) ∙ other))
+    go true e = absurd (true≢false (sym (ap mine (same_term_is u t e) ∙ among) ∙ other))
     go false e = refl
 
 differs_back : (mine : TermId → Bool) (t u : TermId) → IsTrue (mine t) → mine u ≡ false → same_term t u ≡ false
 differs_back mine t u among other = go (same_term t u) refl
   where
     go : (b : Bool) → same_term t u ≡ b → b ≡ false
-    go true e = absurd (true≢false (sym (ap mine (sym (same_is t u e)) ∙ among) ∙ other))
+    go true e = absurd (true≢false (sym (ap mine (sym (same_term_is t u e)) ∙ among) ∙ other))
     go false e = refl
-
-row_kept : (mine : TermId → Bool) (b : Board) (t : TermId) (row : Option Row) → IsTrue (mine t) → (u : TermId) → mine u ≡ false
-    → (with_row b t row).row u ≡ b.row u
-row_kept mine b t row among u other = rw (differs mine t u among other) refl
 
 cut_kept : (cut : TermId → TermId → Bool) (leaves : TermId → Bool) (u v : TermId) → leaves u ≡ false → leaves v ≡ false
     → without_cuts leaves cut u v ≡ cut u v
 cut_kept cut leaves u v first second = rw (first, second) refl
-
-set_kept : (cut : TermId → TermId → Bool) (t u x y : TermId) (value : Bool) → same_term x t ≡ false → with_cut cut t u value x y ≡ cut x y
-set_kept cut t u x y value e = rw e refl
 
 -- who doesn't stand in a context whose terminations are all among these
 elsewhere : (mine : TermId → Bool) (b : Board) (c : ℕ) → ((t : TermId) → place_of b t ≡ c → IsTrue (mine t)) → (u : TermId) → mine u ≡ false
@@ -95,15 +83,9 @@ hop_inside : (b : Board) (mine : TermId → Bool) → AreClosed b mine → (t u 
 hop_inside b mine closed t u h inside =
     closed.contexts t u inside (shares (same_term t u) (share_context b t u) (passes_in (mode_of b t)) (passes_out (mode_of b u)) (b.cut t u) h)
 
-parts : (x y z : Bool) → IsTrue (x && y && z) → (IsTrue x) × (IsTrue y) × (IsTrue z)
-parts true true true h = (refl, refl, refl)
-parts true true false h = absurd (true≢false (sym h))
-parts true false z h = absurd (true≢false (sym h))
-parts false y z h = absurd (true≢false (sym h))
-
 pub paths_inside : PathsStayInside
 paths_inside b mine closed from to [] h inside = hop_inside b mine closed from to h inside
 paths_inside b mine closed from to (crossing ∷ more) h inside =
-    let p = parts (hops b from (Eph crossing.0)) (crosses b crossing.0 crossing.1) (goes_over b (Eph crossing.1) more to) h in
+    let p = three_parts (hops b from (Eph crossing.0)) (crosses b crossing.0 crossing.1) (goes_over b (Eph crossing.1) more to) h in
     paths_inside b mine closed (Eph crossing.1) to more p.2
     (closed.crossings crossing.0 crossing.1 (hop_inside b mine closed from (Eph crossing.0) p.0 inside) p.1)

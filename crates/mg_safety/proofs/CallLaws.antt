@@ -1,7 +1,6 @@
 -- What an event leaves alone.
-use Rattle.std.proofs.Common.{◌≡◌, ◌∙◌, ◌+◌, ◌<◌, ◌≤◌, ◌++◌, ℕ, Bool, true, false, List, [], ◌∷◌, length, Option, Some, None, refl, sym, ap, subst, arith, inl, inr, zero, suc, get_or}
-use Rattle.std.specs.Prelude.{◌==◌, Contains, if◌then◌else◌, unwrap_or}
-use Rattle.std.proofs.lemmas.Bool.{eqb-true}
+use Rattle.std.proofs.Common.{◌≡◌, ◌∙◌, ◌+◌, ◌<◌, ◌≤◌, ◌++◌, ℕ, List, [], ◌∷◌, length, Option, Some, None, refl, sym, ap, subst, arith, inl, inr, zero, suc, get_or}
+use Rattle.std.specs.Prelude.{Contains, unwrap_or}
 use Rattle.std.proofs.lemmas.List.Elements.{Contains-append_cases}
 use Rattle.mg_names.specs.declared.identifiers.TermId.TheVariants.{Line}
 use Rattle.mg_model.specs.Agent.{Agent, replied, passed, noted, timed, heard}
@@ -12,6 +11,7 @@ use Rattle.mg_model.specs.RequestRun.{Refusal}
 use Rattle.mg_model.specs.World.{World, on_a_line, execute, reply, pass, note, timer, hear, restart, Executes, IsFirst, LineOccurs, AgentSteps, sent_in}
 use Rattle.mg_model.specs.Steps.{line_places}
 use Rattle.mg_safety.specs.Laws.{OldRequestsDoNothing, RestartsClearLines, EventsKeepOthers, AreNumbered, IsSameButReplies, IsSameFor}
+use Rattle.mg_safety.proofs.Cases.{at_another}
 use Rattle.mg_safety.proofs.AgentLaws.{IsOwn, GivesOwn, replied_own, passed_own, noted_own, timed_own, heard_own}
 
 same_but_replies : (w after : World) (replies : List Reply) → after ≡ record w { replies = replies } → IsSameButReplies w after
@@ -44,14 +44,6 @@ restarts script w after occurs l row stands = record {
 
 -- ---- other calls
 
--- a function that is changed at one number is as it was at another
-elsewhere : {A : Type 0} (call other : ℕ) (new old : A) → (call ≡ other → ⊥) → (if other == call then new else old) ≡ old
-elsewhere call other new old differ = go (other == call) refl
-  where
-    go : (b : Bool) → (other == call) ≡ b → (if b then new else old) ≡ old
-    go true e = absurd (differ (sym (eqb-true other call e)))
-    go false e = refl
-
 -- whatever is among these is of a call
 abbrev AreOf : {A : Type 0} → (A → ℕ) → ℕ → List A → Type 0
 AreOf of call xs = (x : _) → Contains xs x → of x ≡ call
@@ -79,7 +71,7 @@ none_of of call y among = absurd (let below : among.0 < 0 = among.1 in omega (ar
 agent_keeps : (w after : World) (call other : ℕ) (step : Agent → Option Agent) → AreNumbered w
     → ((a : Agent) → GivesOwn a.call (step a)) → (call ≡ other → ⊥) → AgentSteps w call step after → IsSameFor w after other
 agent_keeps w after call other step numbered own differ s = record {
-  agent = ap (λ (x : World). x.agent other) s.after_is ∙ elsewhere call other (Some s.agent) (w.agent other) differ;
+  agent = ap (λ (x : World). x.agent other) s.after_is ∙ at_another call other (Some s.agent) (w.agent other) (λ e. differ (sym e));
   link = ap (λ (x : World). x.gateway.link other) s.after_is;
   requests = λ request is there. not_new (λ (r : Request). r.call) call other (sent_in s.agent.phase) w.requests request
       (subst (λ n. IsOwn n s.agent.phase) (numbered.agents call s.before s.open_call) (own s.before s.agent s.steps)) differ is
@@ -104,7 +96,8 @@ line_keeps w after line event call other o held differ =
     record {
       agent = ap (λ (x : World). x.agent other) o.after_is;
       link = ap (λ (x : World). x.gateway.link other) o.after_is ∙ ap (λ (g : Gateway). g.link other) h.after_is
-          ∙ elsewhere h.call other (record { last = (w.gateway.link h.call).last; notes = (w.gateway.link h.call).notes + length o.sent }) (w.gateway.link other) apart;
+          ∙ at_another h.call other (record { last = (w.gateway.link h.call).last; notes = (w.gateway.link h.call).notes + length o.sent }) (w.gateway.link other)
+          (λ e. apart (sym e));
       requests = λ request is there. subst (λ (x : World). Contains x.requests request) o.after_is there;
       replies = λ answer is there. subst (λ (x : World). Contains x.replies answer) o.after_is there;
       notes = λ sent is there. not_new (λ (n : SentNote). n.call) h.call other o.sent w.notes sent
@@ -134,9 +127,9 @@ first_keeps w after request refusal call other f of differ =
     record {
       agent = ap (λ (v : World). v.agent other) f.after_is;
       link = ap (λ (v : World). v.gateway.link other) f.after_is ∙ ap (λ (g : Gateway). g.link other) x.after_is
-          ∙ elsewhere request.call other
+          ∙ at_another request.call other
           (record { last = Some (reply_of request x.end x.failure); notes = (w.gateway.link request.call).notes + length x.end.notes })
-          (w.gateway.link other) apart;
+          (w.gateway.link other) (λ e. apart (sym e));
       requests = λ r is there. subst (λ (v : World). Contains v.requests r) f.after_is there;
       replies = λ answer is there. not_new (λ (r : Reply). r.call) request.call other (f.answer ∷ []) w.replies answer
           (one_of (λ (r : Reply). r.call) request.call f.answer (ap (λ (r : Reply). r.call) x.reply_is)) apart is

@@ -13,6 +13,7 @@ use Rattle.mg_model.specs.Media.{hops, crosses, goes_over, AreJoined}
 use Rattle.mg_model.specs.Script.{Script}
 use Rattle.mg_model.specs.World.{World, Opened, IsOpening, IsCleared, null_row}
 use Rattle.mg_safety.specs.Laws.{OpeningsAreGood, CallsStayApart}
+use Rattle.mg_safety.proofs.Cases.{three_parts}
 
 -- ---- nothing is joined where all stands in the null context
 
@@ -26,10 +27,7 @@ no_hop b all t u h = at_null (place_of b t) (place_of b u) (same_term t u) (pass
 no_path : (b : Board) → ((t : TermId) → place_of b t ≡ 0) → (from to : TermId) (crossings : List (ℕ × ℕ)) → IsTrue (goes_over b from crossings to) → ⊥
 no_path b all from to [] h = no_hop b all from to h
 no_path b all from to (crossing ∷ more) h =
-    no_hop b all from (Eph crossing.0) (first_of (hops b from (Eph crossing.0)) (crosses b crossing.0 crossing.1) (goes_over b (Eph crossing.1) more to) h)
-  where
-    first_of : (x y z : Bool) → IsTrue (x && y && z) → IsTrue x
-    first_of x y z h = grind (arith, common_steps)
+    no_hop b all from (Eph crossing.0) (three_parts (hops b from (Eph crossing.0)) (crosses b crossing.0 crossing.1) (goes_over b (Eph crossing.1) more to) h).0
 
 -- ---- openings
 
@@ -38,7 +36,7 @@ module _ (script : Script) (calls : List Opened) (w : World) (o : IsOpening scri
   in_null_row None all = refl
   in_null_row (Some r) all = ap (λ (row : Row). row.place.0) (all r refl)
 
-  all_in_null : (t : TermId) → place_of w.gateway.board t ≡ 0
+  pub all_in_null : (t : TermId) → place_of w.gateway.board t ≡ 0
   all_in_null (Line l) = in_null_row (w.gateway.board.row (Line l)) (o.others_null l.0)
   all_in_null (Eph k) = ap place_in (o.no_ephemeral k)
 

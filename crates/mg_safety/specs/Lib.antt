@@ -1,1 +1,4 @@
 pub mod Laws
+pub mod Headline
+pub mod Talk
+pub mod Needed

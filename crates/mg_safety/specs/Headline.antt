@@ -1,0 +1,27 @@
+-- The promise over runs. A reader should check that its only premises are these: the script and the certificate are as their readers
+-- accept them, no obligation is broken, and the gateway, the agents and the network step as `mg_model` writes it, in which no
+-- identifier is given twice in an association.
+use Rattle.std.specs.Prelude.{List, [], ◌∷◌}
+use Rattle.std.specs.List.{All}
+use Rattle.mg_model.specs.Entries.{Entry}
+use Rattle.mg_model.specs.Obligations.{NoneBroken}
+use Rattle.mg_model.specs.Script.{Script}
+use Rattle.mg_model.specs.World.{World, Event, Opened, IsOpening, Runs, IsGood}
+use Rattle.mg_model.specs.Accepted.{IsScript, IsEntryOf}
+
+-- in every run of any number of calls on distinct lines every world is good: each prefix of a run is a run
+abbrev pub RunsAreGood : Script → Type 0
+RunsAreGood script =
+    (calls : List Opened) (events : List Event) (opening end : World) → IsOpening script calls opening → Runs script events opening end
+    → IsGood script end
+
+abbrev pub EveryRunIsGood : Type 0
+EveryRunIsGood =
+    (script : Script) (entries : List Entry) → IsScript script → All (IsEntryOf script) entries → NoneBroken script entries → RunsAreGood script
+
+-- the same of one call
+abbrev pub EveryRunOfOneCallIsGood : Type 0
+EveryRunOfOneCallIsGood =
+    (script : Script) (entries : List Entry) → IsScript script → All (IsEntryOf script) entries → NoneBroken script entries
+    → (call : Opened) (events : List Event) (opening end : World) → IsOpening script (call ∷ []) opening
+    → Runs script events opening end → IsGood script end
