@@ -15,6 +15,7 @@ build:
 
 test:
 	rt ci
+	tools/wrong_models
 	tools/cases
 	tools/refusals
 
