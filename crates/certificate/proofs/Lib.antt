@@ -1,5 +1,9 @@
+pub mod AcceptedEntries
+pub mod DeclaredKeys
 pub mod Each
 pub mod Limits
+pub mod MeantComponents
+pub mod Members
 pub mod OutlineLemmas
 pub mod Parts
 pub mod Passing

@@ -2,6 +2,7 @@ pub mod Certificate
 pub mod Components
 pub mod Document
 pub mod FaultNames
+pub mod Laws
 pub mod Listed
 pub mod Naming
 pub mod Outlines

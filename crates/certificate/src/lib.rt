@@ -12,6 +12,7 @@ mod draft;
 mod entry;
 mod fault;
 mod key;
+pub mod laws;
 mod names;
 mod outline;
 mod ranked;

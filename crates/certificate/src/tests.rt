@@ -1,5 +1,5 @@
 //! A certificate for one script: its entries, their sizes and points, and the limit of points at its edge.
-use crate::{Cert, CertFault, read_cert};
+use crate::{Cert, CertFault, laws, read_cert};
 use scriptreader::{Script, read_script};
 use std::alloc::Global;
 use std::test::Fail;
@@ -51,4 +51,9 @@ fn sizes(rt: HostRuntime) -> Result<(), Fail> {
     assert_eq!(rt; fault.number(), 6);
     assert_eq!(rt; fault.name(), "TooManyPoints");
     Ok(())
+}
+
+#[test]
+fn law(_rt: HostRuntime) {
+    laws::accepted_certificates();
 }

@@ -4,3 +4,7 @@ pub mod Signs
 pub mod Repeats
 pub mod Meanings
 pub mod Readings
+pub mod Slots
+pub mod Declared
+pub mod Created
+pub mod Accepted

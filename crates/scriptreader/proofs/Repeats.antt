@@ -14,7 +14,7 @@ or_assoc : (a b c : Bool) → (a || (b || c)) ≡ ((a || b) || c)
 or_assoc true b c = refl
 or_assoc false b c = refl
 
-repeats_of_both : (before xs ys : List (List ℕ)) → repeats_after before (xs ++ ys) ≡ (repeats_after before xs || repeats_after (before ++ xs) ys)
+pub repeats_of_both : (before xs ys : List (List ℕ)) → repeats_after before (xs ++ ys) ≡ (repeats_after before xs || repeats_after (before ++ xs) ys)
 repeats_of_both before [] ys = ap (λ b. repeats_after b ys) (sym (append-nil before))
 repeats_of_both before (x ∷ xs) ys =
     ap (either (is_among x before)) (repeats_of_both (before ++ x ∷ []) xs ys)
@@ -53,11 +53,11 @@ third_repeats before middle late xs ys zs a b c none is no-a mid is-b no-b last 
 
 -- ---- what has no duplicate repeats no name
 
-or_left : (a b : Bool) → (a || b) ≡ false → a ≡ false
+pub or_left : (a b : Bool) → (a || b) ≡ false → a ≡ false
 or_left true b e = absurd cc
 or_left false b e = refl
 
-or_right : (a b : Bool) → (a || b) ≡ false → b ≡ false
+pub or_right : (a b : Bool) → (a || b) ≡ false → b ≡ false
 or_right true b e = absurd cc
 or_right false b e = e
 
@@ -73,7 +73,7 @@ fewer before seen (text ∷ texts) e =
     let later : repeats_after (seen ++ text ∷ []) texts ≡ false = fewer before (seen ++ text ∷ []) texts (ap (λ (b : List (List ℕ)). repeats_after b texts) (sym (append_assoc before seen (text ∷ []))) ∙ there) in
     rw (here, later) refl
 
-fewer_alone : (before texts : List (List ℕ)) → repeats_after before texts ≡ false → repeats_after [] texts ≡ false
+pub fewer_alone : (before texts : List (List ℕ)) → repeats_after before texts ≡ false → repeats_after [] texts ≡ false
 fewer_alone before texts e = fewer before [] texts (ap (λ (b : List (List ℕ)). repeats_after b texts) (append-nil before) ∙ e)
 
 mapped : (xs : List (List ℕ)) → repeats_after [] xs ≡ false → repeats_after [] (map (λ w. w) xs) ≡ false

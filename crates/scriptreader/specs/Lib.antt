@@ -9,3 +9,4 @@ pub mod Reading
 pub mod Table
 pub mod Words
 pub mod Meaning
+pub mod Laws

@@ -1,4 +1,4 @@
-use crate::{ScriptFault, read_script};
+use crate::{ScriptFault, laws, read_script};
 use std::alloc::AllocError;
 use std::test::Fail;
 
@@ -448,4 +448,9 @@ fn table(rt: HostRuntime) -> Result<(), Fail> {
 fn names_of_faults(rt: HostRuntime) {
     assert_eq!(rt; ScriptFault::TooMany.name(), "TooMany");
     assert_eq!(rt; ScriptFault::NoMemory.number(), 0);
+}
+
+#[test]
+fn laws_hold(_rt: HostRuntime) {
+    laws::accepted_scripts();
 }
