@@ -1,11 +1,12 @@
 -- What the program says of a script and a certificate, from their bytes. A reader should check that the line names the
 -- fault of the script where it has one, else that of the certificate, else the first obligation that is broken, and that
--- it is `yes` where none is.
+-- it is `yes` where none is, and that a yes says of every run of the script that it is good.
 use Rattle.std.specs.Prelude.{◌≡◌, ◌≢◌, ℕ, List, length, Option, Some, None, option_map, Result, Ok, Err}
 use Rattle.mg_model.specs.declared.faults.Fault.{Fault}
 use Rattle.mg_model.specs.Script.{Script}
 use Rattle.mg_model.specs.Entries.{Entry, HavePoints}
 use Rattle.mg_model.specs.Obligations.{NoneBroken, IsFirstFault}
+use Rattle.mg_safety.specs.Headline.{RunsAreGood}
 use Rattle.scriptreader.specs.declared.fault.ScriptFault.{ScriptFault}
 use Rattle.scriptreader.specs.declared.fault.ScriptFault.TheVariants as scripts
 use Rattle.scriptreader.specs.FaultNames as script_names
@@ -34,9 +35,10 @@ pub record AreRead (script certificate : Text) (table : Script) (entries : List 
   pub reads : ReadsScript script (Ok table)
   pub lists : ReadsCertificate table certificate (Ok entries)
 
--- a certificate that breaks no obligation, and the number of its points
+-- a certificate that breaks no obligation, and the number of its points; and so every run of any number of calls of the script is good
 pub record IsChecked (table : Script) (entries : List Entry) (points : ℕ) : Type 0 where
   pub none_broken : NoneBroken table entries
+  pub safe : RunsAreGood table
   pub counted : HavePoints entries points
 
 -- a script with a certificate that breaks no obligation

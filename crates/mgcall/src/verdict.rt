@@ -2,14 +2,17 @@
 ghost use Rattle.std.specs.Prelude.{◌≡◌, length};
 ghost use Rattle.mgcall.specs.Verdicts.{IsVerdict};
 
+use certificate::laws::accepted_certificates;
 use certificate::{Cert, CertFault, read_cert};
 use closure::first_fault::{first_fault, points};
 use mg_model::faults::Fault;
+use mg_safety::runs::every_run_is_good;
+use scriptreader::laws::accepted_scripts;
 use scriptreader::{Script, ScriptFault, read_script};
 use std::alloc::Global;
 use std::marker::Model;
 
-/// A script with a certificate that breaks no obligation.
+/// A script with a certificate that breaks no obligation: every run of any number of calls of the script on lines that differ is good.
 #[derive(Drop)]
 pub struct Checked {
     script: Script,
@@ -95,6 +98,9 @@ pub fn check(alloc: Global, script: &[u8], certificate: &[u8]) -> Result<Verdict
     };
     match first_fault(alloc, &script, &cert) {
         Ok(None) => {
+            accepted_scripts();
+            accepted_certificates();
+            every_run_is_good();
             let points = points(&cert);
             Ok(Verdict::Yes(Checked {
                 script,
