@@ -3,7 +3,7 @@ pub mod Shown
 pub mod Commands
 pub mod Sound
 pub mod Statements
--- helpers
+-- lemmas that the parts share
 pub mod Cases
 pub mod Single
 pub mod Components
