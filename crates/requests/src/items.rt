@@ -1,5 +1,6 @@
 //! A command of a request as a command on the connection model: names stand for what the earlier commands created.
 ghost use Rattle.std.specs.Prelude.{◌≡◌, option_map};
+ghost use Rattle.mg_model.specs.declared.items.Item.TheVariants as item;
 ghost use Rattle.mg_model.specs.RequestRun.{context_at, ephemeral_at, termination_at, remote_at, settings_at, item_at};
 ghost use Rattle.requests.specs.Views.{context_ref, ephemeral_ref, termination_ref, remote_ref, descriptors_of, command_of};
 
@@ -8,6 +9,7 @@ use crate::references::{ContextRef, EphemeralRef, RemoteRef, TerminationRef};
 use contexts::Done;
 use mg_model::items::{Added, Item, RemoteSetting, Settings};
 use mg_names::identifiers::{ContextId, TermId};
+use mg_names::topologies::Topology;
 
 /// The number of a context; ALL, which is no context, where none was created at the place.
 pub(crate) fn context_at(results: &[Done], context: ContextRef) -> ContextId
@@ -69,6 +71,35 @@ fn settings_at(results: &[Done], descriptors: &Descriptors) -> Settings
     }
 }
 
+/// Add on the connection model.
+fn added_at(results: &[Done], context: ContextRef, added: Added, descriptors: &Descriptors) -> Item
+    ensures { result ≡ item.Add (record { 0 = context_at results.now (context_ref context) }) added (settings_at results.now (descriptors_of descriptors.now)) }
+{
+    Item::Add {
+        context: context_at(results, context),
+        added,
+        settings: settings_at(results, descriptors),
+    }
+}
+
+/// Topology on the connection model.
+fn topology_at(
+    results: &[Done],
+    context: ContextRef,
+    first: TerminationRef,
+    second: TerminationRef,
+    topology: Topology,
+) -> Item
+    ensures { result ≡ item.SetTopology (record { 0 = context_at results.now (context_ref context) }) (termination_at results.now (termination_ref first)) (termination_at results.now (termination_ref second)) topology }
+{
+    Item::SetTopology {
+        context: context_at(results, context),
+        first: termination_at(results, first),
+        second: termination_at(results, second),
+        topology,
+    }
+}
+
 /// The command on the connection model.
 pub(crate) fn item_at(results: &[Done], command: &RequestCommand) -> Item
     ensures { result ≡ item_at results.now (command_of command.now) }
@@ -78,19 +109,11 @@ pub(crate) fn item_at(results: &[Done], command: &RequestCommand) -> Item
             context,
             line,
             descriptors,
-        } => Item::Add {
-            context: context_at(results, *context),
-            added: Added::Line(*line),
-            settings: settings_at(results, descriptors),
-        },
+        } => added_at(results, *context, Added::Line(*line), descriptors),
         RequestCommand::AddEphemeral {
             context,
             descriptors,
-        } => Item::Add {
-            context: context_at(results, *context),
-            added: Added::NewEphemeral,
-            settings: settings_at(results, descriptors),
-        },
+        } => added_at(results, *context, Added::NewEphemeral, descriptors),
         RequestCommand::Modify {
             context,
             termination,
@@ -124,11 +147,6 @@ pub(crate) fn item_at(results: &[Done], command: &RequestCommand) -> Item
             first,
             second,
             topology,
-        } => Item::SetTopology {
-            context: context_at(results, *context),
-            first: termination_at(results, *first),
-            second: termination_at(results, *second),
-            topology: *topology,
-        },
+        } => topology_at(results, *context, *first, *second, *topology),
     }
 }
