@@ -4,7 +4,7 @@ use Rattle.digits.specs.declared.step.Step.{Step}
 use Rattle.digits.specs.declared.step.Step.TheVariants.{More, Done, Closed}
 use Rattle.mg_model.specs.declared.line_events.Method.{Method}
 use Rattle.mg_model.specs.declared.line_events.Method.TheVariants.{Unambiguous, Full, Partial}
-use Rattle.mg_model.specs.DigitMaps.{Digits, Collected, Completion}
+use Rattle.mg_model.specs.DigitMaps.{Dialling, Collected, Completion}
 
 abbrev pub completion_of : Step → Option Completion
 completion_of More = None
@@ -23,7 +23,7 @@ keeps (Done method alternative symbols) = keeps_by method
 keeps Closed = false
 
 -- what is collected after a step, with what the step tells
-abbrev pub told : Digits → Step → Collected
+abbrev pub told : Dialling → Step → Collected
 told digits step = record { digits = digits; completion = completion_of step; kept = keeps step }
 
 -- the step that tells of this completion

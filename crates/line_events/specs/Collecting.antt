@@ -1,11 +1,11 @@
 -- The collector of a line beside the digit map of its list.
 use Rattle.std.specs.Prelude.{Bool, false, not, [], Option, Some, None}
 use Rattle.mg_model.specs.Script.{DigitMap}
-use Rattle.mg_model.specs.DigitMaps.{Digits, collecting}
+use Rattle.mg_model.specs.DigitMaps.{Dialling, collecting}
 use Rattle.digits.specs.Progress.{Progress, Follows, is_completed}
 
 -- what is collected; nothing, where the list has no digit map
-abbrev pub digits_in : Option Progress → Digits
+abbrev pub digits_in : Option Progress → Dialling
 digits_in None = collecting []
 digits_in (Some p) = p.digits
 

@@ -10,8 +10,9 @@ use Rattle.mg_model.specs.declared.line_events.Hook.TheVariants.{Off}
 use Rattle.mg_model.specs.declared.line_events.Method.TheVariants.{Unambiguous, Full, Partial}
 use Rattle.mg_model.specs.declared.line_events.SignalSet.{SignalSet}
 use Rattle.mg_model.specs.Script.{DigitMap}
-use Rattle.mg_model.specs.DigitMaps.{Digits, collecting, completed, Completion, Collected, with_symbol, with_pause}
-use Rattle.mg_model.specs.LineEvents.{ListItem, OffHook, DialledBy, LineRow, Note, Outcome, new_line, silent, armed, signalled, hooked, flashed, dialled, paused, signal_ended}
+use Rattle.mg_model.specs.DigitMaps.{Dialling, collecting, completed, Completion, Collected, with_symbol, with_pause}
+use Rattle.mg_model.specs.declared.transitions.EventItem.TheVariants as item
+use Rattle.mg_model.specs.LineEvents.{ListItem, LineRow, Note, Outcome, new_line, silent, armed, signalled, hooked, flashed, dialled, paused, signal_ended}
 
 abbrev one : Position
 one = record { accepts = false ∷ true ∷ false ∷ false ∷ false ∷ false ∷ false ∷ false ∷ false ∷ false ∷ false ∷ false ∷ [] }
@@ -33,11 +34,11 @@ abbrev other : DigitMap
 other = (one ∷ any ∷ []) ∷ (any ∷ one ∷ []) ∷ []
 
 -- what the symbols make, one after the other
-abbrev dial : DigitMap → Digits → List Symbol → Digits
+abbrev dial : DigitMap → Dialling → List Symbol → Dialling
 dial m digits [] = digits
 dial m digits (s ∷ more) = dial m (with_symbol m digits s).digits more
 
-abbrev by : Digits → Option Completion → Bool → Collected
+abbrev by : Dialling → Option Completion → Bool → Collected
 by digits completion kept = record { digits = digits; completion = completion; kept = kept }
 
 -- 1, 2, 4: the last is taken back, and the first alternative was matched
@@ -73,7 +74,7 @@ lower_one = refl
 -- ---- a line on hook, armed for off-hook and for the map, on which dial tone plays
 
 abbrev list : List ListItem
-list = OffHook Exact ∷ DialledBy map ∷ []
+list = item.OffHook Exact ∷ item.Digits map ∷ []
 
 abbrev dial_tone : SignalSet
 dial_tone = record silent { dial_tone = true }
@@ -114,8 +115,8 @@ dialled_whole : dialled (record off { request = Some 2; digits = collecting (One
 dialled_whole = refl
 
 -- a hook state that stands is recognised as the descriptor is processed, and stops the signals
-stands : Some (armed (record off { playing = dial_tone }) (OffHook State ∷ []) 3)
-    ≡ told (record off { list = OffHook State ∷ []; request = Some 3 }) (record { kind = kind.Of; request = 3; method = None; symbols = [] })
+stands : Some (armed (record off { playing = dial_tone }) (item.OffHook State ∷ []) 3)
+    ≡ told (record off { list = item.OffHook State ∷ []; request = Some 3 }) (record { kind = kind.Of; request = 3; method = None; symbols = [] })
 stands = refl
 
 off_again : hooked off Off ≡ None

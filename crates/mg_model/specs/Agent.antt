@@ -30,7 +30,7 @@ use Rattle.mg_model.specs.declared.transitions.EventItem.{EventItem}
 use Rattle.mg_model.specs.declared.transitions.EventItem.TheVariants as item
 use Rattle.mg_model.specs.Delivery.{Inbox, arrival, is_new, with_accepted}
 use Rattle.mg_model.specs.Items.{Done}
-use Rattle.mg_model.specs.LineEvents.{ListItem, OnHook, OffHook, Flash, DialledBy, Note}
+use Rattle.mg_model.specs.LineEvents.{ListItem, Note}
 use Rattle.mg_model.specs.Messages.{Descriptors, RequestCommand, add_line, add_ephemeral, modify, move, subtract, subtract_all, set_topology, Request, Reply, SentNote, Failure}
 use Rattle.mg_model.specs.Numbers.{null, choose, all, no_ephemeral, first_association, first_number, opening_request, last_number}
 use Rattle.mg_model.specs.Request.{Names, built, created_context, created_ephemeral}
@@ -67,11 +67,11 @@ abbrev pub map_of : Script → ℕ → DigitMap
 map_of script m = unwrap_or (option_map (λ (named : NamedMap). named.map) (slice_get script.maps m)) []
 
 -- an item with its digit map
-abbrev pub list_item : Script → EventItem → ListItem
-list_item script (item.OnHook strict) = OnHook strict
-list_item script (item.OffHook strict) = OffHook strict
-list_item script item.Flash = Flash
-list_item script (item.Digits m) = DialledBy (map_of script m)
+abbrev pub list_item : Script → EventItem ℕ → ListItem
+list_item script (item.OnHook strict) = item.OnHook strict
+list_item script (item.OffHook strict) = item.OffHook strict
+list_item script item.Flash = item.Flash
+list_item script (item.Digits m) = item.Digits (map_of script m)
 
 abbrev pub list_of : Script → EventsName → List ListItem
 list_of script name = map (list_item script) (items_of script name)

@@ -87,13 +87,13 @@ abbrev pub ended : DigitMap → List Symbol → Completion
 ended map symbols = ended_by symbols (first_match map symbols)
 
 -- what is collected: symbols, or nothing more once the map is completed
-pub data Digits : Type 0 where
-  collecting : List Symbol → Digits
-  completed : Digits
+pub data Dialling : Type 0 where
+  collecting : List Symbol → Dialling
+  completed : Dialling
 
 -- what a symbol makes of it: what is collected then, the completion if there is one, and whether the symbol was kept
 pub record Collected : Type 0 where
-  pub digits : Digits
+  pub digits : Dialling
   pub completion : Option Completion
   pub kept : Bool
 
@@ -105,12 +105,12 @@ after_symbol map before symbols (Some n) none_left =
 after_symbol map before symbols None true = record { digits = completed; completion = Some (ended map before); kept = false }
 after_symbol map before symbols None false = record { digits = collecting symbols; completion = None; kept = true }
 
-abbrev pub with_symbol : DigitMap → Digits → Symbol → Collected
+abbrev pub with_symbol : DigitMap → Dialling → Symbol → Collected
 with_symbol map (collecting symbols) s =
     after_symbol map symbols (symbols ++ s ∷ []) (sole_match map (symbols ++ s ∷ [])) (is_empty (candidates map (symbols ++ s ∷ [])))
 with_symbol map completed s = record { digits = completed; completion = None; kept = false }
 
 -- what a pause makes of it
-abbrev pub with_pause : DigitMap → Digits → Collected
+abbrev pub with_pause : DigitMap → Dialling → Collected
 with_pause map (collecting symbols) = record { digits = completed; completion = Some (ended map symbols); kept = false }
 with_pause map completed = record { digits = completed; completion = None; kept = false }

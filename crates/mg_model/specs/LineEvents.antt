@@ -9,7 +9,6 @@ use Rattle.mg_names.specs.declared.kinds.Kind.{Kind}
 use Rattle.mg_names.specs.declared.kinds.Kind.TheVariants as kind
 use Rattle.mg_names.specs.declared.signals.Signal.{Signal}
 use Rattle.mg_names.specs.declared.signals.Signal.TheVariants.{Ring, DialTone, RingingTone, BusyTone, CongestionTone}
-use Rattle.mg_names.specs.declared.strictness.Strict.{Strict}
 use Rattle.mg_names.specs.declared.strictness.Strict.TheVariants.{State}
 use Rattle.mg_names.specs.declared.symbols.Symbol.{Symbol}
 use Rattle.mg_model.specs.declared.line_events.Hook.{Hook}
@@ -17,15 +16,14 @@ use Rattle.mg_model.specs.declared.line_events.Hook.TheVariants.{On, Off}
 use Rattle.mg_model.specs.declared.line_events.Method.{Method}
 use Rattle.mg_model.specs.declared.line_events.Method.TheVariants.{Unambiguous, Full, Partial}
 use Rattle.mg_model.specs.declared.line_events.SignalSet.{SignalSet}
+use Rattle.mg_model.specs.declared.transitions.EventItem.{EventItem}
+use Rattle.mg_model.specs.declared.transitions.EventItem.TheVariants.{OnHook, OffHook, Flash, Digits}
 use Rattle.mg_model.specs.Script.{DigitMap}
-use Rattle.mg_model.specs.DigitMaps.{Digits, collecting, completed, Collected, Completion, with_symbol, with_pause}
+use Rattle.mg_model.specs.DigitMaps.{Dialling, collecting, completed, Collected, Completion, with_symbol, with_pause}
 
 -- an item of an Events descriptor, with its digit map
-pub data ListItem : Type 0 where
-  OnHook : Strict → ListItem
-  OffHook : Strict → ListItem
-  Flash : ListItem
-  DialledBy : DigitMap → ListItem
+abbrev pub ListItem : Type 0
+ListItem = EventItem DigitMap
 
 -- a line: its hook state, its Events descriptor with its RequestID, what is collected for its digit map, and the signals
 -- that play. A descriptor that was emptied by the gateway has no RequestID (this profile's own)
@@ -33,7 +31,7 @@ pub record LineRow : Type 0 where
   pub hook : Hook
   pub list : List ListItem
   pub request : Option ℕ
-  pub digits : Digits
+  pub digits : Dialling
   pub playing : SignalSet
 
 -- a note: what it reports of the line, the RequestID of the descriptor, and for a completed map how and by which symbols
@@ -79,7 +77,7 @@ is_flash item = false
 -- the digit map of a list
 abbrev pub map_in : List ListItem → Option DigitMap
 map_in [] = None
-map_in (DialledBy map ∷ more) = Some map
+map_in (Digits map ∷ more) = Some map
 map_in (OnHook strict ∷ more) = map_in more
 map_in (OffHook strict ∷ more) = map_in more
 map_in (Flash ∷ more) = map_in more
@@ -163,7 +161,7 @@ abbrev pub dialled : LineRow → Symbol → Option Outcome
 dialled row s = if is_on row.hook then None else Some (dialled_by row (map_in row.list) s)
 
 -- the timer of an active digit map ends
-abbrev pub paused_by : LineRow → Option DigitMap → Digits → Option Outcome
+abbrev pub paused_by : LineRow → Option DigitMap → Dialling → Option Outcome
 paused_by row None digits = None
 paused_by row (Some map) completed = None
 paused_by row (Some map) (collecting symbols) = Some (taken row (with_pause map (collecting symbols)))

@@ -12,7 +12,7 @@ use Rattle.mg_model.specs.declared.transitions.Pair.{Pair}
 -- an events list of the script's own: its name, and its items in their order
 pub record EventsList : Type 0 where
   pub name : List ℕ
-  pub items : List EventItem
+  pub items : List (EventItem ℕ)
 
 -- a signals list of the script's own
 pub record SignalsList : Type 0 where

@@ -42,7 +42,7 @@ abbrev pub line_places : Script → List ℕ
 line_places script = below (length script.lines) (0 ∷ 1 ∷ 2 ∷ 3 ∷ [])
 
 -- the items of an events list
-abbrev pub items_of : Script → EventsName → List EventItem
+abbrev pub items_of : Script → EventsName → List (EventItem ℕ)
 items_of script Empty = []
 items_of script Armed = OffHook Exact ∷ []
 items_of script (Own k) = unwrap_or (option_map (λ (list : EventsList). list.items) (slice_get script.lists k)) []
@@ -53,7 +53,7 @@ signals_of script Silent = []
 signals_of script (OwnSignals k) = unwrap_or (option_map (λ (list : SignalsList). list.items) (slice_get script.signals k)) []
 
 -- whether an item raises a note of a kind (H.248.1 Annex E.9 and E.6)
-abbrev pub item_raises : Kind → EventItem → Bool
+abbrev pub item_raises : Kind → EventItem ℕ → Bool
 item_raises On (OnHook strict) = true
 item_raises Of (OffHook strict) = true
 item_raises Fl Flash = true
@@ -61,11 +61,11 @@ item_raises Full (Digits map) = true
 item_raises Part (Digits map) = true
 item_raises _ _ = false
 
-abbrev pub raises : List EventItem → Kind → Bool
+abbrev pub raises : List (EventItem ℕ) → Kind → Bool
 raises items kind = list_any (item_raises kind) items
 
 -- exactly `al/of` with `strict=exact`
-abbrev pub is_armed_list : List EventItem → Bool
+abbrev pub is_armed_list : List (EventItem ℕ) → Bool
 is_armed_list (OffHook Exact ∷ []) = true
 is_armed_list _ = false
 

@@ -10,7 +10,8 @@ use Rattle.mg_model.specs.declared.rows.Row.{Row}
 use Rattle.mg_model.specs.Agent.{Agent, Phase, awaits_reply, awaits_pass, resting, replied, passed, noted, timed, heard, opened}
 use Rattle.mg_model.specs.Board.{exists}
 use Rattle.mg_model.specs.Gateway.{Gateway, IsExecutedBy, IsKept, IsDiscarded, Happens, restarted}
-use Rattle.mg_model.specs.LineEvents.{OffHook, LineRow, new_line, silent}
+use Rattle.mg_model.specs.declared.transitions.EventItem.TheVariants.{OffHook}
+use Rattle.mg_model.specs.LineEvents.{LineRow, new_line, silent}
 use Rattle.mg_model.specs.Media.{AreJoined}
 use Rattle.mg_model.specs.Messages.{Request, Reply, SentNote}
 use Rattle.mg_model.specs.Numbers.{null, first_association, last_association, opening_request}

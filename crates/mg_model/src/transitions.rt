@@ -2,17 +2,17 @@ use mg_names::kinds::Kind;
 use mg_names::slots::Slot;
 use mg_names::strictness::Strict;
 
-/// An item of an events list.
-#[derive(Clone, Copy, Debug, PartialEq, Eq)]
-pub enum EventItem {
+/// An item of an events list; `M` is how a digit map is named: by its place in a script, or by the map itself.
+#[derive(Clone, Copy, Debug, Drop, PartialEq, Eq)]
+pub enum EventItem<M> {
     /// `al/on`.
     OnHook(Strict),
     /// `al/of`.
     OffHook(Strict),
     /// `al/fl`.
     Flash,
-    /// `dd/ce` with one of the script's digit maps, by its place from 0.
-    Digits(u8),
+    /// `dd/ce` with its digit map.
+    Digits(M),
 }
 
 /// A transition of a state: where a note of this line and kind leads.

@@ -14,9 +14,9 @@ use Rattle.mg_model.specs.declared.line_events.Hook.TheVariants.{On, Off}
 use Rattle.mg_model.specs.declared.line_events.Method.{Method}
 use Rattle.mg_model.specs.declared.line_events.Method.TheVariants.{Unambiguous, Full, Partial}
 use Rattle.mg_model.specs.Script.{DigitMap}
-use Rattle.mg_model.specs.DigitMaps.{Digits, collecting, completed, Collected, Completion, with_symbol, with_pause}
+use Rattle.mg_model.specs.DigitMaps.{Dialling, collecting, completed, Collected, Completion, with_symbol, with_pause}
 use Rattle.mg_model.specs.Gateway.{LineEvent, hook, flash, digit, pause, signal_end, outcome_of}
-use Rattle.mg_model.specs.LineEvents.{ListItem, OnHook, OffHook, Flash, DialledBy, LineRow, Note, Outcome, silent, is_hook, is_flash, map_in, kind_of, stays, detected, is_on, same_hook, hooked, flashed, kind_by, note_by, note_of, taken, dialled_by, dialled, paused_by, paused, plays, without_signal, signal_ended}
+use Rattle.mg_model.specs.LineEvents.{ListItem, OnHook, OffHook, Flash, Digits, LineRow, Note, Outcome, silent, is_hook, is_flash, map_in, kind_of, stays, detected, is_on, same_hook, hooked, flashed, kind_by, note_by, note_of, taken, dialled_by, dialled, paused_by, paused, plays, without_signal, signal_ended}
 use Rattle.mg_safety.proofs.Single.{any_too}
 use Rattle.mg_safety.proofs.Cases.{none_is_some, the_some}
 use Rattle.mg_safety.proofs.Shown.{raises_kind, list_raises}
@@ -43,26 +43,26 @@ hook_raises : (h : Hook) (item : ListItem) → is_hook h item ≡ true → raise
 hook_raises On (OnHook strict) e = refl
 hook_raises On (OffHook strict) e = e
 hook_raises On Flash e = e
-hook_raises On (DialledBy map) e = e
+hook_raises On (Digits map) e = e
 hook_raises Off (OnHook strict) e = e
 hook_raises Off (OffHook strict) e = refl
 hook_raises Off Flash e = e
-hook_raises Off (DialledBy map) e = e
+hook_raises Off (Digits map) e = e
 
 flash_raises : (item : ListItem) → is_flash item ≡ true → raises_kind kind.Fl item ≡ true
 flash_raises (OnHook strict) e = e
 flash_raises (OffHook strict) e = e
 flash_raises Flash e = refl
-flash_raises (DialledBy map) e = e
+flash_raises (Digits map) e = e
 
 map_raises : (list : List ListItem) (map : DigitMap) (method : Method) → map_in list ≡ Some map → list_raises list (kind_by method) ≡ true
 map_raises [] map method e = absurd (none_is_some map e)
 map_raises (OnHook strict ∷ more) map method e = or_right (raises_kind (kind_by method) (OnHook strict)) (list_raises more (kind_by method)) (map_raises more map method e)
 map_raises (OffHook strict ∷ more) map method e = or_right (raises_kind (kind_by method) (OffHook strict)) (list_raises more (kind_by method)) (map_raises more map method e)
 map_raises (Flash ∷ more) map method e = or_right (raises_kind (kind_by method) Flash) (list_raises more (kind_by method)) (map_raises more map method e)
-map_raises (DialledBy first ∷ more) map Unambiguous e = refl
-map_raises (DialledBy first ∷ more) map Full e = refl
-map_raises (DialledBy first ∷ more) map Partial e = refl
+map_raises (Digits first ∷ more) map Unambiguous e = refl
+map_raises (Digits first ∷ more) map Full e = refl
+map_raises (Digits first ∷ more) map Partial e = refl
 
 -- ---- what each event gives
 
@@ -149,7 +149,7 @@ dialled_gives row s = where_it_is (is_on row.hook)
 paused_gives : (row : LineRow) → Gives row (paused row)
 paused_gives row = by_map (map_in row.list) refl row.digits
   where
-    by_map : (map : Option DigitMap) → map_in row.list ≡ map → (digits : Digits) → Gives row (paused_by row map digits)
+    by_map : (map : Option DigitMap) → map_in row.list ≡ map → (digits : Dialling) → Gives row (paused_by row map digits)
     by_map None e digits = gives_none row
     by_map (Some map) e completed = gives_none row
     by_map (Some map) e (collecting symbols) = gives row (taken row (with_pause map (collecting symbols))) (taken_so row map (with_pause map (collecting symbols)) e)

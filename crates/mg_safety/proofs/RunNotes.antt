@@ -16,7 +16,7 @@ use Rattle.mg_model.specs.Agent.{Agent, Made, command_of}
 use Rattle.mg_model.specs.Board.{Board}
 use Rattle.mg_model.specs.Configuration.{Configuration}
 use Rattle.mg_model.specs.Items.{Done, leaves}
-use Rattle.mg_model.specs.LineEvents.{ListItem, OnHook, OffHook, Flash, DialledBy, LineRow, Note, Outcome, armed, cleared, is_standing, kind_of}
+use Rattle.mg_model.specs.LineEvents.{ListItem, OnHook, OffHook, Flash, Digits, LineRow, Note, Outcome, armed, cleared, is_standing, kind_of}
 use Rattle.mg_model.specs.Messages.{Descriptors, RequestCommand}
 use Rattle.mg_model.specs.RequestRun.{Running, with_signals, with_events, with_descriptors, described, described_row, line_after, is_line, rearms, note_from, raised, standing}
 use Rattle.mg_model.specs.Script.{Script}
@@ -118,11 +118,11 @@ standing_raises : (hook : Hook) (item : ListItem) → is_standing hook item ≡ 
 standing_raises On (OnHook strict) e = refl
 standing_raises On (OffHook strict) e = absurd (true≢false (sym e))
 standing_raises On Flash e = absurd (true≢false (sym e))
-standing_raises On (DialledBy map) e = absurd (true≢false (sym e))
+standing_raises On (Digits map) e = absurd (true≢false (sym e))
 standing_raises Off (OnHook strict) e = absurd (true≢false (sym e))
 standing_raises Off (OffHook strict) e = refl
 standing_raises Off Flash e = absurd (true≢false (sym e))
-standing_raises Off (DialledBy map) e = absurd (true≢false (sym e))
+standing_raises Off (Digits map) e = absurd (true≢false (sym e))
 
 -- a note of a new descriptor
 armed_note : (row : LineRow) (list : List ListItem) (number : ℕ) (note : Note) → (armed row list number).note ≡ Some note

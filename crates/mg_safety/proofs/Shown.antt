@@ -33,7 +33,7 @@ use Rattle.mg_model.specs.Updates.{with_at}
 use Rattle.mg_model.specs.Numbers.{choose, null}
 use Rattle.mg_model.specs.Configuration.{Configuration, is_present, is_free}
 use Rattle.mg_model.specs.Items.{Done, is_context_number}
-use Rattle.mg_model.specs.LineEvents.{LineRow, ListItem, OnHook, OffHook, Flash, DialledBy, silent}
+use Rattle.mg_model.specs.LineEvents.{LineRow, ListItem, OnHook, OffHook, Flash, Digits, silent}
 use Rattle.mg_model.specs.Request.{Names}
 use Rattle.mg_model.specs.Script.{Script}
 use Rattle.mg_model.specs.Accepted.{IsSlot}
@@ -116,8 +116,8 @@ abbrev pub raises_kind : Kind → ListItem → Bool
 raises_kind kind.On (OnHook strict) = true
 raises_kind kind.Of (OffHook strict) = true
 raises_kind kind.Fl Flash = true
-raises_kind kind.Full (DialledBy map) = true
-raises_kind kind.Part (DialledBy map) = true
+raises_kind kind.Full (Digits map) = true
+raises_kind kind.Part (Digits map) = true
 raises_kind _ _ = false
 
 -- a note of this kind is one that the list can raise
