@@ -1,20 +1,15 @@
 -- The statements of the laws of links and inboxes. Each is carried by an empty function of the same name.
 use Rattle.std.specs.Prelude.{◌≡◌, ℕ, ◌==◌, ◌<◌, ◌≤◌, ◌↔◌, ◌&&◌, Bool, if◌then◌else◌, List, [], ◌∷◌, Option, Some, None}
 use Rattle.std.specs.List.{list_any}
-use Rattle.mg_model.specs.Delivery.{Link, offer, fresh, with_kept, Inbox, new_inbox, arrival, after_arrival, arrives_new, was_seen}
+use Rattle.mg_model.specs.Delivery.{Link, last_of, offer, fresh, with_kept, Inbox, new_inbox, arrival, after_arrival, arrives_new, was_seen}
 
 -- ---- requests
-
--- the number of the last request that was executed; zero where there was none
-abbrev pub last_number : {R : Type 0} → Option (ℕ × R) → ℕ
-last_number None = 0
-last_number (Some (number, r)) = number
 
 -- a number is new exactly where it is above the last one, in the association of the link
 abbrev pub FreshExactlyAbove : Type 0 → Type 0
 FreshExactlyAbove R =
     (link : Link R) (association number : ℕ)
-    → (offer link association number ≡ fresh) ↔ ((association ≡ link.association) × (last_number link.last < number))
+    → (offer link association number ≡ fresh) ↔ ((association ≡ link.association) × (last_of link.last < number))
 
 -- ---- requests that are executed: the number of each that is executed, with what is kept of it
 

@@ -1,4 +1,5 @@
 pub mod ConfigurationLemmas
+pub mod OfferLemmas
 pub mod BasicRows
 pub mod BoardRows
 pub mod LineRows

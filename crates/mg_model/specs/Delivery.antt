@@ -22,6 +22,11 @@ module _ {R : Type 0} where
   offer_by None number = if number == 0 then discard else fresh
   offer_by (Some (last, r)) number = if nat_lt last number then fresh else if number == last then kept r else discard
 
+  -- the number of the last request, 0 where there is none
+  abbrev pub last_of : Option (ℕ × R) → ℕ
+  last_of None = 0
+  last_of (Some (number, r)) = number
+
   abbrev pub offer : Link R → ℕ → ℕ → Offer R
   offer link association number = if association == link.association then offer_by link.last number else discard
 

@@ -1,7 +1,7 @@
 -- The gateway whole: its association, the connection model, its lines, for each call the reply that its link keeps and the
 -- count of its notes, and what events do to it. A reader should check that a request is executed at most once (H.248.1
 -- section 8.1), that messages of another association do nothing, and what a restart takes away.
-use Rattle.std.specs.Prelude.{◌≡◌, ℕ, ◌+◌, ◌≤◌, ◌==◌, false, if◌then◌else◌, List, [], ◌∷◌, length, Option, Some, None, option_map}
+use Rattle.std.specs.Prelude.{◌≡◌, ℕ, ◌+◌, ◌≤◌, ◌==◌, false, if◌then◌else◌, List, [], ◌∷◌, length, Option, Some, None}
 use Rattle.mg_names.specs.declared.identifiers.TermId.{TermId}
 use Rattle.mg_model.specs.declared.line_events.LineEvent.{LineEvent}
 use Rattle.mg_model.specs.declared.line_events.LineEvent.TheVariants.{Hook, Flash, Digit, Pause, SignalEnd}
@@ -31,9 +31,22 @@ pub record Gateway : Type 0 where
 
 -- ---- requests
 
--- what the link of a call keeps, in the gateway's association: the reply to the last request, under its number
+-- a reply under its number
+abbrev pub numbered : Option Reply → Option (ℕ × Reply)
+numbered None = None
+numbered (Some reply) = Some (reply.number, reply)
+
+-- the link of a call: it keeps the reply to the last request under its number, in the gateway's association
 abbrev pub link_in : Gateway → ℕ → Link Reply
-link_in g call = record { association = g.association; last = option_map (λ (reply : Reply). (reply.number, reply)) (g.link call).last }
+link_in g call = record { association = g.association; last = numbered (g.link call).last }
+
+-- the number of the last request of a call that was executed, 0 where there is none
+abbrev pub number_of : Option Reply → ℕ
+number_of None = 0
+number_of (Some reply) = reply.number
+
+abbrev pub last_executed : Gateway → ℕ → ℕ
+last_executed g call = number_of (g.link call).last
 
 -- what that link says of a request that arrives
 abbrev pub offer_to : Gateway → Request → Offer Reply

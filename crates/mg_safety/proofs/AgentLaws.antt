@@ -1,7 +1,8 @@
 -- What an agent sends is its call's.
 use Rattle.std.proofs.Common.{◌≡◌, ◌+◌, ℕ, Bool, true, false, List, Option, Some, None, is_some, refl, sym, ap, subst, true≢false}
 use Rattle.std.specs.Prelude.{◌==◌, ◌&&◌, not, if◌then◌else◌, nat_lt, nat_le, Contains}
-use Rattle.mg_model.specs.Agent.{Agent, Phase, awaits_reply, awaits_pass, resting, entered_with, entered, entered_or_rests, entered_if, entered_or_stays, built_by, request_of, after_results, leads_on, replied_to, replied, passed_in, passed, may_accept, target_of, line_in, noted, is_resting, timed, forgotten, heard}
+use Rattle.mg_model.specs.Delivery.{arrival, is_new}
+use Rattle.mg_model.specs.Agent.{Agent, inbox_of, Phase, awaits_reply, awaits_pass, resting, entered_with, entered, entered_or_rests, entered_if, entered_or_stays, built_by, request_of, after_results, leads_on, replied_to, replied, passed_in, passed, may_accept, target_of, line_in, noted, is_resting, timed, forgotten, heard}
 use Rattle.mg_model.specs.Numbers.{last_number}
 use Rattle.mg_model.specs.Updates.{with_at}
 use Rattle.mg_model.specs.Messages.{Request, Reply, SentNote, Failure}
@@ -97,9 +98,9 @@ rest_own call resting at_rest = no_request call
 rest_own call awaits_pass at_rest = absurd (true≢false (sym at_rest))
 rest_own call (awaits_reply request) at_rest = absurd (true≢false (sym at_rest))
 
-first_true : (p q r s : Bool) → (p && q && r && s) ≡ true → p ≡ true
-first_true true q r s e = refl
-first_true false q r s e = e
+first_true : (p q r : Bool) → (p && q && r) ≡ true → p ≡ true
+first_true true q r e = refl
+first_true false q r e = e
 
 pub noted_own : (script : Script) (a : Agent) (slots : List ℕ) (sent : SentNote) → GivesOwn a.call (noted script a slots sent)
 noted_own script a slots sent = accepted (may_accept script a sent) refl
@@ -113,5 +114,5 @@ noted_own script a slots sent = accepted (may_accept script a sent) refl
         then entered_or_stays script (record a { accepted = with_at a.accepted sent.number true }) (target_of script a (line_in a sent.line slots) sent.note)
         else None)
     accepted true e = entered_or_same (target_of script a (line_in a sent.line slots) sent.note)
-        (first_true (is_resting a.phase) (not (state_of script a.state).is_end) (sent.association == a.association) (not (a.accepted sent.number)) e)
+        (first_true (is_resting a.phase) (not (state_of script a.state).is_end) (is_new (arrival (inbox_of a) sent.association sent.number)) e)
     accepted false e = gives_none a.call

@@ -10,7 +10,7 @@ use Rattle.mg_model.specs.declared.items.Item.TheVariants.{Add, Modify, Move, Su
 use Rattle.mg_model.specs.Board.{Board, same_term, place_of, mode_of}
 use Rattle.mg_model.specs.Items.{without_cuts}
 use Rattle.mg_model.specs.Media.{share_context, hops, crosses, goes_over}
-use Rattle.mg_model.specs.Paths.{passes_in, passes_out}
+use Rattle.mg_model.specs.Media.{receives, sends}
 use Rattle.mg_safety.specs.Laws.{CommandsKeepOthers, AreClosed, PathsStayInside}
 use Rattle.mg_safety.proofs.Components.{same_term_is}
 use Rattle.mg_safety.proofs.Cases.{three_parts}
@@ -81,7 +81,7 @@ shares same shared inward outward cut h = grind (arith, common_steps)
 
 hop_inside : (b : Board) (mine : TermId → Bool) → AreClosed b mine → (t u : TermId) → IsTrue (hops b t u) → IsTrue (mine t) → IsTrue (mine u)
 hop_inside b mine closed t u h inside =
-    closed.contexts t u inside (shares (same_term t u) (share_context b t u) (passes_in (mode_of b t)) (passes_out (mode_of b u)) (b.cut t u) h)
+    closed.contexts t u inside (shares (same_term t u) (share_context b t u) (receives (mode_of b t)) (sends (mode_of b u)) (b.cut t u) h)
 
 pub paths_inside : PathsStayInside
 paths_inside b mine closed from to [] h inside = hop_inside b mine closed from to h inside

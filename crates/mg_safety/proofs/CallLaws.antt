@@ -5,13 +5,15 @@ use Rattle.std.proofs.lemmas.List.Elements.{Contains-append_cases}
 use Rattle.mg_names.specs.declared.identifiers.TermId.TheVariants.{Line}
 use Rattle.mg_model.specs.Agent.{Agent, replied, passed, noted, timed, heard}
 use Rattle.mg_model.specs.LineEvents.{Note}
-use Rattle.mg_model.specs.Gateway.{Gateway, LineEvent, last_executed, row_restarted, notes_from, sent_notes, reply_of}
+use Rattle.mg_model.specs.declared.line_events.LineEvent.{LineEvent}
+use Rattle.mg_model.specs.Gateway.{Gateway, last_executed, row_restarted, notes_from, sent_notes, reply_of}
 use Rattle.mg_model.specs.Messages.{Request, Reply, SentNote}
 use Rattle.mg_model.specs.RequestRun.{Refusal}
 use Rattle.mg_model.specs.World.{World, on_a_line, execute, reply, pass, note, timer, hear, restart, Executes, IsFirst, LineOccurs, AgentSteps, sent_in}
 use Rattle.mg_model.specs.Tables.{line_places}
 use Rattle.mg_safety.specs.Laws.{OldRequestsDoNothing, RestartsClearLines, EventsKeepOthers, AreNumbered, IsSameButReplies, IsSameFor}
 use Rattle.mg_safety.proofs.Cases.{at_another}
+use Rattle.mg_safety.proofs.Offered.{fresh_at, kept_at}
 use Rattle.mg_safety.proofs.AgentLaws.{IsOwn, GivesOwn, replied_own, passed_own, noted_own, timed_own, heard_own}
 
 same_but_replies : (w after : World) (replies : List Reply) → after ≡ record w { replies = replies } → IsSameButReplies w after
@@ -25,7 +27,7 @@ same_but_replies w after replies e = record {
 by_case : (w after : World) (request : Request) (refusal : Refusal) → request.number ≤ last_executed w.gateway request.call
     → Executes w request refusal after → IsSameButReplies w after
 by_case w after request refusal old (inl first) =
-    let above : last_executed w.gateway request.call < request.number = first.executed.newer in absurd (omega (arith, old, above))
+    let above : last_executed w.gateway request.call < request.number = (fresh_at w.gateway request first.executed.is_fresh).1 in absurd (omega (arith, old, above))
 by_case w after request refusal old (inr (inl again)) = same_but_replies w after (again.answer ∷ w.replies) again.after_is
 by_case w after request refusal old (inr (inr dropped)) = same_but_replies w after w.replies dropped.1
 
@@ -148,7 +150,7 @@ request_keeps w after request refusal call other numbered (inr (inl again)) of d
   link = ap (λ (v : World). v.gateway.link other) again.after_is;
   requests = λ r is there. subst (λ (v : World). Contains v.requests r) again.after_is there;
   replies = λ answer is there. not_new (λ (r : Reply). r.call) request.call other (again.answer ∷ []) w.replies answer
-      (one_of (λ (r : Reply). r.call) request.call again.answer (numbered.replies request.call again.answer again.kept.kept))
+      (one_of (λ (r : Reply). r.call) request.call again.answer (numbered.replies request.call again.answer (kept_at w.gateway request again.answer again.kept)))
       (λ e. differ (sym of ∙ e)) is (subst (λ (v : World). Contains v.replies answer) again.after_is there);
   notes = λ sent is there. subst (λ (v : World). Contains v.notes sent) again.after_is there;
 }

@@ -6,7 +6,7 @@ use Rattle.mg_names.specs.declared.kinds.Kind.TheVariants.{Of}
 use Rattle.mg_model.specs.declared.line_events.Hook.TheVariants as hooks
 use Rattle.mg_model.specs.declared.transitions.Transition.{Transition}
 use Rattle.mg_model.specs.Agent.{Agent, noted}
-use Rattle.mg_model.specs.Gateway.{hook}
+use Rattle.mg_model.specs.declared.line_events.LineEvent.TheVariants as event
 use Rattle.mg_model.specs.Script.{Script}
 use Rattle.mg_model.specs.Tables.{line_places}
 use Rattle.mg_model.specs.World.{World, Event, on_a_line, note, execute, AgentSteps, agent_steps, Runs}
@@ -48,7 +48,7 @@ abbrev w3 : World
 w3 = talking_world w2 ready
 
 abbrev events : List Event
-events = on_a_line 1 (hook hooks.Off) ∷ note off_hook ∷ execute (to_talk 1) None ∷ []
+events = on_a_line 1 (event.Hook hooks.Off) ∷ note off_hook ∷ execute (to_talk 1) None ∷ []
 
 run : Runs calling events w0 w3
 unfolding Runs

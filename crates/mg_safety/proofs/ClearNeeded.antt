@@ -11,7 +11,8 @@ use Rattle.mg_model.specs.Agent.{Agent, heard, passed}
 use Rattle.mg_model.specs.Entries.{Entry, numbered, IsCovered}
 use Rattle.mg_model.specs.Gateway.{restarted}
 use Rattle.mg_model.specs.LineEvents.{ListItem}
-use Rattle.mg_model.specs.Obligations.{Obligation, OpeningCovered, ResetCovered, Marked, Cleared, Unbound, StepCovered, Holds, fault_number, JoinedAreMarked, CreatedAreUnbound}
+use Rattle.mg_names.specs.declared.obligations.Obligation.TheVariants as obligation
+use Rattle.mg_model.specs.Obligations.{Claim, OpeningCovered, ResetCovered, Marked, Cleared, Unbound, StepCovered, Holds, obligation_of, JoinedAreMarked, CreatedAreUnbound}
 use Rattle.mg_model.specs.Script.{Script}
 use Rattle.mg_model.specs.Steps.{opening, reset, with_link, steps_of}
 use Rattle.mg_model.specs.Tables.{is_empty}
@@ -104,7 +105,7 @@ unbound : EachPoint (CreatedAreUnbound unarmed) entries
 unfolding Below EachPoint
 unbound = (((λ formed sent. refl), tt), (((λ formed sent. refl), ((λ formed sent. refl), tt)), tt))
 
-others : (other : Obligation) → (fault_number other ≡ 4 → ⊥) → Holds unarmed entries other
+others : (other : Claim) → (obligation_of other ≡ obligation.EndedCleared → ⊥) → Holds unarmed entries other
 others OpeningCovered differs = opening_covered
 others ResetCovered differs = reset_covered
 others (Marked e p) differs = at_points (JoinedAreMarked unarmed) entries marked e p
@@ -164,12 +165,12 @@ bad good =
     let cleared = good.ended 7 at_rest refl (record { is_end = refl; at_rest = refl; current = refl }) in
     true≢false (ap (λ (list : List ListItem). is_empty list) (cleared.is_armed 0 (omega (arith))))
 
-pub clear_needed : IsNeeded 4
+pub clear_needed : IsNeeded obligation.EndedCleared
 clear_needed = record {
   script = unarmed;
   entries = entries;
   accepted = accepted;
   listed = listed;
-  breaks = record { obligation = Cleared 1 1; numbered = refl; broken = broken; others = others };
+  breaks = record { claim = Cleared 1 1; is_of = refl; broken = broken; others = others };
   ends = record { calls = call ∷ []; events = events; opening = w0; end = w3; opens = opens unarmed refl; runs = run; bad = bad };
 }

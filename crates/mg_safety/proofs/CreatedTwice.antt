@@ -15,7 +15,8 @@ use Rattle.mg_model.specs.declared.commands.EventsName.TheVariants.{Empty, Armed
 use Rattle.mg_model.specs.Configuration.{Configuration}
 use Rattle.mg_model.specs.Effects as effects
 use Rattle.mg_model.specs.Entries.{Entry, numbered, IsCovered}
-use Rattle.mg_model.specs.Obligations.{Obligation, OpeningCovered, ResetCovered, Marked, Cleared, Unbound, StepCovered, Holds, fault_number, JoinedAreMarked, EndedIsCleared}
+use Rattle.mg_names.specs.declared.obligations.Obligation.TheVariants as obligation
+use Rattle.mg_model.specs.Obligations.{Claim, OpeningCovered, ResetCovered, Marked, Cleared, Unbound, StepCovered, Holds, obligation_of, JoinedAreMarked, EndedIsCleared}
 use Rattle.mg_model.specs.Script.{Script, State}
 use Rattle.mg_model.specs.Steps.{opening, reset, with_link, steps_of}
 use Rattle.mg_safety.specs.Needed.{BreaksOnly}
@@ -212,7 +213,7 @@ cleared =
     no_end : false ≡ true → ⊥
     no_end e = true≢false (sym e)
 
-others : (other : Obligation) → (fault_number other ≡ 5 → ⊥) → Holds created_twice entries other
+others : (other : Claim) → (obligation_of other ≡ obligation.CreatedUnbound → ⊥) → Holds created_twice entries other
 others OpeningCovered differs = opening_covered
 others ResetCovered differs = reset_covered
 others (Marked e p) differs = at_points (JoinedAreMarked created_twice) entries marked e p
@@ -226,5 +227,5 @@ broken : Holds created_twice entries (Unbound 3 0) → ⊥
 broken holds =
     true≢false (sym (holds before_second refl (numbered before_second 0) (omega (arith), refl, point_formed 2 Sent Armed alone null (Some Live) is_first_live) refl))
 
-pub breaks : BreaksOnly created_twice entries 5
-breaks = record { obligation = Unbound 3 0; numbered = refl; broken = broken; others = others }
+pub breaks : BreaksOnly created_twice entries obligation.CreatedUnbound
+breaks = record { claim = Unbound 3 0; is_of = refl; broken = broken; others = others }

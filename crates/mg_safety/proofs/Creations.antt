@@ -10,7 +10,8 @@ use Rattle.mg_model.specs.Board.{Board, place_in}
 use Rattle.mg_model.specs.Numbers.{choose}
 use Rattle.mg_model.specs.Items.{Chosen, Done, Lists, IsExecuted, IsLegal, effect, is_context_number}
 use Rattle.mg_model.specs.LineEvents.{ListItem}
-use Rattle.mg_model.specs.Messages.{RequestCommand, add_line, context}
+use Rattle.mg_model.specs.declared.references.ContextRef.TheVariants.{Number}
+use Rattle.mg_model.specs.Messages.{RequestCommand, add_line}
 use Rattle.mg_model.specs.RequestRun.{item_at}
 use Rattle.mg_model.specs.World.{null_row}
 use Rattle.mg_safety.proofs.Cases.{false_not_true}
@@ -18,7 +19,7 @@ use Rattle.mg_safety.proofs.Single.{none_in}
 
 -- a line is added to a new context, with this mode and these events where they are set
 abbrev pub creates : ℕ → Option Mode → Option (List ListItem) → RequestCommand
-creates line mode events = add_line (context choose) line record { mode = mode; remote = None; events = events; signals = None }
+creates line mode events = add_line (Number (record { 0 = choose })) line record { mode = mode; remote = None; events = events; signals = None }
 
 -- the context that is created has this number
 abbrev pub picks : ℕ → Chosen

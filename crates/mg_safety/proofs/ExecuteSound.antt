@@ -12,6 +12,7 @@ use Rattle.mg_model.specs.Accepted.{IsScript}
 use Rattle.mg_safety.proofs.Single.{only_one}
 use Rattle.mg_safety.proofs.Sound.{IsReplySound, IsSound}
 use Rattle.mg_safety.proofs.Statements.{IsClosed, RequestsRun, OthersStayShown, OwnersAgree, KeepsSound}
+use Rattle.mg_safety.proofs.Offered.{fresh_at, kept_at}
 use Rattle.mg_safety.proofs.Executing.{HasRun, is_due, due_runs}
 use Rattle.mg_safety.proofs.ExecutedCalls.{OtherLost, world_after, calls_after}
 use Rattle.mg_safety.proofs.ExecutedGateway.{gateway_after}
@@ -33,13 +34,14 @@ has_run run script entries is_script closed w request refusal g answer sent soun
     let open_call = sound.gateway.requests request there in
     let own = sound.calls request.call open_call.0 open_call.1 in
     let by = own.requests request there refl in
-    let due = is_due script entries w request open_call.0 own by x.current x.newer in
+    let offered = fresh_at w.gateway request x.is_fresh in
+    let due = is_due script entries w request open_call.0 own by offered.0 offered.1 in
     record {
       agent = open_call.0;
       open_call = open_call.1;
       call = own.numbered;
-      association = x.current;
-      newer = x.newer;
+      association = offered.0;
+      newer = offered.1;
       below = by.number;
       outstanding = due.outstanding;
       run = due_runs run script entries is_script closed w.gateway open_call.0 request refusal x.end x.failure due sound.gateway.accounted x.runs;
@@ -66,10 +68,11 @@ repeat_sound : (script : Script) (entries : List Entry) (w : World) (request : R
     → IsRepeat w request after → IsSound script entries after
 repeat_sound script entries w request after sound r =
     let g = sound.gateway in
-    let of = g.kept request.call r.answer r.kept.kept in
+    let last = kept_at w.gateway request r.answer r.kept in
+    let of = g.kept request.call r.answer last in
     let again : IsReplySound w.gateway r.answer = record {
       association = let present = of.1 in omega (arith, present);
-      kept = λ present. inl (ap (λ n. (w.gateway.link n).last) of.0 ∙ r.kept.kept);
+      kept = λ present. inl (ap (λ n. (w.gateway.link n).last) of.0 ∙ last);
     } in
     subst (IsSound script entries) (sym r.after_is) (record {
       gateway = record {

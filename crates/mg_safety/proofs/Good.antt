@@ -15,7 +15,8 @@ use Rattle.mg_model.specs.Agent.{Agent, list_item}
 use Rattle.mg_model.specs.Board.{exists, place_in}
 use Rattle.mg_model.specs.Configuration.{Configuration, is_present}
 use Rattle.mg_model.specs.Entries.{Entry}
-use Rattle.mg_model.specs.LineEvents.{OffHook, silent}
+use Rattle.mg_model.specs.declared.transitions.EventItem.TheVariants.{OffHook}
+use Rattle.mg_model.specs.LineEvents.{silent}
 use Rattle.mg_model.specs.Media as media
 use Rattle.mg_model.specs.Obligations as obligations
 use Rattle.mg_model.specs.Paths as paths
@@ -63,7 +64,7 @@ line_of script n (termination.Ephemeral k) l named =
 
 -- ---- a list that is armed for off-hook alone
 
-armed_is : (script : Script) (items : List EventItem) → IsTrue (is_armed_list items) → map (list_item script) items ≡ OffHook Exact ∷ []
+armed_is : (script : Script) (items : List (EventItem ℕ)) → IsTrue (is_armed_list items) → map (list_item script) items ≡ OffHook Exact ∷ []
 armed_is script [] e = absurd (true≢false (sym e))
 armed_is script (item.OffHook Exact ∷ []) e = refl
 armed_is script (item.OffHook Exact ∷ other ∷ more) e = absurd (true≢false (sym e))

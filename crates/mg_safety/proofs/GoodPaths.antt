@@ -16,6 +16,7 @@ use Rattle.mg_model.specs.Board.{Board, same_term, exists, place_of, place_in, m
 use Rattle.mg_model.specs.Configuration.{Configuration, is_same, is_in, is_present, is_to}
 use Rattle.mg_model.specs.Media as media
 use Rattle.mg_model.specs.Media.{is_number}
+use Rattle.mg_safety.proofs.Sides.{receives_is, sends_is}
 use Rattle.mg_model.specs.Paths.{passes_in, passes_out, is_shared, hops, crosses, goes_over}
 use Rattle.mg_model.specs.Script.{Script}
 use Rattle.mg_model.specs.Accepted.{IsSlot}
@@ -104,7 +105,7 @@ cross_made same first second out back a b c d e = rw (a, b, c, d, e) refl
 
 hop_starts_outside : (b : Board) (t s : TermId) → IsTrue (media.hops b t s) → place_of b t ≡ 0 → ⊥
 hop_starts_outside b t s h =
-    (hop_parts (same_term t s) (place_of b t) (place_of b s) (passes_in (mode_of b t)) (passes_out (mode_of b s)) (b.cut t s) h).outside
+    (hop_parts (same_term t s) (place_of b t) (place_of b s) (media.receives (mode_of b t)) (media.sends (mode_of b s)) (b.cut t s) h).outside
 
 -- where a path starts stands in a context other than the null context
 pub path_starts_outside : (b : Board) (t s : TermId) (crossings : List (ℕ × ℕ)) → IsTrue (media.goes_over b t crossings s) → place_of b t ≡ 0 → ⊥
@@ -169,7 +170,7 @@ module _ (script : Script) (owned : TermId → Bool) (n : Naming) (b : Board) (c
 
   hop : (u : Termination) (t s : TermId) → Named u t → IsTrue (media.hops b t s) → HopsTo u s
   hop u t s named h =
-      let p = hop_parts (same_term t s) (place_of b t) (place_of b s) (passes_in (mode_of b t)) (passes_out (mode_of b s)) (b.cut t s) h in
+      let p = hop_parts (same_term t s) (place_of b t) (place_of b s) (media.receives (mode_of b t)) (media.sends (mode_of b s)) (b.cut t s) h in
       let first = inside u t named p.outside in
       let member = shown.members first.j (place_of b t) s first.bound (sym p.together) in
       let other : Named member.0 s = record { slot = member.1; is = member.2 } in
@@ -179,7 +180,7 @@ module _ (script : Script) (owned : TermId → Bool) (n : Naming) (b : Board) (c
         named = other;
         hop = hop_made (is_same u member.0) (is_shared (c.spot u) (c.spot member.0)) (passes_in (c.mode u)) (passes_out (c.mode member.0)) (c.cut u member.0)
             (unlike u member.0 t s named other p.differ) (shared u member.0 t s p.together first second)
-            (ap passes_in (mode_is u t named) ∙ p.goes_in) (ap passes_out (mode_is member.0 s other) ∙ p.goes_out)
+            (ap passes_in (mode_is u t named) ∙ (sym (receives_is (mode_of b t)) ∙ p.goes_in)) (ap passes_out (mode_is member.0 s other) ∙ (sym (sends_is (mode_of b s)) ∙ p.goes_out))
             (cut_is u member.0 t s named other ∙ p.not_cut);
       }
 

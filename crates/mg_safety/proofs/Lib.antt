@@ -6,6 +6,8 @@ pub mod Statements
 -- lemmas that the parts share
 pub mod Cases
 pub mod Single
+pub mod Offered
+pub mod Sides
 pub mod Components
 -- the certificate
 pub mod ChoiceNumbers

@@ -7,7 +7,8 @@ use Rattle.std.specs.Prelude.{◌==◌}
 use Rattle.mg_names.specs.declared.phases.Link.TheVariants.{Sent, Answered, Failed, Resting}
 use Rattle.mg_model.specs.declared.commands.EventsName.TheVariants.{Empty, Armed}
 use Rattle.mg_model.specs.Entries.{numbered}
-use Rattle.mg_model.specs.Obligations.{Obligation, OpeningCovered, ResetCovered, Marked, Cleared, Unbound, StepCovered, Holds, fault_number, CreatedAreUnbound}
+use Rattle.mg_names.specs.declared.obligations.Obligation.TheVariants as obligation
+use Rattle.mg_model.specs.Obligations.{Claim, OpeningCovered, ResetCovered, Marked, Cleared, Unbound, StepCovered, Holds, obligation_of, CreatedAreUnbound}
 use Rattle.mg_safety.specs.Needed.{IsNeeded}
 use Rattle.mg_model.specs.Accepted.{IsEntryOf}
 use Rattle.mg_safety.proofs.CallingRun.{to_talk_off_hook, calling, calling_ends_badly}
@@ -26,7 +27,7 @@ not_marked h =
     (inl ([], refl)) in
     true≢false (sym marked)
 
-others_hold : (other : Obligation) → (fault_number other ≡ 3 → ⊥) → Holds calling reachable other
+others_hold : (other : Claim) → (obligation_of other ≡ obligation.JoinedMarked → ⊥) → Holds calling reachable other
 others_hold OpeningCovered differ = opening_covered to_talk_off_hook 0 reachable (1, omega (arith), refl)
 others_hold ResetCovered differ = reset_covered to_talk_off_hook reachable (0, omega (arith), refl)
 others_hold (Marked e p) differ = absurd (differ refl)
@@ -34,7 +35,7 @@ others_hold (Cleared e p) differ = nothing_ends calling reachable (none_ends to_
 others_hold (Unbound e p) differ = at_points (CreatedAreUnbound calling) reachable all_unbound e p
 others_hold (StepCovered e p s) differ = steps_covered calling reachable all_stepped e p s
 
-pub mark_needed : IsNeeded 3
+pub mark_needed : IsNeeded obligation.JoinedMarked
 mark_needed = record {
   script = calling;
   entries = reachable;
@@ -52,6 +53,6 @@ mark_needed = record {
       ),
     ),
   );
-  breaks = record { obligation = Marked 4 0; numbered = refl; broken = not_marked; others = others_hold };
+  breaks = record { claim = Marked 4 0; is_of = refl; broken = not_marked; others = others_hold };
   ends = calling_ends_badly;
 }

@@ -5,7 +5,8 @@ use Rattle.std.proofs.lemmas.Bool.{eqb-true}
 use Rattle.std.specs.Prelude.{◌==◌, ◌&&◌, not, if◌then◌else◌, ◌⊎◌}
 use Rattle.mg_names.specs.declared.phases.Link.TheVariants.{Resting}
 use Rattle.mg_model.specs.declared.steps.StepName.TheVariants as names
-use Rattle.mg_model.specs.Agent.{Agent, resting, entered_or_stays, is_resting, line_in, list_of, may_accept, noted, target_of}
+use Rattle.mg_model.specs.Delivery.{Inbox, arrival, is_new, arrives_new, was_seen, is_old}
+use Rattle.mg_model.specs.Agent.{Agent, inbox_of, resting, entered_or_stays, is_resting, line_in, list_of, may_accept, noted, target_of}
 use Rattle.mg_model.specs.Updates.{with_at}
 use Rattle.mg_model.specs.Configuration.{Configuration}
 use Rattle.mg_model.specs.Entries.{Entry}
@@ -34,11 +35,20 @@ record IsAccepted (script : Script) (a b : Agent) (sent : SentNote) : Type 0 whe
   association : sent.association ≡ a.association
   leads : entered_or_stays script (accepting a sent.number) (target_of script a (line_in a sent.line (line_places script)) sent.note) ≡ Some b
 
-first_and_third : (p q r s : Bool) → (p && q && r && s) ≡ true → (p ≡ true) × (r ≡ true)
-first_and_third true true true s e = (refl, refl)
-first_and_third true true false s e = absurd (true≢false (sym e))
-first_and_third true false r s e = absurd (true≢false (sym e))
-first_and_third false q r s e = absurd (true≢false (sym e))
+first_and_third : (p q r : Bool) → (p && q && r) ≡ true → (p ≡ true) × (r ≡ true)
+first_and_third true true true e = (refl, refl)
+first_and_third true true false e = absurd (true≢false (sym e))
+first_and_third true false r e = absurd (true≢false (sym e))
+first_and_third false q r e = absurd (true≢false (sym e))
+
+-- what is new to an inbox is of its association
+new_is_ours : (inbox : Inbox) (association number : ℕ) → is_new (arrival inbox association number) ≡ true → association ≡ inbox.association
+new_is_ours inbox association number e = by_test (association == inbox.association) (inbox.accepted number) refl e
+  where
+    by_test : (ours seen : Bool) → (association == inbox.association) ≡ ours
+        → is_new (if ours then (if seen then was_seen else arrives_new) else is_old) ≡ true → association ≡ inbox.association
+    by_test true seen same e = eqb-true association inbox.association same
+    by_test false seen same e = absurd (true≢false (sym e))
 
 accepts : (script : Script) (a b : Agent) (sent : SentNote) → noted script a (line_places script) sent ≡ Some b → IsAccepted script a b sent
 accepts script a b sent is = by_case (may_accept script a sent) refl is
@@ -47,9 +57,9 @@ accepts script a b sent is = by_case (may_accept script a sent) refl is
         then entered_or_stays script (accepting a sent.number) (target_of script a (line_in a sent.line (line_places script)) sent.note)
         else None) ≡ Some b → IsAccepted script a b sent
     by_case true e is =
-        let both = first_and_third (is_resting a.phase) (not (state_of script a.state).is_end) (sent.association == a.association)
-        (not (a.accepted sent.number)) e in
-        record { phase = rests a.phase both.0; association = eqb-true sent.association a.association both.1; leads = is }
+        let both = first_and_third (is_resting a.phase) (not (state_of script a.state).is_end)
+        (is_new (arrival (inbox_of a) sent.association sent.number)) e in
+        record { phase = rests a.phase both.0; association = new_is_ours (inbox_of a) sent.association sent.number both.1; leads = is }
     by_case false e is = absurd (none_is_some b is)
 
 -- ---- the agent after it

@@ -43,7 +43,7 @@ below_less n (x ∷ xs) i there = by_first (below_less n xs i) (nat_lt x n) refl
 
 -- ---- what a list raises
 
-item_same : (script : Script) (what : Kind) (one : EventItem) → raises_kind what (list_item script one) ≡ item_raises what one
+item_same : (script : Script) (what : Kind) (one : EventItem ℕ) → raises_kind what (list_item script one) ≡ item_raises what one
 item_same script kind.On (item.OnHook strict) = refl
 item_same script kind.On (item.OffHook strict) = refl
 item_same script kind.On item.Flash = refl
@@ -65,7 +65,7 @@ item_same script kind.Part (item.OffHook strict) = refl
 item_same script kind.Part item.Flash = refl
 item_same script kind.Part (item.Digits m) = refl
 
-raises_same : (script : Script) (what : Kind) (items : List EventItem) → list_raises (map (list_item script) items) what ≡ raises items what
+raises_same : (script : Script) (what : Kind) (items : List (EventItem ℕ)) → list_raises (map (list_item script) items) what ≡ raises items what
 raises_same script what [] = refl
 raises_same script what (one ∷ more) = either (raises_kind what (list_item script one)) (item_raises what one)
     (list_raises (map (list_item script) more) what) (raises more what) (item_same script what one) (raises_same script what more)

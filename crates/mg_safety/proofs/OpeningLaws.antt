@@ -7,7 +7,7 @@ use Rattle.mg_names.specs.declared.identifiers.TermId.TheVariants.{Line, Eph}
 use Rattle.mg_model.specs.declared.rows.Row.{Row}
 use Rattle.mg_model.specs.Agent.{Agent, opened}
 use Rattle.mg_model.specs.Board.{Board, same_term, place_of, place_in, mode_of}
-use Rattle.mg_model.specs.Paths.{passes_in, passes_out}
+use Rattle.mg_model.specs.Media.{receives, sends}
 use Rattle.mg_model.specs.LineEvents.{LineRow}
 use Rattle.mg_model.specs.Media.{hops, crosses, goes_over, AreJoined}
 use Rattle.mg_model.specs.Script.{Script}
@@ -18,7 +18,7 @@ use Rattle.mg_safety.proofs.Cases.{three_parts}
 -- ---- nothing is joined where all stands in the null context
 
 no_hop : (b : Board) → ((t : TermId) → place_of b t ≡ 0) → (t u : TermId) → IsTrue (hops b t u) → ⊥
-no_hop b all t u h = at_null (place_of b t) (place_of b u) (same_term t u) (passes_in (mode_of b t)) (passes_out (mode_of b u)) (b.cut t u) (all t) h
+no_hop b all t u h = at_null (place_of b t) (place_of b u) (same_term t u) (receives (mode_of b t)) (sends (mode_of b u)) (b.cut t u) (all t) h
   where
     at_null : (p q : ℕ) (same inward outward cut : Bool) → p ≡ 0
         → IsTrue (not same && (not (p == 0) && p == q) && inward && outward && not cut) → ⊥

@@ -7,7 +7,8 @@ use Rattle.mg_names.specs.declared.phases.Link.TheVariants.{Answered, Resting}
 use Rattle.mg_model.specs.declared.commands.EventsName.{EventsName}
 use Rattle.mg_model.specs.declared.commands.EventsName.TheVariants.{Empty, Armed, Own}
 use Rattle.mg_model.specs.Entries.{Entry, links, IsCovered}
-use Rattle.mg_model.specs.Obligations.{Obligation, OpeningCovered, ResetCovered, Marked, Cleared, Unbound, StepCovered, Holds, fault_number, JoinedAreMarked, CreatedAreUnbound}
+use Rattle.mg_names.specs.declared.obligations.Obligation.TheVariants as obligation
+use Rattle.mg_model.specs.Obligations.{Claim, OpeningCovered, ResetCovered, Marked, Cleared, Unbound, StepCovered, Holds, obligation_of, JoinedAreMarked, CreatedAreUnbound}
 use Rattle.mg_model.specs.Steps.{opening}
 use Rattle.mg_safety.specs.Needed.{IsNeeded}
 use Rattle.mg_model.specs.Accepted.{IsEntryOf}
@@ -33,7 +34,7 @@ not_opened covered =
     let armed = (sole_included idle_unarmed (opening calling) covered).2 3 (links []) (omega (arith)) in
     true≢false (ap is_empty_list (only_one Empty Armed armed))
 
-others_hold : (other : Obligation) → (fault_number other ≡ 1 → ⊥) → Holds calling after_a_restart other
+others_hold : (other : Claim) → (obligation_of other ≡ obligation.OpeningCovered → ⊥) → Holds calling after_a_restart other
 unfolding EachPoint
 others_hold OpeningCovered differ = absurd (differ refl)
 others_hold ResetCovered differ = reset_covered to_talk_off_hook after_a_restart (0, omega (arith), refl)
@@ -43,12 +44,12 @@ others_hold (Unbound e p) differ = at_points (CreatedAreUnbound calling) after_a
 others_hold (StepCovered e p s) differ =
     steps_covered calling after_a_restart (unarmed_steps to_talk_off_hook 0 after_a_restart (0, omega (arith), refl), tt) e p s
 
-pub opening_needed : IsNeeded 1
+pub opening_needed : IsNeeded obligation.OpeningCovered
 opening_needed = record {
   script = calling;
   entries = after_a_restart;
   accepted = is_script to_talk_off_hook 0;
   listed = All-from_recursion (IsEntryOf calling) after_a_restart (is_entry to_talk_off_hook 0 0 (Answered ∷ Resting ∷ []) Empty null null Free, tt);
-  breaks = record { obligation = OpeningCovered; numbered = refl; broken = not_opened; others = others_hold };
+  breaks = record { claim = OpeningCovered; is_of = refl; broken = not_opened; others = others_hold };
   ends = calling_ends_badly;
 }

@@ -7,7 +7,8 @@ use Rattle.std.specs.Prelude.{◌==◌}
 use Rattle.mg_names.specs.declared.phases.Link.TheVariants.{Resting}
 use Rattle.mg_model.specs.declared.commands.EventsName.TheVariants.{Armed}
 use Rattle.mg_model.specs.Entries.{Entry, IsCovered}
-use Rattle.mg_model.specs.Obligations.{Obligation, OpeningCovered, ResetCovered, Marked, Cleared, Unbound, StepCovered, Holds, fault_number, JoinedAreMarked, CreatedAreUnbound}
+use Rattle.mg_names.specs.declared.obligations.Obligation.TheVariants as obligation
+use Rattle.mg_model.specs.Obligations.{Claim, OpeningCovered, ResetCovered, Marked, Cleared, Unbound, StepCovered, Holds, obligation_of, JoinedAreMarked, CreatedAreUnbound}
 use Rattle.mg_model.specs.Steps.{reset}
 use Rattle.mg_safety.specs.Needed.{IsNeeded}
 use Rattle.mg_model.specs.Accepted.{IsEntryOf}
@@ -25,7 +26,7 @@ at_rest = idle_armed ∷ []
 not_reset : IsCovered at_rest (reset recovering) → ⊥
 not_reset covered = true≢false (ap (λ state. state == 1) (sole_included idle_armed (reset recovering) covered).0)
 
-others_hold : (other : Obligation) → (fault_number other ≡ 6 → ⊥) → Holds recovering at_rest other
+others_hold : (other : Claim) → (obligation_of other ≡ obligation.ResetCovered → ⊥) → Holds recovering at_rest other
 unfolding EachPoint
 others_hold OpeningCovered differ = opening_covered [] 1 at_rest (0, omega (arith), refl)
 others_hold ResetCovered differ = absurd (differ refl)
@@ -34,12 +35,12 @@ others_hold (Cleared e p) differ = nothing_ends recovering at_rest (none_ends []
 others_hold (Unbound e p) differ = at_points (CreatedAreUnbound recovering) at_rest (armed_unbound [] 1, tt) e p
 others_hold (StepCovered e p s) differ = steps_covered recovering at_rest (armed_stays 1 at_rest, tt) e p s
 
-pub reset_needed : IsNeeded 6
+pub reset_needed : IsNeeded obligation.ResetCovered
 reset_needed = record {
   script = recovering;
   entries = at_rest;
   accepted = is_script [] 1;
   listed = All-from_recursion (IsEntryOf recovering) at_rest (is_entry [] 1 0 (Resting ∷ []) Armed null null Free, tt);
-  breaks = record { obligation = ResetCovered; numbered = refl; broken = not_reset; others = others_hold };
+  breaks = record { claim = ResetCovered; is_of = refl; broken = not_reset; others = others_hold };
   ends = recovering_ends_badly;
 }

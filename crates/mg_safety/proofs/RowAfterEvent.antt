@@ -15,8 +15,11 @@ use Rattle.mg_model.specs.declared.line_events.Method.{Method}
 use Rattle.mg_model.specs.declared.line_events.Method.TheVariants.{Unambiguous, Full, Partial}
 use Rattle.mg_model.specs.Script.{DigitMap}
 use Rattle.mg_model.specs.DigitMaps.{Dialling, collecting, completed, Collected, Completion, with_symbol, with_pause}
-use Rattle.mg_model.specs.Gateway.{LineEvent, hook, flash, digit, pause, signal_end, outcome_of}
-use Rattle.mg_model.specs.LineEvents.{ListItem, OnHook, OffHook, Flash, Digits, LineRow, Note, Outcome, silent, is_hook, is_flash, map_in, kind_of, stays, detected, is_on, same_hook, hooked, flashed, kind_by, note_by, note_of, taken, dialled_by, dialled, paused_by, paused, plays, without_signal, signal_ended}
+use Rattle.mg_model.specs.declared.line_events.LineEvent.{LineEvent}
+use Rattle.mg_model.specs.declared.line_events.LineEvent.TheVariants as event
+use Rattle.mg_model.specs.Gateway.{outcome_of}
+use Rattle.mg_model.specs.declared.transitions.EventItem.TheVariants.{OnHook, OffHook, Flash, Digits}
+use Rattle.mg_model.specs.LineEvents.{ListItem, LineRow, Note, Outcome, silent, is_hook, is_flash, map_in, kind_of, stays, detected, is_on, same_hook, hooked, flashed, kind_by, note_by, note_of, taken, dialled_by, dialled, paused_by, paused, plays, without_signal, signal_ended}
 use Rattle.mg_safety.proofs.Single.{any_too}
 use Rattle.mg_safety.proofs.Cases.{none_is_some, the_some}
 use Rattle.mg_safety.proofs.Shown.{raises_kind, list_raises}
@@ -177,8 +180,8 @@ ended_gives row signal = where_it_plays (plays row.playing signal)
     where_it_plays false = gives_none row
 
 pub row_after : (row : LineRow) (event : LineEvent) (outcome : Outcome) → outcome_of row event ≡ Some outcome → IsRowAfter row outcome
-row_after row (hook h) = hooked_gives row h
-row_after row flash = flashed_gives row
-row_after row (digit s) = dialled_gives row s
-row_after row pause = paused_gives row
-row_after row (signal_end s) = ended_gives row s
+row_after row (event.Hook h) = hooked_gives row h
+row_after row event.Flash = flashed_gives row
+row_after row (event.Digit s) = dialled_gives row s
+row_after row event.Pause = paused_gives row
+row_after row (event.SignalEnd s) = ended_gives row s

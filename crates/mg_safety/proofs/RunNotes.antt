@@ -16,7 +16,8 @@ use Rattle.mg_model.specs.Agent.{Agent, Made, command_of}
 use Rattle.mg_model.specs.Board.{Board}
 use Rattle.mg_model.specs.Configuration.{Configuration}
 use Rattle.mg_model.specs.Items.{Done, leaves}
-use Rattle.mg_model.specs.LineEvents.{ListItem, OnHook, OffHook, Flash, Digits, LineRow, Note, Outcome, armed, cleared, is_standing, kind_of}
+use Rattle.mg_model.specs.declared.transitions.EventItem.TheVariants.{OnHook, OffHook, Flash, Digits}
+use Rattle.mg_model.specs.LineEvents.{ListItem, LineRow, Note, Outcome, armed, cleared, is_standing, kind_of}
 use Rattle.mg_model.specs.Messages.{Descriptors, RequestCommand}
 use Rattle.mg_model.specs.RequestRun.{Running, with_signals, with_events, with_descriptors, described, described_row, line_after, is_line, rearms, note_from, raised, standing}
 use Rattle.mg_model.specs.Script.{Script}

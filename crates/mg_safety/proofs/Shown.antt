@@ -33,7 +33,8 @@ use Rattle.mg_model.specs.Updates.{with_at}
 use Rattle.mg_model.specs.Numbers.{choose, null}
 use Rattle.mg_model.specs.Configuration.{Configuration, is_present, is_free}
 use Rattle.mg_model.specs.Items.{Done, is_context_number}
-use Rattle.mg_model.specs.LineEvents.{LineRow, ListItem, OnHook, OffHook, Flash, Digits, silent}
+use Rattle.mg_model.specs.declared.transitions.EventItem.TheVariants.{OnHook, OffHook, Flash, Digits}
+use Rattle.mg_model.specs.LineEvents.{LineRow, ListItem, silent}
 use Rattle.mg_model.specs.Request.{Names}
 use Rattle.mg_model.specs.Script.{Script}
 use Rattle.mg_model.specs.Accepted.{IsSlot}

@@ -9,7 +9,8 @@ use Rattle.mg_names.specs.declared.phases.Link.TheVariants.{Answered, Resting}
 use Rattle.mg_model.specs.declared.commands.EventsName.TheVariants.{Empty, Armed}
 use Rattle.mg_model.specs.declared.steps.StepName.TheVariants.{Observe}
 use Rattle.mg_model.specs.Entries.{Entry, numbered}
-use Rattle.mg_model.specs.Obligations.{Obligation, OpeningCovered, ResetCovered, Marked, Cleared, Unbound, StepCovered, Holds, fault_number, JoinedAreMarked, CreatedAreUnbound}
+use Rattle.mg_names.specs.declared.obligations.Obligation.TheVariants as obligation
+use Rattle.mg_model.specs.Obligations.{Claim, OpeningCovered, ResetCovered, Marked, Cleared, Unbound, StepCovered, Holds, obligation_of, JoinedAreMarked, CreatedAreUnbound}
 use Rattle.mg_model.specs.Steps.{entered}
 use Rattle.mg_safety.specs.Needed.{IsNeeded}
 use Rattle.mg_model.specs.Accepted.{IsEntryOf}
@@ -35,7 +36,7 @@ not_covered h =
     h idle_armed refl (numbered idle_armed 0) (omega (arith), refl, armed_formed) (Observe 0 Of, entered calling (numbered idle_armed 0) 1) refl in
     true≢false (ap (λ state. state == 1) (covered.1.1.0 ∙ all_idle covered.0 covered.1.0))
 
-others_hold : (other : Obligation) → (fault_number other ≡ 2 → ⊥) → Holds calling in_idle other
+others_hold : (other : Claim) → (obligation_of other ≡ obligation.StepsCovered → ⊥) → Holds calling in_idle other
 unfolding EachPoint
 others_hold OpeningCovered differ = opening_covered to_talk_off_hook 0 in_idle (1, omega (arith), refl)
 others_hold ResetCovered differ = reset_covered to_talk_off_hook in_idle (0, omega (arith), refl)
@@ -46,13 +47,13 @@ others_hold (Unbound e p) differ =
     at_points (CreatedAreUnbound calling) in_idle (unarmed_unbound to_talk_off_hook 0, (armed_unbound to_talk_off_hook 0, tt)) e p
 others_hold (StepCovered e p s) differ = absurd (differ refl)
 
-pub step_needed : IsNeeded 2
+pub step_needed : IsNeeded obligation.StepsCovered
 step_needed = record {
   script = calling;
   entries = in_idle;
   accepted = is_script to_talk_off_hook 0;
   listed = All-from_recursion (IsEntryOf calling) in_idle
       (is_entry to_talk_off_hook 0 0 (Answered ∷ Resting ∷ []) Empty null null Free, (is_entry to_talk_off_hook 0 0 (Resting ∷ []) Armed null null Free, tt));
-  breaks = record { obligation = StepCovered 1 0 0; numbered = refl; broken = not_covered; others = others_hold };
+  breaks = record { claim = StepCovered 1 0 0; is_of = refl; broken = not_covered; others = others_hold };
   ends = calling_ends_badly;
 }

@@ -6,7 +6,8 @@ use Rattle.mg_names.specs.declared.strictness.Strict.TheVariants.{State as State
 use Rattle.mg_model.specs.declared.transitions.Pair.{Pair}
 use Rattle.mg_model.specs.Agent.{Agent, noted, replied}
 use Rattle.mg_model.specs.Gateway.{Gateway, after_request}
-use Rattle.mg_model.specs.LineEvents.{ListItem, OnHook}
+use Rattle.mg_model.specs.declared.transitions.EventItem.TheVariants.{OnHook}
+use Rattle.mg_model.specs.LineEvents.{ListItem}
 use Rattle.mg_model.specs.RequestRun.{Running}
 use Rattle.mg_model.specs.Tables.{line_places}
 use Rattle.mg_model.specs.World.{World, AgentSteps, agent_steps, IsFirst, Runs, with_gateway}
@@ -63,8 +64,7 @@ is_executed = record {
   executed = record {
     end = end;
     failure = None;
-    current = refl;
-    newer = omega (arith);
+    is_fresh = refl;
     room = omega (arith);
     runs = runs_through w2 ready hang;
     after_is = refl;

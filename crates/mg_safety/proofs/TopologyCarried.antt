@@ -11,7 +11,8 @@ use Rattle.mg_model.specs.declared.commands.Termination.{Termination}
 use Rattle.mg_model.specs.Board.{Board, exists, place_of, same_term}
 use Rattle.mg_model.specs.Configuration.{Configuration, is_same, is_in, is_live}
 use Rattle.mg_model.specs.Effects.{with_pair, cuts_forward, cuts_backward}
-use Rattle.mg_model.specs.Items.{with_cut}
+use Rattle.mg_model.specs.Items.{with_cut, first_receives}
+use Rattle.mg_safety.proofs.Sides.{forward_is, backward_is}
 use Rattle.mg_model.specs.Request.{termination_known}
 use Rattle.mg_model.specs.Script.{Script}
 use Rattle.mg_model.specs.Accepted.{IsSlot}
@@ -169,7 +170,10 @@ topology_carried j t u topology script ok own n m b c after done ready executed 
     let slot_also = ready.declared.2 in
     let mine : owned v ≡ true = name_owned script owned n b c ready.shown t slot v named in
     let mine_also : owned w ≡ true = name_owned script owned n b c ready.shown u slot_also w named_also in
-    subst (λ x. IsCarried script own n m b c (SetTopology j t u topology) x done) (sym executed.effect_is) (record {
+    let cuts : after ≡ set_both b v w (cuts_forward topology) (cuts_backward topology) = executed.effect_is
+    ∙ ap (λ forward. set_both b v w forward (not (first_receives topology))) (forward_is topology)
+    ∙ ap (set_both b v w (cuts_forward topology)) (backward_is topology) in
+    subst (λ x. IsCarried script own n m b c (SetTopology j t u topology) x done) (sym cuts) (record {
       legal = and_from (is_live (c.context j) && is_in (c.spot t) j && is_in (c.spot u) j) (not (is_same t u))
           (and_from (is_live (c.context j) && is_in (c.spot t) j) (is_in (c.spot u) j)
           (and_from (is_live (c.context j)) (is_in (c.spot t) j)

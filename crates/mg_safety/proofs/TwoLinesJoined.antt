@@ -12,7 +12,9 @@ use Rattle.mg_model.specs.Numbers.{choose}
 use Rattle.mg_model.specs.Items.{Done, IsExecuted, IsLegal, effect}
 use Rattle.mg_model.specs.LineEvents.{ListItem}
 use Rattle.mg_model.specs.Media.{AreJoined}
-use Rattle.mg_model.specs.Messages.{Descriptors, RequestCommand, add_line, context_made_at, Request, Reply}
+use Rattle.mg_model.specs.declared.references.ContextRef.TheVariants.{MadeAt}
+use Rattle.mg_safety.proofs.Offered.{is_fresh_at}
+use Rattle.mg_model.specs.Messages.{Descriptors, RequestCommand, add_line, Request, Reply}
 use Rattle.mg_model.specs.RequestRun.{Running, after_command, item_at, RunsFrom}
 use Rattle.mg_model.specs.Script.{Script}
 use Rattle.mg_model.specs.Tables.{state_of, is_marked}
@@ -29,7 +31,7 @@ abbrev pub first : Option (List ListItem) → RequestCommand
 first = creates 1 (Some SendReceive)
 
 abbrev pub second : RequestCommand
-second = add_line (context_made_at 0) 2 receiving
+second = add_line (MadeAt 0) 2 receiving
 
 abbrev pub to_talk : ℕ → Request
 to_talk association = record { call = 7; association = association; number = 1; commands = first None ∷ second ∷ [] }
@@ -123,8 +125,8 @@ module _ (w : World) (ready : IsReady w.gateway.board) where
     executed = record {
       end = r2 w ready None;
       failure = None;
-      current = refl;
-      newer = let last : number_of (w.gateway.link 7).last ≡ 0 = ap number_of none in omega (arith, last);
+      is_fresh = is_fresh_at w.gateway (to_talk w.gateway.association) refl
+          (let last : number_of (w.gateway.link 7).last ≡ 0 = ap number_of none in omega (arith, last));
       room = omega (arith, few);
       runs = runs_through w ready None;
       after_is = refl;

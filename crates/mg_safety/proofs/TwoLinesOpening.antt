@@ -9,7 +9,8 @@ use Rattle.mg_model.specs.declared.rows.Row.{Row}
 use Rattle.mg_model.specs.declared.line_events.Hook.TheVariants as hooks
 use Rattle.mg_model.specs.Agent.{Agent, opened}
 use Rattle.mg_model.specs.Board.{Board}
-use Rattle.mg_model.specs.Gateway.{Gateway, with_line, with_notes, hook}
+use Rattle.mg_model.specs.declared.line_events.LineEvent.TheVariants as event
+use Rattle.mg_model.specs.Gateway.{Gateway, with_line, with_notes}
 use Rattle.mg_model.specs.LineEvents.{LineRow, new_line}
 use Rattle.mg_model.specs.Script.{Script}
 use Rattle.mg_model.specs.World.{World, LineOccurs, Opened, IsOpening, armed_line, null_row, with_gateway}
@@ -145,7 +146,7 @@ off_hook_gateway = with_notes (with_line gateway 1 off) 7 1
 abbrev pub off_hook_world : Script → World
 off_hook_world script = record (with_gateway (opened_world script) off_hook_gateway) { notes = off_hook ∷ [] }
 
-pub goes_off : (script : Script) → LineOccurs (opened_world script) 1 (hook hooks.Off) (off_hook_world script)
+pub goes_off : (script : Script) → LineOccurs (opened_world script) 1 (event.Hook hooks.Off) (off_hook_world script)
 goes_off script = record {
   gateway = off_hook_gateway;
   sent = off_hook ∷ [];

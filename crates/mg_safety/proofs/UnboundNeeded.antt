@@ -4,6 +4,7 @@ use Rattle.std.proofs.Common.{◌≡◌, ◌∙◌, ℕ, List, [], ◌∷◌, So
 use Rattle.std.specs.Prelude.{unwrap_or}
 use Rattle.mg_names.specs.declared.identifiers.TermId.TheVariants.{Line}
 use Rattle.mg_names.specs.declared.modes.Mode.TheVariants.{Inactive}
+use Rattle.mg_names.specs.declared.obligations.Obligation.TheVariants as obligation
 use Rattle.mg_model.specs.Agent.{Agent, timed, replied, passed}
 use Rattle.mg_model.specs.Board.{Board, place_in}
 use Rattle.mg_model.specs.Gateway.{Gateway, after_request, start_of}
@@ -79,8 +80,7 @@ first_is_executed = record {
   executed = record {
     end = r1;
     failure = None;
-    current = refl;
-    newer = omega (arith);
+    is_fresh = refl;
     room = omega (arith);
     runs = first_runs;
     after_is = refl;
@@ -134,8 +134,7 @@ second_is_executed = record {
   executed = record {
     end = r2;
     failure = None;
-    current = refl;
-    newer = omega (arith);
+    is_fresh = refl;
     room = omega (arith);
     runs = second_runs;
     after_is = refl;
@@ -210,7 +209,7 @@ bad good =
     let place : 1 ≡ 0 = ap place_in its_row ∙ ap place_in null.1 ∙ null.2 in
     omega (arith, place)
 
-pub unbound_needed : IsNeeded 5
+pub unbound_needed : IsNeeded obligation.CreatedUnbound
 unbound_needed = record {
   script = created_twice;
   entries = entries;

@@ -1,7 +1,9 @@
 -- The statements of small laws. Each is carried by an empty function of the same name.
-use Rattle.std.specs.Prelude.{◌≡◌, ℕ, ◌≤◌, ◌<◌, Bool, false, IsTrue, List, [], length, Contains, Some, None}
+use Rattle.std.specs.Prelude.{◌≡◌, ℕ, ◌≤◌, ◌<◌, Bool, false, not, IsTrue, List, [], length, Contains, Some, None}
 use Rattle.mg_names.specs.declared.identifiers.TermId.{TermId}
 use Rattle.mg_names.specs.declared.identifiers.TermId.TheVariants.{Line, Eph}
+use Rattle.mg_names.specs.declared.modes.Mode.{Mode}
+use Rattle.mg_names.specs.declared.topologies.Topology.{Topology}
 use Rattle.mg_model.specs.declared.items.Added.TheVariants as added
 use Rattle.mg_model.specs.declared.items.Item.{Item}
 use Rattle.mg_model.specs.declared.items.Item.TheVariants.{Add, Modify, Move, Subtract, SubtractAll, SetTopology}
@@ -9,9 +11,11 @@ use Rattle.mg_model.specs.declared.rows.Row.{Row}
 use Rattle.mg_model.specs.Agent.{Agent}
 use Rattle.mg_model.specs.Board.{Board, place_of}
 use Rattle.mg_model.specs.Gateway.{last_executed}
-use Rattle.mg_model.specs.Items.{Chosen, effect}
+use Rattle.mg_model.specs.Effects.{cuts_forward, cuts_backward}
+use Rattle.mg_model.specs.Items.{Chosen, effect, first_receives, second_receives}
 use Rattle.mg_model.specs.LineEvents.{silent}
-use Rattle.mg_model.specs.Media.{share_context, crosses, goes_over, AreJoined}
+use Rattle.mg_model.specs.Paths.{passes_in, passes_out}
+use Rattle.mg_model.specs.Media.{receives, sends, share_context, crosses, goes_over, AreJoined}
 use Rattle.mg_model.specs.Messages.{Request, Reply, SentNote}
 use Rattle.mg_model.specs.RequestRun.{Refusal}
 use Rattle.mg_model.specs.Script.{Script}
@@ -89,6 +93,14 @@ CallsStayApart =
     → AreJoined w.gateway.board (a.lines i) (b.lines j) → ⊥
 
 -- ---- the connection model
+
+-- what the gateway's side of the definitions and the checker's each say by themselves is the same: which modes let media into a context
+-- and out of it, and which way a Topology descriptor cuts a pair
+pub record SidesAgree : Type 0 where
+  pub receives : (mode : Mode) → receives mode ≡ passes_in mode
+  pub sends : (mode : Mode) → sends mode ≡ passes_out mode
+  pub forward : (topology : Topology) → not (second_receives topology) ≡ cuts_forward topology
+  pub backward : (topology : Topology) → not (first_receives topology) ≡ cuts_backward topology
 
 -- what a command names, what it creates and what it takes out of a context is among these terminations
 abbrev pub NamesOnly : (TermId → Bool) → Board → Item → Chosen → Type 0

@@ -12,11 +12,12 @@ use Rattle.mg_model.specs.declared.commands.Place.TheVariants.{NullContext}
 use Rattle.mg_model.specs.declared.line_events.Hook.TheVariants as hooks
 use Rattle.mg_model.specs.declared.transitions.EventItem.TheVariants as item
 use Rattle.mg_model.specs.declared.transitions.Pair.{Pair}
-use Rattle.mg_model.specs.Gateway.{hook}
+use Rattle.mg_model.specs.declared.line_events.LineEvent.TheVariants as event
 use Rattle.mg_model.specs.Numbers.{choose}
-use Rattle.mg_model.specs.LineEvents.{OnHook}
+use Rattle.mg_model.specs.declared.transitions.EventItem.TheVariants.{OnHook}
 use Rattle.mg_model.specs.Media.{AreJoined}
-use Rattle.mg_model.specs.Messages.{add_line, context, context_made_at, Request, Reply, SentNote}
+use Rattle.mg_model.specs.declared.references.ContextRef.TheVariants.{Number, MadeAt}
+use Rattle.mg_model.specs.Messages.{add_line, Request, Reply, SentNote}
 use Rattle.mg_model.specs.Script.{Script, State}
 use Rattle.mg_model.specs.World.{World, Event, on_a_line, execute, reply, note, Opened, IsOpening, Runs}
 
@@ -117,8 +118,8 @@ to_talk = record {
   association = 1;
   number = 1;
   commands =
-      add_line (context choose) 1 record { mode = Some SendReceive; remote = None; events = Some (OnHook StateOfHook ∷ []); signals = None }
-      ∷ add_line (context_made_at 0) 2 record { mode = Some SendReceive; remote = None; events = None; signals = None } ∷ [];
+      add_line (Number (record { 0 = choose })) 1 record { mode = Some SendReceive; remote = None; events = Some (OnHook StateOfHook ∷ []); signals = None }
+      ∷ add_line (MadeAt 0) 2 record { mode = Some SendReceive; remote = None; events = None; signals = None } ∷ [];
 }
 
 -- the context that was created has number 1
@@ -134,7 +135,7 @@ all_done = record {
 }
 
 abbrev pub to_a_talk : List Event
-to_a_talk = on_a_line 1 (hook hooks.Off) ∷ note off_hook ∷ execute to_talk None ∷ reply all_done ∷ []
+to_a_talk = on_a_line 1 (event.Hook hooks.Off) ∷ note off_hook ∷ execute to_talk None ∷ reply all_done ∷ []
 
 -- these events are a run from an opening with that call alone, and its last world joins the lines 1 and 2
 pub record LeadsToATalk (marks : List Pair) : Type 0 where

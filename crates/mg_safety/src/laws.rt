@@ -1,5 +1,5 @@
 //! Small laws of worlds, openings and events.
-ghost use Rattle.mg_safety.specs.Laws.{OldRequestsDoNothing, RestartsClearLines, EventsKeepOthers, OpeningsAreGood, CallsStayApart, CommandsKeepOthers, PathsStayInside};
+ghost use Rattle.mg_safety.specs.Laws.{OldRequestsDoNothing, RestartsClearLines, EventsKeepOthers, OpeningsAreGood, CallsStayApart, CommandsKeepOthers, PathsStayInside, SidesAgree};
 
 /// A request whose number is not above the last one executed of its call changes nothing, but that the kept reply may be
 /// sent once more (H.248.1 section 8.1: a transaction is executed at most once).
@@ -37,4 +37,9 @@ pub fn commands_keep_others()
 /// A path stays among terminations that are closed under standing in one context and under naming each other as Remote.
 pub fn paths_stay_inside()
     ensures { PathsStayInside }
+{}
+
+/// The gateway's side of the definitions and the checker's, which share no rule, agree on the modes and on the Topology descriptor.
+pub fn sides_agree()
+    ensures { SidesAgree }
 {}

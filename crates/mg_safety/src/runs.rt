@@ -2,6 +2,7 @@
 ghost use Rattle.std.specs.Prelude.{List};
 ghost use Rattle.mg_model.specs.declared.transitions.Pair.{Pair};
 ghost use Rattle.mg_safety.specs.Headline.{EveryRunIsGood, EveryRunOfOneCallIsGood};
+ghost use Rattle.mg_names.specs.declared.obligations.Obligation.TheVariants as Obligation;
 ghost use Rattle.mg_safety.specs.Needed.{IsNeeded};
 ghost use Rattle.mg_safety.specs.Talk.{LeadsToATalk};
 
@@ -26,10 +27,10 @@ pub fn a_run_joins_two_lines()
 /// No obligation could be left out: for each there is a script with a certificate that breaks it alone, and a run of the script that
 /// leaves a world that isn't good.
 pub fn each_obligation_is_needed()
-    ensures opening { IsNeeded 1 }
-    ensures steps { IsNeeded 2 }
-    ensures marks { IsNeeded 3 }
-    ensures cleared { IsNeeded 4 }
-    ensures unbound { IsNeeded 5 }
-    ensures reset { IsNeeded 6 }
+    ensures opening { IsNeeded Obligation.OpeningCovered }
+    ensures steps { IsNeeded Obligation.StepsCovered }
+    ensures marks { IsNeeded Obligation.JoinedMarked }
+    ensures cleared { IsNeeded Obligation.EndedCleared }
+    ensures unbound { IsNeeded Obligation.CreatedUnbound }
+    ensures reset { IsNeeded Obligation.ResetCovered }
 {}
