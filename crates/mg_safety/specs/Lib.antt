@@ -1,4 +1,2 @@
 pub mod Laws
 pub mod Headline
-pub mod Talk
-pub mod Needed

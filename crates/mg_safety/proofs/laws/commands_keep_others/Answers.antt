@@ -1,5 +1,5 @@
 -- The law.
-use Rattle.mg_safety.proofs.BoardLaws.{commands_keep}
+use Rattle.mg_safety.proofs.SmallLaws.BoardLaws.{commands_keep}
 use Rattle.mg_safety.proofs.laws.commands_keep_others.Goals as goal
 
 pub returns : goal.returns

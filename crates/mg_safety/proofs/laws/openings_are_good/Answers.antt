@@ -1,5 +1,5 @@
 -- The law.
-use Rattle.mg_safety.proofs.OpeningLaws.{openings_good}
+use Rattle.mg_safety.proofs.SmallLaws.OpeningLaws.{openings_good}
 use Rattle.mg_safety.proofs.laws.openings_are_good.Goals as goal
 
 pub returns : goal.returns

@@ -1,5 +1,5 @@
 -- The promise over runs.
-use Rattle.mg_safety.proofs.EveryRun.{every_run}
+use Rattle.mg_safety.proofs.GoodWorlds.EveryRun.{every_run}
 use Rattle.mg_safety.proofs.runs.every_run_is_good.Goals as goal
 
 pub returns : goal.returns

@@ -1,0 +1,66 @@
+-- A command that adds a line to a new context is executed on any board where the line is in the null context and a context's number was
+-- not given yet: the context gets that number.
+use Rattle.std.proofs.Common.{◌≡◌, ◌∙◌, ◌==◌, ℕ, Bool, false, List, [], Option, Some, None, is_some, refl, sym, ap, true≢false, inl, inr}
+use Rattle.std.specs.Prelude.{◌||◌, not}
+use Rattle.mg_names.specs.declared.codes.Code.TheVariants.{UnknownContext, UnknownTermination, AlreadyInContext, NotInContext, InternalFailure, InsufficientResources}
+use Rattle.mg_names.specs.declared.identifiers.TermId.TheVariants.{Line}
+use Rattle.mg_names.specs.declared.modes.Mode.{Mode}
+use Rattle.mg_model.specs.declared.rows.Row.{Row}
+use Rattle.mg_model.specs.Board.{Board, place_in}
+use Rattle.mg_model.specs.Numbers.{choose}
+use Rattle.mg_model.specs.Items.{Chosen, Done, Lists, IsExecuted, IsLegal, effect, is_context_number}
+use Rattle.mg_model.specs.LineEvents.{ListItem}
+use Rattle.mg_model.specs.declared.references.ContextRef.TheVariants.{Number}
+use Rattle.mg_model.specs.Messages.{RequestCommand, add_line}
+use Rattle.mg_model.specs.RequestRun.{item_at}
+use Rattle.mg_model.specs.World.{null_row}
+use Rattle.mg_safety.proofs.Shared.Cases.{false_not_true}
+use Rattle.mg_safety.proofs.Shared.Single.{none_in}
+
+-- a line is added to a new context, with this mode and these events where they are set
+abbrev pub creates : ℕ → Option Mode → Option (List ListItem) → RequestCommand
+creates line mode events = add_line (Number (record { 0 = choose })) line record { mode = mode; remote = None; events = events; signals = None }
+
+-- the context that is created has this number
+abbrev pub picks : ℕ → Chosen
+picks number = record { context = number; ephemeral = 1 }
+
+abbrev pub made : ℕ → Done
+made number = record { context = Some number; ephemeral = None; lines = []; ephemerals = [] }
+
+abbrev pub created : Board → ℕ → Option Mode → Option (List ListItem) → ℕ → Board
+created b line mode events number = effect b (item_at [] (creates line mode events)) (picks number)
+
+pub record CanCreate (b : Board) (line number : ℕ) : Type 0 where
+  pub row : b.row (Line (record { 0 = line })) ≡ Some null_row
+  pub is_number : is_context_number number
+  pub not_given : b.given_context number ≡ false
+
+pub none_listed : Lists (λ n. false) []
+none_listed = record { rising = tt; exactly = λ n. (λ among. absurd (none_in n among), λ h. absurd (false_not_true h)) }
+
+-- what the refusals of an added line read of its row
+abbrev pub is_unknown : Option Row → Bool
+is_unknown row = not (is_some row) || false
+
+abbrev pub is_taken : Option Row → Bool
+is_taken row = not (place_in row == 0)
+
+module _ (b : Board) (line : ℕ) (mode : Option Mode) (events : Option (List ListItem)) (number : ℕ) (can : CanCreate b line number) where
+  legal : IsLegal b (item_at [] (creates line mode events))
+  legal UnknownContext h = h.0 refl
+  legal UnknownTermination h = true≢false (sym h ∙ ap is_unknown can.row)
+  legal AlreadyInContext h = true≢false (sym h ∙ ap is_taken can.row)
+  legal NotInContext h = true≢false (sym h)
+  legal InternalFailure h = h
+  legal InsufficientResources (inl used) = true≢false (sym (used.1 number can.is_number) ∙ can.not_given)
+  legal InsufficientResources (inr used) = used
+
+  pub creation_executed : IsExecuted b (item_at [] (creates line mode events)) (created b line mode events number) (made number)
+  creation_executed = record {
+    chosen = picks number;
+    fresh = record { context = λ h. (can.is_number, can.not_given); ephemeral = λ h. absurd (true≢false (sym h)) };
+    legal = legal;
+    effect_is = refl;
+    result = record { context = refl; ephemeral = refl; lines = none_listed; ephemerals = none_listed };
+  }

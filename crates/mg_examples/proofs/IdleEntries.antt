@@ -1,0 +1,86 @@
+-- The two entries of `idle`, one with armed lines and one with empty events lists, and what the obligations ask of them: the opening and
+-- the reset are in them; the second line stands in the null context, so no two are joined; `idle` creates no name; and a call with empty
+-- events lists comes to rest.
+use Rattle.std.proofs.Common.{ℕ, List, [], ◌∷◌, Some, refl, sym, subst, arith}
+use Rattle.std.specs.Prelude.{◌==◌, Contains}
+use Rattle.mg_names.specs.declared.context_values.ContextValue.TheVariants.{Free}
+use Rattle.mg_names.specs.declared.phases.Link.TheVariants.{Answered, Resting}
+use Rattle.mg_model.specs.declared.commands.EventsName.TheVariants.{Empty, Armed}
+use Rattle.mg_model.specs.declared.transitions.Transition.{Transition}
+use Rattle.mg_model.specs.Configuration.{Configuration, IsWellFormed}
+use Rattle.mg_model.specs.Entries.{Entry, Includes, IsCovered, numbered}
+use Rattle.mg_model.specs.Obligations.{JoinedAreMarked, CreatedAreUnbound}
+use Rattle.mg_model.specs.Script.{Script}
+use Rattle.mg_model.specs.Steps.{steps_of, opening, reset}
+use Rattle.mg_safety.proofs.Shared.Single.{only_one}
+use Rattle.mg_examples.proofs.EntriesOfTwo.{null, entry_of, is_free_live, point_formed, point_covered, unused_covered}
+use Rattle.mg_examples.proofs.PointFacts.{Below, EachCovered, none_joined}
+use Rattle.mg_examples.proofs.TwoLines.{two_lines}
+
+-- at rest in `idle`, armed: what a call opens in
+abbrev pub idle_armed : Entry
+idle_armed = entry_of 0 (Resting ∷ []) Armed null null (Some Free)
+
+-- in `idle` with empty events lists: what a call is in after a restart, where `idle` is the restart state
+abbrev pub idle_unarmed : Entry
+idle_unarmed = entry_of 0 (Answered ∷ Resting ∷ []) Empty null null (Some Free)
+
+pub opening_covered : (on : List Transition) (again : ℕ) (entries : List Entry) → Contains entries idle_armed
+    → IsCovered entries (opening (two_lines on again))
+opening_covered on again entries among = unused_covered entries 0 (Resting ∷ []) Resting Armed (Some Free) refl among (0, omega (arith), refl)
+
+pub reset_covered : (on : List Transition) (entries : List Entry) → Contains entries idle_unarmed → IsCovered entries (reset (two_lines on 0))
+reset_covered on entries among =
+    unused_covered entries 0 (Answered ∷ Resting ∷ []) Answered Empty (Some Free) refl among (0, omega (arith), refl)
+
+pub sole_included : (entry : Entry) (c : Configuration) → IsCovered (entry ∷ []) c → Includes entry c
+sole_included entry c covered = subst (λ (x : Entry). Includes x c) (sym (only_one entry covered.0 covered.1.0)) covered.1.1
+
+-- ---- the entry with empty events lists
+
+module _ (on : List Transition) (again : ℕ) where
+  abbrev script : Script
+  script = two_lines on again
+
+  pub unarmed_marked : Below (JoinedAreMarked script) idle_unarmed 2
+  unfolding Below
+  unarmed_marked = (
+    (λ formed. none_joined script (numbered idle_unarmed 1) refl refl),
+    ((λ formed. none_joined script (numbered idle_unarmed 0) refl refl), tt),
+  )
+
+  pub unarmed_unbound : Below (CreatedAreUnbound script) idle_unarmed 2
+  unfolding Below
+  unarmed_unbound = ((λ formed sent. refl), ((λ formed sent. refl), tt))
+
+  -- a reply that counts as taken is its one step, and at rest it has none
+  pub unarmed_steps : (entries : List Entry) → Contains entries idle_unarmed
+      → Below (λ c. EachCovered entries (steps_of script c)) idle_unarmed 2
+  unfolding Below EachCovered
+  unarmed_steps entries among = (
+    (λ formed. tt),
+    (
+      (λ formed. (
+        point_covered entries 0 (Answered ∷ Resting ∷ []) Resting Empty null null (Some Free) among (1, omega (arith), refl) (λ j. is_free_live (j == 0)),
+        tt,
+      )),
+      tt,
+    ),
+  )
+
+  -- the entry with armed lines
+  pub armed_marked : Below (JoinedAreMarked script) idle_armed 1
+  unfolding Below
+  armed_marked = ((λ formed. none_joined script (numbered idle_armed 0) refl refl), tt)
+
+  pub armed_unbound : Below (CreatedAreUnbound script) idle_armed 1
+  unfolding Below
+  armed_unbound = ((λ formed sent. refl), tt)
+
+pub armed_formed : IsWellFormed (numbered idle_armed 0)
+armed_formed = point_formed 0 Resting Armed null null (Some Free) (λ j. is_free_live (j == 0))
+
+-- with no transition the entry with armed lines has no step
+pub armed_stays : (again : ℕ) (entries : List Entry) → Below (λ c. EachCovered entries (steps_of (two_lines [] again) c)) idle_armed 1
+unfolding Below EachCovered
+armed_stays again entries = ((λ formed. tt), tt)

@@ -1,0 +1,58 @@
+-- A run of two lines where no state marks a pair and `talk` is the restart state: the gateway restarts, the call hears of it, and the
+-- request of `talk` is executed. Then the lines 1 and 2 are joined.
+use Rattle.std.proofs.Common.{List, [], ◌∷◌, None, refl, arith, inl}
+use Rattle.std.specs.Prelude.{unwrap_or}
+use Rattle.mg_model.specs.Agent.{Agent, heard}
+use Rattle.mg_model.specs.Gateway.{restarted}
+use Rattle.mg_model.specs.Script.{Script}
+use Rattle.mg_model.specs.World.{World, Event, execute, restart, hear, AgentSteps, agent_steps, Runs, with_gateway}
+use Rattle.mg_examples.specs.Needed.{EndsBadly}
+use Rattle.mg_examples.specs.Talk.{call}
+use Rattle.mg_examples.proofs.TwoLines.{two_lines, none_marked}
+use Rattle.mg_examples.proofs.TwoLinesOpening.{gateway, agent, opened_world, opens}
+use Rattle.mg_examples.proofs.TwoLinesJoined.{IsReady, to_talk, talking_world, executes, joined, not_good}
+
+abbrev pub recovering : Script
+recovering = two_lines [] 1
+
+abbrev w0 : World
+w0 = opened_world recovering
+
+abbrev w1 : World
+w1 = with_gateway w0 (restarted gateway)
+
+abbrev before : Agent
+before = agent recovering
+
+abbrev talking : Agent
+talking = unwrap_or (heard recovering before 2) before
+
+abbrev w2 : World
+w2 = agent_steps w1 7 talking
+
+enters : AgentSteps w1 7 (λ a. heard recovering a 2) w2
+enters = record { before = before; agent = talking; open_call = refl; steps = refl; after_is = refl }
+
+ready : IsReady w2.gateway.board
+ready = record { first_row = refl; second_row = refl; uncut = refl; not_given = refl }
+
+abbrev w3 : World
+w3 = talking_world w2 ready
+
+abbrev events : List Event
+events = restart ∷ hear 7 2 ∷ execute (to_talk 2) None ∷ []
+
+run : Runs recovering events w0 w3
+unfolding Runs
+run = (w1, ((omega (arith), refl), (w2, ((omega (arith), enters), (w3, (((0, omega (arith), refl), inl (executes w2 ready refl (omega (arith)))), refl))))))
+
+pub recovering_ends_badly : EndsBadly recovering
+recovering_ends_badly = record {
+  calls = call ∷ [];
+  events = events;
+  opening = w0;
+  end = w3;
+  opens = opens recovering refl;
+  runs = run;
+  bad = not_good recovering w3 (none_marked [] 1) (joined w2.gateway.board ready);
+}

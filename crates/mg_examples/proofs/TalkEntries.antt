@@ -1,0 +1,159 @@
+-- The entries of `talk` where line a goes off hook in `idle`: while its request is sent or was refused at once, after a refusal of its second
+-- command, and after both commands. And that the steps of the entries that hold all that is reachable lead to such entries.
+use Rattle.std.proofs.Common.{◌≡◌, ◌∙◌, ℕ, List, [], ◌∷◌, Some, None, Bool, true, false, refl, sym, ap, arith, true≢false}
+use Rattle.std.specs.Prelude.{Contains, ◌==◌, ◌||◌, if◌then◌else◌}
+use Rattle.mg_names.specs.declared.context_values.ContextValue.TheVariants.{Free, Live}
+use Rattle.mg_names.specs.declared.modes.Mode.TheVariants.{SendReceive}
+use Rattle.mg_names.specs.declared.phases.Link.{Link}
+use Rattle.mg_names.specs.declared.phases.Link.TheVariants.{Sent, Answered, Failed, Resting}
+use Rattle.mg_model.specs.declared.commands.Command.{Command}
+use Rattle.mg_model.specs.declared.commands.Command.TheVariants.{AddLine}
+use Rattle.mg_model.specs.declared.commands.EventsName.TheVariants.{Armed}
+use Rattle.mg_model.specs.Configuration.{Configuration, IsWellFormed, is_live, value_of}
+use Rattle.mg_model.specs.Effects.{effect}
+use Rattle.mg_model.specs.Entries.{Entry, IsCovered, numbered}
+use Rattle.mg_model.specs.Obligations.{CreatedAreUnbound}
+use Rattle.mg_model.specs.Steps.{steps_of, with_link}
+use Rattle.mg_examples.proofs.CallingRun.{to_talk_off_hook, calling}
+use Rattle.mg_examples.proofs.IdleEntries.{idle_armed, idle_unarmed, unarmed_unbound, unarmed_steps, armed_unbound}
+use Rattle.mg_safety.proofs.Shared.Cases.{same_turned}
+use Rattle.mg_examples.proofs.EntriesOfTwo.{null, talking, entry_of, is_covered, pairs_uncut, point_of, is_free_live, is_first_settled, is_both_live, point_formed, point_covered}
+use Rattle.mg_examples.proofs.PointFacts.{plain_formed, Below, EachPoint, EachCovered, still_formed}
+
+-- ---- entries
+
+-- the request is sent, or its first command was refused
+abbrev pub sent : Entry
+sent = entry_of 1 (Sent ∷ Failed ∷ []) Armed null null (Some Free)
+
+-- its second command was refused
+abbrev pub half : Entry
+half = entry_of 1 (Failed ∷ []) Armed talking null (Some Live)
+
+abbrev pub both : Entry
+both = entry_of 1 (Answered ∷ Resting ∷ []) Armed talking talking (Some Live)
+
+abbrev pub reachable : List Entry
+reachable = idle_unarmed ∷ idle_armed ∷ sent ∷ half ∷ both ∷ []
+
+-- ---- the commands
+
+abbrev first : Command
+first = AddLine true 0 0 record { mode = Some SendReceive; events = None; signals = None }
+
+abbrev second : Command
+second = AddLine false 0 1 record { mode = Some SendReceive; events = None; signals = None }
+
+abbrev asked : Configuration
+asked = numbered sent 0
+
+abbrev after_first : Configuration
+after_first = effect calling asked first
+
+abbrev after_second : Configuration
+after_second = effect calling after_first second
+
+-- each context is live exactly where a line stands in it
+is_second_settled : (j : ℕ)
+    → is_live (value_of (if j == 0 then Live else value_of (if j == 0 then Live else (if j == 0 then Free else Free)) ((0 == j) || false))
+    ((0 == j) || ((0 == j) || false)))
+    ≡ ((0 == j) || ((0 == j) || false))
+is_second_settled j = at_once (j == 0) (0 == j) (same_turned 0 j)
+  where
+    at_once : (test turned : Bool) → turned ≡ test
+        → is_live (value_of (if test then Live else value_of (if test then Live else (if test then Free else Free)) (turned || false))
+        (turned || (turned || false)))
+        ≡ (turned || (turned || false))
+    at_once true true same = refl
+    at_once false false same = refl
+    at_once true false same = absurd (true≢false (sym same))
+    at_once false true same = absurd (true≢false same)
+
+first_formed : IsWellFormed after_first
+first_formed = plain_formed after_first is_first_settled (record { mode = λ k. refl; remote = λ k. refl; uncut = pairs_uncut })
+
+second_formed : IsWellFormed after_second
+second_formed = plain_formed after_second is_second_settled (record { mode = λ k. refl; remote = λ k. refl; uncut = pairs_uncut })
+
+pub both_formed : IsWellFormed (numbered both 0)
+both_formed = point_formed 1 Answered Armed talking talking (Some Live) is_both_live
+
+-- ---- steps
+
+-- the note that line a went off hook, and a refusal of the first command
+sent_covered : (linked : Link) → Contains (Sent ∷ Failed ∷ []) linked → IsCovered reachable (point_of 1 linked Armed null null (Some Free))
+sent_covered linked among =
+    point_covered reachable 1 (Sent ∷ Failed ∷ []) linked Armed null null (Some Free) (2, omega (arith), refl) among (λ j. is_free_live (j == 0))
+
+refused_second : IsCovered reachable (with_link after_first Failed)
+refused_second =
+    is_covered 1 (Failed ∷ []) Armed talking null (Some Live) (with_link after_first Failed) reachable (3, omega (arith), refl) refl
+    (0, omega (arith), refl) (still_formed after_first 1 Failed first_formed)
+    (record { first_line = refl; second_line = refl; context = refl; cut_to = refl; cut_from = refl })
+
+executed_both : IsCovered reachable (with_link after_second Answered)
+executed_both =
+    is_covered 1 (Answered ∷ Resting ∷ []) Armed talking talking (Some Live) (with_link after_second Answered) reachable (4, omega (arith), refl) refl
+    (0, omega (arith), refl) (still_formed after_second 1 Answered second_formed)
+    (record { first_line = refl; second_line = refl; context = refl; cut_to = refl; cut_from = refl })
+
+rests : IsCovered reachable (point_of 1 Resting Armed talking talking (Some Live))
+rests =
+    point_covered reachable 1 (Answered ∷ Resting ∷ []) Resting Armed talking talking (Some Live) (4, omega (arith), refl) (1, omega (arith), refl)
+    is_both_live
+
+abbrev Stepped : Configuration → Type 0
+Stepped c = EachCovered reachable (steps_of calling c)
+
+armed_steps : Below Stepped idle_armed 1
+unfolding Below EachCovered
+armed_steps = ((λ formed. (sent_covered Sent (0, omega (arith), refl), tt)), tt)
+
+sent_steps : Below Stepped sent 2
+unfolding Below EachCovered
+sent_steps = ((λ formed. tt), ((λ formed. (sent_covered Failed (1, omega (arith), refl), (refused_second, (executed_both, tt)))), tt))
+
+half_steps : Below Stepped half 1
+unfolding Below EachCovered
+half_steps = ((λ formed. tt), tt)
+
+both_steps : Below Stepped both 2
+unfolding Below EachCovered
+both_steps = ((λ formed. tt), ((λ formed. (rests, tt)), tt))
+
+pub all_stepped : EachPoint Stepped reachable
+unfolding EachPoint
+all_stepped = (
+  unarmed_steps to_talk_off_hook 0 reachable (0, omega (arith), refl),
+  (armed_steps, (sent_steps, (half_steps, (both_steps, tt)))),
+)
+
+-- ---- created names
+
+abbrev is_sent : Link → Bool
+is_sent Sent = true
+is_sent Answered = false
+is_sent Failed = false
+is_sent Resting = false
+
+not_sent : (c : Configuration) → is_sent c.link ≡ false → CreatedAreUnbound calling c
+not_sent c other sent = absurd (true≢false (sym (ap is_sent sent) ∙ other))
+
+sent_unbound : Below (CreatedAreUnbound calling) sent 2
+unfolding Below
+sent_unbound = ((λ formed asks. refl), ((λ formed asks. refl), tt))
+
+half_unbound : Below (CreatedAreUnbound calling) half 1
+unfolding Below
+half_unbound = ((λ formed. not_sent (numbered half 0) refl), tt)
+
+both_unbound : Below (CreatedAreUnbound calling) both 2
+unfolding Below
+both_unbound = ((λ formed. not_sent (numbered both 1) refl), ((λ formed. not_sent (numbered both 0) refl), tt))
+
+pub all_unbound : EachPoint (CreatedAreUnbound calling) reachable
+unfolding EachPoint
+all_unbound = (
+  unarmed_unbound to_talk_off_hook 0,
+  (armed_unbound to_talk_off_hook 0, (sent_unbound, (half_unbound, (both_unbound, tt)))),
+)

@@ -1,0 +1,3 @@
+pub mod Basic
+pub mod Talk
+pub mod Needed

@@ -1,0 +1,142 @@
+-- A step of one agent keeps the world sound, where the agent after it goes on from the one before.
+use Rattle.std.proofs.Common.{◌≡◌, ◌∙◌, ◌<◌, ◌≤◌, ℕ, Bool, true, false, List, Option, Some, refl, sym, ap, subst, arith, inl, inr}
+use Rattle.std.proofs.lemmas.Bool.{eqb-true}
+use Rattle.std.proofs.lemmas.List.Elements.{Contains-append_cases}
+use Rattle.std.specs.Prelude.{◌==◌, if◌then◌else◌, Contains, ◌⊎◌}
+use Rattle.mg_model.specs.Agent.{Agent, Phase, awaits_reply, awaits_pass, resting}
+use Rattle.mg_model.specs.Entries.{Entry}
+use Rattle.mg_model.specs.Gateway.{Gateway, last_executed}
+use Rattle.mg_model.specs.Messages.{Request}
+use Rattle.mg_model.specs.Script.{Script}
+use Rattle.mg_model.specs.World.{World, AgentSteps, agent_steps, sent_in}
+use Rattle.mg_safety.proofs.Shared.Single.{none_in, only_one}
+use Rattle.mg_safety.proofs.Shared.Cases.{the_some}
+use Rattle.mg_safety.proofs.Invariant.Sound.{IsSentBy, IsCurrent, IsLost, CallIsSound, GatewayIsSound, IsSound}
+
+-- the agent b goes on from a: what it sends is new and its own, what was sent before is settled, and it is current or lost
+pub record Goes (script : Script) (entries : List Entry) (g : Gateway) (a b : Agent) : Type 0 where
+  pub call : b.call ≡ a.call
+  pub lines : b.lines ≡ a.lines
+  pub association : a.association ≤ b.association
+  pub next : a.next ≤ b.next
+  pub sends : (request : Request) → b.phase ≡ awaits_reply request
+      → (request.call ≡ a.call) × (request.association ≡ b.association) × (request.number < b.next)
+  pub settled : (request : Request) → IsSentBy g a request → request.association ≡ g.association → request.number ≤ last_executed g a.call
+  pub part : IsCurrent script entries g b ⊎ IsLost script g b
+
+-- a request that a phase sends is outstanding in it
+outstanding_in : (phase : Phase) (request : Request) → Contains (sent_in phase) request → phase ≡ awaits_reply request
+outstanding_in (awaits_reply one) request among = ap awaits_reply (only_one one request among)
+outstanding_in awaits_pass request among = absurd (none_in request among)
+outstanding_in resting request among = absurd (none_in request among)
+
+differs : (m n : ℕ) → (m == n) ≡ false → m ≡ n → ⊥
+differs m n e is = grind (arith, e, is)
+
+module _ (script : Script) (entries : List Entry) (w : World) (call : ℕ) (a b : Agent) (sound : IsSound script entries w)
+    (here : w.agent call ≡ Some a) (goes : Goes script entries w.gateway a b) where
+  numbered : a.call ≡ call
+  numbered = (sound.calls call a here).numbered
+
+  sent_own : (request : Request) → Contains (sent_in b.phase) request → request.call ≡ call
+  sent_own request among = (goes.sends request (outstanding_in b.phase request among)).0 ∙ numbered
+
+  -- the agent of each call that was open, after the step
+  agent_after : (other : ℕ) (one : Agent) → w.agent other ≡ Some one
+      → (now : Agent) × ((agent_steps w call b).agent other ≡ Some now) × (now.lines ≡ one.lines)
+  agent_after other one there = by_call (other == call) refl
+    where
+      by_call : (same : Bool) → (other == call) ≡ same
+          → (now : Agent) × ((if same then Some b else w.agent other) ≡ Some now) × (now.lines ≡ one.lines)
+      by_call true e = (
+        b,
+        refl,
+        goes.lines ∙ ap (λ (x : Agent). x.lines)
+            (the_some a one (sym here ∙ ap w.agent (sym (eqb-true other call e)) ∙ there)),
+      )
+      by_call false e = (one, there, refl)
+
+  -- what was sent before stays sent by the agent
+  sent_before : (request : Request) → IsSentBy w.gateway a request → IsSentBy w.gateway b request
+  sent_before request s = record {
+    association = let old = s.association in let step = goes.association in omega (arith, old, step);
+    number = let old = s.number in let step = goes.next in omega (arith, old, step);
+    outstanding = λ present. inr (subst (λ n. request.number ≤ last_executed w.gateway n) (sym goes.call) (goes.settled request s present));
+  }
+
+  sent_now : (request : Request) → Contains (sent_in b.phase) request → IsSentBy w.gateway b request
+  sent_now request among =
+      let is = outstanding_in b.phase request among in
+      let own = goes.sends request is in
+      let present : request.association ≡ b.association = own.1 in
+      record { association = omega (arith, present); number = own.2; outstanding = λ e. inl is }
+
+  own_call : CallIsSound script entries (agent_steps w call b) call b
+  own_call = let old = sound.calls call a here in record {
+    numbered = goes.call ∙ numbered;
+    first = let before = old.first in let step = goes.next in omega (arith, before, step);
+    next = let before = old.next in let step = goes.next in omega (arith, before, step);
+    held = λ i within. ap (λ (lines : ℕ → ℕ). w.gateway.holder (lines i)) goes.lines ∙ old.held i within;
+    once = λ i j first second same. old.once i j first second
+        (sym (ap (λ (lines : ℕ → ℕ). lines i) goes.lines) ∙ same ∙ ap (λ (lines : ℕ → ℕ). lines j) goes.lines);
+    requests = λ request there of. elim (Contains-append_cases (sent_in b.phase) w.requests request there) [
+      | inl new ↦ sent_now request new
+      | inr before ↦ sent_before request (old.requests request before of)
+    ];
+    outstanding = λ request is. (goes.sends request is).2;
+    part = goes.part;
+  }
+
+  other_call : (other : ℕ) (one : Agent) → (other ≡ call → ⊥) → w.agent other ≡ Some one → CallIsSound script entries (agent_steps w call b) other one
+  other_call other one apart there = let old = sound.calls other one there in record {
+    numbered = old.numbered;
+    first = old.first;
+    next = old.next;
+    held = old.held;
+    once = old.once;
+    requests = λ request there of. elim (Contains-append_cases (sent_in b.phase) w.requests request there) [
+      | inl new ↦ absurd (apart (sym of ∙ sent_own request new))
+      | inr before ↦ old.requests request before of
+    ];
+    outstanding = old.outstanding;
+    part = old.part;
+  }
+
+  each_call : (other : ℕ) (one : Agent) → (agent_steps w call b).agent other ≡ Some one → CallIsSound script entries (agent_steps w call b) other one
+  each_call other one = by_call (other == call) refl
+    where
+      by_call : (same : Bool) → (other == call) ≡ same → (if same then Some b else w.agent other) ≡ Some one
+          → CallIsSound script entries (agent_steps w call b) other one
+      by_call true e there = subst (λ n. CallIsSound script entries (agent_steps w call b) n one) (sym (eqb-true other call e))
+          (subst (CallIsSound script entries (agent_steps w call b) call) (the_some b one there) own_call)
+      by_call false e there = other_call other one (differs other call e) there
+
+  gateway_after : GatewayIsSound script (agent_steps w call b)
+  gateway_after = let old = sound.gateway in record {
+    accounted = old.accounted;
+    creator_given = old.creator_given;
+    created = λ x stands.
+        let was = old.created x stands in
+        let now = agent_after was.0 was.1 was.3 in
+        (was.0, now.0, was.2, now.1);
+    unheld = old.unheld;
+    held = λ l one is.
+        let was = old.held l one is in
+        let now = agent_after one was.0 was.2 in
+        (now.0, was.1, now.1, was.3, ap (λ (lines : ℕ → ℕ). lines was.1) now.2 ∙ was.4);
+    kept = old.kept;
+    request_ids = old.request_ids;
+    requests = λ request there. elim (Contains-append_cases (sent_in b.phase) w.requests request there) [
+      | inl new ↦ (let now = agent_after call a here in (now.0, ap (agent_steps w call b).agent (sent_own request new) ∙ now.1))
+      | inr before ↦ (let was = old.requests request before in let now = agent_after request.call was.0 was.1 in (now.0, now.1))
+    ];
+    replies = old.replies;
+    notes = old.notes;
+  }
+
+pub agent_goes : (script : Script) (entries : List Entry) (w after : World) (call : ℕ) (step : Agent → Option Agent) → IsSound script entries w
+    → (s : AgentSteps w call step after) → Goes script entries w.gateway s.before s.agent → IsSound script entries after
+agent_goes script entries w after call step sound s goes = subst (IsSound script entries) (sym s.after_is) (record {
+  gateway = gateway_after script entries w call s.before s.agent sound s.open_call goes;
+  calls = each_call script entries w call s.before s.agent sound s.open_call goes;
+})

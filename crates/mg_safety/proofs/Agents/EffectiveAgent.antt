@@ -1,0 +1,62 @@
+-- What a reply binds leaves the rest of the agent; so the agent as it will be once it has taken a reply that is kept has the lines of the
+-- call.
+use Rattle.std.proofs.Common.{◌≡◌, ◌∙◌, ℕ, List, [], ◌∷◌, refl, ap, inl, inr}
+use Rattle.mg_names.specs.declared.phases.Link as phases
+use Rattle.mg_model.specs.declared.commands.Command.{Command}
+use Rattle.mg_model.specs.declared.commands.Command.TheVariants.{AddLine, AddEphemeral, ModifyLine, ModifyEphemeral, MoveLine, MoveEphemeral, Subtract, SubtractAll, SetTopology}
+use Rattle.mg_model.specs.declared.commands.Termination.TheVariants as termination
+use Rattle.mg_model.specs.Agent.{Agent, after_result, after_results, built_by}
+use Rattle.mg_model.specs.Gateway.{Gateway}
+use Rattle.mg_model.specs.Items.{Done}
+use Rattle.mg_model.specs.Script.{Script}
+use Rattle.mg_safety.proofs.Invariant.Sound.{IsAt}
+
+-- ---- what a reply binds leaves the rest of the agent
+
+pub record IsKeptBy (a b : Agent) : Type 0 where
+  pub call : b.call ≡ a.call
+  pub state : b.state ≡ a.state
+  pub association : b.association ≡ a.association
+  pub lines : b.lines ≡ a.lines
+  pub next : b.next ≡ a.next
+
+kept_itself : (a : Agent) → IsKeptBy a a
+kept_itself a = record { call = refl; state = refl; association = refl; lines = refl; next = refl }
+
+kept_twice : (a b c : Agent) → IsKeptBy a b → IsKeptBy b c → IsKeptBy a c
+kept_twice a b c first second = record {
+  call = second.call ∙ first.call;
+  state = second.state ∙ first.state;
+  association = second.association ∙ first.association;
+  lines = second.lines ∙ first.lines;
+  next = second.next ∙ first.next;
+}
+
+result_keeps : (a : Agent) (command : Command) (done : Done) (number : ℕ) → IsKeptBy a (after_result a command done number)
+result_keeps a (AddLine create j i o) done number = record { call = refl; state = refl; association = refl; lines = refl; next = refl }
+result_keeps a (AddEphemeral create j k o) done number = record { call = refl; state = refl; association = refl; lines = refl; next = refl }
+result_keeps a (ModifyLine place i o) done number = record { call = refl; state = refl; association = refl; lines = refl; next = refl }
+result_keeps a (ModifyEphemeral place k o) done number = kept_itself a
+result_keeps a (MoveLine j i o) done number = record { call = refl; state = refl; association = refl; lines = refl; next = refl }
+result_keeps a (MoveEphemeral j k o) done number = kept_itself a
+result_keeps a (Subtract j (termination.Line i)) done number = record { call = refl; state = refl; association = refl; lines = refl; next = refl }
+result_keeps a (Subtract j (termination.Ephemeral k)) done number = record { call = refl; state = refl; association = refl; lines = refl; next = refl }
+result_keeps a (SubtractAll j) done number = record { call = refl; state = refl; association = refl; lines = refl; next = refl }
+result_keeps a (SetTopology j t u topology) done number = kept_itself a
+
+pub results_keep : (a : Agent) (commands : List Command) (results : List Done) (number : ℕ) → IsKeptBy a (after_results a commands results number)
+results_keep a [] results number = kept_itself a
+results_keep a (command ∷ more) [] number = kept_itself a
+results_keep a (command ∷ more) (done ∷ results) number =
+    kept_twice a (after_result a command done number) (after_results (after_result a command done number) more results number)
+    (result_keeps a command done number) (results_keep (after_result a command done number) more results number)
+
+-- ---- the agent once a kept reply is taken
+
+pub same_lines : (script : Script) (g : Gateway) (a e : Agent) (link : phases.Link) → IsAt script g a e link → e.lines ≡ a.lines
+same_lines script g a e link (inl sent) = ap (λ (x : Agent). x.lines) sent.effective
+same_lines script g a e link (inr (inl answered)) =
+    ap (λ (x : Agent). x.lines) answered.effective
+    ∙ (results_keep a (built_by script a a.state) answered.answer.results answered.answer.number).lines
+same_lines script g a e link (inr (inr (inl passing))) = ap (λ (x : Agent). x.lines) passing.effective
+same_lines script g a e link (inr (inr (inr resting))) = ap (λ (x : Agent). x.lines) resting.effective

@@ -1,0 +1,206 @@
+-- An agent that enters a state: what it keeps of itself, what it sends, and that the configuration which the checker enters is shown then.
+use Rattle.std.proofs.Common.{◌≡◌, ◌∙◌, ◌+◌, ◌<◌, ◌≤◌, ℕ, Bool, true, false, List, [], ◌∷◌, Some, None, refl, sym, ap, subst, arith, inl, inr}
+use Rattle.std.specs.Prelude.{if◌then◌else◌, nat_le}
+use Rattle.mg_names.specs.declared.phases.Link as phases
+use Rattle.mg_names.specs.declared.phases.Link.TheVariants.{Sent, Answered, Resting}
+use Rattle.mg_model.specs.declared.commands.Command.{Command}
+use Rattle.mg_model.specs.declared.commands.Command.TheVariants.{AddLine, AddEphemeral, ModifyLine, ModifyEphemeral, MoveLine, MoveEphemeral, Subtract, SubtractAll, SetTopology}
+use Rattle.mg_model.specs.Agent.{Agent, Made, Phase, awaits_reply, awaits_pass, resting, entered_with, entered, built_by, command_of, commands_of, made_after, none_made, request_of}
+use Rattle.mg_model.specs.Configuration.{Configuration}
+use Rattle.mg_model.specs.Entries.{Entry}
+use Rattle.mg_model.specs.Numbers.{last_number}
+use Rattle.mg_model.specs.Gateway.{Gateway, last_executed}
+use Rattle.mg_model.specs.LineEvents.{LineRow}
+use Rattle.mg_model.specs.Messages.{Request, RequestCommand}
+use Rattle.mg_model.specs.Request.{Names, built}
+use Rattle.mg_model.specs.Script.{Script}
+use Rattle.mg_model.specs.Steps as steps
+use Rattle.mg_model.specs.Steps.{request_in}
+use Rattle.mg_model.specs.Tables.{state_of, is_empty}
+use Rattle.mg_safety.proofs.Shared.Cases.{none_is_some, the_some}
+use Rattle.mg_safety.proofs.Invariant.Shown.{naming, Shown, LinesShown}
+use Rattle.mg_safety.proofs.Requests.RunKnown.{bound_agree}
+use Rattle.mg_safety.proofs.Requests.RunSteps.{shown_still}
+use Rattle.mg_safety.proofs.Invariant.Sound.{Stands, IsOfScript, owned_in, IsCurrent}
+
+-- ---- what an agent keeps as it goes on
+
+-- the agent b comes after e: it sends no request but one of its call and association, with a number that it has used
+pub record Follows (e b : Agent) : Type 0 where
+  pub call : b.call ≡ e.call
+  pub association : b.association ≡ e.association
+  pub lines : b.lines ≡ e.lines
+  pub next : e.next ≤ b.next
+  pub sends : (request : Request) → b.phase ≡ awaits_reply request
+      → (request.call ≡ e.call) × (request.association ≡ e.association) × (request.number < b.next)
+
+-- the request that a phase names is one
+pub same_request : (one other : Request) → awaits_reply one ≡ awaits_reply other → one ≡ other
+same_request one other e = cc
+
+pub not_passing : (request : Request) → awaits_pass ≡ awaits_reply request → ⊥
+not_passing request e = cc
+
+pub not_resting : (request : Request) → resting ≡ awaits_reply request → ⊥
+not_resting request e = cc
+
+pub follows_resting : (e : Agent) → Follows e (record e { phase = resting })
+follows_resting e = record {
+  call = refl;
+  association = refl;
+  lines = refl;
+  next = omega arith;
+  sends = λ request is. absurd (not_resting request is);
+}
+
+entered_follows : (script : Script) (e : Agent) (state : ℕ) (b : Agent) (empty : Bool) → entered_with script e state empty ≡ Some b → Follows e b
+entered_follows script e state b true is = subst (Follows e) (the_some (record e { state = state; phase = awaits_pass }) b is) (record {
+  call = refl;
+  association = refl;
+  lines = refl;
+  next = omega arith;
+  sends = λ request is. absurd (not_passing request is);
+})
+entered_follows script e state b false is = numbered (nat_le e.next last_number) is
+  where
+    numbered : (room : Bool) → (if room
+        then Some (record e { state = state; phase = awaits_reply (request_of script e state); next = e.next + 1 }) else None) ≡ Some b → Follows e b
+    numbered true is = subst (Follows e) (the_some (record e { state = state; phase = awaits_reply (request_of script e state); next = e.next + 1 }) b is) (record {
+      call = refl;
+      association = refl;
+      lines = refl;
+      next = omega arith;
+      sends = λ request is.
+          let one : request_of script e state ≡ request = same_request (request_of script e state) request is in
+          let own : e.call ≡ request.call = ap (λ (r : Request). r.call) one in
+          let present : e.association ≡ request.association = ap (λ (r : Request). r.association) one in
+          let number : e.next ≡ request.number = ap (λ (r : Request). r.number) one in
+          (sym own, sym present, omega (arith, number));
+    })
+    numbered false is = absurd (none_is_some b is)
+
+pub enters_follows : (script : Script) (e : Agent) (state : ℕ) (b : Agent) → entered script e state ≡ Some b → Follows e b
+enters_follows script e state b is = entered_follows script e state b (is_empty (built_by script e state)) is
+
+-- ---- the request of a state, built from what is bound, and from the configuration
+
+-- an agent at rest between two steps: the gateway shows the configuration by the agent's names
+pub record IsBetween (script : Script) (g : Gateway) (e : Agent) (c : Configuration) : Type 0 where
+  pub association : e.association ≡ g.association
+  pub next : last_executed g e.call < e.next
+  pub of_script : IsOfScript script c
+  pub shown : Shown script (owned_in g e.call) (naming e) g.board c
+  pub lines_shown : LinesShown script e g.line c
+
+pub built_same : (script : Script) (g : Gateway) (e : Agent) (c : Configuration) (state : ℕ) → IsBetween script g e c
+    → built_by script e state ≡ request_in script c state
+built_same script g e c state between =
+    ap (λ (names : Names). built names (state_of script state).commands)
+    (bound_agree script (owned_in g e.call) e g.board c between.shown between.of_script)
+
+-- commands are built from lines and names alone
+command_same : (script : Script) (e : Agent) (state next : ℕ) (phase : Phase) (made : Made) (command : Command)
+    → command_of script e made command ≡ command_of script (record e { state = state; phase = phase; next = next }) made command
+command_same script e state next phase made (AddLine create j i o) = refl
+command_same script e state next phase made (AddEphemeral create j k o) = refl
+command_same script e state next phase made (ModifyLine place i o) = refl
+command_same script e state next phase made (ModifyEphemeral place k o) = refl
+command_same script e state next phase made (MoveLine j i o) = refl
+command_same script e state next phase made (MoveEphemeral j k o) = refl
+command_same script e state next phase made (Subtract j t) = refl
+command_same script e state next phase made (SubtractAll j) = refl
+command_same script e state next phase made (SetTopology j t u topology) = refl
+
+one_more : (x y : RequestCommand) (xs ys : List RequestCommand) → x ≡ y → xs ≡ ys → x ∷ xs ≡ y ∷ ys
+one_more x y xs ys first rest = cc
+
+commands_same : (script : Script) (e : Agent) (state next : ℕ) (phase : Phase) (made : Made) (place : ℕ) (commands : List Command)
+    → commands_of script e made place commands
+    ≡ commands_of script (record e { state = state; phase = phase; next = next }) made place commands
+commands_same script e state next phase made place [] = refl
+commands_same script e state next phase made place (command ∷ more) = one_more
+    (command_of script e made command) (command_of script (record e { state = state; phase = phase; next = next }) made command)
+    (commands_of script e (made_after made command place) (place + 1) more)
+    (commands_of script (record e { state = state; phase = phase; next = next }) (made_after made command place) (place + 1) more)
+    (command_same script e state next phase made command) (commands_same script e state next phase (made_after made command place) (place + 1) more)
+
+-- ---- what is shown after a step
+
+pub lines_still : (script : Script) (e : Agent) (line : ℕ → LineRow) (c : Configuration) (phase : Phase) (state next : ℕ) (accepted : ℕ → Bool)
+    (link : phases.Link) → LinesShown script e line c
+    → LinesShown script (record e { state = state; phase = phase; next = next; accepted = accepted }) line (record c { state = state; link = link })
+lines_still script e line c phase state next accepted link s = record { events = s.events; silent = s.silent; expected = s.expected }
+
+-- the agent enters a state where the configuration that the checker enters stands
+entered_current : (script : Script) (entries : List Entry) (g : Gateway) (e : Agent) (c : Configuration) (state : ℕ) (b : Agent) (empty : Bool)
+    → IsBetween script g e c → Stands script entries (steps.entered script c state) → is_empty (built_by script e state) ≡ empty
+    → entered_with script e state empty ≡ Some b → IsCurrent script entries g b
+entered_current script entries g e c state b true between stands empty is = subst (IsCurrent script entries g)
+    (the_some (record e { state = state; phase = awaits_pass }) b is) (record {
+      association = between.association;
+      c = steps.entered script c state;
+      e = record e { state = state; phase = awaits_pass };
+      stands = stands;
+      state = refl;
+      at = inr (inr (inl (record {
+        phase = refl;
+        effective = refl;
+        link_is = ap (λ (p : Bool). if p then Answered else Sent)
+            (sym (ap is_empty (built_same script g e c state between)) ∙ empty);
+      })));
+      shown = shown_still script (owned_in g e.call) (naming e) g.board c state (if is_empty (request_in script c state) then Answered else Sent)
+          between.shown;
+      lines_shown = lines_still script e g.line c awaits_pass state e.next e.accepted (if is_empty (request_in script c state) then Answered else Sent)
+          between.lines_shown;
+    })
+entered_current script entries g e c state b false between stands empty is = numbered (nat_le e.next last_number) is
+  where
+    numbered : (room : Bool) → (if room
+        then Some (record e { state = state; phase = awaits_reply (request_of script e state); next = e.next + 1 }) else None) ≡ Some b
+        → IsCurrent script entries g b
+    numbered true is = subst (IsCurrent script entries g)
+        (the_some (record e { state = state; phase = awaits_reply (request_of script e state); next = e.next + 1 }) b is) (record {
+          association = between.association;
+          c = steps.entered script c state;
+          e = record e { state = state; phase = awaits_reply (request_of script e state); next = e.next + 1 };
+          stands = stands;
+          state = refl;
+          at = inl (record {
+            request = request_of script e state;
+            outstanding = record {
+              phase = refl;
+              call = refl;
+              association = refl;
+              commands = commands_same script e state (e.next + 1) (awaits_reply (request_of script e state)) none_made 0 (built_by script e state);
+            };
+            above = between.next;
+            effective = refl;
+            link_is = ap (λ (p : Bool). if p then Answered else Sent)
+                (sym (ap is_empty (built_same script g e c state between)) ∙ empty);
+          });
+          shown = shown_still script (owned_in g e.call) (naming e) g.board c state (if is_empty (request_in script c state) then Answered else Sent)
+              between.shown;
+          lines_shown = lines_still script e g.line c (awaits_reply (request_of script e state)) state (e.next + 1) e.accepted
+              (if is_empty (request_in script c state) then Answered else Sent) between.lines_shown;
+        })
+    numbered false is = absurd (none_is_some b is)
+
+pub enters_current : (script : Script) (entries : List Entry) (g : Gateway) (e : Agent) (c : Configuration) (state : ℕ) (b : Agent)
+    → IsBetween script g e c → Stands script entries (steps.entered script c state) → entered script e state ≡ Some b → IsCurrent script entries g b
+enters_current script entries g e c state b between stands is =
+    entered_current script entries g e c state b (is_empty (built_by script e state)) between stands refl is
+
+-- the agent rests
+pub rests_current : (script : Script) (entries : List Entry) (g : Gateway) (e : Agent) (c : Configuration)
+    → IsBetween script g e c → c.state ≡ e.state → Stands script entries (record c { link = Resting })
+    → IsCurrent script entries g (record e { phase = resting })
+rests_current script entries g e c between state stands = record {
+  association = between.association;
+  c = record c { link = Resting };
+  e = record e { phase = resting };
+  stands = stands;
+  state = state;
+  at = inr (inr (inr (record { phase = refl; effective = refl; link_is = refl })));
+  shown = shown_still script (owned_in g e.call) (naming e) g.board c c.state Resting between.shown;
+  lines_shown = record { events = between.lines_shown.events; silent = between.lines_shown.silent; expected = between.lines_shown.expected };
+}

@@ -1,0 +1,158 @@
+-- An agent that accepts a note keeps the world sound: the note that leads on is raised by the list that stands, so where it leads is an
+-- observation of the configuration.
+use Rattle.std.proofs.Common.{◌≡◌, ◌∙◌, ◌<◌, ℕ, Bool, true, false, List, Option, Some, None, refl, sym, ap, subst, arith, inl, inr, true≢false}
+use Rattle.std.proofs.lemmas.Bool.{eqb-true}
+use Rattle.std.specs.Prelude.{◌==◌, ◌&&◌, not, if◌then◌else◌, ◌⊎◌}
+use Rattle.mg_names.specs.declared.phases.Link.TheVariants.{Resting}
+use Rattle.mg_model.specs.declared.steps.StepName.TheVariants as names
+use Rattle.mg_model.specs.Delivery.{Inbox, arrival, is_new, arrives_new, was_seen, is_old}
+use Rattle.mg_model.specs.Agent.{Agent, inbox_of, resting, entered_or_stays, is_resting, line_in, list_of, may_accept, noted, target_of}
+use Rattle.mg_model.specs.Updates.{with_at}
+use Rattle.mg_model.specs.Configuration.{Configuration}
+use Rattle.mg_model.specs.Entries.{Entry}
+use Rattle.mg_model.specs.Gateway.{Gateway, last_executed}
+use Rattle.mg_model.specs.Messages.{SentNote}
+use Rattle.mg_model.specs.Script.{Script}
+use Rattle.mg_model.specs.Steps as steps
+use Rattle.mg_model.specs.Tables.{state_of, items_of, raises, target_in, line_places}
+use Rattle.mg_model.specs.World.{World, note}
+use Rattle.mg_safety.proofs.Shared.Cases.{none_is_some, the_some}
+use Rattle.mg_safety.proofs.Invariant.Sound.{Stands, IsCurrent, IsLost, IsNoteSound, IsNoteStanding, CallIsSound}
+use Rattle.mg_safety.proofs.Invariant.Statements.{IsClosed, KeepsSound}
+use Rattle.mg_safety.proofs.Agents.Entering.{Follows, not_resting, enters_follows, IsBetween, enters_current}
+use Rattle.mg_safety.proofs.Agents.AgentSteps.{Goes, agent_goes}
+use Rattle.mg_safety.proofs.Agents.AgentParts.{step_of, quiet, goes_on, lost_goes}
+use Rattle.mg_safety.proofs.Agents.AgentSound.{between_of, rest_quiet, at_rest, rests}
+use Rattle.mg_safety.proofs.Agents.Observing.{LeadsOn, leads_where, observed, list_says}
+
+-- the agent that has accepted a note
+abbrev accepting : Agent → ℕ → Agent
+accepting a number = record a { accepted = with_at a.accepted number true }
+
+-- the note is of the agent's association, the agent is at rest, and it goes on where the note leads
+record IsAccepted (script : Script) (a b : Agent) (sent : SentNote) : Type 0 where
+  phase : a.phase ≡ resting
+  association : sent.association ≡ a.association
+  leads : entered_or_stays script (accepting a sent.number) (target_of script a (line_in a sent.line (line_places script)) sent.note) ≡ Some b
+
+first_and_third : (p q r : Bool) → (p && q && r) ≡ true → (p ≡ true) × (r ≡ true)
+first_and_third true true true e = (refl, refl)
+first_and_third true true false e = absurd (true≢false (sym e))
+first_and_third true false r e = absurd (true≢false (sym e))
+first_and_third false q r e = absurd (true≢false (sym e))
+
+-- what is new to an inbox is of its association
+new_is_ours : (inbox : Inbox) (association number : ℕ) → is_new (arrival inbox association number) ≡ true → association ≡ inbox.association
+new_is_ours inbox association number e = by_test (association == inbox.association) (inbox.accepted number) refl e
+  where
+    by_test : (ours seen : Bool) → (association == inbox.association) ≡ ours
+        → is_new (if ours then (if seen then was_seen else arrives_new) else is_old) ≡ true → association ≡ inbox.association
+    by_test true seen same e = eqb-true association inbox.association same
+    by_test false seen same e = absurd (true≢false (sym e))
+
+accepts : (script : Script) (a b : Agent) (sent : SentNote) → noted script a (line_places script) sent ≡ Some b → IsAccepted script a b sent
+accepts script a b sent is = by_case (may_accept script a sent) refl is
+  where
+    by_case : (may : Bool) → may_accept script a sent ≡ may → (if may
+        then entered_or_stays script (accepting a sent.number) (target_of script a (line_in a sent.line (line_places script)) sent.note)
+        else None) ≡ Some b → IsAccepted script a b sent
+    by_case true e is =
+        let both = first_and_third (is_resting a.phase) (not (state_of script a.state).is_end)
+        (is_new (arrival (inbox_of a) sent.association sent.number)) e in
+        record { phase = rests a.phase both.0; association = new_is_ours (inbox_of a) sent.association sent.number both.1; leads = is }
+    by_case false e is = absurd (none_is_some b is)
+
+-- ---- the agent after it
+
+follows_itself : (a : Agent) → a.phase ≡ resting → Follows a a
+follows_itself a is = record {
+  call = refl;
+  association = refl;
+  lines = refl;
+  next = omega arith;
+  sends = λ request phase. absurd (not_resting request (sym is ∙ phase));
+}
+
+stay_follows : (script : Script) (a b : Agent) (target : Option ℕ) → a.phase ≡ resting → entered_or_stays script a target ≡ Some b → Follows a b
+stay_follows script a b None phase is = subst (Follows a) (the_some a b is) (follows_itself a phase)
+stay_follows script a b (Some state) phase is = enters_follows script a state b is
+
+-- nothing that a configuration is shown by reads what was accepted
+accepting_between : (script : Script) (g : Gateway) (a : Agent) (number : ℕ) (c : Configuration) → IsBetween script g a c
+    → IsBetween script g (accepting a number) c
+accepting_between script g a number c between = record {
+  association = between.association;
+  next = between.next;
+  of_script = between.of_script;
+  shown = between.shown;
+  lines_shown = record {
+    events = between.lines_shown.events;
+    silent = between.lines_shown.silent;
+    expected = between.lines_shown.expected;
+  };
+}
+
+stays_current : (script : Script) (entries : List Entry) (g : Gateway) (a : Agent) (number : ℕ) (k : IsCurrent script entries g a) → a.phase ≡ resting
+    → k.c.link ≡ Resting → IsBetween script g a k.c → IsCurrent script entries g (accepting a number)
+stays_current script entries g a number k phase link between = record {
+  association = k.association;
+  c = k.c;
+  e = accepting a number;
+  stands = k.stands;
+  state = k.state;
+  at = inr (inr (inr (record { phase = phase; effective = refl; link_is = link })));
+  shown = between.shown;
+  lines_shown = (accepting_between script g a number k.c between).lines_shown;
+}
+
+-- where the note leads, the checker's configuration stands
+note_leads : (script : Script) (entries : List Entry) → IsClosed script entries → (g : Gateway) (a : Agent) (sent : SentNote) (state : ℕ)
+    (k : IsCurrent script entries g a) → k.c.link ≡ Resting → IsBetween script g a k.c → IsNoteStanding g sent
+    → LeadsOn script a sent.line sent.note state → Stands script entries (steps.entered script k.c state)
+note_leads script entries closed g a sent state k link between standing where_to =
+    let i = where_to.i in
+    let request : (g.line sent.line).request ≡ Some sent.note.request =
+    subst (λ l. (g.line l).request ≡ Some sent.note.request) where_to.line_is
+    (between.lines_shown.expected i sent.note.request where_to.within where_to.expected) in
+    let list : (g.line sent.line).list ≡ list_of script (k.c.events i) =
+    subst (λ l. (g.line l).list ≡ list_of script (k.c.events i)) where_to.line_is (between.lines_shown.events i where_to.within) in
+    let raised : raises (items_of script (k.c.events i)) sent.note.kind ≡ true =
+    list_says script (k.c.events i) (g.line sent.line).list sent.note.kind list (standing.raised request) in
+    let target : target_in (state_of script k.c.state).on i sent.note.kind ≡ Some state =
+    ap (λ n. target_in (state_of script n).on i sent.note.kind) k.state ∙ where_to.target in
+    step_of script entries closed k.c Resting (names.Observe i sent.note.kind, steps.entered script k.c state) k.stands link
+    (observed script k.c i sent.note.kind state where_to.place raised target)
+
+note_current : (script : Script) (entries : List Entry) → IsClosed script entries → (g : Gateway) (a b : Agent) (sent : SentNote)
+    (k : IsCurrent script entries g a) → a.phase ≡ resting → k.c.link ≡ Resting → IsBetween script g a k.c → IsNoteStanding g sent → (target : Option ℕ)
+    → target_of script a (line_in a sent.line (line_places script)) sent.note ≡ target
+    → entered_or_stays script (accepting a sent.number) target ≡ Some b → IsCurrent script entries g b
+note_current script entries closed g a b sent k phase link between standing None where_to is =
+    subst (IsCurrent script entries g) (the_some (accepting a sent.number) b is) (stays_current script entries g a sent.number k phase link between)
+note_current script entries closed g a b sent k phase link between standing (Some state) where_to is =
+    enters_current script entries g (accepting a sent.number) k.c state b (accepting_between script g a sent.number k.c between)
+    (note_leads script entries closed g a sent state k link between standing (leads_where script a sent.line sent.note state where_to)) is
+
+note_goes : (script : Script) (entries : List Entry) → IsClosed script entries → (w : World) (sent : SentNote) (a b : Agent) → IsNoteSound w.gateway sent
+    → CallIsSound script entries w sent.call a → IsAccepted script a b sent → Goes script entries w.gateway a b
+note_goes script entries closed w sent a b known sound t = by_part sound.part
+  where
+    by_part : IsCurrent script entries w.gateway a ⊎ IsLost script w.gateway a → Goes script entries w.gateway a b
+    by_part (inl k) =
+        let rest = at_rest script w.gateway a k.e k.c.link t.phase k.at in
+        let above : last_executed w.gateway a.call < a.next = subst (λ n. last_executed w.gateway n < a.next) (sym sound.numbered) sound.next in
+        let between = between_of script entries w.gateway a a k rest.effective refl refl refl above in
+        goes_on script entries w.gateway a (accepting a sent.number) b refl refl (omega arith) refl
+        (stay_follows script (accepting a sent.number) b (target_of script a (line_in a sent.line (line_places script)) sent.note) t.phase t.leads)
+        (quiet w.gateway a (rest_quiet a.phase t.phase))
+        (inl (note_current script entries closed w.gateway a b sent k t.phase rest.link_is between (known.standing (t.association ∙ k.association))
+        (target_of script a (line_in a sent.line (line_places script)) sent.note) refl t.leads))
+    by_part (inr lost) = lost_goes script entries w.gateway a (accepting a sent.number) b lost refl refl refl refl
+        (stay_follows script (accepting a sent.number) b (target_of script a (line_in a sent.line (line_places script)) sent.note) t.phase t.leads)
+
+pub note_sound : (sent : SentNote) → KeepsSound (note sent)
+note_sound sent script entries is_script closed w after sound occurs =
+    let s = occurs.1 in
+    agent_goes script entries w after sent.call (λ a. noted script a (line_places script) sent) sound s
+    (note_goes script entries closed w sent s.before s.agent (sound.gateway.notes sent occurs.0)
+    (sound.calls sent.call s.before s.open_call) (accepts script s.before s.agent sent s.steps))

@@ -1,0 +1,56 @@
+-- Where no obligation is broken, the configurations that stand in the certificate are closed under steps, and each of them is safe.
+use Rattle.std.proofs.Common.{◌≡◌, ◌∙◌, ℕ, List, Some, ap}
+use Rattle.std.specs.Prelude.{Contains, slice_get}
+use Rattle.std.specs.List.{All}
+use Rattle.std.proofs.lemmas.List.Elements.{All-contains}
+use Rattle.std.proofs.lemmas.Option.{slice_get-get_or}
+use Rattle.mg_model.specs.Configuration.{Configuration}
+use Rattle.mg_model.specs.Entries.{Entry, IsPointOf}
+use Rattle.mg_model.specs.Obligations.{OpeningCovered, ResetCovered, Marked, Cleared, Unbound, StepCovered}
+use Rattle.mg_model.specs.Script.{Script}
+use Rattle.mg_model.specs.Steps.{steps_of}
+use Rattle.mg_model.specs.Accepted.{IsEntryOf}
+use Rattle.mg_safety.proofs.Certificate.OfSteps.{of_opening, of_reset, of_steps, LeadsToOne}
+use Rattle.mg_safety.proofs.Certificate.Points.{is_point}
+use Rattle.mg_safety.proofs.Invariant.Sound.{Stands}
+use Rattle.mg_safety.proofs.Invariant.Statements.{NoneBrokenIsClosed}
+
+-- what a list has stands in it at its place
+contained_at : {A : Type 0} (xs : List A) (x : A) (among : Contains xs x) → slice_get xs among.0 ≡ Some x
+contained_at xs x among = slice_get-get_or xs among.0 x among.1 ∙ ap (λ y. Some y) among.2
+
+-- a configuration is the point with some number in the entry at some place
+record IsPointIn (entries : List Entry) (c : Configuration) : Type 0 where
+  place : ℕ
+  number : ℕ
+  entry : Entry
+  at : slice_get entries place ≡ Some entry
+  point : IsPointOf entry number c
+
+point_in : (script : Script) (entries : List Entry) → All (IsEntryOf script) entries → (c : Configuration) → Stands script entries c → IsPointIn entries c
+point_in script entries of_entries c stands =
+    let entry = stands.covered.0 in
+    let among = stands.covered.1.0 in
+    let point = is_point script entry c (All-contains (IsEntryOf script) entries entry of_entries among) stands.of_script stands.covered.1.1 in
+    record {
+      place = among.0;
+      number = point.0;
+      entry = entry;
+      at = contained_at entries entry among;
+      point = point.1;
+    }
+
+pub closed : NoneBrokenIsClosed
+closed script entries is of_entries none = record {
+  opening = record { of_script = of_opening script; covered = none OpeningCovered };
+  reset = record { of_script = of_reset script; covered = none ResetCovered };
+  marked = λ c stands. let p = point_in script entries of_entries c stands in none (Marked p.place p.number) p.entry p.at c p.point;
+  cleared = λ c stands. let p = point_in script entries of_entries c stands in none (Cleared p.place p.number) p.entry p.at c p.point;
+  unbound = λ c stands. let p = point_in script entries of_entries c stands in none (Unbound p.place p.number) p.entry p.at c p.point;
+  steps = λ c step stands among.
+      let p = point_in script entries of_entries c stands in
+      record {
+        of_script = All-contains (LeadsToOne script) (steps_of script c) step (of_steps script is c stands.of_script) among;
+        covered = none (StepCovered p.place p.number among.0) p.entry p.at c p.point step (contained_at (steps_of script c) step among);
+      };
+}

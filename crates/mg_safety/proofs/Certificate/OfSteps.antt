@@ -1,0 +1,170 @@
+-- The opening, the reset, and each step of a configuration hold nothing that the script doesn't declare.
+use Rattle.std.proofs.Common.{◌≡◌, ◌+◌, ◌++◌, ℕ, Bool, true, false, List, [], ◌∷◌, length, Option, Some, None, refl, sym, subst, inl, inr}
+use Rattle.std.specs.Prelude.{if◌then◌else◌, unwrap_or}
+use Rattle.std.specs.List.{All, flat_map}
+use Rattle.std.proofs.lemmas.Bool.{cases_lt}
+use Rattle.std.proofs.lemmas.List.Elements.{All-nil, All-cons, All-head, All-tail, All-append}
+use Rattle.std.proofs.lemmas.Option.{unwrap_or-slice_get, slice_get_past}
+use Rattle.mg_names.specs.declared.kinds.Kind.{Kind}
+use Rattle.mg_names.specs.declared.phases.Link.{Link}
+use Rattle.mg_names.specs.declared.phases.Link.TheVariants.{Sent, Answered, Failed, Resting}
+use Rattle.mg_model.specs.declared.commands.Command.{Command}
+use Rattle.mg_model.specs.declared.commands.EventsName.{EventsName}
+use Rattle.mg_model.specs.declared.commands.EventsName.TheVariants.{Empty, Armed}
+use Rattle.mg_model.specs.declared.commands.Termination.{Termination}
+use Rattle.mg_model.specs.declared.commands.Termination.TheVariants.{Line, Ephemeral}
+use Rattle.mg_model.specs.declared.components.Spot.TheVariants.{Absent}
+use Rattle.mg_model.specs.declared.steps.StepName.{StepName}
+use Rattle.mg_model.specs.declared.steps.StepName.TheVariants.{Refuse, Execute, Reply, Observe, Timer}
+use Rattle.mg_model.specs.Configuration.{Configuration}
+use Rattle.mg_model.specs.Effects.{is_legal, effect}
+use Rattle.mg_model.specs.Request.{Names, uses_known, names_after, built}
+use Rattle.mg_model.specs.Script.{Script, State}
+use Rattle.mg_model.specs.Steps.{Step, steps_of, steps_by_link, request_in, entered, with_link, refusals, executed, execution, names_unbound, entering, reply_step, all_kinds, observation, observations, unused, opening, reset, bound_names}
+use Rattle.mg_model.specs.Tables.{state_of, no_state, items_of, raises, target_in, line_places}
+use Rattle.mg_model.specs.Accepted.{IsScript, IsSlot, IsCommandOf, IsStateOf}
+use Rattle.mg_safety.proofs.Certificate.Declared.{past_is_not_below, unused_past}
+use Rattle.mg_safety.proofs.Certificate.OfScript.{of_effect}
+use Rattle.mg_safety.proofs.Invariant.Sound.{IsOfScript}
+
+-- ---- the configurations in which a call opens, and after a restart
+
+of_unused : (script : Script) (state : ℕ) (link : Link) (list : EventsName) → IsOfScript script (unused (length script.lines) state link list)
+of_unused script state link list = record {
+  spot = at;
+  mode = λ t undeclared. refl;
+  events = λ i past. rw (past_is_not_below i (length script.lines) past) refl;
+  plays = λ i past. refl;
+  context = λ j past. refl;
+  remote = λ k past. refl;
+  cut = λ t u undeclared. refl;
+}
+  where
+    at : (t : Termination) → (IsSlot script t → ⊥) → (unused (length script.lines) state link list).spot t ≡ Absent
+    at (Line i) undeclared = unused_past (length script.lines) i undeclared
+    at (Ephemeral k) undeclared = refl
+
+-- the state that a call is in and how far its request has come are no names of the script
+of_phase : (script : Script) (c : Configuration) (state : ℕ) (link : Link) → IsOfScript script c → IsOfScript script (record c { state = state; link = link })
+of_phase script c state link o = record {
+  spot = o.spot;
+  mode = o.mode;
+  events = o.events;
+  plays = o.plays;
+  context = o.context;
+  remote = o.remote;
+  cut = o.cut;
+}
+
+of_entered : (script : Script) (c : Configuration) (state : ℕ) → IsOfScript script c → IsOfScript script (entered script c state)
+of_entered script c state o = of_phase script c state (entered script c state).link o
+
+pub of_opening : (script : Script) → IsOfScript script (opening script)
+of_opening script = of_unused script script.start Resting Armed
+
+pub of_reset : (script : Script) → IsOfScript script (reset script)
+of_reset script =
+    of_entered script (unused (length script.lines) script.restart Answered Empty) script.restart (of_unused script script.restart Answered Empty)
+
+-- ---- the commands of a request
+
+pub state_commands : (script : Script) → IsScript script → (state : ℕ) → All (IsCommandOf script) (state_of script state).commands
+state_commands script is state = elim (cases_lt state (length script.states)) [
+  | inl below ↦ (subst (IsStateOf script) (sym (unwrap_or-slice_get script.states state no_state)) (is.states state no_state below)).0
+  | inr past ↦ subst (λ (found : Option State). All (IsCommandOf script) (unwrap_or found no_state).commands)
+      (sym (slice_get_past script.states state past)) (All-nil (IsCommandOf script))
+]
+
+pub built_commands : (script : Script) (names : Names) (commands : List Command) → All (IsCommandOf script) commands
+    → All (IsCommandOf script) (built names commands)
+built_commands script names [] all = All-nil (IsCommandOf script)
+built_commands script names (command ∷ more) all =
+    by_test (uses_known names command)
+    (built_commands script (names_after names command) more (All-tail (IsCommandOf script) command more all))
+    (built_commands script names more (All-tail (IsCommandOf script) command more all))
+  where
+    by_test : (known : Bool) → All (IsCommandOf script) (built (names_after names command) more) → All (IsCommandOf script) (built names more)
+        → All (IsCommandOf script) (if known then command ∷ built (names_after names command) more else built names more)
+    by_test true kept left_out = All-cons (IsCommandOf script) command (built (names_after names command) more)
+        (All-head (IsCommandOf script) command more all) kept
+    by_test false kept left_out = left_out
+
+pub request_commands : (script : Script) → IsScript script → (c : Configuration) (state : ℕ) → All (IsCommandOf script) (request_in script c state)
+request_commands script is c state = built_commands script (bound_names c) (state_of script state).commands (state_commands script is state)
+
+-- ---- steps
+
+module _ (script : Script) where
+  -- a step leads to a configuration of the script
+  abbrev pub LeadsToOne : Step → Type 0
+  LeadsToOne step = IsOfScript script step.1
+
+  one_step : (name : StepName) (c : Configuration) → IsOfScript script c → All LeadsToOne ((name, c) ∷ [])
+  one_step name c o = All-cons LeadsToOne (name, c) [] o (All-nil LeadsToOne)
+
+  of_refusals : (c : Configuration) → IsOfScript script c → (place : ℕ) (commands : List Command) → All (IsCommandOf script) commands
+      → All LeadsToOne (refusals script c place commands)
+  of_refusals c o place [] all = All-nil LeadsToOne
+  of_refusals c o place (command ∷ more) all =
+      All-cons LeadsToOne (Refuse place, with_link c Failed) (if is_legal c command then refusals script (effect script c command) (place + 1) more else [])
+      (of_phase script c c.state Failed o)
+      (by_test (is_legal c command)
+      (λ legal. of_refusals (effect script c command) (of_effect script c command o (All-head (IsCommandOf script) command more all) legal)
+      (place + 1) more (All-tail (IsCommandOf script) command more all)))
+    where
+      by_test : (legal : Bool) → (legal ≡ true → All LeadsToOne (refusals script (effect script c command) (place + 1) more))
+          → All LeadsToOne (if legal then refusals script (effect script c command) (place + 1) more else [])
+      by_test true rest = rest refl
+      by_test false rest = All-nil LeadsToOne
+
+  of_execution : (c : Configuration) → IsOfScript script c → (commands : List Command) → All (IsCommandOf script) commands
+      → All LeadsToOne (execution (executed script c commands))
+  of_execution c o [] all = one_step Execute (with_link c Answered) (of_phase script c c.state Answered o)
+  of_execution c o (command ∷ more) all =
+      by_test (is_legal c command)
+      (λ legal. of_execution (effect script c command) (of_effect script c command o (All-head (IsCommandOf script) command more all) legal)
+      more (All-tail (IsCommandOf script) command more all))
+    where
+      by_test : (legal : Bool) → (legal ≡ true → All LeadsToOne (execution (executed script (effect script c command) more)))
+          → All LeadsToOne (execution (if legal then executed script (effect script c command) more else None))
+      by_test true rest = rest refl
+      by_test false rest = All-nil LeadsToOne
+
+  of_entering : (c : Configuration) → IsOfScript script c → (name : StepName) (target : Option ℕ) → All LeadsToOne (entering script c name target)
+  of_entering c o name None = All-nil LeadsToOne
+  of_entering c o name (Some state) = one_step name (entered script c state) (of_entered script c state o)
+
+  of_reply : (c : Configuration) → IsOfScript script c → (target : Option ℕ) → All LeadsToOne (reply_step script c target)
+  of_reply c o None = one_step Reply (with_link c Resting) (of_phase script c c.state Resting o)
+  of_reply c o (Some state) = one_step Reply (entered script c state) (of_entered script c state o)
+
+  of_each : {A : Type 0} (f : A → List Step) → ((x : A) → All LeadsToOne (f x)) → (xs : List A) → All LeadsToOne (flat_map f xs)
+  of_each f each [] = All-nil LeadsToOne
+  of_each f each (x ∷ xs) = All-append LeadsToOne (f x) (flat_map f xs) (each x) (of_each f each xs)
+
+  of_observation : (c : Configuration) → IsOfScript script c → (line : ℕ) (kind : Kind) → All LeadsToOne (observation script c line kind)
+  of_observation c o line kind = by_test (raises (items_of script (c.events line)) kind)
+    where
+      by_test : (raised : Bool) → All LeadsToOne (if raised
+          then entering script c (Observe line kind) (target_in (state_of script c.state).on line kind) else [])
+      by_test true = of_entering c o (Observe line kind) (target_in (state_of script c.state).on line kind)
+      by_test false = All-nil LeadsToOne
+
+  of_link : IsScript script → (c : Configuration) → IsOfScript script c → (link : Link) → All LeadsToOne (steps_by_link script c link)
+  of_link is c o Sent = by_test (names_unbound script c)
+    where
+      by_test : (unbound : Bool) → All LeadsToOne (if unbound
+          then refusals script c 0 (request_in script c c.state) ++ execution (executed script c (request_in script c c.state)) else [])
+      by_test true = All-append LeadsToOne (refusals script c 0 (request_in script c c.state)) (execution (executed script c (request_in script c c.state)))
+          (of_refusals c o 0 (request_in script c c.state) (request_commands script is c c.state))
+          (of_execution c o (request_in script c c.state) (request_commands script is c c.state))
+      by_test false = All-nil LeadsToOne
+  of_link is c o Answered = of_reply c o (state_of script c.state).ok
+  of_link is c o Failed = of_entering c o Reply (state_of script c.state).fault
+  of_link is c o Resting =
+      All-append LeadsToOne (flat_map (observations script c) (line_places script)) (entering script c Timer (state_of script c.state).timer)
+      (of_each (observations script c) (λ line. of_each (observation script c line) (of_observation c o line) all_kinds) (line_places script))
+      (of_entering c o Timer (state_of script c.state).timer)
+
+  pub of_steps : IsScript script → (c : Configuration) → IsOfScript script c → All LeadsToOne (steps_of script c)
+  of_steps is c o = of_link is c o c.link

@@ -1,0 +1,78 @@
+-- A configuration of the script that an entry includes is one of the entry's points.
+use Rattle.std.proofs.Common.{◌≡◌, ◌∙◌, ◌<◌, ℕ, Bool, true, false, length, refl, sym, subst, inl, inr, nat_lt}
+use Rattle.std.specs.Prelude.{if◌then◌else◌}
+use Rattle.std.proofs.lemmas.Bool.{cases_lt}
+use Rattle.mg_names.specs.declared.phases.Link.TheVariants.{Resting}
+use Rattle.mg_model.specs.declared.commands.EventsName.TheVariants.{Empty}
+use Rattle.mg_model.specs.declared.commands.Termination.{Termination}
+use Rattle.mg_model.specs.declared.commands.Termination.TheVariants.{Line, Ephemeral}
+use Rattle.mg_model.specs.declared.components.Spot.TheVariants.{Absent}
+use Rattle.mg_model.specs.Configuration.{Configuration}
+use Rattle.mg_model.specs.Entries.{Entry, Includes, IsPointOf}
+use Rattle.mg_model.specs.Script.{Script}
+use Rattle.mg_model.specs.Steps.{unused}
+use Rattle.mg_model.proofs.ConfigurationLemmas.{SameComponents, same_configurations}
+use Rattle.mg_model.specs.Accepted.{IsEntryOf, IsSlot}
+use Rattle.mg_safety.proofs.Invariant.Sound.{IsOfScript}
+use Rattle.mg_safety.proofs.Certificate.ChoiceNumbers.{choices_to, has_number}
+use Rattle.mg_safety.proofs.Certificate.Declared.{slot_or_not, slots_or_not, unused_past}
+use Rattle.mg_safety.proofs.Certificate.ListedValues.{state_given, link_given, spot_given, mode_given, events_given, plays_given, context_given, remote_given, cut_given}
+
+all_empty : (lines i : ℕ) → (if nat_lt i lines then Empty else Empty) ≡ Empty
+all_empty lines i = either (nat_lt i lines)
+  where
+    either : (b : Bool) → (if b then Empty else Empty) ≡ Empty
+    either true = refl
+    either false = refl
+
+module _ (script : Script) (entry : Entry) (of_entry : IsEntryOf script entry) (c : Configuration) (of_script : IsOfScript script c)
+    (state : c.state ≡ entry.state) where
+  -- the configuration to which the choices are made
+  abbrev first : Configuration
+  first = unused entry.lines entry.state Resting Empty
+
+  spot_first : (t : Termination) → (IsSlot script t → ⊥) → first.spot t ≡ Absent
+  spot_first (Line i) undeclared = unused_past entry.lines i (λ below. undeclared (subst (λ n. i < n) of_entry.lines below))
+  spot_first (Ephemeral k) undeclared = refl
+
+  all_given : SameComponents (choices_to c entry.components first) c
+  all_given = record {
+    state = state_given c entry.components first (sym state);
+    link = link_given c entry.components first (inr of_entry.link);
+    spot = λ t. elim (slot_or_not script t) [
+      | inl slot ↦ spot_given c entry.components first t (inr (of_entry.spot t slot))
+      | inr undeclared ↦ spot_given c entry.components first t (inl (spot_first t undeclared ∙ sym (of_script.spot t undeclared)))
+    ];
+    mode = λ t. elim (slot_or_not script t) [
+      | inl slot ↦ mode_given c entry.components first t (inr (of_entry.mode t slot))
+      | inr undeclared ↦ mode_given c entry.components first t (inl (sym (of_script.mode t undeclared)))
+    ];
+    events = λ i. elim (cases_lt i (length script.lines)) [
+      | inl below ↦ events_given c entry.components first i (inr (of_entry.event i below))
+      | inr past ↦ events_given c entry.components first i (inl (all_empty entry.lines i ∙ sym (of_script.events i past)))
+    ];
+    plays = λ i. elim (cases_lt i (length script.lines)) [
+      | inl below ↦ plays_given c entry.components first i (inr (of_entry.play i below))
+      | inr past ↦ plays_given c entry.components first i (inl (sym (of_script.plays i past)))
+    ];
+    context = λ j. elim (cases_lt j (length script.contexts)) [
+      | inl below ↦ context_given c entry.components first j (inr (of_entry.context j below))
+      | inr past ↦ context_given c entry.components first j (inl (sym (of_script.context j past)))
+    ];
+    remote = λ k. elim (cases_lt k (length script.ephemerals)) [
+      | inl below ↦ remote_given c entry.components first k (inr (of_entry.remote k below))
+      | inr past ↦ remote_given c entry.components first k (inl (sym (of_script.remote k past)))
+    ];
+    cut = λ t u. elim (slots_or_not script t u) [
+      | inl slots ↦ cut_given c entry.components first t u (inr (of_entry.cut t u slots.0 slots.1 slots.2))
+      | inr undeclared ↦ cut_given c entry.components first t u (inl (sym (of_script.cut t u undeclared)))
+    ];
+  }
+
+pub is_point : (script : Script) (entry : Entry) (c : Configuration) → IsEntryOf script entry → IsOfScript script c → Includes entry c
+    → (p : ℕ) × IsPointOf entry p c
+is_point script entry c of_entry of_script included =
+    let number = has_number c entry.components included.2 in
+    let first = unused entry.lines entry.state Resting Empty in
+    let given = same_configurations (choices_to c entry.components first) c (all_given script entry of_entry c of_script included.0) in
+    (number.0, (number.1, sym (number.2 first ∙ given), included.1))

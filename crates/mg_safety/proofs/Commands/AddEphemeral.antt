@@ -1,0 +1,281 @@
+-- Add of an ephemeral carries over.
+use Rattle.std.proofs.Common.{◌≡◌, ◌∙◌, ◌<◌, ℕ, Bool, true, false, not, length, Option, Some, None, is_some, refl, sym, ap, subst, subst₂, inr}
+use Rattle.std.proofs.lemmas.Bool.{eqb-true, and_from}
+use Rattle.std.specs.Prelude.{if◌then◌else◌, ◌==◌}
+use Rattle.mg_names.specs.declared.codes.Code.TheVariants.{UnknownContext, UnknownTermination}
+use Rattle.mg_names.specs.declared.context_values.ContextValue.TheVariants.{Live}
+use Rattle.mg_names.specs.declared.identifiers.TermId.{TermId}
+use Rattle.mg_names.specs.declared.identifiers.TermId.TheVariants.{Eph}
+use Rattle.mg_names.specs.declared.modes.Mode.TheVariants.{Inactive}
+use Rattle.mg_model.specs.declared.commands.Command.TheVariants.{AddEphemeral}
+use Rattle.mg_model.specs.declared.commands.EphemeralOptions.{EphemeralOptions}
+use Rattle.mg_model.specs.declared.commands.RemoteOption.{RemoteOption}
+use Rattle.mg_model.specs.declared.commands.RemoteOption.TheVariants.{NoneGiven, Peer}
+use Rattle.mg_model.specs.declared.commands.Termination.{Termination}
+use Rattle.mg_model.specs.declared.commands.Termination.TheVariants as termination
+use Rattle.mg_model.specs.declared.components.Spot.TheVariants.{Null, In}
+use Rattle.mg_model.specs.declared.rows.Row.{Row}
+use Rattle.mg_model.specs.Board.{Board, same_term, exists, mode_in, remote_in, ContextExists}
+use Rattle.mg_model.specs.Updates.{with_at}
+use Rattle.mg_model.specs.Configuration.{Configuration, is_same, is_present, is_live, is_free, with_of, stands_in}
+use Rattle.mg_model.specs.Effects as effects
+use Rattle.mg_model.specs.Numbers.{choose}
+use Rattle.mg_model.specs.Effects.{remote_legal}
+use Rattle.mg_model.specs.Items.{effect, given, is_context_number, is_ephemeral_number, row_at, target, with_ephemeral}
+use Rattle.mg_model.specs.Request.{remote_option_known}
+use Rattle.mg_model.specs.Script.{Script}
+use Rattle.mg_safety.proofs.Shared.Components.{free_as_before, same_term_self}
+use Rattle.mg_safety.proofs.Shared.Cases.{and_first, and_second, denied, false_not_true, none_is_some}
+use Rattle.mg_safety.proofs.Commands.Binding.{with_at_here, with_at_kept, with_context, given_still, shown_live, shown_given, accounted_given, built_given}
+use Rattle.mg_safety.proofs.Commands.Carrying.{Carries, IsEntered, carried}
+use Rattle.mg_safety.proofs.Invariant.CarriedOver.{IsCarried, IsCarriedOver}
+use Rattle.mg_safety.proofs.Commands.CreatedShown.{unbound_ephemeral, created_shown}
+use Rattle.mg_safety.proofs.Commands.Creating.{first_row, with_created, with_ephemeral_name, with_present, created_row, accounted_created, built_created, owned_back}
+use Rattle.mg_safety.proofs.Commands.EnteredContexts.{known_context, real_not_choose, target_named, IsExisting, existing_context, entered_fresh}
+use Rattle.mg_safety.proofs.Commands.EphemeralCommands.{peer_in_force, peer_legal}
+use Rattle.mg_safety.proofs.Commands.InForce.{MayExist}
+use Rattle.mg_safety.proofs.Commands.LineCommands.{with_live}
+use Rattle.mg_safety.proofs.Commands.OneRow.{HasOneRow, row_here, exists_as_before}
+use Rattle.mg_safety.proofs.Commands.Setting.{PeerInForce, cuts_stay, cuts_outside, ephemeral_set, set_in_context}
+use Rattle.mg_safety.proofs.Invariant.Shown.{Naming, eph_of, Shown, IsAccounted, Owner, owned_at, AreBuilt, known_by, context_for, ephemeral_settings, item_for}
+
+-- ---- tests
+
+if_twice : {A : Type 0} (p : Bool) (x y z : A) → (if p then x else z) ≡ (if p then x else (if p then y else z))
+if_twice true x y z = refl
+if_twice false x y z = refl
+
+-- a peer is another ephemeral than the one that is created
+peer_still : (n m : Naming) (k x : ℕ) (o : Option RemoteOption) → n.ephemerals k ≡ None → PeerInForce n m o
+    → PeerInForce (with_ephemeral_name n k x) m o
+peer_still n m k x None unbound peer = tt
+peer_still n m k x (Some NoneGiven) unbound peer = tt
+peer_still n m k x (Some (Peer i)) unbound peer = (peer.0, peer.1, go (i == k) refl)
+  where
+    go : (p : Bool) → (i == k) ≡ p → with_at n.ephemerals k (Some x) i ≡ Some peer.0
+    go true same = absurd (none_is_some peer.0 (sym (ap n.ephemerals (eqb-true i k same) ∙ unbound) ∙ peer.2))
+    go false other = with_at_kept n.ephemerals k (Some x) i other ∙ peer.2
+
+-- ---- an ephemeral that is created in a context
+
+-- the board, with numbers that were given to contexts
+abbrev with_contexts : Board → (ℕ → Bool) → Board
+with_contexts b numbers = record b { given_context = numbers }
+
+-- the board after a command that creates the ephemeral x in context p, by names m
+abbrev with_added_ephemeral : Board → (ℕ → Bool) → ℕ → ℕ → Naming → EphemeralOptions → Board
+with_added_ephemeral b numbers x p m o = record (with_ephemeral b x p (ephemeral_settings m o)) {
+  given_context = numbers;
+  given_ephemeral = given true x b.given_ephemeral;
+}
+
+module _ (script : Script) (own : Owner) (n m built_by : Naming) (before : Board) (numbers after_numbers : ℕ → Bool) (c : Configuration)
+    (create : Bool) (j k x p : ℕ) (o : EphemeralOptions)
+    (shown : Shown script (owned_at own before) n (with_contexts before numbers) (with_live c j)) (accounted : IsAccounted (with_contexts before numbers))
+    (built : AreBuilt n m (with_contexts before numbers)) (slot : k < length script.ephemerals) (fresh : before.given_ephemeral x ≡ false)
+    (earlier : (y : ℕ) → own.before y ≡ true → before.given_ephemeral y ≡ true) (absent : is_present (c.spot (termination.Ephemeral k)) ≡ false)
+    (still : (y : ℕ) → before.given_context y ≡ true → numbers y ≡ true) (more : (y : ℕ) → numbers y ≡ true → after_numbers y ≡ true)
+    (bound : n.contexts j ≡ Some p) (entered : IsEntered own n m before numbers p) (peer : PeerInForce n built_by o.remote) where
+  abbrev name : Termination
+  name = termination.Ephemeral k
+
+  abbrev middle : Board
+  middle = with_created (with_contexts before numbers) x
+
+  abbrev end : Board
+  end = with_added_ephemeral before after_numbers x p built_by o
+
+  abbrev names : Naming
+  names = with_ephemeral_name n k x
+
+  abbrev between : Configuration
+  between = with_present (with_live c j) k
+
+  abbrev next : Configuration
+  next = effects.effect script c (AddEphemeral create j k o)
+
+  abbrev row : Row
+  row = row_at p (ephemeral_settings built_by o) Inactive None
+
+  named : names.ephemerals k ≡ Some x
+  named = with_at_here n.ephemerals k (Some x)
+
+  shown_between : Shown script (owned_at own middle) names middle between
+  shown_between = created_shown script own n (with_contexts before numbers) (with_live c j) k x shown accounted fresh earlier slot absent
+
+  stood : exists middle (Eph x) ≡ true
+  stood = shown_between.ephemeral_stands k x named
+
+  one : HasOneRow middle end (Eph x) row
+  one = record {
+    row = λ v. if_twice (same_term v (Eph x)) (Some row) (Some first_row) (before.row v);
+    given_context = more;
+    given_ephemeral = λ y e. e;
+  }
+
+  row_read : middle.row (Eph x) ≡ Some first_row
+  row_read = row_here (with_contexts before numbers) middle (Eph x) first_row (created_row (with_contexts before numbers) x fresh accounted) (Eph x)
+      (same_term_self (Eph x))
+
+  pub carried_created : Carries script own names (with_ephemeral_name m k x) before end next
+  carried_created = carried script own names (with_ephemeral_name m k x) before middle end between next name (Eph x) row shown_between
+      (accounted_created (with_contexts before numbers) x fresh accounted) (built_created (with_contexts before numbers) x fresh accounted n m k built)
+      slot (ap eph_of named) stood one
+      (set_in_context script names end between next name row j bound
+      (ephemeral_set script (owned_at own middle) names built_by middle end between next k x p o Inactive None shown_between slot named
+      (ap mode_in row_read) (ap remote_in row_read)
+      (peer_still n built_by k x o.remote
+      (unbound_ephemeral script own n (with_contexts before numbers) (with_live c j) k x shown accounted fresh earlier slot absent) peer)
+      (λ y. exists_as_before middle end (Eph x) row one stood (Eph y)) (λ y. refl) (λ s. refl) (λ i. refl)
+      (cuts_stay script (owned_at own middle) names middle end between shown_between (λ v w. refl)))
+      (λ s. if_twice (is_same s name) (In j) Null (c.spot s))
+      (λ i. free_as_before (with_at c.context j Live i) (stands_in (with_of c.spot name (In j)) i)))
+      (λ y. refl)
+      (record {
+        row = λ v. refl;
+        given_context = λ y e. more y (still y e);
+        given_ephemeral = λ y e. given_still true x before.given_ephemeral y e;
+      })
+      (inr (x, refl, fresh)) (cuts_outside before.cut (Eph x)) (owned_back (with_contexts before numbers) x fresh accounted own earlier)
+      (λ real. record { was_given = entered.was_given; in_force = entered.in_force; stood = entered.stood })
+
+-- ---- into a context that exists
+
+add_ephemeral_named : (j k : ℕ) (o : EphemeralOptions) → IsCarriedOver (AddEphemeral false j k o)
+add_ephemeral_named j k o script is_script own n m b c after done ready x =
+    subst (λ a. IsCarried script own n m b c (AddEphemeral false j k o) a done) (sym x.effect_is) it
+  where
+    owned : TermId → Bool
+    owned = owned_at own b
+
+    made : ℕ
+    made = x.chosen.ephemeral
+
+    next : Configuration
+    next = effects.effect script c (AddEphemeral false j k o)
+
+    end : Board
+    end = effect b (item_for m (AddEphemeral false j k o)) x.chosen
+
+    fresh : is_ephemeral_number made × (b.given_ephemeral made ≡ false)
+    fresh = x.fresh.ephemeral refl
+
+    slot : k < length script.ephemerals
+    slot = ready.declared.1
+
+    absent : is_present (c.spot (termination.Ephemeral k)) ≡ false
+    absent = denied (is_present (c.spot (termination.Ephemeral k))) ready.unbound
+
+    number : (y : ℕ) × (m.contexts j ≡ Some y) × (context_for m j ≡ y)
+    number = known_context m j (and_first (is_some (m.contexts j)) (remote_option_known (known_by m) o.remote) ready.known)
+
+    peer : PeerInForce n m o.remote
+    peer = peer_in_force n m b ready.built o.remote
+        (and_second (is_some (m.contexts j)) (remote_option_known (known_by m) o.remote) ready.known) (x.legal UnknownTermination)
+
+    p : ℕ
+    p = target (record { 0 = context_for m j }) x.chosen
+
+    place_is : p ≡ number.0
+    place_is = ap (λ q. if q == choose then x.chosen.context else q) number.2
+        ∙ target_named number.0 x.chosen.context (ready.built.context_real j number.0 number.1).0
+
+    may : MayExist b number.0
+    may lacks = x.legal UnknownContext (
+      (λ is. real_not_choose number.0 (ready.built.context_real j number.0 number.1).0 (sym number.2 ∙ is)),
+      subst (λ q. ContextExists b q → ⊥) (sym number.2) lacks,
+    )
+
+    existing : IsExisting own n m b c j number.0
+    existing = existing_context script is_script own n m b c j number.0 ready.shown ready.well_formed ready.accounted ready.built number.1 may
+
+    moved : Carries script own (with_ephemeral_name n k made) (with_ephemeral_name m k made) b end next
+    moved = carried_created script own n m m b b.given_context (given (context_for m j == choose) x.chosen.context b.given_context) c false j k made
+        p o (shown_live script owned n b c j number.0 ready.shown existing.bound) ready.accounted ready.built slot fresh.1 ready.earlier absent
+        (λ y e. e) (given_still (context_for m j == choose) x.chosen.context b.given_context)
+        (existing.bound ∙ ap (λ y. Some y) (sym place_is)) (subst (IsEntered own n m b b.given_context) (sym place_is) existing.entered) peer
+
+    told : Some made ≡ done.ephemeral
+    told = sym x.result.ephemeral
+
+    it : IsCarried script own n m b c (AddEphemeral false j k o) end done
+    it = record {
+      legal = and_from (is_live (c.context j)) (remote_legal c o.remote) existing.live
+          (peer_legal script owned n m b c ready.shown o.remote ready.declared.2 peer);
+      shown = subst (λ q. Shown script (owned_at own end) (record n { ephemerals = with_at n.ephemerals k q }) end next) told moved.shown;
+      accounted = moved.accounted;
+      built = subst (λ q. AreBuilt (record n { ephemerals = with_at n.ephemerals k q }) (record m { ephemerals = with_at m.ephemerals k q }) end)
+          told moved.built;
+      changes = moved.changes;
+      leaving = λ t leaves. absurd (false_not_true leaves);
+    }
+
+-- ---- into a context that is created
+
+add_ephemeral_created : (j k : ℕ) (o : EphemeralOptions) → IsCarriedOver (AddEphemeral true j k o)
+add_ephemeral_created j k o script is_script own n m b c after done ready x =
+    subst (λ a. IsCarried script own n m b c (AddEphemeral true j k o) a done) (sym x.effect_is) it
+  where
+    owned : TermId → Bool
+    owned = owned_at own b
+
+    made : ℕ
+    made = x.chosen.ephemeral
+
+    y : ℕ
+    y = x.chosen.context
+
+    next : Configuration
+    next = effects.effect script c (AddEphemeral true j k o)
+
+    end : Board
+    end = effect b (item_for m (AddEphemeral true j k o)) x.chosen
+
+    fresh : is_ephemeral_number made × (b.given_ephemeral made ≡ false)
+    fresh = x.fresh.ephemeral refl
+
+    fresh_context : is_context_number y × (b.given_context y ≡ false)
+    fresh_context = x.fresh.context refl
+
+    slot : k < length script.ephemerals
+    slot = ready.declared.1
+
+    free : is_free (c.context j) ≡ true
+    free = and_first (is_free (c.context j)) (not (is_present (c.spot (termination.Ephemeral k)))) ready.unbound
+
+    absent : is_present (c.spot (termination.Ephemeral k)) ≡ false
+    absent = denied (is_present (c.spot (termination.Ephemeral k)))
+        (and_second (is_free (c.context j)) (not (is_present (c.spot (termination.Ephemeral k)))) ready.unbound)
+
+    peer : PeerInForce n m o.remote
+    peer = peer_in_force n m b ready.built o.remote ready.known (x.legal UnknownTermination)
+
+    moved : Carries script own (with_ephemeral_name (with_context n j y) k made) (with_ephemeral_name (with_context m j y) k made) b end next
+    moved = carried_created script own (with_context n j y) (with_context m j y) m b (given true y b.given_context) (given true y b.given_context) c
+        true j k made y o (shown_given n m b j y fresh_context.1 script owned c ready.shown free ready.accounted fresh_context.0)
+        (accounted_given n m b j y fresh_context.1 ready.accounted) (built_given n m b j y fresh_context.1 ready.built fresh_context.0) slot fresh.1
+        ready.earlier absent (given_still true y b.given_context) (λ z e. e) (with_at_here n.contexts j (Some y))
+        (entered_fresh own n m b j y ready.built fresh_context.1) (with_names o.remote peer)
+      where
+        with_names : (q : Option RemoteOption) → PeerInForce n m q → PeerInForce (with_context n j y) m q
+        with_names None known = tt
+        with_names (Some NoneGiven) known = tt
+        with_names (Some (Peer i)) known = known
+
+    it : IsCarried script own n m b c (AddEphemeral true j k o) end done
+    it = record {
+      legal = peer_legal script owned n m b c ready.shown o.remote ready.declared.2 peer;
+      shown = subst₂ (λ q r. Shown script (owned_at own end)
+          (record n { contexts = with_at n.contexts j q; ephemerals = with_at n.ephemerals k r }) end next)
+          (sym x.result.context) (sym x.result.ephemeral) moved.shown;
+      accounted = moved.accounted;
+      built = subst₂ (λ q r. AreBuilt (record n { contexts = with_at n.contexts j q; ephemerals = with_at n.ephemerals k r })
+          (record m { contexts = with_at m.contexts j q; ephemerals = with_at m.ephemerals k r }) end)
+          (sym x.result.context) (sym x.result.ephemeral) moved.built;
+      changes = moved.changes;
+      leaving = λ t leaves. absurd (false_not_true leaves);
+    }
+
+pub add_ephemeral_carried : (create : Bool) (j k : ℕ) (o : EphemeralOptions) → IsCarriedOver (AddEphemeral create j k o)
+add_ephemeral_carried true j k o = add_ephemeral_created j k o
+add_ephemeral_carried false j k o = add_ephemeral_named j k o

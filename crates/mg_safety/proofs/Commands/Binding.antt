@@ -1,0 +1,179 @@
+-- A number that no context had is bound to a name that is free: the board that gave it out shows the configuration in which the context
+-- is live, and the names in force are still those that commands are built with.
+use Rattle.std.proofs.Common.{◌≡◌, ◌∙◌, ◌<◌, ◌&&◌, ◌||◌, ℕ, Bool, true, false, not, Option, Some, None, is_some, refl, sym, ap, subst, true≢false, arith}
+use Rattle.std.proofs.lemmas.Bool.{eqb-true, eq-eqb}
+use Rattle.std.specs.Prelude.{if◌then◌else◌, ◌==◌, unwrap_or}
+use Rattle.mg_names.specs.declared.context_values.ContextValue.TheVariants.{Live}
+use Rattle.mg_names.specs.declared.identifiers.TermId.{TermId}
+use Rattle.mg_model.specs.declared.commands.Termination.{Termination}
+use Rattle.mg_model.specs.declared.components.Spot.{Spot}
+use Rattle.mg_model.specs.declared.components.Spot.TheVariants.{Absent, Null, In}
+use Rattle.mg_model.specs.Board.{Board, place_of}
+use Rattle.mg_model.specs.Updates.{with_at}
+use Rattle.mg_model.specs.Configuration.{Configuration, is_free}
+use Rattle.mg_model.specs.Items.{given, is_context_number}
+use Rattle.mg_model.specs.Script.{Script}
+use Rattle.mg_model.specs.Accepted.{IsSlot}
+use Rattle.mg_safety.proofs.Shared.Cases.{false_not_true, none_is_some, none_of, the_some}
+use Rattle.mg_safety.proofs.Invariant.Shown.{Naming, term_of, number_at, Shown, IsAccounted, AreBuilt}
+
+-- ---- tests
+
+pub with_at_here : {A : Type 0} (f : ℕ → A) (i : ℕ) (v : A) → with_at f i v i ≡ v
+with_at_here f i v = ap (λ p. if p then v else f i) (eq-eqb i i refl)
+
+pub with_at_kept : {A : Type 0} (f : ℕ → A) (i : ℕ) (v : A) (k : ℕ) → (k == i) ≡ false → with_at f i v k ≡ f k
+with_at_kept f i v k e = ap (λ p. if p then v else f k) e
+
+-- a name that is bound to one thing after another one was bound: it is the new one, or it was bound before
+pub with_at_some : {A : Type 0} (f : ℕ → Option A) (i : ℕ) (v : Option A) (k : ℕ) (o : Option A) (P : Type 0) → with_at f i v k ≡ o
+    → (k ≡ i → v ≡ o → P) → ((k == i) ≡ false → f k ≡ o → P) → P
+with_at_some f i v k o P e new old = go (k == i) refl
+  where
+    go : (p : Bool) → (k == i) ≡ p → P
+    go true same = new (eqb-true k i same) (sym (ap (λ p. if p then v else f k) same) ∙ e)
+    go false other = old other (sym (with_at_kept f i v k other) ∙ e)
+
+-- ---- a name that is bound
+
+-- a context that is bound may be written as live
+pub shown_live : (script : Script) (owned : TermId → Bool) (n : Naming) (b : Board) (c : Configuration) (j x : ℕ) → Shown script owned n b c
+    → n.contexts j ≡ Some x → Shown script owned n b (record c { context = with_at c.context j Live })
+shown_live script owned n b c j x shown bound = record {
+  stands = shown.stands;
+  place = shown.place;
+  in_bound = shown.in_bound;
+  mode = shown.mode;
+  remote = shown.remote;
+  cut = shown.cut;
+  bound = λ i. free i (i == j) refl;
+  line_stands = shown.line_stands;
+  line_owned = shown.line_owned;
+  line_once = shown.line_once;
+  context_real = shown.context_real;
+  context_once = shown.context_once;
+  members = shown.members;
+  ephemeral_slot = shown.ephemeral_slot;
+  ephemeral_stands = shown.ephemeral_stands;
+  ephemeral_owned = shown.ephemeral_owned;
+  ephemeral_once = shown.ephemeral_once;
+  ephemeral_named = shown.ephemeral_named;
+}
+  where
+    free : (i : ℕ) (p : Bool) → (i == j) ≡ p → is_some (n.contexts i) ≡ not (is_free (if i == j then Live else c.context i))
+    free i true e = ap (λ k. is_some (n.contexts k)) (eqb-true i j e) ∙ ap is_some bound
+        ∙ ap (λ p. not (is_free (if p then Live else c.context i))) (sym e)
+    free i false e = shown.bound i ∙ ap (λ p. not (is_free (if p then Live else c.context i))) (sym e)
+
+-- ---- a fresh number
+
+abbrev pub with_given : Board → ℕ → Board
+with_given b y = record b { given_context = given true y b.given_context }
+
+abbrev pub with_context : Naming → ℕ → ℕ → Naming
+with_context n j y = record n { contexts = with_at n.contexts j (Some y) }
+
+pub given_new : (y : ℕ) (was : ℕ → Bool) → given true y was y ≡ true
+given_new y was = ap (λ p. p || was y) (eq-eqb y y refl)
+
+pub given_still : (p : Bool) (y : ℕ) (was : ℕ → Bool) (x : ℕ) → was x ≡ true → given p y was x ≡ true
+given_still p y was x before = go (p && x == y)
+  where
+    go : (q : Bool) → (q || was x) ≡ true
+    go true = refl
+    go false = before
+
+module _ (n m : Naming) (b : Board) (j y : ℕ) (fresh : b.given_context y ≡ false) where
+  -- a number that was given isn't the fresh one
+  pub not_fresh : (x : ℕ) → b.given_context x ≡ true → x ≡ y → ⊥
+  not_fresh x before same = true≢false (sym before ∙ ap b.given_context same ∙ fresh)
+
+  pub nobody_stands : IsAccounted b → (0 < y) → (t : TermId) → place_of b t ≡ y → ⊥
+  nobody_stands accounted positive t at =
+      not_fresh (place_of b t) (accounted.contexts t (λ null. let zero_is : 0 ≡ y = sym null ∙ at in omega (arith, zero_is, positive))) at
+
+  pub accounted_given : IsAccounted b → IsAccounted (with_given b y)
+  accounted_given accounted = record {
+    ephemerals = accounted.ephemerals;
+    contexts = λ t there. given_still true y b.given_context (place_of b t) (accounted.contexts t there);
+  }
+
+  pub built_given : AreBuilt n m b → is_context_number y → AreBuilt (with_context n j y) (with_context m j y) (with_given b y)
+  built_given built real = record {
+    lines = built.lines;
+    context = λ i x bound. with_at_some n.contexts j (Some y) i (Some x) (with_at m.contexts j (Some y) i ≡ Some x) bound
+        (λ same is. ap (with_at m.contexts j (Some y)) same ∙ with_at_here m.contexts j (Some y) ∙ is)
+        (λ other before. with_at_kept m.contexts j (Some y) i other ∙ built.context i x before);
+    context_lost = λ i x bound lost there. with_at_some n.contexts j (Some y) i None ⊥ lost
+        (λ same is. none_is_some y (sym is))
+        (λ other before. built.context_lost i x (sym (with_at_kept m.contexts j (Some y) i other) ∙ bound) before there);
+    context_real = λ i x bound. with_at_some m.contexts j (Some y) i (Some x) (is_context_number x × (given true y b.given_context x ≡ true)) bound
+        (λ same is. subst (λ z. is_context_number z × (given true y b.given_context z ≡ true)) (the_some y x is) (real, given_new y b.given_context))
+        (λ other before. let was = built.context_real i x before in (was.0, given_still true y b.given_context x was.1));
+    ephemeral = built.ephemeral;
+    ephemeral_lost = built.ephemeral_lost;
+    ephemeral_given = built.ephemeral_given;
+  }
+
+  module _ (script : Script) (owned : TermId → Bool) (c : Configuration) (shown : Shown script owned n b c) (free : is_free (c.context j) ≡ true) where
+    pub unbound_name : n.contexts j ≡ None
+    unbound_name = none_of (n.contexts j) (shown.bound j ∙ ap not free)
+
+    -- a name in which a termination stands isn't the free one
+    stands_apart : (t : Termination) (i : ℕ) → IsSlot script t → c.spot t ≡ In i → (i == j) ≡ false
+    stands_apart t i slot at = go (i == j) refl
+      where
+        go : (p : Bool) → (i == j) ≡ p → p ≡ false
+        go true same = absurd (false_not_true (sym (ap is_some (ap n.contexts (eqb-true i j same) ∙ unbound_name)) ∙ shown.in_bound t i slot at))
+        go false other = refl
+
+    same_number : (t : Termination) → IsSlot script t → (s : Spot) → c.spot t ≡ s → number_at n s ≡ number_at (with_context n j y) s
+    same_number t slot Absent at = refl
+    same_number t slot Null at = refl
+    same_number t slot (In i) at = ap (λ o. unwrap_or o 0) (sym (with_at_kept n.contexts j (Some y) i (stands_apart t i slot at)))
+
+    pub shown_given : IsAccounted b → is_context_number y
+        → Shown script owned (with_context n j y) (with_given b y) (record c { context = with_at c.context j Live })
+    shown_given accounted real = record {
+      stands = shown.stands;
+      place = λ t slot. shown.place t slot ∙ same_number t slot (c.spot t) refl;
+      in_bound = λ t i slot at. ap is_some (with_at_kept n.contexts j (Some y) i (stands_apart t i slot at)) ∙ shown.in_bound t i slot at;
+      mode = shown.mode;
+      remote = shown.remote;
+      cut = shown.cut;
+      bound = λ i. bound i (i == j) refl;
+      line_stands = shown.line_stands;
+      line_owned = shown.line_owned;
+      line_once = shown.line_once;
+      context_real = λ i x named. with_at_some n.contexts j (Some y) i (Some x) (is_context_number x × (given true y b.given_context x ≡ true)) named
+          (λ same is. subst (λ z. is_context_number z × (given true y b.given_context z ≡ true)) (the_some y x is) (real, given_new y b.given_context))
+          (λ other before. let was = shown.context_real i x before in (was.0, given_still true y b.given_context x was.1));
+      context_once = once;
+      members = λ i x t named at. with_at_some n.contexts j (Some y) i (Some x) ((u : Termination) × IsSlot script u × (term_of n u ≡ Some t)) named
+          (λ same is. absurd (nobody_stands accounted real.0 t (at ∙ sym (the_some y x is))))
+          (λ other before. shown.members i x t before at);
+      ephemeral_slot = shown.ephemeral_slot;
+      ephemeral_stands = shown.ephemeral_stands;
+      ephemeral_owned = shown.ephemeral_owned;
+      ephemeral_once = shown.ephemeral_once;
+      ephemeral_named = shown.ephemeral_named;
+    }
+      where
+        bound : (i : ℕ) (p : Bool) → (i == j) ≡ p
+            → is_some (if i == j then Some y else n.contexts i) ≡ not (is_free (if i == j then Live else c.context i))
+        bound i true e = ap (λ p. is_some (if p then Some y else n.contexts i)) e ∙ ap (λ p. not (is_free (if p then Live else c.context i))) (sym e)
+        bound i false e = ap (λ p. is_some (if p then Some y else n.contexts i)) e ∙ shown.bound i
+            ∙ ap (λ p. not (is_free (if p then Live else c.context i))) (sym e)
+
+        -- the fresh number has no other name
+        alone : (i x : ℕ) → n.contexts i ≡ Some x → y ≡ x → ⊥
+        alone i x named is = not_fresh x (shown.context_real i x named).1 (sym is)
+
+        once : (i k x : ℕ) → with_at n.contexts j (Some y) i ≡ Some x → with_at n.contexts j (Some y) k ≡ Some x → i ≡ k
+        once i k x first second = with_at_some n.contexts j (Some y) i (Some x) (i ≡ k) first
+            (λ same is. with_at_some n.contexts j (Some y) k (Some x) (i ≡ k) second
+            (λ too also. same ∙ sym too)
+            (λ other before. absurd (alone k x before (the_some y x is))))
+            (λ other before. with_at_some n.contexts j (Some y) k (Some x) (i ≡ k) second
+            (λ too also. absurd (alone i x before (the_some y x also)))
+            (λ apart known. shown.context_once i k x before known))

@@ -1,0 +1,96 @@
+-- A command that gives one termination a row carries over: the board shows the configuration in which this termination alone is
+-- changed, and what changed is owned. The board may be one on which a context was given out or an ephemeral created for the command.
+use Rattle.std.proofs.Common.{◌≡◌, ◌∙◌, ◌&&◌, ◌||◌, ℕ, Bool, true, false, not, Some, None, refl, sym, ap, inl, ◌⊎◌}
+use Rattle.mg_names.specs.declared.identifiers.TermId.{TermId}
+use Rattle.mg_names.specs.declared.identifiers.TermId.TheVariants.{Line, Eph}
+use Rattle.mg_model.specs.declared.commands.Termination.{Termination}
+use Rattle.mg_model.specs.declared.commands.Termination.TheVariants as termination
+use Rattle.mg_model.specs.declared.rows.Row.{Row}
+use Rattle.mg_model.specs.Board.{Board, same_term, exists, place_of}
+use Rattle.mg_model.specs.Configuration.{Configuration}
+use Rattle.mg_model.specs.Script.{Script}
+use Rattle.mg_model.specs.Accepted.{IsSlot}
+use Rattle.mg_safety.proofs.Shared.Cases.{the_some}
+use Rattle.mg_safety.proofs.Commands.OneRow.{HasOneRow, accounted_after, built_as_before, changes_as_owned}
+use Rattle.mg_safety.proofs.Commands.Placing.{HasOneName, eph_is, placed_shown}
+use Rattle.mg_safety.proofs.Invariant.Shown.{Naming, term_of, Shown, IsAccounted, Owner, owned_at, AreBuilt, ChangesOwned}
+
+-- what holds after a command, but that it is legal
+pub record Carries (script : Script) (own : Owner) (n m : Naming) (b after : Board) (next : Configuration) : Type 0 where
+  pub shown : Shown script (owned_at own after) n after next
+  pub accounted : IsAccounted after
+  pub built : AreBuilt n m after
+  pub changes : ChangesOwned own b after
+
+-- a number other than the null context's in which a termination comes to stand: something owned stood in it before, or it was never given
+pub record IsEntered (own : Owner) (n m : Naming) (b : Board) (given : ℕ → Bool) (p : ℕ) : Type 0 where
+  pub was_given : given p ≡ true
+  pub in_force : (j : ℕ) → m.contexts j ≡ Some p → n.contexts j ≡ None → ⊥
+  pub stood : ((w : TermId) × (owned_at own b w ≡ true) × (place_of b w ≡ p)) ⊎ (b.given_context p ≡ false)
+
+-- something owned stands in it
+pub entered_before : (own : Owner) (n m : Naming) (b : Board) (p : ℕ) (w : TermId) → IsAccounted b → AreBuilt n m b → (p ≡ 0 → ⊥)
+    → owned_at own b w ≡ true → place_of b w ≡ p → IsEntered own n m b b.given_context p
+entered_before own n m b p w accounted built real mine at = record {
+  was_given = ap b.given_context (sym at) ∙ accounted.contexts w (λ null. real (sym at ∙ null));
+  in_force = λ j bound lost. built.context_lost j p bound lost (real, (w, at));
+  stood = inl (w, mine, at);
+}
+
+-- owning goes by what was given of ephemerals alone
+owned_given : (own : Owner) (b after : Board) → ((x : ℕ) → after.given_ephemeral x ≡ b.given_ephemeral x) → (t : TermId)
+    → owned_at own after t ≡ owned_at own b t
+owned_given own b after same (Line l) = refl
+owned_given own b after same (Eph x) = ap (λ p. own.created x || (p && not (own.before x))) (same x)
+
+shown_owned : (script : Script) (owned other : TermId → Bool) (n : Naming) (b : Board) (c : Configuration) → ((t : TermId) → other t ≡ owned t)
+    → Shown script owned n b c → Shown script other n b c
+shown_owned script owned other n b c same shown = record {
+  stands = shown.stands;
+  place = shown.place;
+  in_bound = shown.in_bound;
+  mode = shown.mode;
+  remote = shown.remote;
+  cut = shown.cut;
+  bound = shown.bound;
+  line_stands = shown.line_stands;
+  line_owned = λ i slot. same (Line (record { 0 = n.lines i })) ∙ shown.line_owned i slot;
+  line_once = shown.line_once;
+  context_real = shown.context_real;
+  context_once = shown.context_once;
+  members = shown.members;
+  ephemeral_slot = shown.ephemeral_slot;
+  ephemeral_stands = shown.ephemeral_stands;
+  ephemeral_owned = λ k x bound. same (Eph x) ∙ shown.ephemeral_owned k x bound;
+  ephemeral_once = shown.ephemeral_once;
+  ephemeral_named = λ x mine. shown.ephemeral_named x (sym (same (Eph x)) ∙ mine);
+}
+
+-- what a declared name stands for is owned, and exists where it is an ephemeral
+pub owned_named : (script : Script) (owned : TermId → Bool) (n : Naming) (b : Board) (c : Configuration) → Shown script owned n b c
+    → (t : Termination) (u : TermId) → IsSlot script t → term_of n t ≡ Some u → owned u ≡ true
+owned_named script owned n b c shown (termination.Line i) u slot named = ap owned (sym (the_some _ u named)) ∙ shown.line_owned i slot
+owned_named script owned n b c shown (termination.Ephemeral k) u slot named =
+    let x = eph_is (n.ephemerals k) u named in
+    ap owned x.2 ∙ shown.ephemeral_owned k x.0 x.1
+
+-- before is the board before the command, b the one on which what it creates was given out
+pub carried : (script : Script) (own : Owner) (n m : Naming) (before b after : Board) (c next : Configuration) (t : Termination) (u : TermId) (r : Row)
+    → Shown script (owned_at own b) n b c → IsAccounted b → AreBuilt n m b → IsSlot script t → term_of n t ≡ Some u → exists b u ≡ true
+    → HasOneRow b after u r → HasOneName script n after c next t r → ((x : ℕ) → after.given_ephemeral x ≡ b.given_ephemeral x)
+    → HasOneRow before after u r → (exists before u ≡ true) ⊎ ((x : ℕ) × (u ≡ Eph x) × (before.given_ephemeral x ≡ false))
+    → ((v w : TermId) → same_term v u ≡ false → same_term w u ≡ false → after.cut v w ≡ before.cut v w)
+    → ((v : TermId) → same_term v u ≡ false → owned_at own b v ≡ true → owned_at own before v ≡ true)
+    → ((r.place.0 ≡ 0 → ⊥) → IsEntered own n m before b.given_context r.place.0) → Carries script own n m before after next
+carried script own n m before b after c next t u r shown accounted built slot named stood one changed same first existed cuts back entered =
+    let owned : (v : TermId) → owned_at own after v ≡ owned_at own b v = owned_given own b after same in
+    record {
+      shown = shown_owned script (owned_at own b) (owned_at own after) n after next owned
+          (placed_shown script (owned_at own b) n b after c next t u r shown slot named stood one changed);
+      accounted = accounted_after b after u r one accounted
+          (λ x is. one.given_ephemeral x (accounted.ephemerals x (ap (λ v. exists b v) (sym is) ∙ stood)))
+          (λ real. one.given_context r.place.0 (entered real).was_given);
+      built = built_as_before b after u r one n m built stood (λ real. (entered real).in_force);
+      changes = changes_as_owned before after u r first own (owned u ∙ owned_named script (owned_at own b) n b c shown t u slot named) cuts
+          (λ v other mine. back v other (sym (owned v) ∙ mine)) (λ real. (entered real).stood) existed;
+    }

@@ -1,0 +1,248 @@
+-- The board with an ephemeral that was created for a name shows the configuration in which the name stands in the null context.
+use Rattle.std.proofs.Common.{◌≡◌, ◌∙◌, ◌||◌, ◌<◌, ℕ, Bool, true, false, length, Option, Some, None, is_some, refl, sym, ap, subst, true≢false, arith}
+use Rattle.std.proofs.lemmas.Bool.{eqb-true, eq-eqb}
+use Rattle.std.specs.Prelude.{if◌then◌else◌, ◌==◌}
+use Rattle.mg_names.specs.declared.identifiers.TermId.{TermId}
+use Rattle.mg_names.specs.declared.identifiers.TermId.TheVariants.{Line, Eph}
+use Rattle.mg_model.specs.declared.commands.Termination.{Termination}
+use Rattle.mg_model.specs.declared.commands.Termination.TheVariants as termination
+use Rattle.mg_model.specs.declared.components.Remote.{Remote}
+use Rattle.mg_model.specs.declared.components.Remote.TheVariants.{Unset, Gone, To}
+use Rattle.mg_model.specs.declared.components.Spot.{Spot}
+use Rattle.mg_model.specs.declared.components.Spot.TheVariants.{Null, In}
+use Rattle.mg_model.specs.Board.{Board, same_term, exists, place_of, place_in, mode_in, remote_in}
+use Rattle.mg_model.specs.Updates.{with_at}
+use Rattle.mg_model.specs.Configuration.{Configuration, is_same, is_present}
+use Rattle.mg_model.specs.Script.{Script}
+use Rattle.mg_model.specs.Accepted.{IsSlot}
+use Rattle.mg_safety.proofs.Shared.Components.{is_same_is, same_term_is, same_term_self}
+use Rattle.mg_safety.proofs.Shared.Cases.{none_is_some, the_some}
+use Rattle.mg_safety.proofs.Commands.Binding.{with_at_here, with_at_kept, with_at_some, given_still}
+use Rattle.mg_safety.proofs.Commands.Creating.{first_row, with_created, with_ephemeral_name, with_present, created_row, created_owned, owned_elsewhere, given_apart, stands_apart, kept}
+use Rattle.mg_safety.proofs.Commands.OneRow.{row_here, row_elsewhere}
+use Rattle.mg_safety.proofs.Commands.Setting.{with_of_here, with_of_kept}
+use Rattle.mg_safety.proofs.Invariant.Shown.{Naming, eph_of, term_of, row_on, cut_on, number_at, RemoteReads, Shown, IsAccounted, Owner, owned_at}
+
+module _ (script : Script) (own : Owner) (n : Naming) (b : Board) (c : Configuration) (k x : ℕ) (shown : Shown script (owned_at own b) n b c)
+    (accounted : IsAccounted b) (fresh : b.given_ephemeral x ≡ false) (earlier : (y : ℕ) → own.before y ≡ true → b.given_ephemeral y ≡ true)
+    (slot : k < length script.ephemerals) (absent : is_present (c.spot (termination.Ephemeral k)) ≡ false) where
+  abbrev after : Board
+  after = with_created b x
+
+  abbrev names : Naming
+  names = with_ephemeral_name n k x
+
+  abbrev name : Termination
+  name = termination.Ephemeral k
+
+  pub unbound_ephemeral : n.ephemerals k ≡ None
+  unbound_ephemeral = go (n.ephemerals k) refl
+    where
+      go : (o : Option ℕ) → n.ephemerals k ≡ o → o ≡ None
+      go None e = refl
+      go (Some y) e = absurd (true≢false (sym (shown.ephemeral_stands k y e) ∙ ap (λ q. is_some (row_on b (eph_of q))) (sym e)
+          ∙ shown.stands name slot ∙ absent))
+
+  row_before : row_on b (term_of n name) ≡ None
+  row_before = ap (λ q. row_on b (eph_of q)) unbound_ephemeral
+
+  -- the new name stands for the new ephemeral
+  named_here : (t : Termination) → is_same t name ≡ true → term_of names t ≡ Some (Eph x)
+  named_here t e = ap (term_of names) (is_same_is t name e) ∙ ap eph_of (with_at_here n.ephemerals k (Some x))
+
+  -- another name stands for what it stood for
+  pub named_elsewhere : (t : Termination) → is_same t name ≡ false → term_of names t ≡ term_of n t
+  named_elsewhere (termination.Line i) e = refl
+  named_elsewhere (termination.Ephemeral i) e = ap eph_of (with_at_kept n.ephemerals k (Some x) i e)
+
+  named_still : (t : Termination) (u : TermId) → term_of n t ≡ Some u → term_of names t ≡ Some u
+  named_still t u named = go (is_same t name) refl
+    where
+      go : (p : Bool) → is_same t name ≡ p → term_of names t ≡ Some u
+      go true e = absurd (none_is_some u (sym (ap (term_of n) (is_same_is t name e) ∙ ap eph_of unbound_ephemeral) ∙ named))
+      go false e = named_elsewhere t e ∙ named
+
+  -- what a name stands for is another termination than the new one
+  term_apart : (t : Termination) (u : TermId) → term_of n t ≡ Some u → same_term u (Eph x) ≡ false
+  term_apart (termination.Line i) u named = ap (λ v. same_term v (Eph x)) (sym (the_some (Line (record { 0 = n.lines i })) u named))
+  term_apart (termination.Ephemeral i) u named = by_name (n.ephemerals i) refl
+    where
+      by_name : (o : Option ℕ) → n.ephemerals i ≡ o → same_term u (Eph x) ≡ false
+      by_name None e = absurd (none_is_some u (sym (ap eph_of e) ∙ named))
+      by_name (Some y) e = ap (λ v. same_term v (Eph x)) (sym (the_some (Eph y) u (sym (ap eph_of e) ∙ named)))
+          ∙ stands_apart b x fresh accounted y (shown.ephemeral_stands i y e)
+
+  read_here : (t : Termination) → is_same t name ≡ true → row_on after (term_of names t) ≡ Some first_row
+  read_here t e = ap (row_on after) (named_here t e) ∙ row_here b after (Eph x) first_row (created_row b x fresh accounted) (Eph x) (same_term_self (Eph x))
+
+  read_elsewhere : (t : Termination) → is_same t name ≡ false → row_on after (term_of names t) ≡ row_on b (term_of n t)
+  read_elsewhere t e = ap (row_on after) (named_elsewhere t e) ∙ go (term_of n t) refl
+    where
+      go : (o : Option TermId) → term_of n t ≡ o → row_on after o ≡ row_on b o
+      go None named = refl
+      go (Some u) named = row_elsewhere b after (Eph x) first_row (created_row b x fresh accounted) u (term_apart t u named)
+
+  abbrev next : Configuration
+  next = with_present c k
+
+  stands : (t : Termination) → IsSlot script t → (p : Bool) → is_same t name ≡ p → is_some (row_on after (term_of names t)) ≡ is_present (next.spot t)
+  stands t named true e = ap is_some (read_here t e) ∙ ap is_present (sym (with_of_here c.spot name Null) ∙ ap next.spot (sym (is_same_is t name e)))
+  stands t named false e = ap is_some (read_elsewhere t e) ∙ shown.stands t named ∙ ap is_present (sym (with_of_kept c.spot name Null t e))
+
+  place : (t : Termination) → IsSlot script t → (p : Bool) → is_same t name ≡ p → place_in (row_on after (term_of names t)) ≡ number_at n (next.spot t)
+  place t named true e = ap place_in (read_here t e) ∙ ap (number_at n) (sym (with_of_here c.spot name Null) ∙ ap next.spot (sym (is_same_is t name e)))
+  place t named false e = ap place_in (read_elsewhere t e) ∙ shown.place t named ∙ ap (number_at n) (sym (with_of_kept c.spot name Null t e))
+
+  in_bound : (t : Termination) (j : ℕ) → IsSlot script t → (p : Bool) → is_same t name ≡ p → next.spot t ≡ In j → is_some (n.contexts j) ≡ true
+  in_bound t j named true e at = absurd (true≢false (ap is_null (sym (with_of_here c.spot name Null) ∙ ap next.spot (sym (is_same_is t name e)) ∙ at)))
+    where
+      is_null : Spot → Bool
+      is_null Null = true
+      is_null spot = false
+  in_bound t j named false e at = shown.in_bound t j named (sym (with_of_kept c.spot name Null t e) ∙ at)
+
+  mode : (t : Termination) → IsSlot script t → (p : Bool) → is_same t name ≡ p → c.mode t ≡ mode_in (row_on after (term_of names t))
+  mode t named true e = ap c.mode (is_same_is t name e) ∙ shown.mode name slot ∙ ap mode_in row_before ∙ ap mode_in (sym (read_here t e))
+  mode t named false e = shown.mode t named ∙ ap mode_in (sym (read_elsewhere t e))
+
+  remote_still : (value : Remote) (o : Option ℕ) → RemoteReads b n value o → RemoteReads after names value o
+  remote_still Unset o reads = reads
+  remote_still Gone o reads = (
+    reads.0,
+    reads.1,
+    kept b x fresh accounted reads.0 (given_apart b x fresh accounted reads.0 reads.3) ∙ reads.2,
+    given_still true x b.given_ephemeral reads.0 reads.3,
+  )
+  remote_still (To i) o reads = (reads.0, reads.1, bound_still i reads.0 reads.2)
+    where
+      bound_still : (i y : ℕ) → n.ephemerals i ≡ Some y → with_at n.ephemerals k (Some x) i ≡ Some y
+      bound_still i y bound = go (i == k) refl
+        where
+          go : (p : Bool) → (i == k) ≡ p → with_at n.ephemerals k (Some x) i ≡ Some y
+          go true same = absurd (none_is_some y (sym (ap n.ephemerals (eqb-true i k same) ∙ unbound_ephemeral) ∙ bound))
+          go false other = with_at_kept n.ephemerals k (Some x) i other ∙ bound
+
+  remote : (i : ℕ) → i < length script.ephemerals → RemoteReads after names (c.remote i) (remote_in (row_on after (term_of names (termination.Ephemeral i))))
+  remote i named = subst (RemoteReads after names (c.remote i)) (go (is_same (termination.Ephemeral i) name) refl)
+      (remote_still (c.remote i) (remote_in (row_on b (term_of n (termination.Ephemeral i)))) (shown.remote i named))
+    where
+      go : (p : Bool) → is_same (termination.Ephemeral i) name ≡ p
+          → remote_in (row_on b (term_of n (termination.Ephemeral i))) ≡ remote_in (row_on after (term_of names (termination.Ephemeral i)))
+      go true e = ap (λ t. remote_in (row_on b (term_of n t))) (is_same_is (termination.Ephemeral i) name e) ∙ ap remote_in row_before
+          ∙ ap remote_in (sym (read_here (termination.Ephemeral i) e))
+      go false e = ap remote_in (sym (read_elsewhere (termination.Ephemeral i) e))
+
+  -- ---- cuts
+
+  cut_first : (o : Option TermId) → cut_on after (Some (Eph x)) o ≡ false
+  cut_first None = refl
+  cut_first (Some w) = ap (λ p. if p || same_term (Eph x) w then false else b.cut (Eph x) w) (same_term_self (Eph x))
+
+  cut_second : (o : Option TermId) → cut_on after o (Some (Eph x)) ≡ false
+  cut_second None = refl
+  cut_second (Some v) = go (same_term (Eph x) v)
+    where
+      go : (p : Bool) → (if p || same_term (Eph x) (Eph x) then false else b.cut v (Eph x)) ≡ false
+      go true = refl
+      go false = ap (λ p. if p then false else b.cut v (Eph x)) (same_term_self (Eph x))
+
+  cut_of_none : (o : Option TermId) → cut_on b o None ≡ false
+  cut_of_none None = refl
+  cut_of_none (Some v) = refl
+
+  cut_others : (o q : Option TermId) → ((u : TermId) → o ≡ Some u → same_term (Eph x) u ≡ false)
+      → ((u : TermId) → q ≡ Some u → same_term (Eph x) u ≡ false) → cut_on b o q ≡ cut_on after o q
+  cut_others None q first second = refl
+  cut_others (Some v) None first second = refl
+  cut_others (Some v) (Some w) first second =
+      sym (ap (λ p. if p || same_term (Eph x) w then false else b.cut v w) (first v refl) ∙ ap (λ p. if p then false else b.cut v w) (second w refl))
+
+  turned : (t : Termination) (u : TermId) → term_of n t ≡ Some u → same_term (Eph x) u ≡ false
+  turned t u named = go (same_term (Eph x) u) refl
+    where
+      go : (p : Bool) → same_term (Eph x) u ≡ p → p ≡ false
+      go true e = absurd (true≢false (sym (ap (λ v. same_term v (Eph x)) (sym (same_term_is (Eph x) u e)) ∙ same_term_self (Eph x)) ∙ term_apart t u named))
+      go false e = refl
+
+  cut : (t s : Termination) → IsSlot script t → IsSlot script s → (p q : Bool) → is_same t name ≡ p → is_same s name ≡ q
+      → c.cut t s ≡ cut_on after (term_of names t) (term_of names s)
+  cut t s first second true q e f = shown.cut t s first second
+      ∙ ap (λ o. cut_on b o (term_of n s)) (ap (term_of n) (is_same_is t name e) ∙ ap eph_of unbound_ephemeral)
+      ∙ sym (ap (λ o. cut_on after o (term_of names s)) (named_here t e) ∙ cut_first (term_of names s))
+  cut t s first second false true e f = shown.cut t s first second
+      ∙ ap (cut_on b (term_of n t)) (ap (term_of n) (is_same_is s name f) ∙ ap eph_of unbound_ephemeral)
+      ∙ cut_of_none (term_of n t)
+      ∙ sym (ap (cut_on after (term_of names t)) (named_here s f) ∙ cut_second (term_of names t))
+  cut t s first second false false e f = shown.cut t s first second
+      ∙ cut_others (term_of n t) (term_of n s) (turned t) (turned s)
+      ∙ sym (ap (λ o. cut_on after o (term_of names s)) (named_elsewhere t e) ∙ ap (cut_on after (term_of n t)) (named_elsewhere s f))
+
+  -- ---- contexts, ephemerals
+
+  members : (j y : ℕ) (u : TermId) → n.contexts j ≡ Some y → place_of after u ≡ y → (p : Bool) → same_term u (Eph x) ≡ p
+      → (t : Termination) × IsSlot script t × (term_of names t ≡ Some u)
+  members j y u bound at true e =
+      let null : 0 ≡ y = sym (ap place_in (row_here b after (Eph x) first_row (created_row b x fresh accounted) u e)) ∙ at in
+      let positive : 0 < y = (shown.context_real j y bound).0.0 in
+      absurd (omega (arith, null, positive))
+  members j y u bound at false e =
+      let was = shown.members j y u bound
+      (sym (ap place_in (row_elsewhere b after (Eph x) first_row (created_row b x fresh accounted) u e)) ∙ at) in
+      (was.0, was.1, named_still was.0 u was.2)
+
+  exists_new : exists after (Eph x) ≡ true
+  exists_new = ap is_some (row_here b after (Eph x) first_row (created_row b x fresh accounted) (Eph x) (same_term_self (Eph x)))
+
+  other_than_new : (i y : ℕ) → n.ephemerals i ≡ Some y → (y == x) ≡ false
+  other_than_new i y bound = stands_apart b x fresh accounted y (shown.ephemeral_stands i y bound)
+
+  once : (i l y : ℕ) → with_at n.ephemerals k (Some x) i ≡ Some y → with_at n.ephemerals k (Some x) l ≡ Some y → i ≡ l
+  once i l y first second = with_at_some n.ephemerals k (Some x) i (Some y) (i ≡ l) first
+      (λ same is. with_at_some n.ephemerals k (Some x) l (Some y) (i ≡ l) second
+      (λ too also. same ∙ sym too)
+      (λ other before. absurd (alone l before (the_some x y is))))
+      (λ other before. with_at_some n.ephemerals k (Some x) l (Some y) (i ≡ l) second
+      (λ too also. absurd (alone i before (the_some x y also)))
+      (λ apart known. shown.ephemeral_once i l y before known))
+    where
+      alone : (i : ℕ) → n.ephemerals i ≡ Some y → x ≡ y → ⊥
+      alone i bound is = true≢false (sym (eq-eqb y x (sym is)) ∙ other_than_new i y bound)
+
+  ephemeral_named : (y : ℕ) → owned_at own after (Eph y) ≡ true → exists after (Eph y) ≡ true → (p : Bool) → (y == x) ≡ p
+      → (i : ℕ) × (with_at n.ephemerals k (Some x) i ≡ Some y)
+  ephemeral_named y mine there true e = (k, with_at_here n.ephemerals k (Some x) ∙ ap (λ z. Some z) (sym (eqb-true y x e)))
+  ephemeral_named y mine there false e =
+      let was = shown.ephemeral_named y (sym (owned_elsewhere b x fresh accounted own earlier y e) ∙ mine) (sym (kept b x fresh accounted y e) ∙ there) in
+      (was.0, still (was.0 == k) refl was.1)
+    where
+      still : {i : ℕ} (p : Bool) → (i == k) ≡ p → n.ephemerals i ≡ Some y → with_at n.ephemerals k (Some x) i ≡ Some y
+      still {i = i} true same bound = absurd (none_is_some y (sym (ap n.ephemerals (eqb-true i k same) ∙ unbound_ephemeral) ∙ bound))
+      still {i = i} false other bound = with_at_kept n.ephemerals k (Some x) i other ∙ bound
+
+  pub created_shown : Shown script (owned_at own after) names after next
+  created_shown = record {
+    stands = λ t named. stands t named (is_same t name) refl;
+    place = λ t named. place t named (is_same t name) refl;
+    in_bound = λ t j named. in_bound t j named (is_same t name) refl;
+    mode = λ t named. mode t named (is_same t name) refl;
+    remote = remote;
+    cut = λ t s first second. cut t s first second (is_same t name) (is_same s name) refl refl;
+    bound = shown.bound;
+    line_stands = shown.line_stands;
+    line_owned = shown.line_owned;
+    line_once = shown.line_once;
+    context_real = shown.context_real;
+    context_once = shown.context_once;
+    members = λ j y u bound at. members j y u bound at (same_term u (Eph x)) refl;
+    ephemeral_slot = λ i y bound. with_at_some n.ephemerals k (Some x) i (Some y) (i < length script.ephemerals) bound
+        (λ same is. subst (λ l. l < length script.ephemerals) (sym same) slot)
+        (λ other before. shown.ephemeral_slot i y before);
+    ephemeral_stands = λ i y bound. with_at_some n.ephemerals k (Some x) i (Some y) (exists after (Eph y) ≡ true) bound
+        (λ same is. ap (λ z. exists after (Eph z)) (sym (the_some x y is)) ∙ exists_new)
+        (λ other before. kept b x fresh accounted y (other_than_new i y before) ∙ shown.ephemeral_stands i y before);
+    ephemeral_owned = λ i y bound. with_at_some n.ephemerals k (Some x) i (Some y) (owned_at own after (Eph y) ≡ true) bound
+        (λ same is. ap (λ z. owned_at own after (Eph z)) (sym (the_some x y is)) ∙ created_owned b x fresh accounted own earlier)
+        (λ other before. owned_elsewhere b x fresh accounted own earlier y (other_than_new i y before) ∙ shown.ephemeral_owned i y before);
+    ephemeral_once = once;
+    ephemeral_named = λ y mine there. ephemeral_named y mine there (y == x) refl;
+  }

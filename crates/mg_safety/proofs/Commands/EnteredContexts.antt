@@ -1,0 +1,95 @@
+-- What is known of the context into which a command places its termination, and of the place at which Modify finds one: a context that
+-- exists is live in the configuration and something owned stands in it; a created one is fresh.
+use Rattle.std.proofs.Common.{◌≡◌, ◌∙◌, ◌&&◌, ◌<◌, ℕ, Bool, true, false, Some, None, is_some, refl, sym, ap, inr, arith}
+use Rattle.std.proofs.lemmas.Bool.{eqb-true, eq-eqb, and_from}
+use Rattle.std.specs.Prelude.{if◌then◌else◌, ◌==◌, unwrap_or}
+use Rattle.mg_names.specs.declared.identifiers.TermId.{TermId}
+use Rattle.mg_model.specs.declared.commands.Place.{Place}
+use Rattle.mg_model.specs.declared.commands.Place.TheVariants.{NullContext, Context}
+use Rattle.mg_model.specs.declared.commands.Termination.{Termination}
+use Rattle.mg_model.specs.declared.components.Spot.TheVariants.{In}
+use Rattle.mg_model.specs.Board.{Board, exists, place_of}
+use Rattle.mg_model.specs.Configuration.{Configuration, IsWellFormed, is_in, is_live}
+use Rattle.mg_model.specs.Effects.{place_exists, stands_at}
+use Rattle.mg_model.specs.Numbers.{choose}
+use Rattle.mg_model.specs.Items.{is_context_number}
+use Rattle.mg_model.specs.Request.{place_known}
+use Rattle.mg_model.specs.Script.{Script}
+use Rattle.mg_model.specs.Accepted.{IsScript, IsSlot}
+use Rattle.mg_safety.proofs.Shared.Cases.{none_is_some, some_of}
+use Rattle.mg_safety.proofs.Commands.Binding.{with_context, with_given, with_at_some, with_at_kept, given_new, not_fresh}
+use Rattle.mg_safety.proofs.Commands.Carrying.{IsEntered, entered_before}
+use Rattle.mg_safety.proofs.Commands.InForce.{MayExist, context_in_force, someone_in, owned_in_context, live_of, in_named, null_named}
+use Rattle.mg_safety.proofs.Invariant.Shown.{Naming, term_of, Shown, IsAccounted, Owner, owned_at, AreBuilt, known_by, context_for, place_for}
+
+-- ---- numbers of contexts
+
+-- a name that commands may use is bound to a number
+pub known_context : (m : Naming) (j : ℕ) → is_some (m.contexts j) ≡ true → (x : ℕ) × (m.contexts j ≡ Some x) × (context_for m j ≡ x)
+known_context m j known =
+    let x = some_of (m.contexts j) known in
+    (x.0, x.1, ap (λ o. unwrap_or o 4294967295) x.1)
+
+pub real_not_null : (x : ℕ) → is_context_number x → x ≡ 0 → ⊥
+real_not_null x real null = let positive : 0 < x = real.0 in omega (arith, positive, null)
+
+pub real_not_choose : (x : ℕ) → is_context_number x → x ≡ choose → ⊥
+real_not_choose x real is = let below : x < choose = real.1 in omega (arith, below, is)
+
+-- the target of a command that doesn't name CHOOSE
+pub target_named : (x y : ℕ) → is_context_number x → (if x == choose then y else x) ≡ x
+target_named x y real = go (x == choose) refl
+  where
+    go : (p : Bool) → (x == choose) ≡ p → (if p then y else x) ≡ x
+    go true e = absurd (real_not_choose x real (eqb-true x choose e))
+    go false e = refl
+
+-- ---- a context that exists
+
+pub record IsExisting (own : Owner) (n m : Naming) (b : Board) (c : Configuration) (j x : ℕ) : Type 0 where
+  pub bound : n.contexts j ≡ Some x
+  pub live : is_live (c.context j) ≡ true
+  pub entered : IsEntered own n m b b.given_context x
+
+pub existing_context : (script : Script) → IsScript script → (own : Owner) (n m : Naming) (b : Board) (c : Configuration) (j x : ℕ)
+    → Shown script (owned_at own b) n b c → IsWellFormed c → IsAccounted b → AreBuilt n m b → m.contexts j ≡ Some x → MayExist b x
+    → IsExisting own n m b c j x
+existing_context script is_script own n m b c j x shown well_formed accounted built named may =
+    let bound : n.contexts j ≡ Some x = context_in_force n m b built j x named may in
+    let one = someone_in script (owned_at own b) n b c shown j x bound may in
+    let there = owned_in_context script (owned_at own b) n b c shown j x one.0 bound one.1 one.2 in
+    record {
+      bound = bound;
+      live = live_of script is_script c well_formed j one.0 one.1 one.2;
+      entered = entered_before own n m b x there.0 accounted built (real_not_null x (built.context_real j x named).0) there.1 there.2;
+    }
+
+-- ---- a context that is created
+
+pub entered_fresh : (own : Owner) (n m : Naming) (b : Board) (j y : ℕ) → AreBuilt n m b → b.given_context y ≡ false
+    → IsEntered own (with_context n j y) (with_context m j y) b (with_given b y).given_context y
+entered_fresh own n m b j y built fresh = record {
+  was_given = given_new y b.given_context;
+  in_force = λ i bound lost. with_at_some n.contexts j (Some y) i None ⊥ lost
+      (λ same is. none_is_some y (sym is))
+      (λ other before. not_fresh n m b j y fresh y
+      (built.context_real i y (sym (with_at_kept m.contexts j (Some y) i other) ∙ bound)).1 refl);
+  stood = inr fresh;
+}
+
+-- ---- the place at which Modify finds a termination
+
+pub modified_place : (script : Script) → IsScript script → (own : Owner) (n m : Naming) (b : Board) (c : Configuration)
+    → Shown script (owned_at own b) n b c → IsWellFormed c → AreBuilt n m b → (t : Termination) (u : TermId) → IsSlot script t
+    → term_of n t ≡ Some u → exists b u ≡ true → (place : Place) → place_known (known_by m) place ≡ true → place_of b u ≡ place_for m place
+    → (place_exists c place && stands_at (c.spot t) place) ≡ true
+modified_place script is_script own n m b c shown well_formed built t u slot named stood NullContext known at =
+    null_named script (owned_at own b) n b c shown t u slot named stood at
+modified_place script is_script own n m b c shown well_formed built t u slot named stood (Context j) known at =
+    let x = known_context m j known in
+    let there : place_of b u ≡ x.0 = at ∙ x.2 in
+    let bound : n.contexts j ≡ Some x.0 =
+    context_in_force n m b built j x.0 x.1 (λ none. none (real_not_null x.0 (built.context_real j x.0 x.1).0, (u, there))) in
+    let spot : c.spot t ≡ In j = in_named script (owned_at own b) n b c shown t u slot named j x.0 bound there in
+    and_from (is_live (c.context j)) (is_in (c.spot t) j) (live_of script is_script c well_formed j t slot spot)
+    (ap (λ s. is_in s j) spot ∙ eq-eqb j j refl)

@@ -1,0 +1,10 @@
+-- The events of the gateway and what they leave to other calls: executes, events of lines, restarts; and openings.
+pub mod Others
+pub mod RowAfterEvent
+pub mod LineEventsSound
+pub mod Executing
+pub mod ExecutedCalls
+pub mod ExecutedGateway
+pub mod ExecuteSound
+pub mod Restarts
+pub mod Openings

@@ -1,0 +1,112 @@
+-- A request that reaches the gateway keeps the world sound: it is executed, or its reply is sent once more, or nothing happens.
+use Rattle.std.proofs.Common.{◌≡◌, ◌∙◌, ◌++◌, List, [], ◌∷◌, refl, sym, ap, subst, arith, inl, inr}
+use Rattle.std.proofs.lemmas.List.Elements.{Contains-append_cases}
+use Rattle.std.specs.Prelude.{Contains}
+use Rattle.mg_model.specs.Entries.{Entry}
+use Rattle.mg_model.specs.Gateway.{Gateway, reply_of, after_request, sent_notes, IsExecutedBy}
+use Rattle.mg_model.specs.Messages.{Request, Reply, SentNote}
+use Rattle.mg_model.specs.RequestRun.{Refusal}
+use Rattle.mg_model.specs.Script.{Script}
+use Rattle.mg_model.specs.World.{World, execute, with_gateway, Executes, IsFirst, IsRepeat}
+use Rattle.mg_model.specs.Accepted.{IsScript}
+use Rattle.mg_safety.proofs.Shared.Single.{only_one}
+use Rattle.mg_safety.proofs.Invariant.Sound.{IsReplySound, IsSound}
+use Rattle.mg_safety.proofs.Invariant.Statements.{IsClosed, RequestsRun, OthersStayShown, OwnersAgree, KeepsSound}
+use Rattle.mg_safety.proofs.Shared.Offered.{fresh_at, kept_at}
+use Rattle.mg_safety.proofs.Events.Executing.{HasRun, is_due, due_runs}
+use Rattle.mg_safety.proofs.Events.ExecutedCalls.{OtherLost, world_after, calls_after}
+use Rattle.mg_safety.proofs.Events.ExecutedGateway.{gateway_after}
+
+-- ---- it is executed
+
+-- a world with another gateway and with what was sent since
+world_with : World → Gateway → Reply → List SentNote → World
+world_with w g answer sent = record (with_gateway w g) { replies = answer ∷ w.replies; notes = sent ++ w.notes }
+
+same_world : (w : World) (g h : Gateway) (answer other : Reply) (sent more : List SentNote) → g ≡ h → answer ≡ other → sent ≡ more
+    → world_with w g answer sent ≡ world_with w h other more
+same_world w g h answer other sent more first second third = cc
+
+has_run : RequestsRun → (script : Script) (entries : List Entry) → IsScript script → IsClosed script entries → (w : World) (request : Request)
+    (refusal : Refusal) (g : Gateway) (answer : Reply) (sent : List SentNote) → IsSound script entries w → Contains w.requests request
+    → (x : IsExecutedBy w.gateway request refusal g answer sent) → HasRun script entries w request x.end x.failure
+has_run run script entries is_script closed w request refusal g answer sent sound there x =
+    let open_call = sound.gateway.requests request there in
+    let own = sound.calls request.call open_call.0 open_call.1 in
+    let by = own.requests request there refl in
+    let offered = fresh_at w.gateway request x.is_fresh in
+    let due = is_due script entries w request open_call.0 own by offered.0 offered.1 in
+    record {
+      agent = open_call.0;
+      open_call = open_call.1;
+      call = own.numbered;
+      association = offered.0;
+      newer = offered.1;
+      below = by.number;
+      outstanding = due.outstanding;
+      run = due_runs run script entries is_script closed w.gateway open_call.0 request refusal x.end x.failure due sound.gateway.accounted x.runs;
+    }
+
+first_sound : RequestsRun → OthersStayShown → OwnersAgree → OtherLost → (script : Script) (entries : List Entry) → IsScript script → IsClosed script entries
+    → (w : World) (request : Request) (refusal : Refusal) (after : World) → IsSound script entries w → Contains w.requests request
+    → IsFirst w request refusal after → IsSound script entries after
+unfolding world_with
+first_sound run shown agree lost script entries is_script closed w request refusal after sound there f =
+    let x = f.executed in
+    let h = has_run run script entries is_script closed w request refusal f.gateway f.answer f.sent sound there x in
+    let is : after ≡ world_after w request x.end x.failure =
+    f.after_is ∙ same_world w f.gateway (after_request w.gateway request x.end x.failure) f.answer (reply_of request x.end x.failure) f.sent
+    (sent_notes request.call request.association (w.gateway.link request.call).notes x.end.notes) x.after_is x.reply_is x.notes_are in
+    subst (IsSound script entries) (sym is) (record {
+      gateway = gateway_after script entries w request x.end x.failure sound h;
+      calls = calls_after script entries w request x.end x.failure sound h shown agree lost;
+    })
+
+-- ---- its reply is sent once more
+
+repeat_sound : (script : Script) (entries : List Entry) (w : World) (request : Request) (after : World) → IsSound script entries w
+    → IsRepeat w request after → IsSound script entries after
+repeat_sound script entries w request after sound r =
+    let g = sound.gateway in
+    let last = kept_at w.gateway request r.answer r.kept in
+    let of = g.kept request.call r.answer last in
+    let again : IsReplySound w.gateway r.answer = record {
+      association = let present = of.1 in omega (arith, present);
+      kept = λ present. inl (ap (λ n. (w.gateway.link n).last) of.0 ∙ last);
+    } in
+    subst (IsSound script entries) (sym r.after_is) (record {
+      gateway = record {
+        accounted = g.accounted;
+        creator_given = g.creator_given;
+        created = g.created;
+        unheld = g.unheld;
+        held = g.held;
+        kept = g.kept;
+        request_ids = g.request_ids;
+        requests = g.requests;
+        replies = λ answer there. elim (Contains-append_cases (r.answer ∷ []) w.replies answer there) [
+          | inl new ↦ subst (IsReplySound w.gateway) (only_one r.answer answer new) again
+          | inr before ↦ g.replies answer before
+        ];
+        notes = g.notes;
+      };
+      calls = λ call a there. let old = sound.calls call a there in record {
+        numbered = old.numbered;
+        first = old.first;
+        next = old.next;
+        held = old.held;
+        once = old.once;
+        requests = old.requests;
+        outstanding = old.outstanding;
+        part = old.part;
+      };
+    })
+
+pub execute_sound : RequestsRun → OthersStayShown → OwnersAgree → OtherLost → (request : Request) (refusal : Refusal) → KeepsSound (execute request refusal)
+execute_sound run shown agree lost request refusal script entries is_script closed w after sound occurs = by_case occurs.1
+  where
+    by_case : Executes w request refusal after → IsSound script entries after
+    by_case (inl first) =
+        first_sound run shown agree lost script entries is_script closed w request refusal after sound occurs.0 first
+    by_case (inr (inl again)) = repeat_sound script entries w request after sound again
+    by_case (inr (inr dropped)) = subst (IsSound script entries) (sym dropped.1) sound

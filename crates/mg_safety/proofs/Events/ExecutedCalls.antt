@@ -1,0 +1,191 @@
+-- The calls after a request was executed: the request's own call is answered, and each other call is as it was.
+use Rattle.std.proofs.Common.{◌≡◌, ◌∙◌, ◌<◌, ◌++◌, ℕ, Bool, true, false, List, ◌∷◌, length, Option, Some, refl, sym, ap, subst, arith, inl, inr}
+use Rattle.std.proofs.Math.Path.{fun_ext}
+use Rattle.std.proofs.lemmas.Bool.{eqb-true, eqb-false}
+use Rattle.std.specs.Prelude.{◌==◌, unwrap_or}
+use Rattle.mg_names.specs.declared.identifiers.TermId.{TermId}
+use Rattle.mg_names.specs.declared.phases.Link as phases
+use Rattle.mg_model.specs.Agent.{Agent, after_results, built_by}
+use Rattle.mg_model.specs.Entries.{Entry}
+use Rattle.mg_model.specs.Gateway.{Gateway, CallLink, last_executed, reply_of, after_request, sent_notes}
+use Rattle.mg_model.specs.LineEvents.{LineRow}
+use Rattle.mg_model.specs.Messages.{Request, Failure}
+use Rattle.mg_model.specs.RequestRun.{Running}
+use Rattle.mg_model.specs.Script.{Script}
+use Rattle.mg_model.specs.World.{World, with_gateway}
+use Rattle.mg_safety.proofs.Agents.EffectiveAgent.{same_lines}
+use Rattle.mg_safety.proofs.Invariant.Shown.{naming, Shown}
+use Rattle.mg_safety.proofs.Invariant.Sound.{is_call, IsAt, IsCurrent, IsLost, IsSentBy, CallIsSound, IsSound}
+use Rattle.mg_safety.proofs.Invariant.Statements.{IsOwnChange, OthersStayShown, OwnersAgree}
+use Rattle.mg_safety.proofs.Events.Executing.{not_call_of, HasRun, link_own, link_other, executed_own, executed_other, run_changes}
+
+-- a lost call stays lost while another call's request runs
+abbrev pub OtherLost : Type 0
+OtherLost =
+    (script : Script) (g after : Gateway) (call : ℕ) (b : Agent) → IsLost script g b → IsOwnChange g after call → (call ≡ b.call → ⊥)
+    → after.association ≡ g.association → ((i : ℕ) → i < length script.lines → g.holder (b.lines i) ≡ Some b.call)
+    → ((l : ℕ) → is_call (g.holder l) call ≡ false → after.line l ≡ g.line l) → after.link b.call ≡ g.link b.call → IsLost script after b
+
+-- the world after a request was executed, with its reply and its notes sent
+abbrev pub world_after : World → Request → Running → Option Failure → World
+world_after w request end failure = record (with_gateway w (after_request w.gateway request end failure)) {
+  replies = reply_of request end failure ∷ w.replies;
+  notes = sent_notes request.call request.association (w.gateway.link request.call).notes end.notes ++ w.notes;
+}
+
+module _ (script : Script) (entries : List Entry) (w : World) (request : Request) (end : Running) (failure : Option Failure)
+    (sound : IsSound script entries w) (h : HasRun script entries w request end failure) where
+  -- ---- the call itself
+
+  own_current : OwnersAgree → IsCurrent script entries (after_request w.gateway request end failure) h.agent
+  own_current agree =
+      let g = w.gateway in
+      let a = h.agent in
+      let run = h.run in
+      let changes = subst (IsOwnChange w.gateway (after_request w.gateway request end failure)) (sym h.call)
+      (run_changes script entries w request end failure sound.gateway h) in
+      record {
+        association = sym h.outstanding.association ∙ h.association;
+        c = run.c;
+        e = after_results h.agent (built_by script h.agent h.agent.state) end.results request.number;
+        stands = run.stands;
+        state = run.state;
+        at = inr (inl (record {
+          request = request;
+          outstanding = h.outstanding;
+          answer = reply_of request end failure;
+          kept = ap (λ n. ((after_request w.gateway request end failure).link n).last) h.call ∙ link_own w.gateway request end failure;
+          number = refl;
+          effective = refl;
+          link_is = run.link;
+        }));
+        shown = subst (λ (owned : TermId → Bool). Shown script owned
+            (naming (after_results h.agent (built_by script h.agent h.agent.state) end.results request.number)) end.board run.c)
+            (fun_ext (agree w.gateway (after_request w.gateway request end failure) h.agent.call changes)) run.shown;
+        lines_shown = run.lines_shown;
+      }
+
+  own_sent : (one : Request) → IsSentBy w.gateway h.agent one → IsSentBy (after_request w.gateway request end failure) h.agent one
+  own_sent one sent = record {
+    association = sent.association;
+    number = sent.number;
+    outstanding = λ present. elim (sent.outstanding present) [
+      | inl phase ↦ inl phase
+      | inr settled ↦ (
+          let own : last_executed (after_request w.gateway request end failure) h.agent.call ≡ request.number =
+          ap (last_executed (after_request w.gateway request end failure)) h.call ∙ executed_own w.gateway request end failure in
+          let before : last_executed w.gateway h.agent.call ≡ last_executed w.gateway request.call = ap (last_executed w.gateway) h.call in
+          let newer = h.newer in
+          inr (omega (arith, own, before, newer, settled)))
+    ];
+  }
+
+  own_sound : OwnersAgree → CallIsSound script entries (world_after w request end failure) request.call h.agent
+  own_sound agree = let old = sound.calls request.call h.agent h.open_call in record {
+    numbered = h.call;
+    first = old.first;
+    next = let own = executed_own w.gateway request end failure in let below = h.below in omega (arith, own, below);
+    held = old.held;
+    once = old.once;
+    requests = λ one there of. own_sent one (old.requests one there of);
+    outstanding = old.outstanding;
+    part = inl (own_current agree);
+  }
+
+  -- ---- another call
+
+  module _ (other : ℕ) (b : Agent) (there : w.agent other ≡ Some b) (apart : request.call ≡ other → ⊥) where
+    numbered : b.call ≡ other
+    numbered = (sound.calls other b there).numbered
+
+    unlike : b.call ≡ request.call → ⊥
+    unlike e = apart (sym e ∙ numbered)
+
+    line_kept : (l : ℕ) → w.gateway.holder l ≡ Some b.call → end.line l ≡ w.gateway.line l
+    line_kept l held = h.run.other_lines l (not_call_of (w.gateway.holder l) b.call h.agent.call held (λ e. unlike (e ∙ h.call)))
+
+    other_at : (e : Agent) (link : phases.Link) → IsAt script w.gateway b e link → IsAt script (after_request w.gateway request end failure) b e link
+    other_at e link (inl s) = inl (record {
+      request = s.request;
+      outstanding = s.outstanding;
+      above = let same = executed_other w.gateway request end failure b.call unlike in let above = s.above in omega (arith, same, above);
+      effective = s.effective;
+      link_is = s.link_is;
+    })
+    other_at e link (inr (inl s)) = inr (inl (record {
+      request = s.request;
+      outstanding = s.outstanding;
+      answer = s.answer;
+      kept = ap (λ (x : CallLink). x.last) (link_other w.gateway request end failure b.call unlike) ∙ s.kept;
+      number = s.number;
+      effective = s.effective;
+      link_is = s.link_is;
+    }))
+    other_at e link (inr (inr s)) = inr (inr s)
+
+    other_current : OthersStayShown → IsCurrent script entries w.gateway b → IsCurrent script entries (after_request w.gateway request end failure) b
+    other_current stay k =
+        let held : (i : ℕ) → i < length script.lines → w.gateway.holder (k.e.lines i) ≡ Some b.call = λ i within.
+        ap (λ (lines : ℕ → ℕ). w.gateway.holder (lines i)) (same_lines script w.gateway b k.e k.c.link k.at)
+        ∙ (sound.calls other b there).held i within ∙ ap Some (sym numbered) in
+        record {
+          association = k.association;
+          c = k.c;
+          e = k.e;
+          stands = k.stands;
+          state = k.state;
+          at = other_at k.e k.c.link k.at;
+          shown = stay script w.gateway (after_request w.gateway request end failure) request.call b.call (naming k.e) k.c
+              (run_changes script entries w request end failure sound.gateway h) (λ e. unlike (sym e)) k.shown;
+          lines_shown = record {
+            events = λ i within. ap (λ (row : LineRow). row.list) (line_kept (k.e.lines i) (held i within)) ∙ k.lines_shown.events i within;
+            silent = λ i within quiet. ap (λ (row : LineRow). row.playing) (line_kept (k.e.lines i) (held i within))
+                ∙ k.lines_shown.silent i within quiet;
+            expected = λ i q within is. ap (λ (row : LineRow). row.request) (line_kept (k.e.lines i) (held i within))
+                ∙ k.lines_shown.expected i q within is;
+          };
+        }
+
+    other_lost : OtherLost → IsLost script w.gateway b → IsLost script (after_request w.gateway request end failure) b
+    other_lost stay lost = stay script w.gateway (after_request w.gateway request end failure) request.call b lost
+        (run_changes script entries w request end failure sound.gateway h) (λ e. unlike (sym e)) refl
+        (λ i within. (sound.calls other b there).held i within ∙ ap Some (sym numbered))
+        (λ l apart. h.run.other_lines l (ap (is_call (w.gateway.holder l)) h.call ∙ apart))
+        (link_other w.gateway request end failure b.call unlike)
+
+    other_sent : (one : Request) → IsSentBy w.gateway b one → IsSentBy (after_request w.gateway request end failure) b one
+    other_sent one sent = record {
+      association = sent.association;
+      number = sent.number;
+      outstanding = λ present. elim (sent.outstanding present) [
+        | inl phase ↦ inl phase
+        | inr settled ↦ (let same = executed_other w.gateway request end failure b.call unlike in inr (omega (arith, same, settled)))
+      ];
+    }
+
+    other_sound : OthersStayShown → OtherLost → CallIsSound script entries (world_after w request end failure) other b
+    other_sound shown lost = let old = sound.calls other b there in record {
+      numbered = old.numbered;
+      first = old.first;
+      next = let same = executed_other w.gateway request end failure other (λ e. apart (sym e)) in let below = old.next in omega (arith, same, below);
+      held = old.held;
+      once = old.once;
+      requests = λ one among of. other_sent one (old.requests one among of);
+      outstanding = old.outstanding;
+      part = elim old.part [
+        | inl k ↦ inl (other_current shown k)
+        | inr gone ↦ inr (other_lost lost gone)
+      ];
+    }
+
+  pub calls_after : OthersStayShown → OwnersAgree → OtherLost → (call : ℕ) (a : Agent) → w.agent call ≡ Some a
+      → CallIsSound script entries (world_after w request end failure) call a
+  calls_after shown agree lost call a there = go (request.call == call) refl
+    where
+      go : (same : Bool) → (request.call == call) ≡ same → CallIsSound script entries (world_after w request end failure) call a
+      go true e =
+          let one : request.call ≡ call = eqb-true request.call call e in
+          let same : h.agent ≡ a = ap (λ (o : Option Agent). unwrap_or o a) (sym h.open_call ∙ ap w.agent one ∙ there) in
+          subst (λ n. CallIsSound script entries (world_after w request end failure) n a) one
+          (subst (CallIsSound script entries (world_after w request end failure) request.call) same (own_sound agree))
+      go false e = other_sound call a there (eqb-false request.call call e) shown lost

@@ -1,0 +1,266 @@
+-- The gateway after a request was executed, and the messages that were sent: what was created is the call's, what its lines expect is bounded by
+-- the request's number, and its reply is the kept one.
+use Rattle.std.proofs.Common.{◌≡◌, ◌∙◌, ◌+◌, ◌<◌, ◌≤◌, ℕ, Bool, true, false, List, [], ◌∷◌, Option, Some, None, refl, sym, ap, subst, arith, inl, inr}
+use Rattle.std.proofs.lemmas.Bool.{eqb-true, eqb-false}
+use Rattle.std.proofs.lemmas.List.Elements.{Contains-append_left, Contains-append_right, Contains-append_cases}
+use Rattle.std.specs.Prelude.{◌==◌, if◌then◌else◌, Contains, unwrap_or, ◌⊎◌}
+use Rattle.mg_names.specs.declared.identifiers.TermId.TheVariants.{Line, Eph}
+use Rattle.mg_model.specs.declared.rows.Row.{Row}
+use Rattle.mg_model.specs.Agent.{Agent}
+use Rattle.mg_model.specs.Board.{exists}
+use Rattle.mg_model.specs.Entries.{Entry}
+use Rattle.mg_model.specs.Gateway.{CallLink, last_executed, number_of, reply_of, after_request, creator_after, sent_notes}
+use Rattle.mg_model.specs.LineEvents.{LineRow, Note}
+use Rattle.mg_model.specs.Messages.{Request, Reply, SentNote, Failure}
+use Rattle.mg_model.specs.RequestRun.{Running}
+use Rattle.mg_model.specs.Script.{Script}
+use Rattle.mg_model.specs.World.{World}
+use Rattle.mg_safety.proofs.Shared.Single.{only_one}
+use Rattle.mg_safety.proofs.Events.Others.{is_call_of}
+use Rattle.mg_safety.proofs.Shared.Cases.{none_is_some}
+use Rattle.mg_safety.proofs.Invariant.Shown.{list_raises}
+use Rattle.mg_safety.proofs.Invariant.Sound.{is_call, IsReplySound, IsNoteStanding, IsNoteSound, GatewayIsSound, IsSound}
+use Rattle.mg_safety.proofs.Invariant.Statements.{LineGoes}
+use Rattle.mg_safety.proofs.Events.Executing.{not_call_of, HasRun, link_own, link_other, executed_own, executed_other, executed_more}
+use Rattle.mg_safety.proofs.Events.ExecutedCalls.{world_after}
+
+-- ---- notes that a request sends
+
+record IsSentFrom (call association : ℕ) (notes : List (ℕ × Note)) (sent : SentNote) : Type 0 where
+  line : ℕ
+  note : Note
+  among : Contains notes (line, note)
+  of_call : sent.call ≡ call
+  of_association : sent.association ≡ association
+  of_line : sent.line ≡ line
+  note_is : sent.note ≡ note
+
+sent_from : (call association count : ℕ) (notes : List (ℕ × Note)) (sent : SentNote) → Contains (sent_notes call association count notes) sent
+    → IsSentFrom call association notes sent
+sent_from call association count [] sent there = absurd (let nothing : there.0 < 0 = there.1 in omega (arith, nothing))
+sent_from call association count (n ∷ more) sent there =
+    let one : SentNote = record { call = call; association = association; number = count + 1; line = n.0; note = n.1 } in
+    elim (Contains-append_cases (one ∷ []) (sent_notes call association (count + 1) more) sent there) [
+      | inl first ↦ (let same : one ≡ sent = only_one one sent first in record {
+        line = n.0;
+        note = n.1;
+        among = Contains-append_left (n ∷ []) more n (0, omega arith, refl);
+        of_call = sym (ap (λ (x : SentNote). x.call) same);
+        of_association = sym (ap (λ (x : SentNote). x.association) same);
+        of_line = sym (ap (λ (x : SentNote). x.line) same);
+        note_is = sym (ap (λ (x : SentNote). x.note) same);
+      })
+      | inr later ↦ (let rest : IsSentFrom call association more sent = sent_from call association (count + 1) more sent later in record {
+        line = rest.line;
+        note = rest.note;
+        among = Contains-append_right (n ∷ []) more (rest.line, rest.note) rest.among;
+        of_call = rest.of_call;
+        of_association = rest.of_association;
+        of_line = rest.of_line;
+        note_is = rest.note_is;
+      })
+    ]
+
+-- ---- ephemerals
+
+-- whose an ephemeral is afterwards: its creator was that before, or it is new and of the call
+creator_cases : (before after : Bool) (was : Option ℕ) (call one : ℕ) → (if after then (if before then was else Some call) else was) ≡ Some one
+    → (was ≡ Some one) ⊎ (after ≡ true)
+creator_cases before true was call one e = inr refl
+creator_cases before false was call one e = inl e
+
+creator_old : (before after : Bool) (was : Option ℕ) (call one : ℕ) → was ≡ Some one → before ≡ true
+    → (if after then (if before then was else Some call) else was) ≡ Some one
+creator_old before true was call one is given = ap (λ (p : Bool). if p then was else Some call) given ∙ is
+creator_old before false was call one is given = is
+
+creator_new : (before after : Bool) (was : Option ℕ) (call : ℕ) → before ≡ false → after ≡ true
+    → (if after then (if before then was else Some call) else was) ≡ Some call
+creator_new before after was call fresh given = rw (fresh, given) refl
+
+-- ---- what was sent before
+
+-- the descriptor of a line with a RequestID that is no more than a bound below the request's number is the one that stood before
+same_descriptor : (row after : LineRow) (number q bound : ℕ) → LineGoes number row after → after.request ≡ Some q → q ≤ bound → bound < number
+    → (after.list ≡ row.list) × (row.request ≡ Some q)
+same_descriptor row after number q bound (inl armed) is within above =
+    let same : number ≡ q = ap (λ (o : Option ℕ). unwrap_or o q) (sym armed ∙ is) in absurd (omega (arith, same, within, above))
+same_descriptor row after number q bound (inr (inl emptied)) is within above = absurd (none_is_some q (sym emptied ∙ is))
+same_descriptor row after number q bound (inr (inr stays)) is within above = (stays.0, sym stays.1 ∙ is)
+
+-- a RequestID of the call's line is no more than the request's number
+bounded : (row after : LineRow) (number q bound : ℕ) → LineGoes number row after → after.request ≡ Some q → (row.request ≡ Some q → q ≤ bound)
+    → bound < number → q ≤ number
+bounded row after number q bound (inl armed) is within above =
+    let same : number ≡ q = ap (λ (o : Option ℕ). unwrap_or o q) (sym armed ∙ is) in omega (arith, same)
+bounded row after number q bound (inr (inl emptied)) is within above = absurd (none_is_some q (sym emptied ∙ is))
+bounded row after number q bound (inr (inr stays)) is within above =
+    let old : q ≤ bound = within (sym stays.1 ∙ is) in omega (arith, old, above)
+
+module _ (script : Script) (entries : List Entry) (w : World) (request : Request) (end : Running) (failure : Option Failure)
+    (sound : IsSound script entries w) (h : HasRun script entries w request end failure) where
+  other_line : (l call : ℕ) → w.gateway.holder l ≡ Some call → (call ≡ request.call → ⊥) → end.line l ≡ w.gateway.line l
+  other_line l call held apart = h.run.other_lines l (not_call_of (w.gateway.holder l) call h.agent.call held (λ e. apart (e ∙ h.call)))
+
+  -- ---- ephemerals and lines
+
+  given_kept : (x : ℕ) → w.gateway.board.given_ephemeral x ≡ true → end.board.given_ephemeral x ≡ true
+  given_kept = h.run.changes.given_ephemeral
+
+  creator_given : (x call : ℕ) → creator_after w.gateway request end x ≡ Some call → end.board.given_ephemeral x ≡ true
+  creator_given x call is = elim (creator_cases (w.gateway.board.given_ephemeral x) (end.board.given_ephemeral x) (w.gateway.creator x) request.call call is) [
+    | inl was ↦ given_kept x (sound.gateway.creator_given x call was)
+    | inr given ↦ given
+  ]
+
+  created : (x : ℕ) → exists end.board (Eph x) ≡ true → (call : ℕ) × (a : Agent) × (creator_after w.gateway request end x ≡ Some call) × (w.agent call ≡ Some a)
+  created x stands = elim (h.run.changes.ephemeral x stands) [
+    | inl before ↦ (let was = sound.gateway.created x before in (
+      was.0,
+      was.1,
+      creator_old (w.gateway.board.given_ephemeral x) (end.board.given_ephemeral x) (w.gateway.creator x) request.call was.0 was.2
+          (sound.gateway.creator_given x was.0 was.2),
+      was.3,
+    ))
+    | inr fresh ↦ (
+      request.call,
+      h.agent,
+      creator_new (w.gateway.board.given_ephemeral x) (end.board.given_ephemeral x) (w.gateway.creator x) request.call
+          fresh (h.run.accounted.ephemerals x stands),
+      h.open_call,
+    )
+  ]
+
+  unheld : (l : ℕ) (row : Row) → w.gateway.holder l ≡ None → end.board.row (Line (record { 0 = l })) ≡ Some row → row.place.0 ≡ 0
+  unheld l row free is = sound.gateway.unheld l row free
+      (sym (h.run.changes.row (Line (record { 0 = l })) (ap (λ (o : Option ℕ). is_call o h.agent.call) free)) ∙ is)
+
+  request_ids : (l call q : ℕ) → w.gateway.holder l ≡ Some call → (end.line l).request ≡ Some q
+      → q ≤ last_executed (after_request w.gateway request end failure) call
+  request_ids l call q held is = go (call == request.call) refl
+    where
+      go : (same : Bool) → (call == request.call) ≡ same → q ≤ last_executed (after_request w.gateway request end failure) call
+      go true e =
+          let one : call ≡ request.call = eqb-true call request.call e in
+          let own : last_executed (after_request w.gateway request end failure) call ≡ request.number =
+          ap (last_executed (after_request w.gateway request end failure)) one ∙ executed_own w.gateway request end failure in
+          let below : q ≤ request.number = bounded (w.gateway.line l) (end.line l) request.number q (last_executed w.gateway request.call)
+          (h.run.own_lines l) is (sound.gateway.request_ids l request.call q (held ∙ ap Some one)) h.newer in
+          omega (arith, own, below)
+      go false e =
+          let apart = eqb-false call request.call e in
+          let same = executed_other w.gateway request end failure call apart in
+          let below = sound.gateway.request_ids l call q held (ap (λ (row : LineRow). row.request) (sym (other_line l call held apart)) ∙ is) in
+          omega (arith, same, below)
+
+  -- ---- replies
+
+  kept : (call : ℕ) (answer : Reply) → ((after_request w.gateway request end failure).link call).last ≡ Some answer
+      → (answer.call ≡ call) × (answer.association ≡ w.gateway.association)
+  kept call answer is = go (call == request.call) refl
+    where
+      go : (same : Bool) → (call == request.call) ≡ same → (answer.call ≡ call) × (answer.association ≡ w.gateway.association)
+      go true e =
+          let one : call ≡ request.call = eqb-true call request.call e in
+          let the_answer : reply_of request end failure ≡ answer = ap (λ (o : Option Reply). unwrap_or o answer)
+          (sym (ap (λ n. ((after_request w.gateway request end failure).link n).last) one ∙ link_own w.gateway request end failure) ∙ is) in
+          (sym (ap (λ (r : Reply). r.call) the_answer) ∙ sym one, sym (ap (λ (r : Reply). r.association) the_answer) ∙ h.association)
+      go false e = sound.gateway.kept call answer
+          (ap (λ (x : CallLink). x.last) (sym (link_other w.gateway request end failure call (eqb-false call request.call e))) ∙ is)
+
+  reply_after : (answer : Reply) → IsReplySound w.gateway answer → IsReplySound (after_request w.gateway request end failure) answer
+  reply_after answer old = record {
+    association = old.association;
+    kept = λ present. go (old.kept present) (answer.call == request.call) refl;
+  }
+    where
+      go : ((w.gateway.link answer.call).last ≡ Some answer) ⊎ (answer.number < last_executed w.gateway answer.call)
+          → (same : Bool) → (answer.call == request.call) ≡ same
+          → (((after_request w.gateway request end failure).link answer.call).last ≡ Some answer)
+          ⊎ (answer.number < last_executed (after_request w.gateway request end failure) answer.call)
+      go (inl last) true e =
+          let one : answer.call ≡ request.call = eqb-true answer.call request.call e in
+          let own : last_executed (after_request w.gateway request end failure) answer.call ≡ request.number =
+          ap (last_executed (after_request w.gateway request end failure)) one ∙ executed_own w.gateway request end failure in
+          let number : last_executed w.gateway request.call ≡ answer.number = ap (last_executed w.gateway) (sym one) ∙ ap number_of last in
+          let newer = h.newer in
+          inr (omega (arith, own, number, newer))
+      go (inl last) false e = inl (ap (λ (x : CallLink). x.last)
+          (link_other w.gateway request end failure answer.call (eqb-false answer.call request.call e)) ∙ last)
+      go (inr older) same e =
+          let more = executed_more w.gateway request end failure h.newer answer.call in inr (omega (arith, older, more))
+
+  reply_new : IsReplySound (after_request w.gateway request end failure) (reply_of request end failure)
+  reply_new = record {
+    association = let present = h.association in omega (arith, present);
+    kept = λ present. inl (link_own w.gateway request end failure);
+  }
+
+  -- ---- notes
+
+  note_new : (sent : SentNote) → Contains (sent_notes request.call request.association (w.gateway.link request.call).notes end.notes) sent
+      → IsNoteSound (after_request w.gateway request end failure) sent
+  note_new sent there =
+      let from : IsSentFrom request.call request.association end.notes sent =
+      sent_from request.call request.association (w.gateway.link request.call).notes end.notes sent there in
+      let raised = h.run.notes from.line from.note from.among in
+      let number : sent.note.request ≡ request.number = ap (λ (n : Note). n.request) from.note_is ∙ raised.1 in
+      let own : last_executed (after_request w.gateway request end failure) sent.call ≡ request.number =
+      ap (last_executed (after_request w.gateway request end failure)) from.of_call ∙ executed_own w.gateway request end failure in
+      record {
+        association = let of = from.of_association in let present = h.association in omega (arith, of, present);
+        standing = λ present. record {
+          held = ap w.gateway.holder from.of_line ∙ is_call_of (w.gateway.holder from.line) h.agent.call raised.0
+              ∙ ap Some h.call ∙ ap Some (sym from.of_call);
+          number = omega (arith, number, own);
+          raised = λ is. ap (λ (n : Note). list_raises (end.line sent.line).list n.kind) from.note_is
+              ∙ ap (λ l. list_raises (end.line l).list from.note.kind) from.of_line
+              ∙ raised.2 (ap (λ l. (end.line l).request) (sym from.of_line) ∙ is ∙ ap Some number);
+        };
+      }
+
+  note_after : (sent : SentNote) → IsNoteSound w.gateway sent → IsNoteSound (after_request w.gateway request end failure) sent
+  note_after sent old = record {
+    association = old.association;
+    standing = λ present. record {
+      held = (old.standing present).held;
+      number = let below = (old.standing present).number in
+          let more = executed_more w.gateway request end failure h.newer sent.call in omega (arith, below, more);
+      raised = λ is. go (old.standing present) is (sent.call == request.call) refl;
+    };
+  }
+    where
+      go : IsNoteStanding w.gateway sent → (end.line sent.line).request ≡ Some sent.note.request → (same : Bool) → (sent.call == request.call) ≡ same
+          → list_raises (end.line sent.line).list sent.note.kind ≡ true
+      go was is true e =
+          let one : sent.call ≡ request.call = eqb-true sent.call request.call e in
+          let below : sent.note.request ≤ last_executed w.gateway request.call =
+          subst (λ n. sent.note.request ≤ last_executed w.gateway n) one was.number in
+          let stays = same_descriptor (w.gateway.line sent.line) (end.line sent.line) request.number sent.note.request
+          (last_executed w.gateway request.call) (h.run.own_lines sent.line) is below h.newer in
+          ap (λ list. list_raises list sent.note.kind) stays.0 ∙ was.raised stays.1
+      go was is false e =
+          let same = other_line sent.line sent.call was.held (eqb-false sent.call request.call e) in
+          ap (λ (row : LineRow). list_raises row.list sent.note.kind) same
+          ∙ was.raised (ap (λ (row : LineRow). row.request) (sym same) ∙ is)
+
+  pub gateway_after : GatewayIsSound script (world_after w request end failure)
+  gateway_after = record {
+    accounted = h.run.accounted;
+    creator_given = creator_given;
+    created = created;
+    unheld = unheld;
+    held = sound.gateway.held;
+    kept = kept;
+    request_ids = request_ids;
+    requests = sound.gateway.requests;
+    replies = λ answer there. elim (Contains-append_cases (reply_of request end failure ∷ []) w.replies answer there) [
+      | inl new ↦ subst (IsReplySound (after_request w.gateway request end failure)) (only_one (reply_of request end failure) answer new) reply_new
+      | inr before ↦ reply_after answer (sound.gateway.replies answer before)
+    ];
+    notes = λ sent there. elim (Contains-append_cases
+        (sent_notes request.call request.association (w.gateway.link request.call).notes end.notes) w.notes sent there) [
+          | inl new ↦ note_new sent new
+          | inr before ↦ note_after sent (sound.gateway.notes sent before)
+        ];
+  }

@@ -1,0 +1,234 @@
+-- An event of a line keeps the world sound: the board, the holders and the kept replies stay, each line's descriptor stays, and the note that
+-- is raised is one of the descriptor that stands.
+use Rattle.std.proofs.Common.{◌≡◌, ◌∙◌, ◌+◌, ◌++◌, ℕ, Bool, true, false, List, [], ◌∷◌, length, Option, Some, None, refl, sym, ap, subst, arith, ◌<◌, ◌≤◌, ◌⊎◌, inl, inr, zero, suc, get_or}
+use Rattle.std.specs.Prelude.{◌==◌, if◌then◌else◌, Contains}
+use Rattle.std.proofs.lemmas.Bool.{eqb-true}
+use Rattle.std.proofs.lemmas.List.Elements.{Contains-append_cases}
+use Rattle.mg_names.specs.declared.phases.Link as phases
+use Rattle.mg_model.specs.Agent.{Agent, awaits_reply}
+use Rattle.mg_model.specs.Configuration.{Configuration}
+use Rattle.mg_model.specs.Entries.{Entry}
+use Rattle.mg_model.specs.declared.line_events.LineEvent.{LineEvent}
+use Rattle.mg_model.specs.Gateway.{Gateway, last_executed, number_of, with_line, with_notes, notes_from}
+use Rattle.mg_model.specs.LineEvents.{LineRow, Note, Outcome, silent}
+use Rattle.mg_model.specs.Messages.{Request, Reply, SentNote}
+use Rattle.mg_model.specs.Script.{Script}
+use Rattle.mg_model.specs.World.{World, on_a_line, with_gateway}
+use Rattle.mg_safety.proofs.Events.RowAfterEvent.{IsRowAfter, row_after}
+use Rattle.mg_safety.proofs.Invariant.Shown.{LinesShown, list_raises}
+use Rattle.mg_safety.proofs.Invariant.Sound.{IsAt, IsCurrent, IsLost, IsSentBy, CallIsSound, IsReplySound, IsNoteStanding, IsNoteSound, GatewayIsSound, IsSound}
+use Rattle.mg_safety.proofs.Invariant.Statements.{KeepsSound}
+
+-- what an event leaves of a line
+record IsKept (row after : LineRow) : Type 0 where
+  list : after.list ≡ row.list
+  request : after.request ≡ row.request
+  silence : row.playing ≡ silent → after.playing ≡ silent
+
+-- the note that an event of a line raised
+record IsNew (g : Gateway) (call l : ℕ) (note : Option Note) (sent : SentNote) : Type 0 where
+  call_is : sent.call ≡ call
+  association_is : sent.association ≡ g.association
+  line_is : sent.line ≡ l
+  note_is : note ≡ Some sent.note
+
+new_note : (g : Gateway) (call l : ℕ) (note : Option Note) (sent : SentNote) → Contains (notes_from g call l note) sent → IsNew g call l note sent
+new_note g call l None sent among = absurd (let below : among.0 < 0 = among.1 in omega (arith, below))
+new_note g call l (Some n) sent among = at_first among.0 among.1 among.2
+  where
+    one : SentNote
+    one = record { call = call; association = g.association; number = (g.link call).notes + 1; line = l; note = n }
+
+    at_first : (place : ℕ) → place < 1 → get_or (one ∷ []) place sent ≡ sent → IsNew g call l (Some n) sent
+    at_first zero within is = subst (IsNew g call l (Some n)) is (record { call_is = refl; association_is = refl; line_is = refl; note_is = refl })
+    at_first (suc place) within is = absurd (let below : suc place < 1 = within in omega (arith, below))
+
+-- the world after an event of a line that a call holds, with its note
+abbrev world_after : World → (l call count : ℕ) → Outcome → World
+world_after w l call count outcome = record (with_gateway w (with_notes (with_line w.gateway l outcome.row) call count)) {
+  notes = notes_from w.gateway call l outcome.note ++ w.notes;
+}
+
+module _ (script : Script) (entries : List Entry) (w : World) (sound : IsSound script entries w) (l call count : ℕ) (outcome : Outcome)
+    (held : w.gateway.holder l ≡ Some call) (is_after : IsRowAfter (w.gateway.line l) outcome) where
+  abbrev g : Gateway
+  g = w.gateway
+
+  abbrev later : Gateway
+  later = with_notes (with_line g l outcome.row) call count
+
+  abbrev sent_now : List SentNote
+  sent_now = notes_from g call l outcome.note
+
+  abbrev after : World
+  after = world_after w l call count outcome
+
+  -- ---- lines and kept replies
+
+  line_kept : (m : ℕ) → IsKept (g.line m) (later.line m)
+  line_kept m = at (m == l) refl
+    where
+      at : (test : Bool) → (m == l) ≡ test → IsKept (g.line m) (if test then outcome.row else g.line m)
+      at true e = subst (λ k. IsKept (g.line k) outcome.row) (sym (eqb-true m l e))
+          (record { list = is_after.list; request = is_after.request; silence = is_after.silence })
+      at false e = record { list = refl; request = refl; silence = λ still. still }
+
+  last_kept : (one : ℕ) → (later.link one).last ≡ (g.link one).last
+  last_kept one = at (one == call) refl
+    where
+      at : (test : Bool) → (one == call) ≡ test
+          → (if test then record { last = (g.link call).last; notes = (g.link call).notes + count } else g.link one).last ≡ (g.link one).last
+      at true e = ap (λ k. (g.link k).last) (sym (eqb-true one call e))
+      at false e = refl
+
+  executed_kept : (one : ℕ) → last_executed later one ≡ last_executed g one
+  executed_kept one = ap number_of (last_kept one)
+
+  -- ---- notes and replies
+
+  new_standing : (sent : SentNote) → IsNew g call l outcome.note sent → IsNoteStanding later sent
+  new_standing sent new =
+      let raised = is_after.note sent.note new.note_is in
+      let listed : sent.note.request ≤ last_executed g call = sound.gateway.request_ids l call sent.note.request held raised.0 in
+      record {
+        held = ap g.holder new.line_is ∙ held ∙ ap (λ (n : ℕ). Some n) (sym new.call_is);
+        number = subst (λ n. sent.note.request ≤ n) (sym (executed_kept sent.call ∙ ap (last_executed g) new.call_is)) listed;
+        raised = λ stands. ap (λ list. list_raises list sent.note.kind) ((line_kept sent.line).list ∙ ap (λ m. (g.line m).list) new.line_is) ∙ raised.1;
+      }
+
+  old_standing : (sent : SentNote) → IsNoteStanding g sent → IsNoteStanding later sent
+  old_standing sent old = record {
+    held = old.held;
+    number = subst (λ n. sent.note.request ≤ n) (sym (executed_kept sent.call)) old.number;
+    raised = λ stands. ap (λ list. list_raises list sent.note.kind) (line_kept sent.line).list
+        ∙ old.raised (sym (line_kept sent.line).request ∙ stands);
+  }
+
+  note_sound : (sent : SentNote) → Contains (sent_now ++ w.notes) sent → IsNoteSound later sent
+  note_sound sent among = elim (Contains-append_cases sent_now w.notes sent among) [
+    | inl new ↦ of_new (new_note g call l outcome.note sent new)
+    | inr old ↦ record {
+      association = (sound.gateway.notes sent old).association;
+      standing = λ same. old_standing sent ((sound.gateway.notes sent old).standing same);
+    }
+  ]
+    where
+      of_new : IsNew g call l outcome.note sent → IsNoteSound later sent
+      of_new new =
+          let same : sent.association ≡ g.association = new.association_is in
+          record { association = omega (arith, same); standing = λ present. new_standing sent new }
+
+  reply_sound : (answer : Reply) → Contains w.replies answer → IsReplySound later answer
+  reply_sound answer among = record {
+    association = (sound.gateway.replies answer among).association;
+    kept = λ same. of_call ((sound.gateway.replies answer among).kept same);
+  }
+    where
+      of_call : ((g.link answer.call).last ≡ Some answer) ⊎ (answer.number < last_executed g answer.call)
+          → ((later.link answer.call).last ≡ Some answer) ⊎ (answer.number < last_executed later answer.call)
+      of_call (inl kept) = inl (last_kept answer.call ∙ kept)
+      of_call (inr older) = inr (subst (λ n. answer.number < n) (sym (executed_kept answer.call)) older)
+
+  gateway_sound : GatewayIsSound script after
+  gateway_sound = record {
+    accounted = sound.gateway.accounted;
+    creator_given = sound.gateway.creator_given;
+    created = sound.gateway.created;
+    unheld = sound.gateway.unheld;
+    held = sound.gateway.held;
+    kept = λ one answer e. sound.gateway.kept one answer (sym (last_kept one) ∙ e);
+    request_ids = λ m one q is stands. subst (λ n. q ≤ n) (sym (executed_kept one))
+        (sound.gateway.request_ids m one q is (sym (line_kept m).request ∙ stands));
+    requests = sound.gateway.requests;
+    replies = reply_sound;
+    notes = note_sound;
+  }
+
+  -- ---- calls
+
+  at_kept : (a e : Agent) (link : phases.Link) → IsAt script g a e link → IsAt script later a e link
+  at_kept a e link (inl sent) = inl (record {
+    request = sent.request;
+    outstanding = sent.outstanding;
+    above = subst (λ n. n < sent.request.number) (sym (executed_kept a.call)) sent.above;
+    effective = sent.effective;
+    link_is = sent.link_is;
+  })
+  at_kept a e link (inr (inl answered)) = inr (inl (record {
+    request = answered.request;
+    outstanding = answered.outstanding;
+    answer = answered.answer;
+    kept = last_kept a.call ∙ answered.kept;
+    number = answered.number;
+    effective = answered.effective;
+    link_is = answered.link_is;
+  }))
+  at_kept a e link (inr (inr rests)) = inr (inr rests)
+
+  lines_kept : (e : Agent) (c : Configuration) → LinesShown script e g.line c → LinesShown script e later.line c
+  lines_kept e c shown = record {
+    events = λ i within. (line_kept (e.lines i)).list ∙ shown.events i within;
+    silent = λ i within still. (line_kept (e.lines i)).silence (shown.silent i within still);
+    expected = λ i q within expects. (line_kept (e.lines i)).request ∙ shown.expected i q within expects;
+  }
+
+  part_kept : (a : Agent) → IsCurrent script entries g a ⊎ IsLost script g a → IsCurrent script entries later a ⊎ IsLost script later a
+  part_kept a (inl current) = inl (record {
+    association = current.association;
+    c = current.c;
+    e = current.e;
+    stands = current.stands;
+    state = current.state;
+    at = at_kept a current.e current.c.link current.at;
+    shown = current.shown;
+    lines_shown = lines_kept current.e current.c current.lines_shown;
+  })
+  part_kept a (inr lost) = inr (record {
+    association = lost.association;
+    rows = lost.rows;
+    list = λ i within. (line_kept (a.lines i)).list ∙ lost.list i within;
+    playing = λ i within. (line_kept (a.lines i)).silence (lost.playing i within);
+    request = λ i within. (line_kept (a.lines i)).request ∙ lost.request i within;
+    no_ephemeral = lost.no_ephemeral;
+    no_reply = last_kept a.call ∙ lost.no_reply;
+    no_cut = lost.no_cut;
+  })
+
+  sent_kept : (a : Agent) (request : Request) → IsSentBy g a request → IsSentBy later a request
+  sent_kept a request sent = record {
+    association = sent.association;
+    number = sent.number;
+    outstanding = λ same. of_call (sent.outstanding same);
+  }
+    where
+      of_call : (a.phase ≡ awaits_reply request) ⊎ (request.number ≤ last_executed g a.call)
+          → (a.phase ≡ awaits_reply request) ⊎ (request.number ≤ last_executed later a.call)
+      of_call (inl awaits) = inl awaits
+      of_call (inr older) = inr (subst (λ n. request.number ≤ n) (sym (executed_kept a.call)) older)
+
+  call_sound : (one : ℕ) (a : Agent) → w.agent one ≡ Some a → CallIsSound script entries after one a
+  call_sound one a there =
+      let was = sound.calls one a there in
+      record {
+        numbered = was.numbered;
+        first = was.first;
+        next = subst (λ n. n < a.next) (sym (executed_kept one)) was.next;
+        held = was.held;
+        once = was.once;
+        requests = λ request among of. sent_kept a request (was.requests request among of);
+        outstanding = was.outstanding;
+        part = part_kept a was.part;
+      }
+
+  after_sound : IsSound script entries after
+  after_sound = record { gateway = gateway_sound; calls = call_sound }
+
+pub line_sound : (l : ℕ) (event : LineEvent) → KeepsSound (on_a_line l event)
+line_sound l event script entries is_script closed w after sound occurs =
+    let h = occurs.happens in
+    let is : after ≡ world_after w l h.call (length occurs.sent) h.outcome =
+    occurs.after_is ∙ ap (λ (g : Gateway). record (with_gateway w g) { notes = occurs.sent ++ w.notes }) h.after_is
+    ∙ ap (λ (sent : List SentNote). record (with_gateway w (with_notes (with_line w.gateway l h.outcome.row) h.call (length occurs.sent))) { notes = sent ++ w.notes })
+    h.notes_are in
+    subst (IsSound script entries) (sym is)
+    (after_sound script entries w sound l h.call (length occurs.sent) h.outcome h.held (row_after (w.gateway.line l) event h.outcome h.happens))

@@ -1,0 +1,203 @@
+-- Openings are sound: every call stands in the opening configuration, which the certificate has, and nothing was sent.
+use Rattle.std.proofs.Common.{◌≡◌, ◌∙◌, ℕ, Bool, true, false, List, [], length, Option, Some, None, is_some, refl, sym, ap, subst, arith, true≢false, ◌<◌, ◌≤◌, inl, inr}
+use Rattle.std.specs.Prelude.{Contains, if◌then◌else◌, nat_lt, unwrap_or}
+use Rattle.std.proofs.lemmas.Bool.{eq-eqb}
+use Rattle.std.proofs.lemmas.Grind.{common_steps}
+use Rattle.mg_names.specs.declared.identifiers.TermId.{TermId}
+use Rattle.mg_names.specs.declared.identifiers.TermId.TheVariants.{Line}
+use Rattle.mg_model.specs.declared.commands.EventsName.TheVariants.{Empty, Armed}
+use Rattle.mg_model.specs.declared.commands.Termination.{Termination}
+use Rattle.mg_model.specs.declared.commands.Termination.TheVariants as termination
+use Rattle.mg_model.specs.declared.components.Spot.{Spot}
+use Rattle.mg_model.specs.declared.components.Spot.TheVariants.{Absent, Null, In}
+use Rattle.mg_model.specs.declared.rows.Row.{Row}
+use Rattle.mg_model.specs.Agent.{Agent, opened, list_of}
+use Rattle.mg_model.specs.Board.{Board, place_in, mode_in}
+use Rattle.mg_model.specs.Configuration.{is_present}
+use Rattle.mg_model.specs.Entries.{Entry}
+use Rattle.mg_model.specs.Gateway.{CallLink, last_executed, number_of}
+use Rattle.mg_model.specs.LineEvents.{LineRow}
+use Rattle.mg_model.specs.Messages.{Reply}
+use Rattle.mg_model.specs.Script.{Script}
+use Rattle.mg_model.specs.Steps.{opening}
+use Rattle.mg_model.specs.World.{World, Opened, IsOpening, armed_line, null_row}
+use Rattle.mg_model.specs.Accepted.{IsSlot}
+use Rattle.mg_safety.proofs.Agents.Entering.{not_resting}
+use Rattle.mg_safety.proofs.Shared.Cases.{none_is_some, where_true}
+use Rattle.mg_safety.proofs.SmallLaws.OpeningLaws.{all_in_null}
+use Rattle.mg_safety.proofs.Invariant.Shown.{Naming, naming, term_of, row_on, cut_on, number_at, Shown, LinesShown}
+use Rattle.mg_safety.proofs.Invariant.Sound.{IsCurrent, CallIsSound, GatewayIsSound, is_call, owned_in}
+use Rattle.mg_safety.proofs.Invariant.Statements.{IsClosed, OpeningsAreSound}
+
+none_among : {A : Type 0} (x : A) (xs : List A) → xs ≡ [] → Contains xs x → ⊥
+none_among x xs e among = let there = subst (λ ys. Contains ys x) e among in let below : there.0 < 0 = there.1 in omega (arith, below)
+
+below_is : (i n : ℕ) → i < n → nat_lt i n ≡ true
+below_is i n h = grind (arith, common_steps)
+
+abbrev is_null_or_absent : Spot → Bool
+is_null_or_absent Absent = true
+is_null_or_absent Null = true
+is_null_or_absent (In j) = false
+
+module _ (script : Script) (entries : List Entry) (closed : IsClosed script entries) (calls : List Opened) (w : World) (o : IsOpening script calls w) where
+  -- ---- one call
+
+  module _ (one : Opened) (there : Contains calls one) where
+    abbrev b : Board
+    b = w.gateway.board
+
+    abbrev names : Naming
+    names = naming (opened script one.call one.lines)
+
+    spot_is : (i : ℕ) → i < length script.lines → (opening script).spot (termination.Line i) ≡ Null
+    spot_is i within = where_true (nat_lt i (length script.lines)) Null Absent (below_is i (length script.lines) within)
+
+    events_is : (i : ℕ) → i < length script.lines → (opening script).events i ≡ Armed
+    events_is i within = where_true (nat_lt i (length script.lines)) Armed Empty (below_is i (length script.lines) within)
+
+    row_is : (i : ℕ) → i < length script.lines → w.gateway.board.row (Line (record { 0 = one.lines i })) ≡ Some null_row
+    row_is i within = o.lines_stand one there i within
+
+    stands : (t : Termination) → IsSlot script t → is_some (row_on b (term_of names t)) ≡ is_present ((opening script).spot t)
+    stands (termination.Line i) within = ap is_some (row_is i within) ∙ sym (ap is_present (spot_is i within))
+    stands (termination.Ephemeral k) within = refl
+
+    place : (t : Termination) → IsSlot script t → place_in (row_on b (term_of names t)) ≡ number_at names ((opening script).spot t)
+    place (termination.Line i) within = ap place_in (row_is i within) ∙ sym (ap (number_at names) (spot_is i within))
+    place (termination.Ephemeral k) within = refl
+
+    is_not_in : (spot : Spot) (j : ℕ) → is_null_or_absent spot ≡ true → spot ≡ In j → ⊥
+    is_not_in spot j outside e = true≢false (sym outside ∙ ap is_null_or_absent e)
+
+    in_none : (t : Termination) (j : ℕ) → IsSlot script t → (opening script).spot t ≡ In j → ⊥
+    in_none (termination.Line i) j within e = is_not_in Null j refl (sym (spot_is i within) ∙ e)
+    in_none (termination.Ephemeral k) j within e = is_not_in Absent j refl e
+
+    mode : (t : Termination) → IsSlot script t → (opening script).mode t ≡ mode_in (row_on b (term_of names t))
+    mode (termination.Line i) within = sym (ap mode_in (row_is i within))
+    mode (termination.Ephemeral k) within = refl
+
+    cut : (t u : Termination) → IsSlot script t → IsSlot script u → (opening script).cut t u ≡ cut_on b (term_of names t) (term_of names u)
+    cut (termination.Line i) (termination.Line j) first second =
+        sym (ap (λ (is_cut : TermId → TermId → Bool). is_cut (Line (record { 0 = one.lines i })) (Line (record { 0 = one.lines j }))) o.nothing_cut)
+    cut (termination.Line i) (termination.Ephemeral k) first second = refl
+    cut (termination.Ephemeral k) u first second = refl
+
+    shown : Shown script (owned_in w.gateway one.call) names b (opening script)
+    shown = record {
+      stands = stands;
+      place = place;
+      in_bound = λ t j slot e. absurd (in_none t j slot e);
+      mode = mode;
+      remote = λ k within. refl;
+      cut = cut;
+      bound = λ j. refl;
+      line_stands = λ i within. ap is_some (row_is i within);
+      line_owned = λ i within. ap (λ h. is_call h one.call) (o.lines_held one there i within) ∙ eq-eqb one.call one.call refl;
+      line_once = λ i j first second e. (o.distinct.lines_differ one one there there i j first second e).1;
+      context_real = λ j x e. absurd (none_is_some x e);
+      context_once = λ i j x e other. absurd (none_is_some x e);
+      members = λ j x t e standing. absurd (none_is_some x e);
+      ephemeral_slot = λ k x e. absurd (none_is_some x e);
+      ephemeral_stands = λ k x e. absurd (none_is_some x e);
+      ephemeral_owned = λ k x e. absurd (none_is_some x e);
+      ephemeral_once = λ k i x e other. absurd (none_is_some x e);
+      ephemeral_named = λ x owned standing. absurd (true≢false (sym standing ∙ ap is_some (o.no_ephemeral x)));
+    }
+
+    armed : (i : ℕ) → i < length script.lines → w.gateway.line (one.lines i) ≡ armed_line
+    armed i within = o.lines_armed one there i within
+
+    expects_zero : (test : Bool) (q : ℕ) → (if test then Some 0 else None) ≡ Some q → q ≡ 0
+    expects_zero true q e = ap (λ (x : Option ℕ). unwrap_or x 0) (sym e)
+    expects_zero false q e = absurd (none_is_some q e)
+
+    lines_shown : LinesShown script (opened script one.call one.lines) w.gateway.line (opening script)
+    lines_shown = record {
+      events = λ i within. ap (λ (row : LineRow). row.list) (armed i within) ∙ sym (ap (list_of script) (events_is i within));
+      silent = λ i within still. ap (λ (row : LineRow). row.playing) (armed i within);
+      expected = λ i q within e. ap (λ (row : LineRow). row.request) (armed i within)
+          ∙ ap (λ (n : ℕ). Some n) (sym (expects_zero (nat_lt i (length script.lines)) q e));
+    }
+
+    none_executed : (call : ℕ) → last_executed w.gateway call ≡ 0
+    none_executed call = ap (λ (link : ℕ → CallLink). number_of (link call).last) o.no_reply_kept
+
+    current : IsCurrent script entries w.gateway (opened script one.call one.lines)
+    current = record {
+      association = sym o.association;
+      c = opening script;
+      e = opened script one.call one.lines;
+      stands = closed.opening;
+      state = refl;
+      at = inr (inr (inr (record { phase = refl; effective = refl; link_is = refl })));
+      shown = shown;
+      lines_shown = lines_shown;
+    }
+
+    one_sound : CallIsSound script entries w one.call (opened script one.call one.lines)
+    one_sound =
+        let none = none_executed one.call in
+        record {
+          numbered = refl;
+          first = omega (arith);
+          next = omega (arith, none);
+          held = λ i within. o.lines_held one there i within;
+          once = λ i j first second e. (o.distinct.lines_differ one one there there i j first second e).1;
+          requests = λ request among of. absurd (none_among request w.requests o.no_request among);
+          outstanding = λ request awaiting. absurd (not_resting request awaiting);
+          part = inl current;
+        }
+
+  -- ---- the gateway
+
+  none_created : (x call : ℕ) → w.gateway.creator x ≡ Some call → ⊥
+  none_created x call e = none_is_some call (sym (ap (λ (creator : ℕ → Option ℕ). creator x) o.no_creator) ∙ e)
+
+  none_kept : (call : ℕ) (answer : Reply) → (w.gateway.link call).last ≡ Some answer → ⊥
+  none_kept call answer e = none_is_some answer (sym (ap (λ (link : ℕ → CallLink). (link call).last) o.no_reply_kept) ∙ e)
+
+  held : (l call : ℕ) → w.gateway.holder l ≡ Some call
+      → (a : Agent) × (i : ℕ) × (w.agent call ≡ Some a) × (i < length script.lines) × (a.lines i ≡ l)
+  held l call e =
+      let one = o.held_alone l call e in
+      (opened script one.0.call one.0.lines, one.1, ap w.agent (sym one.3) ∙ o.agents one.0 one.2, one.4, one.5)
+
+  request_ids : (l call q : ℕ) → w.gateway.holder l ≡ Some call → (w.gateway.line l).request ≡ Some q → q ≤ last_executed w.gateway call
+  request_ids l call q e stands =
+      let one = o.held_alone l call e in
+      let is_armed : w.gateway.line l ≡ armed_line = ap w.gateway.line (sym one.5) ∙ o.lines_armed one.0 one.2 one.1 one.4 in
+      let zero_is : q ≡ 0 = ap (λ (x : Option ℕ). unwrap_or x 0) (sym stands ∙ ap (λ (row : LineRow). row.request) is_armed) in
+      omega (arith, zero_is)
+
+  gateway_sound : GatewayIsSound script w
+  gateway_sound = record {
+    accounted = record {
+      ephemerals = λ x standing. absurd (true≢false (sym standing ∙ ap is_some (o.no_ephemeral x)));
+      contexts = λ t elsewhere. absurd (elsewhere (all_in_null script calls w o t));
+    };
+    creator_given = λ x call e. absurd (none_created x call e);
+    created = λ x standing. absurd (true≢false (sym standing ∙ ap is_some (o.no_ephemeral x)));
+    unheld = λ l row free stands. ap (λ (r : Row). r.place.0) (o.others_null l row stands);
+    held = held;
+    kept = λ call answer e. absurd (none_kept call answer e);
+    request_ids = request_ids;
+    requests = λ request among. absurd (none_among request w.requests o.no_request among);
+    replies = λ answer among. absurd (none_among answer w.replies o.no_answer among);
+    notes = λ sent among. absurd (none_among sent w.notes o.no_note among);
+  }
+
+  call_sound : (call : ℕ) (a : Agent) → w.agent call ≡ Some a → CallIsSound script entries w call a
+  call_sound call a there =
+      let one = o.no_other_agent call a there in
+      let known : w.agent call ≡ Some (opened script one.0.call one.0.lines) = ap w.agent (sym one.2) ∙ o.agents one.0 one.1 in
+      let same : opened script one.0.call one.0.lines ≡ a = ap (λ (x : Option Agent). unwrap_or x a) (sym known ∙ there) in
+      subst (λ (x : Agent). CallIsSound script entries w call x) same
+      (subst (λ (n : ℕ). CallIsSound script entries w n (opened script one.0.call one.0.lines)) one.2 (one_sound one.0 one.1))
+
+pub openings_sound : OpeningsAreSound
+openings_sound script entries is_script closed calls w o = record {
+  gateway = gateway_sound script entries closed calls w o;
+  calls = call_sound script entries closed calls w o;
+}

@@ -1,0 +1,69 @@
+-- The promise over runs: openings are sound, every event keeps a world sound, and sound worlds are good.
+use Rattle.std.proofs.Common.{List, [], ◌∷◌, sym, subst}
+use Rattle.mg_model.specs.Entries.{Entry}
+use Rattle.mg_model.specs.Script.{Script}
+use Rattle.mg_model.specs.World.{World, Event, on_a_line, execute, reply, pass, note, timer, hear, restart, Runs}
+use Rattle.mg_safety.specs.Headline.{EveryRunIsGood, EveryRunOfOneCallIsGood}
+use Rattle.mg_model.specs.Accepted.{IsScript}
+use Rattle.mg_model.specs.declared.commands.Command.TheVariants.{AddLine, AddEphemeral, ModifyLine, ModifyEphemeral, MoveLine, MoveEphemeral, Subtract, SubtractAll, SetTopology}
+use Rattle.mg_safety.proofs.Commands.AddEphemeral.{add_ephemeral_carried}
+use Rattle.mg_safety.proofs.Commands.EphemeralCommands.{modify_ephemeral_carried, move_ephemeral_carried}
+use Rattle.mg_safety.proofs.Commands.LineCommands.{modify_line_carried, move_line_carried, add_line_carried}
+use Rattle.mg_safety.proofs.Commands.SubtractCarried.{subtract_carried, subtract_all_carried}
+use Rattle.mg_safety.proofs.Commands.TopologyCarried.{topology_carried}
+use Rattle.mg_safety.proofs.Agents.AgentSound.{pass_sound, timer_sound}
+use Rattle.mg_safety.proofs.Certificate.Closed.{closed}
+use Rattle.mg_safety.proofs.Events.ExecuteSound.{execute_sound}
+use Rattle.mg_safety.proofs.Events.ExecutedCalls.{OtherLost}
+use Rattle.mg_safety.proofs.GoodWorlds.Good.{sound_good}
+use Rattle.mg_safety.proofs.Agents.HearSound.{hear_sound}
+use Rattle.mg_safety.proofs.Events.LineEventsSound.{line_sound}
+use Rattle.mg_safety.proofs.Agents.NoteSound.{note_sound}
+use Rattle.mg_safety.proofs.Events.Openings.{openings_sound}
+use Rattle.mg_safety.proofs.Events.Others.{others_stay, owners_agree, other_lost}
+use Rattle.mg_safety.proofs.Agents.ReplySound.{reply_sound}
+use Rattle.mg_safety.proofs.Events.Restarts.{restart_sound}
+use Rattle.mg_safety.proofs.Requests.Run.{CommandsCarry, requests_run}
+use Rattle.mg_safety.proofs.Invariant.Sound.{IsSound}
+use Rattle.mg_safety.proofs.Invariant.Statements.{IsClosed, KeepsSound}
+
+commands_carry : CommandsCarry
+commands_carry (AddLine create j i o) = add_line_carried create j i o
+commands_carry (AddEphemeral create j k o) = add_ephemeral_carried create j k o
+commands_carry (ModifyLine place i o) = modify_line_carried place i o
+commands_carry (ModifyEphemeral place k o) = modify_ephemeral_carried place k o
+commands_carry (MoveLine j i o) = move_line_carried j i o
+commands_carry (MoveEphemeral j k o) = move_ephemeral_carried j k o
+commands_carry (Subtract j t) = subtract_carried j t
+commands_carry (SubtractAll j) = subtract_all_carried j
+commands_carry (SetTopology j t u topology) = topology_carried j t u topology
+
+others_lost : OtherLost
+others_lost script g after call b lost change differ association held lines link = other_lost script g after b call lost change differ association held lines link
+
+event_sound : (event : Event) → KeepsSound event
+event_sound (on_a_line line event) = line_sound line event
+event_sound (execute request refusal) = execute_sound (requests_run commands_carry) others_stay owners_agree others_lost request refusal
+event_sound (reply answer) = reply_sound answer
+event_sound (pass call) = pass_sound call
+event_sound (note sent) = note_sound sent
+event_sound (timer call) = timer_sound call
+event_sound (hear call association) = hear_sound call association
+event_sound restart = restart_sound
+
+runs_sound : (script : Script) (entries : List Entry) → IsScript script → IsClosed script entries → (events : List Event) (w end : World)
+    → IsSound script entries w → Runs script events w end → IsSound script entries end
+unfolding Runs
+runs_sound script entries is_script closes [] w end sound runs = subst (IsSound script entries) (sym runs) sound
+runs_sound script entries is_script closes (event ∷ more) w end sound runs =
+    runs_sound script entries is_script closes more runs.0 end
+    (event_sound event script entries is_script closes w runs.0 sound runs.1.0) runs.1.1
+
+pub every_run : EveryRunIsGood
+every_run script entries is_script listed none_broken calls events opening end opens runs =
+    let closes = closed script entries is_script listed none_broken in
+    sound_good script entries is_script closes end
+    (runs_sound script entries is_script closes events opening end (openings_sound script entries is_script closes calls opening opens) runs)
+
+pub every_run_of_one : EveryRunOfOneCallIsGood
+every_run_of_one script entries is_script listed none_broken call = every_run script entries is_script listed none_broken (call ∷ [])

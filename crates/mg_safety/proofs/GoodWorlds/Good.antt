@@ -1,0 +1,223 @@
+-- Sound worlds are good: a path between two lines is one of a configuration of the certificate, which marks joined lines, and what a
+-- configuration of an ended call says is read back on the gateway.
+use Rattle.std.proofs.Common.{◌≡◌, ◌∙◌, ℕ, true, false, List, [], ◌∷◌, length, Option, Some, None, is_some, refl, sym, ap, subst, arith, true≢false, ◌<◌, ◌⊎◌, inl, inr}
+use Rattle.std.specs.Prelude.{map, not, ◌&&◌, ◌||◌, IsTrue}
+use Rattle.std.proofs.lemmas.Bool.{eq-eqb, false_from_ne_true}
+use Rattle.mg_names.specs.declared.identifiers.TermId.{TermId}
+use Rattle.mg_names.specs.declared.identifiers.TermId.TheVariants.{Line, Eph}
+use Rattle.mg_names.specs.declared.strictness.Strict.TheVariants.{Exact, State}
+use Rattle.mg_model.specs.declared.commands.Termination.{Termination}
+use Rattle.mg_model.specs.declared.commands.Termination.TheVariants as termination
+use Rattle.mg_model.specs.declared.rows.Row.{Row}
+use Rattle.mg_model.specs.declared.transitions.EventItem.{EventItem}
+use Rattle.mg_model.specs.declared.transitions.EventItem.TheVariants as item
+use Rattle.mg_model.specs.Agent.{Agent, list_item}
+use Rattle.mg_model.specs.Board.{exists, place_in}
+use Rattle.mg_model.specs.Configuration.{Configuration, is_present}
+use Rattle.mg_model.specs.Entries.{Entry}
+use Rattle.mg_model.specs.declared.transitions.EventItem.TheVariants.{OffHook}
+use Rattle.mg_model.specs.LineEvents.{silent}
+use Rattle.mg_model.specs.Media as media
+use Rattle.mg_model.specs.Obligations as obligations
+use Rattle.mg_model.specs.Paths as paths
+use Rattle.mg_model.specs.Script.{Script}
+use Rattle.mg_model.specs.Tables.{state_of, items_of, is_armed_list, is_marked}
+use Rattle.mg_model.specs.World.{World, IsMarkedPair, HasEnded, IsCleared}
+use Rattle.mg_safety.proofs.Agents.AgentSound.{at_rest}
+use Rattle.mg_safety.proofs.Shared.Cases.{none_is_some, the_some}
+use Rattle.mg_safety.proofs.Agents.EffectiveAgent.{same_lines}
+use Rattle.mg_safety.proofs.GoodWorlds.GoodPaths.{IsNamed, path_shown, path_starts_outside}
+use Rattle.mg_safety.proofs.Invariant.Shown.{Naming, naming, eph_of, row_on, number_at}
+use Rattle.mg_safety.proofs.Invariant.Sound.{Stands, IsCurrent, IsLost, IsSound, owned_in, is_call}
+use Rattle.mg_safety.proofs.Invariant.Statements.{IsClosed, SoundIsGood}
+
+some_row : (row : Option Row) → is_some row ≡ true → (r : Row) × (row ≡ Some r)
+some_row None e = absurd (true≢false (sym e))
+some_row (Some r) e = (r, refl)
+
+at_null : (row : Option Row) → ((r : Row) → row ≡ Some r → r.place.0 ≡ 0) → place_in row ≡ 0
+at_null None all = refl
+at_null (Some r) all = all r refl
+
+-- ---- a line that is named
+
+record IsLineOf (script : Script) (n : Naming) (u : Termination) (l : ℕ) : Type 0 where
+  i : ℕ
+  slot_is : u ≡ termination.Line i
+  within : i < length script.lines
+  line_is : n.lines i ≡ l
+
+abbrev line_in : Option TermId → Option ℕ
+line_in None = None
+line_in (Some (Line l)) = Some l.0
+line_in (Some (Eph x)) = None
+
+no_line : (o : Option ℕ) → line_in (eph_of o) ≡ None
+no_line None = refl
+no_line (Some x) = refl
+
+line_of : (script : Script) (n : Naming) (u : Termination) (l : ℕ) → IsNamed script n u (Line (record { 0 = l })) → IsLineOf script n u l
+line_of script n (termination.Line i) l named =
+    record { i = i; slot_is = refl; within = named.slot; line_is = the_some (n.lines i) l (ap line_in named.is) }
+line_of script n (termination.Ephemeral k) l named =
+    absurd (none_is_some l (sym (no_line (n.ephemerals k)) ∙ ap line_in named.is))
+
+-- ---- a list that is armed for off-hook alone
+
+armed_is : (script : Script) (items : List (EventItem ℕ)) → IsTrue (is_armed_list items) → map (list_item script) items ≡ OffHook Exact ∷ []
+armed_is script [] e = absurd (true≢false (sym e))
+armed_is script (item.OffHook Exact ∷ []) e = refl
+armed_is script (item.OffHook Exact ∷ other ∷ more) e = absurd (true≢false (sym e))
+armed_is script (item.OffHook State ∷ more) e = absurd (true≢false (sym e))
+armed_is script (item.OnHook strict ∷ more) e = absurd (true≢false (sym e))
+armed_is script (item.Flash ∷ more) e = absurd (true≢false (sym e))
+armed_is script (item.Digits m ∷ more) e = absurd (true≢false (sym e))
+
+module _ (script : Script) (entries : List Entry) (closed : IsClosed script entries) (w : World) (sound : IsSound script entries w) where
+  -- ---- joined lines
+
+  -- a path between two lines is one between lines of a call, in a configuration that stands
+  record IsPathOf (l m : ℕ) : Type 0 where
+    call : ℕ
+    agent : Agent
+    i : ℕ
+    j : ℕ
+    c : Configuration
+    there : w.agent call ≡ Some agent
+    first : (i < length script.lines) × (agent.lines i ≡ l)
+    second : (j < length script.lines) × (agent.lines j ≡ m)
+    stands : Stands script entries c
+    state : c.state ≡ agent.state
+    path : paths.HasPath c i j
+
+  abbrev row_at : ℕ → Option Row
+  row_at l = w.gateway.board.row (Line (record { 0 = l }))
+
+  path_of : (l m : ℕ) → media.HasPath w.gateway.board l m → IsPathOf l m
+  path_of l m path = held_by (w.gateway.holder l) refl
+    where
+      outside : place_in (row_at l) ≡ 0 → ⊥
+      outside = path_starts_outside w.gateway.board (Line (record { 0 = l })) (Line (record { 0 = m })) path.0 path.1
+
+      by_part : (call : ℕ) (a : Agent) (i : ℕ) → w.agent call ≡ Some a → i < length script.lines → a.lines i ≡ l
+          → IsCurrent script entries w.gateway a ⊎ IsLost script w.gateway a → IsPathOf l m
+      by_part call a i there within is (inl current) =
+          let same = same_lines script w.gateway a current.e current.c.link current.at in
+          let start : IsNamed script (naming current.e) (termination.Line i) (Line (record { 0 = l })) =
+          record { slot = within; is = ap (λ (n : ℕ). Some (Line (record { 0 = n }))) (ap (λ (lines : ℕ → ℕ). lines i) same ∙ is) } in
+          let found = path_shown script (owned_in w.gateway a.call) (naming current.e) w.gateway.board current.c current.shown (termination.Line i)
+          (Line (record { 0 = l })) (Line (record { 0 = m })) path.0 start path.1 in
+          let last = line_of script (naming current.e) found.to m found.named in
+          record {
+            call = call;
+            agent = a;
+            i = i;
+            j = last.i;
+            c = current.c;
+            there = there;
+            first = (within, is);
+            second = (last.within, ap (λ (lines : ℕ → ℕ). lines last.i) (sym same) ∙ last.line_is);
+            stands = current.stands;
+            state = current.state;
+            path = (found.crossings, subst (λ v. IsTrue (paths.goes_over current.c (termination.Line i) found.crossings v)) last.slot_is found.path);
+          }
+      by_part call a i there within is (inr lost) = absurd (outside (ap (λ n. place_in (row_at n)) (sym is) ∙ ap place_in (lost.rows i within)))
+
+      held_by : (holder : Option ℕ) → w.gateway.holder l ≡ holder → IsPathOf l m
+      held_by None e = absurd (outside (at_null (row_at l) (λ r stands. sound.gateway.unheld l r e stands)))
+      held_by (Some call) e =
+          let h = sound.gateway.held l call e in
+          by_part call h.0 h.1 h.2 h.3 h.4 (sound.calls call h.0 h.2).part
+
+  unlike : (l m i j : ℕ) (lines : ℕ → ℕ) → (l ≡ m → ⊥) → lines i ≡ l → lines j ≡ m → i ≡ j → ⊥
+  unlike l m i j lines differ first second e = differ (sym first ∙ ap lines e ∙ second)
+
+  joined : (l m : ℕ) → (l ≡ m → ⊥) → media.AreJoined w.gateway.board l m → IsMarkedPair script w l m
+  joined l m differ (inl path) =
+      let p = path_of l m path in
+      record {
+        call = p.call;
+        agent = p.agent;
+        i = p.i;
+        j = p.j;
+        open_call = p.there;
+        first = p.first;
+        second = p.second;
+        marked = subst (λ state. IsTrue (is_marked (state_of script state).talk p.i p.j)) p.state
+            (closed.marked p.c p.stands p.i p.j p.first.0 p.second.0 (unlike l m p.i p.j p.agent.lines differ p.first.1 p.second.1) (inl p.path));
+      }
+  joined l m differ (inr path) =
+      let p = path_of m l path in
+      record {
+        call = p.call;
+        agent = p.agent;
+        i = p.j;
+        j = p.i;
+        open_call = p.there;
+        first = p.second;
+        second = p.first;
+        marked = subst (λ state. IsTrue (is_marked (state_of script state).talk p.j p.i)) p.state
+            (closed.marked p.c p.stands p.j p.i p.second.0 p.first.0 (unlike l m p.j p.i p.agent.lines differ p.second.1 p.first.1) (inr p.path));
+      }
+
+  -- ---- calls that have ended
+
+  module _ (call : ℕ) (a : Agent) (numbered : a.call ≡ call) (current : IsCurrent script entries w.gateway a) (cleared : obligations.IsCleared script current.c) where
+    abbrev names : Naming
+    names = naming current.e
+
+    same_line : (i : ℕ) → current.e.lines i ≡ a.lines i
+    same_line i = ap (λ (lines : ℕ → ℕ). lines i) (same_lines script w.gateway a current.e current.c.link current.at)
+
+    no_ephemeral : (k : ℕ) → w.gateway.creator k ≡ Some call → exists w.gateway.board (Eph k) ≡ false
+    no_ephemeral k created = false_from_ne_true (exists w.gateway.board (Eph k)) stands_not
+      where
+        mine : owned_in w.gateway a.call (Eph k) ≡ true
+        mine = ap (λ o. is_call o a.call || (w.gateway.board.given_ephemeral k && not (w.gateway.board.given_ephemeral k))) created
+            ∙ ap (λ test. test || (w.gateway.board.given_ephemeral k && not (w.gateway.board.given_ephemeral k))) (eq-eqb call a.call (sym numbered))
+
+        stands_not : exists w.gateway.board (Eph k) ≡ true → ⊥
+        stands_not stands =
+            let named = current.shown.ephemeral_named k mine stands in
+            let absent : is_some (row_on w.gateway.board (eph_of (current.e.ephemerals named.0))) ≡ false =
+            current.shown.stands (termination.Ephemeral named.0) (current.shown.ephemeral_slot named.0 k named.1)
+            ∙ ap is_present (cleared.no_ephemeral named.0) in
+            true≢false (sym stands ∙ ap (λ o. is_some (row_on w.gateway.board (eph_of o))) (sym named.1) ∙ absent)
+
+    in_null : (i : ℕ) → i < length script.lines → (row : Row) × (row_at (a.lines i) ≡ Some row) × (row.place.0 ≡ 0)
+    in_null i within =
+        let stands : is_some (row_at (a.lines i)) ≡ true = ap (λ l. is_some (row_at l)) (sym (same_line i)) ∙ current.shown.line_stands i within in
+        let found = some_row (row_at (a.lines i)) stands in
+        let placed : place_in (row_at (a.lines i)) ≡ 0 =
+        ap (λ l. place_in (row_at l)) (sym (same_line i)) ∙ current.shown.place (termination.Line i) within ∙ ap (number_at names) (cleared.in_null i within) in
+        (found.0, found.1, ap place_in (sym found.1) ∙ placed)
+
+    is_silent : (i : ℕ) → i < length script.lines → (w.gateway.line (a.lines i)).playing ≡ silent
+    is_silent i within = ap (λ l. (w.gateway.line l).playing) (sym (same_line i)) ∙ current.lines_shown.silent i within (cleared.silent i within)
+
+    is_armed : (i : ℕ) → i < length script.lines → (w.gateway.line (a.lines i)).list ≡ OffHook Exact ∷ []
+    is_armed i within =
+        ap (λ l. (w.gateway.line l).list) (sym (same_line i)) ∙ current.lines_shown.events i within
+        ∙ armed_is script (items_of script (current.c.events i)) (cleared.armed i within)
+
+    call_cleared : IsCleared script w call a
+    call_cleared = record { no_ephemeral = no_ephemeral; in_null = in_null; is_silent = is_silent; is_armed = is_armed }
+
+  ended : (call : ℕ) (a : Agent) → w.agent call ≡ Some a → HasEnded script w a → IsCleared script w call a
+  ended call a there has_ended = by_part (sound.calls call a there).part
+    where
+      by_part : IsCurrent script entries w.gateway a ⊎ IsLost script w.gateway a → IsCleared script w call a
+      by_part (inl current) =
+          let rests = at_rest script w.gateway a current.e current.c.link has_ended.at_rest current.at in
+          call_cleared call a (sound.calls call a there).numbered current
+          (closed.cleared current.c current.stands rests.link_is (subst (λ state. IsTrue (state_of script state).is_end) (sym current.state) has_ended.is_end))
+      by_part (inr lost) =
+          let before : a.association < w.gateway.association = lost.association in
+          let now : a.association ≡ w.gateway.association = has_ended.current in
+          absurd (omega (arith, before, now))
+
+pub sound_good : SoundIsGood
+sound_good script entries is_script closed w sound = record {
+  joined = joined script entries closed w sound;
+  ended = ended script entries closed w sound;
+}

@@ -1,0 +1,176 @@
+-- What holds of every world of a run whose script and certificate have no broken obligation: each call is shown by a configuration of the
+-- certificate, or it is lost; and what a call owns is named by it alone.
+use Rattle.std.specs.Prelude.{◌≡◌, ℕ, ◌<◌, ◌≤◌, ◌==◌, Bool, true, false, List, [], length, Contains, Option, Some, None, ◌⊎◌}
+use Rattle.mg_names.specs.declared.identifiers.TermId.{TermId}
+use Rattle.mg_names.specs.declared.identifiers.TermId.TheVariants.{Line, Eph}
+use Rattle.mg_names.specs.declared.phases.Link as phases
+use Rattle.mg_names.specs.declared.phases.Link.TheVariants.{Sent, Answered, Failed, Resting}
+use Rattle.mg_model.specs.declared.rows.Row.{Row}
+use Rattle.mg_model.specs.Agent.{Agent, awaits_reply, awaits_pass, resting, after_results, built_by, commands_of, none_made}
+use Rattle.mg_model.specs.Board.{exists}
+use Rattle.mg_model.specs.Configuration.{Configuration}
+use Rattle.mg_model.specs.Entries.{Entry, IsCovered}
+use Rattle.mg_model.specs.Gateway.{Gateway, last_executed}
+use Rattle.mg_model.specs.LineEvents.{silent}
+use Rattle.mg_model.specs.Messages.{Request, Reply, SentNote, Failure}
+use Rattle.mg_model.specs.Script.{Script}
+use Rattle.mg_model.specs.World.{World, null_row}
+use Rattle.mg_model.specs.Accepted.{IsSlot}
+use Rattle.mg_safety.proofs.Invariant.Shown.{naming, Shown, LinesShown, IsAccounted, Owner, owned_at, list_raises}
+use Rattle.mg_model.specs.declared.commands.Termination.{Termination}
+use Rattle.mg_model.specs.declared.commands.EventsName.TheVariants.{Empty}
+use Rattle.mg_model.specs.declared.components.Remote.TheVariants.{Unset}
+use Rattle.mg_model.specs.declared.components.Spot.TheVariants.{Absent}
+use Rattle.mg_names.specs.declared.context_values.ContextValue.TheVariants.{Free}
+use Rattle.mg_names.specs.declared.modes.Mode.TheVariants.{Inactive}
+use Rattle.mg_model.specs.Configuration.{is_same}
+
+-- ---- configurations that stand in the certificate
+
+-- what the script doesn't declare is as in a configuration in which nothing is used
+pub record IsOfScript (script : Script) (c : Configuration) : Type 0 where
+  pub spot : (t : Termination) → (IsSlot script t → ⊥) → c.spot t ≡ Absent
+  pub mode : (t : Termination) → (IsSlot script t → ⊥) → c.mode t ≡ Inactive
+  pub events : (i : ℕ) → length script.lines ≤ i → c.events i ≡ Empty
+  pub plays : (i : ℕ) → length script.lines ≤ i → c.plays i ≡ false
+  pub context : (j : ℕ) → length script.contexts ≤ j → c.context j ≡ Free
+  pub remote : (k : ℕ) → length script.ephemerals ≤ k → c.remote k ≡ Unset
+  pub cut : (t u : Termination) → (IsSlot script t × IsSlot script u × (is_same t u ≡ false) → ⊥) → c.cut t u ≡ false
+
+pub record Stands (script : Script) (entries : List Entry) (c : Configuration) : Type 0 where
+  pub of_script : IsOfScript script c
+  pub covered : IsCovered entries c
+
+-- ---- one call
+
+abbrev pub is_call : Option ℕ → ℕ → Bool
+is_call None call = false
+is_call (Some one) call = one == call
+
+-- what a call owns when no request runs
+abbrev pub owner_of : Gateway → ℕ → Owner
+owner_of g call = record {
+  held = λ l. is_call (g.holder l) call;
+  created = λ x. is_call (g.creator x) call;
+  before = g.board.given_ephemeral;
+}
+
+abbrev pub owned_in : Gateway → ℕ → TermId → Bool
+owned_in g call = owned_at (owner_of g call) g.board
+
+-- the link of the configuration once a reply is kept
+abbrev pub link_of : Option Failure → phases.Link
+link_of None = Answered
+link_of (Some failure) = Failed
+
+-- the outstanding request is as the agent built it
+pub record IsOutstanding (script : Script) (a : Agent) (request : Request) : Type 0 where
+  pub phase : a.phase ≡ awaits_reply request
+  pub call : request.call ≡ a.call
+  pub association : request.association ≡ a.association
+  pub commands : request.commands ≡ commands_of script a none_made 0 (built_by script a a.state)
+
+pub record IsSent (script : Script) (g : Gateway) (a e : Agent) (link : phases.Link) : Type 0 where
+  pub request : Request
+  pub outstanding : IsOutstanding script a request
+  pub above : last_executed g a.call < request.number
+  pub effective : e ≡ a
+  pub link_is : link ≡ Sent
+
+pub record IsAnswered (script : Script) (g : Gateway) (a e : Agent) (link : phases.Link) : Type 0 where
+  pub request : Request
+  pub outstanding : IsOutstanding script a request
+  pub answer : Reply
+  pub kept : (g.link a.call).last ≡ Some answer
+  pub number : answer.number ≡ request.number
+  pub effective : e ≡ after_results a (built_by script a a.state) answer.results answer.number
+  pub link_is : link ≡ link_of answer.failure
+
+pub record IsPassing (a e : Agent) (link : phases.Link) : Type 0 where
+  pub phase : a.phase ≡ awaits_pass
+  pub effective : e ≡ a
+  pub link_is : link ≡ Answered
+
+pub record IsResting (a e : Agent) (link : phases.Link) : Type 0 where
+  pub phase : a.phase ≡ resting
+  pub effective : e ≡ a
+  pub link_is : link ≡ Resting
+
+-- how far the state's request has come, with the agent as it will be once it has taken a reply that is kept
+abbrev pub IsAt : Script → Gateway → Agent → Agent → phases.Link → Type 0
+IsAt script g a e link = IsSent script g a e link ⊎ (IsAnswered script g a e link ⊎ (IsPassing a e link ⊎ IsResting a e link))
+
+-- the call is of the gateway's association, and the gateway shows a configuration of the certificate
+pub record IsCurrent (script : Script) (entries : List Entry) (g : Gateway) (a : Agent) : Type 0 where
+  pub association : a.association ≡ g.association
+  pub c : Configuration
+  pub e : Agent
+  pub stands : Stands script entries c
+  pub state : c.state ≡ a.state
+  pub at : IsAt script g a e c.link
+  pub shown : Shown script (owned_in g a.call) (naming e) g.board c
+  pub lines_shown : LinesShown script e g.line c
+
+-- the call is of an older association: it owns nothing
+pub record IsLost (script : Script) (g : Gateway) (a : Agent) : Type 0 where
+  pub association : a.association < g.association
+  pub rows : (i : ℕ) → i < length script.lines → g.board.row (Line (record { 0 = a.lines i })) ≡ Some null_row
+  pub list : (i : ℕ) → i < length script.lines → (g.line (a.lines i)).list ≡ []
+  pub playing : (i : ℕ) → i < length script.lines → (g.line (a.lines i)).playing ≡ silent
+  pub request : (i : ℕ) → i < length script.lines → (g.line (a.lines i)).request ≡ None
+  pub no_ephemeral : (x : ℕ) → g.creator x ≡ Some a.call → ⊥
+  pub no_reply : (g.link a.call).last ≡ None
+  -- nothing is cut of its lines
+  pub no_cut : (i j : ℕ) → i < length script.lines → j < length script.lines → g.board.cut (Line (record { 0 = a.lines i })) (Line (record { 0 = a.lines j })) ≡ false
+
+-- a request of the call that was sent
+pub record IsSentBy (g : Gateway) (a : Agent) (request : Request) : Type 0 where
+  pub association : request.association ≤ a.association
+  pub number : request.number < a.next
+  pub outstanding : request.association ≡ g.association → (a.phase ≡ awaits_reply request) ⊎ (request.number ≤ last_executed g a.call)
+
+pub record CallIsSound (script : Script) (entries : List Entry) (w : World) (call : ℕ) (a : Agent) : Type 0 where
+  pub numbered : a.call ≡ call
+  pub first : 0 < a.next
+  pub next : last_executed w.gateway call < a.next
+  pub held : (i : ℕ) → i < length script.lines → w.gateway.holder (a.lines i) ≡ Some call
+  pub once : (i j : ℕ) → i < length script.lines → j < length script.lines → a.lines i ≡ a.lines j → i ≡ j
+  pub requests : (request : Request) → Contains w.requests request → request.call ≡ call → IsSentBy w.gateway a request
+  pub outstanding : (request : Request) → a.phase ≡ awaits_reply request → request.number < a.next
+  pub part : IsCurrent script entries w.gateway a ⊎ IsLost script w.gateway a
+
+-- ---- the gateway and the messages
+
+-- a reply of the present association is the kept one, or an older one of its call
+pub record IsReplySound (g : Gateway) (answer : Reply) : Type 0 where
+  pub association : answer.association ≤ g.association
+  pub kept : answer.association ≡ g.association → ((g.link answer.call).last ≡ Some answer) ⊎ (answer.number < last_executed g answer.call)
+
+-- a note of the present association with the RequestID of the descriptor that stands is of a kind that the descriptor raises
+pub record IsNoteStanding (g : Gateway) (sent : SentNote) : Type 0 where
+  pub held : g.holder sent.line ≡ Some sent.call
+  pub number : sent.note.request ≤ last_executed g sent.call
+  pub raised : (g.line sent.line).request ≡ Some sent.note.request → list_raises (g.line sent.line).list sent.note.kind ≡ true
+
+pub record IsNoteSound (g : Gateway) (sent : SentNote) : Type 0 where
+  pub association : sent.association ≤ g.association
+  pub standing : sent.association ≡ g.association → IsNoteStanding g sent
+
+pub record GatewayIsSound (script : Script) (w : World) : Type 0 where
+  pub accounted : IsAccounted w.gateway.board
+  -- an ephemeral that exists was created by a call that is open; what a call created was given
+  pub creator_given : (x call : ℕ) → w.gateway.creator x ≡ Some call → w.gateway.board.given_ephemeral x ≡ true
+  pub created : (x : ℕ) → exists w.gateway.board (Eph x) ≡ true → (call : ℕ) × (a : Agent) × (w.gateway.creator x ≡ Some call) × (w.agent call ≡ Some a)
+  -- a line that no call holds stands in the null context; a line that is held is one of its call's
+  pub unheld : (l : ℕ) (row : Row) → w.gateway.holder l ≡ None → w.gateway.board.row (Line (record { 0 = l })) ≡ Some row → row.place.0 ≡ 0
+  pub held : (l call : ℕ) → w.gateway.holder l ≡ Some call
+      → (a : Agent) × (i : ℕ) × (w.agent call ≡ Some a) × (i < length script.lines) × (a.lines i ≡ l)
+  pub kept : (call : ℕ) (answer : Reply) → (w.gateway.link call).last ≡ Some answer → (answer.call ≡ call) × (answer.association ≡ w.gateway.association)
+  pub request_ids : (l call q : ℕ) → w.gateway.holder l ≡ Some call → (w.gateway.line l).request ≡ Some q → q ≤ last_executed w.gateway call
+  pub requests : (request : Request) → Contains w.requests request → (a : Agent) × (w.agent request.call ≡ Some a)
+  pub replies : (answer : Reply) → Contains w.replies answer → IsReplySound w.gateway answer
+  pub notes : (sent : SentNote) → Contains w.notes sent → IsNoteSound w.gateway sent
+
+pub record IsSound (script : Script) (entries : List Entry) (w : World) : Type 0 where
+  pub gateway : GatewayIsSound script w
+  pub calls : (call : ℕ) (a : Agent) → w.agent call ≡ Some a → CallIsSound script entries w call a

@@ -1,0 +1,101 @@
+-- The statements of the lemmas of which the promise over runs is made, each proved in a file of its own.
+use Rattle.std.specs.Prelude.{◌≡◌, ℕ, true, false, if◌then◌else◌, List, Contains, Option, Some, None, ◌⊎◌}
+use Rattle.std.specs.List.{All}
+use Rattle.mg_names.specs.declared.identifiers.TermId.{TermId}
+use Rattle.mg_names.specs.declared.phases.Link.TheVariants.{Sent}
+use Rattle.mg_model.specs.Agent.{Agent, after_results, built_by, commands_of, none_made}
+use Rattle.mg_model.specs.Configuration.{Configuration}
+use Rattle.mg_model.specs.Entries.{Entry}
+use Rattle.mg_model.specs.Gateway.{Gateway, start_of}
+use Rattle.mg_model.specs.LineEvents.{LineRow, Note}
+use Rattle.mg_model.specs.Messages.{Failure}
+use Rattle.mg_model.specs.Obligations.{NoneBroken, JoinedAreMarked, EndedIsCleared, CreatedAreUnbound}
+use Rattle.mg_model.specs.RequestRun.{Running, Refusal, RunsFrom}
+use Rattle.mg_model.specs.Script.{Script}
+use Rattle.mg_model.specs.Steps.{Step, steps_of, opening, reset}
+use Rattle.mg_model.specs.World.{World, Event, Opened, IsOpening, IsGood, Occurs}
+use Rattle.mg_model.specs.Accepted.{IsScript, IsEntryOf}
+use Rattle.mg_safety.proofs.Invariant.Shown.{Naming, naming, Shown, LinesShown, IsAccounted, owned_at, list_raises, ChangesOwned}
+use Rattle.mg_safety.proofs.Invariant.Sound.{Stands, is_call, owner_of, owned_in, link_of, IsSound}
+
+-- ---- the certificate
+
+-- what no broken obligation says of the configurations that stand in the certificate
+pub record IsClosed (script : Script) (entries : List Entry) : Type 0 where
+  pub opening : Stands script entries (opening script)
+  pub reset : Stands script entries (reset script)
+  pub marked : (c : Configuration) → Stands script entries c → JoinedAreMarked script c
+  pub cleared : (c : Configuration) → Stands script entries c → EndedIsCleared script c
+  pub unbound : (c : Configuration) → Stands script entries c → CreatedAreUnbound script c
+  pub steps : (c : Configuration) (step : Step) → Stands script entries c → Contains (steps_of script c) step → Stands script entries step.1
+
+abbrev pub NoneBrokenIsClosed : Type 0
+NoneBrokenIsClosed =
+    (script : Script) (entries : List Entry) → IsScript script → All (IsEntryOf script) entries → NoneBroken script entries → IsClosed script entries
+
+-- ---- a request
+
+-- a line after a request: it was armed by it, or its descriptor was emptied, or it is the one that stood before
+abbrev pub LineGoes : ℕ → LineRow → LineRow → Type 0
+LineGoes number row after =
+    (after.request ≡ Some number) ⊎ ((after.request ≡ None) ⊎ ((after.list ≡ row.list) × (after.request ≡ row.request)))
+
+-- the request of an agent was run
+pub record IsRunOf (script : Script) (entries : List Entry) (g : Gateway) (a : Agent) (number : ℕ) (end : Running) (failure : Option Failure) : Type 0 where
+  pub c : Configuration
+  pub stands : Stands script entries c
+  pub link : c.link ≡ link_of failure
+  pub state : c.state ≡ a.state
+  pub shown : Shown script (owned_at (owner_of g a.call) end.board) (naming (after_results a (built_by script a a.state) end.results number)) end.board c
+  pub lines_shown : LinesShown script (after_results a (built_by script a a.state) end.results number) end.line c
+  pub accounted : IsAccounted end.board
+  pub changes : ChangesOwned (owner_of g a.call) g.board end.board
+  pub other_lines : (l : ℕ) → is_call (g.holder l) a.call ≡ false → end.line l ≡ g.line l
+  pub own_lines : (l : ℕ) → LineGoes number (g.line l) (end.line l)
+  pub notes : (l : ℕ) (note : Note) → Contains end.notes (l, note)
+      → (is_call (g.holder l) a.call ≡ true) × (note.request ≡ number)
+      × ((end.line l).request ≡ Some number → list_raises (end.line l).list note.kind ≡ true)
+
+abbrev pub RequestsRun : Type 0
+RequestsRun =
+    (script : Script) (entries : List Entry) → IsScript script → IsClosed script entries → (g : Gateway) (a : Agent) (c : Configuration)
+    → Stands script entries c → c.link ≡ Sent → c.state ≡ a.state → Shown script (owned_in g a.call) (naming a) g.board c
+    → LinesShown script a g.line c → IsAccounted g.board → (number : ℕ) (refusal : Refusal) (end : Running) (failure : Option Failure)
+    → RunsFrom number refusal (start_of g) 0 (commands_of script a none_made 0 (built_by script a a.state)) end failure
+    → IsRunOf script entries g a number end failure
+
+-- ---- another call's request
+
+-- what the gateway becomes where only what a call owns was changed
+pub record IsOwnChange (g after : Gateway) (call : ℕ) : Type 0 where
+  pub changes : ChangesOwned (owner_of g call) g.board after.board
+  pub holder : after.holder ≡ g.holder
+  pub creator : (x : ℕ) → after.creator x
+      ≡ (if after.board.given_ephemeral x then (if g.board.given_ephemeral x then g.creator x else Some call) else g.creator x)
+  pub accounted : IsAccounted g.board
+  pub creator_given : (x one : ℕ) → g.creator x ≡ Some one → g.board.given_ephemeral x ≡ true
+
+abbrev pub OthersStayShown : Type 0
+OthersStayShown =
+    (script : Script) (g after : Gateway) (call other : ℕ) (n : Naming) (c : Configuration) → IsOwnChange g after call → (call ≡ other → ⊥)
+    → Shown script (owned_in g other) n g.board c → Shown script (owned_in after other) n after.board c
+
+-- what the run calls owned is what the call owns once the request ended
+abbrev pub OwnersAgree : Type 0
+OwnersAgree = (g after : Gateway) (call : ℕ) → IsOwnChange g after call → (t : TermId) → owned_at (owner_of g call) after.board t ≡ owned_in after call t
+
+-- ---- events
+
+abbrev pub OpeningsAreSound : Type 0
+OpeningsAreSound =
+    (script : Script) (entries : List Entry) → IsScript script → IsClosed script entries → (calls : List Opened) (w : World)
+    → IsOpening script calls w → IsSound script entries w
+
+abbrev pub SoundIsGood : Type 0
+SoundIsGood = (script : Script) (entries : List Entry) → IsScript script → IsClosed script entries → (w : World) → IsSound script entries w → IsGood script w
+
+-- an event keeps the world sound
+abbrev pub KeepsSound : Event → Type 0
+KeepsSound event =
+    (script : Script) (entries : List Entry) → IsScript script → IsClosed script entries → (w after : World) → IsSound script entries w
+    → Occurs script w event after → IsSound script entries after

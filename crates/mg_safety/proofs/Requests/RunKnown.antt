@@ -1,0 +1,179 @@
+-- The names that a built request may use: they are those that its commands are built with, at each place; and what was kept of a state's
+-- commands is as declared, creates no name twice, and creates names that were unbound.
+use Rattle.std.proofs.Common.{◌≡◌, ◌∙◌, ◌<◌, ◌≤◌, ℕ, Bool, true, false, List, [], ◌∷◌, length, Option, Some, None, is_some, refl, sym, ap, arith, true≢false, inl, inr, zero, suc}
+use Rattle.std.proofs.Math.Path.{fun_ext}
+use Rattle.std.proofs.lemmas.Bool.{cases_lt, and_from}
+use Rattle.std.proofs.lemmas.List.Elements.{All-nil, All-cons, All-head, All-tail}
+use Rattle.std.specs.Prelude.{◌==◌, ◌⊎◌, not, if◌then◌else◌, unwrap_or, slice_get}
+use Rattle.std.specs.List.{All, list_all}
+use Rattle.mg_names.specs.declared.identifiers.TermId.{TermId}
+use Rattle.mg_model.specs.declared.commands.Command.{Command}
+use Rattle.mg_model.specs.declared.commands.Command.TheVariants.{AddLine, AddEphemeral, ModifyLine, ModifyEphemeral, MoveLine, MoveEphemeral, Subtract, SubtractAll, SetTopology}
+use Rattle.mg_model.specs.declared.commands.Termination.TheVariants as termination
+use Rattle.mg_model.specs.Agent.{Agent, bound_by, bound_if}
+use Rattle.mg_model.specs.Board.{Board}
+use Rattle.mg_model.specs.Configuration.{Configuration, is_present, is_free}
+use Rattle.mg_model.specs.Items.{Done, IsExecuted}
+use Rattle.mg_model.specs.Steps.{bound_names}
+use Rattle.mg_model.specs.Request.{Names, uses_known, with_name, names_after, created_context, created_ephemeral, built}
+use Rattle.mg_model.specs.Script.{Script, State}
+use Rattle.mg_model.specs.Tables.{state_of, no_state}
+use Rattle.mg_model.specs.Accepted.{IsScript, IsCommandOf, IsStateOf, creates_apart, create_once}
+use Rattle.mg_safety.proofs.Shared.Cases.{and_first, and_second, by_test}
+use Rattle.mg_safety.proofs.Invariant.Shown.{Naming, naming, Shown, known_by, item_for, built_after, eph_of, row_on}
+use Rattle.mg_safety.proofs.Invariant.Sound.{IsOfScript}
+
+-- ---- what a command creates is in its result
+
+pub record IsBinding (command : Command) (done : Done) : Type 0 where
+  pub context : (j : ℕ) → created_context command ≡ Some j → is_some done.context ≡ true
+  pub ephemeral : (k : ℕ) → created_ephemeral command ≡ Some k → is_some done.ephemeral ≡ true
+
+none_created : {P : Type 0} (i : ℕ) → None ≡ Some i → P
+none_created i e = absurd (true≢false (sym (ap is_some e)))
+
+nothing_created : (command : Command) (done : Done) → created_context command ≡ None → created_ephemeral command ≡ None → IsBinding command done
+nothing_created command done no_context no_ephemeral = record {
+  context = λ j e. none_created j (sym no_context ∙ e);
+  ephemeral = λ k e. none_created k (sym no_ephemeral ∙ e);
+}
+
+pub binds : (m : Naming) (b after : Board) (command : Command) (done : Done) → IsExecuted b (item_for m command) after done → IsBinding command done
+binds m b after (AddLine true j i o) done x = record {
+  context = λ n e. ap is_some x.result.context;
+  ephemeral = λ n e. none_created n e;
+}
+binds m b after (AddLine false j i o) done x = nothing_created (AddLine false j i o) done refl refl
+binds m b after (AddEphemeral true j k o) done x = record {
+  context = λ n e. ap is_some x.result.context;
+  ephemeral = λ n e. ap is_some x.result.ephemeral;
+}
+binds m b after (AddEphemeral false j k o) done x = record {
+  context = λ n e. none_created n e;
+  ephemeral = λ n e. ap is_some x.result.ephemeral;
+}
+binds m b after (ModifyLine place i o) done x = nothing_created (ModifyLine place i o) done refl refl
+binds m b after (ModifyEphemeral place k o) done x = nothing_created (ModifyEphemeral place k o) done refl refl
+binds m b after (MoveLine j i o) done x = nothing_created (MoveLine j i o) done refl refl
+binds m b after (MoveEphemeral j k o) done x = nothing_created (MoveEphemeral j k o) done refl refl
+binds m b after (Subtract j t) done x = nothing_created (Subtract j t) done refl refl
+binds m b after (SubtractAll j) done x = nothing_created (SubtractAll j) done refl refl
+binds m b after (SetTopology j t u topology) done x = nothing_created (SetTopology j t u topology) done refl refl
+
+-- ---- the names that are known are those that are bound
+
+abbrev names_of : (ℕ → Bool) → (ℕ → Bool) → Names
+names_of contexts ephemerals = record { contexts = contexts; ephemerals = ephemerals }
+
+names_agree : (contexts other_contexts ephemerals other_ephemerals : ℕ → Bool) → ((j : ℕ) → contexts j ≡ other_contexts j)
+    → ((k : ℕ) → ephemerals k ≡ other_ephemerals k) → names_of contexts ephemerals ≡ names_of other_contexts other_ephemerals
+names_agree contexts other_contexts ephemerals other_ephemerals first second =
+    ap (λ x. names_of x ephemerals) (fun_ext first) ∙ ap (names_of other_contexts) (fun_ext second)
+
+bound_at : (test : Bool) (made was : Option ℕ) → is_some made ≡ true → (if test then true else is_some was) ≡ is_some (if test then made else was)
+bound_at true made was bound = sym bound
+bound_at false made was bound = refl
+
+context_at_name : (bound : ℕ → Option ℕ) (create : Bool) (i : ℕ) (made : Option ℕ)
+    → ((j : ℕ) → (if create then Some i else None) ≡ Some j → is_some made ≡ true)
+    → (j : ℕ) → with_name (λ n. is_some (bound n)) (if create then Some i else None) j ≡ is_some (bound_if create bound i made j)
+context_at_name bound true i made binding j = bound_at (j == i) made (bound j) (binding i refl)
+context_at_name bound false i made binding j = refl
+
+pub known_on : (m : Naming) (command : Command) (done : Done) → IsBinding command done
+    → names_after (known_by m) command ≡ known_by (built_after m command done)
+known_on m (AddLine create i l o) done binding =
+    names_agree (with_name (known_by m).contexts (if create then Some i else None)) (λ j. is_some (bound_if create m.contexts i done.context j))
+    (known_by m).ephemerals (known_by m).ephemerals (context_at_name m.contexts create i done.context binding.context) (λ k. refl)
+known_on m (AddEphemeral create i x o) done binding =
+    names_agree (with_name (known_by m).contexts (if create then Some i else None)) (λ j. is_some (bound_if create m.contexts i done.context j))
+    (with_name (known_by m).ephemerals (Some x)) (λ k. is_some (bound_if true m.ephemerals x done.ephemeral k))
+    (context_at_name m.contexts create i done.context binding.context)
+    (context_at_name m.ephemerals true x done.ephemeral binding.ephemeral)
+known_on m (ModifyLine place i o) done binding = refl
+known_on m (ModifyEphemeral place k o) done binding = refl
+known_on m (MoveLine j i o) done binding = refl
+known_on m (MoveEphemeral j k o) done binding = refl
+known_on m (Subtract j t) done binding = refl
+known_on m (SubtractAll j) done binding = refl
+known_on m (SetTopology j t u topology) done binding = refl
+
+-- ---- what is kept of a state's commands
+
+-- each command uses names that are known at its place
+abbrev pub AreKnown : Names → List Command → Type 0
+AreKnown names [] = Unit {0}
+AreKnown names (command ∷ more) = (uses_known names command ≡ true) × AreKnown (names_after names command) more
+
+pub built_known : (names : Names) (commands : List Command) → AreKnown names (built names commands)
+built_known names [] = tt
+built_known names (command ∷ more) =
+    by_test (AreKnown names) (command ∷ built (names_after names command) more) (built names more) (uses_known names command)
+    (λ uses. (uses, built_known (names_after names command) more)) (λ uses. built_known names more)
+
+-- a fact of each command stays one of each that is kept
+pub built_all : (P : Command → Type 0) (names : Names) (commands : List Command) → All P commands → All P (built names commands)
+built_all P names [] all = all
+built_all P names (command ∷ more) all =
+    by_test (All P) (command ∷ built (names_after names command) more) (built names more) (uses_known names command)
+    (λ uses. All-cons P command (built (names_after names command) more) (All-head P command more all)
+    (built_all P (names_after names command) more (All-tail P command more all)))
+    (λ uses. built_all P names more (All-tail P command more all))
+
+-- the same of a test
+pub built_pass : (test : Command → Bool) (names : Names) (commands : List Command) → list_all test commands ≡ true → list_all test (built names commands) ≡ true
+built_pass test names [] all = refl
+built_pass test names (command ∷ more) all =
+    let rest : list_all test more ≡ true = and_second (test command) (list_all test more) all in
+    by_test (λ (kept : List Command). list_all test kept ≡ true) (command ∷ built (names_after names command) more) (built names more)
+    (uses_known names command)
+    (λ uses. and_from (test command) (list_all test (built (names_after names command) more)) (and_first (test command) (list_all test more) all)
+    (built_pass test (names_after names command) more rest))
+    (λ uses. built_pass test names more rest)
+
+pub built_once : (names : Names) (commands : List Command) → create_once commands ≡ true → create_once (built names commands) ≡ true
+built_once names [] once = refl
+built_once names (command ∷ more) once =
+    let apart : list_all (creates_apart command) more ≡ true = and_first (list_all (creates_apart command) more) (create_once more) once in
+    let rest : create_once more ≡ true = and_second (list_all (creates_apart command) more) (create_once more) once in
+    by_test (λ (kept : List Command). create_once kept ≡ true) (command ∷ built (names_after names command) more) (built names more)
+    (uses_known names command)
+    (λ uses. and_from (list_all (creates_apart command) (built (names_after names command) more)) (create_once (built (names_after names command) more))
+    (built_pass (creates_apart command) (names_after names command) more apart) (built_once (names_after names command) more rest))
+    (λ uses. built_once names more rest)
+
+-- ---- a state of a script
+
+all_at : (P : State → Type 0) (d : State) (states : List State) (i : ℕ) → All P states → P d → P (unwrap_or (slice_get states i) d)
+all_at P d [] i all otherwise = otherwise
+all_at P d (state ∷ states) zero all otherwise = All-head P state states all
+all_at P d (state ∷ states) (suc i) all otherwise = all_at P d states i (All-tail P state states all) otherwise
+
+pub state_is : (script : Script) → IsScript script → (i : ℕ) → IsStateOf script (state_of script i)
+state_is script is i = all_at (IsStateOf script) no_state script.states i is.states (All-nil (IsCommandOf script), refl)
+
+-- ---- the names of a call before its request
+
+module _ (script : Script) (owned : TermId → Bool) (a : Agent) (b : Board) (c : Configuration) (shown : Shown script owned (naming a) b c)
+    (of_script : IsOfScript script c) where
+  ephemeral_bound : (k : ℕ) → is_some (a.ephemerals k) ≡ is_present (c.spot (termination.Ephemeral k))
+  ephemeral_bound k = go (a.ephemerals k) refl
+    where
+      within_slots : (x : ℕ) → a.ephemerals k ≡ Some x → k < length script.ephemerals
+          → true ≡ is_present (c.spot (termination.Ephemeral k))
+      within_slots x e within =
+          sym (ap (λ o. is_some (row_on b (eph_of o))) e ∙ shown.ephemeral_stands k x e) ∙ shown.stands (termination.Ephemeral k) within
+
+      unbound : a.ephemerals k ≡ None → (k < length script.ephemerals) ⊎ (length script.ephemerals ≤ k)
+          → false ≡ is_present (c.spot (termination.Ephemeral k))
+      unbound e (inl within) = sym (ap (λ o. is_some (row_on b (eph_of o))) e) ∙ shown.stands (termination.Ephemeral k) within
+      unbound e (inr past) = sym (ap is_present (of_script.spot (termination.Ephemeral k) (λ within.
+          absurd (let below : k < length script.ephemerals = within in omega (arith, below, past)))))
+
+      go : (o : Option ℕ) → a.ephemerals k ≡ o → is_some o ≡ is_present (c.spot (termination.Ephemeral k))
+      go (Some x) e = within_slots x e (shown.ephemeral_slot k x e)
+      go None e = unbound e (cases_lt k (length script.ephemerals))
+
+  pub bound_agree : bound_by a ≡ bound_names c
+  bound_agree = names_agree (λ j. is_some (a.contexts j)) (λ j. not (is_free (c.context j))) (λ k. is_some (a.ephemerals k))
+      (λ k. is_present (c.spot (termination.Ephemeral k))) shown.bound ephemeral_bound

@@ -1,0 +1,232 @@
+-- The lines while a request runs: one command takes the lines that show a configuration to lines that show what it makes of it; a line is
+-- armed, emptied or left by it; and the lines of others stay.
+use Rattle.std.proofs.Common.{◌≡◌, ◌∙◌, ◌<◌, ℕ, Bool, true, false, List, [], ◌∷◌, length, Option, Some, None, is_some, refl, sym, ap, arith, true≢false}
+use Rattle.std.proofs.lemmas.Bool.{eqb-true, eq-eqb}
+use Rattle.std.proofs.lemmas.List.Elements.{Contains-append_right}
+use Rattle.std.proofs.lemmas.List.Folds.{list_any_at}
+use Rattle.std.specs.Prelude.{◌==◌, ◌||◌, not, if◌then◌else◌, unwrap_or, option_map, Contains}
+use Rattle.std.specs.List.{list_any}
+use Rattle.mg_names.specs.declared.context_values.ContextValue.{ContextValue}
+use Rattle.mg_names.specs.declared.context_values.ContextValue.TheVariants.{Free, Live, Stale}
+use Rattle.mg_names.specs.declared.identifiers.TermId.{TermId}
+use Rattle.mg_names.specs.declared.identifiers.TermId.TheVariants as term
+use Rattle.mg_names.specs.declared.signals.Signal.{Signal}
+use Rattle.mg_names.specs.declared.signals.Signal.TheVariants.{Ring, DialTone, RingingTone, BusyTone, CongestionTone}
+use Rattle.mg_model.specs.declared.commands.EventsName.{EventsName}
+use Rattle.mg_model.specs.declared.commands.EventsName.TheVariants.{Empty}
+use Rattle.mg_model.specs.declared.commands.SignalsName.{SignalsName}
+use Rattle.mg_model.specs.declared.commands.Termination.TheVariants as termination
+use Rattle.mg_model.specs.declared.components.Spot.{Spot}
+use Rattle.mg_model.specs.declared.components.Spot.TheVariants.{Absent, Null, In}
+use Rattle.mg_model.specs.declared.line_events.SignalSet.{SignalSet}
+use Rattle.mg_model.specs.Agent.{list_of, names_signal, set_of, expected_if, is_listed}
+use Rattle.mg_model.specs.Board.{Board, place_of}
+use Rattle.mg_model.specs.Updates.{with_at}
+use Rattle.mg_model.specs.Configuration.{Configuration, is_in, is_live, is_free}
+use Rattle.mg_model.specs.Effects.{plays_after}
+use Rattle.mg_model.specs.Items.{Lists}
+use Rattle.mg_model.specs.LineEvents.{ListItem, LineRow, Outcome, armed, cleared, silent, is_standing}
+use Rattle.mg_model.specs.RequestRun.{with_signals, with_events}
+use Rattle.mg_model.specs.Script.{Script}
+use Rattle.mg_model.specs.Tables.{signals_of, is_empty}
+use Rattle.mg_safety.proofs.Shared.Cases.{by_test, same_test, some_of, the_some}
+use Rattle.mg_safety.proofs.Invariant.Shown.{Naming, Shown, AreBuilt, number_at, context_for}
+
+-- ---- the lines, as far as they show a configuration
+
+pub record AreShown (script : Script) (lines : ℕ → ℕ) (expects : ℕ → Option ℕ) (line : ℕ → LineRow) (lists : ℕ → EventsName) (plays : ℕ → Bool) : Type 0 where
+  pub events : (i : ℕ) → i < length script.lines → (line (lines i)).list ≡ list_of script (lists i)
+  pub silent : (i : ℕ) → i < length script.lines → plays i ≡ false → (line (lines i)).playing ≡ silent
+  pub expected : (i q : ℕ) → i < length script.lines → expects i ≡ Some q → (line (lines i)).request ≡ Some q
+
+-- ---- a command's descriptors
+
+-- a new Events descriptor is the list and the RequestID
+pub armed_list : (row : LineRow) (list : List ListItem) (number : ℕ) → (armed row list number).row.list ≡ list
+armed_list row list number = by_test (λ (o : Outcome). o.row.list ≡ list) _ _ (list_any (is_standing row.hook) list) (λ e. refl) (λ e. refl)
+
+pub armed_request : (row : LineRow) (list : List ListItem) (number : ℕ) → (armed row list number).row.request ≡ Some number
+armed_request row list number = by_test (λ (o : Outcome). o.row.request ≡ Some number) _ _ (list_any (is_standing row.hook) list) (λ e. refl) (λ e. refl)
+
+armed_silent : (row : LineRow) (list : List ListItem) (number : ℕ) → row.playing ≡ silent → (armed row list number).row.playing ≡ silent
+armed_silent row list number e = by_test (λ (o : Outcome). o.row.playing ≡ silent) _ _ (list_any (is_standing row.hook) list) (λ was. refl) (λ was. e)
+
+signals_list : (script : Script) (row : LineRow) (signals : Option SignalsName) → (with_signals row (option_map (set_of script) signals)).list ≡ row.list
+signals_list script row None = refl
+signals_list script row (Some name) = refl
+
+signals_request : (script : Script) (row : LineRow) (signals : Option SignalsName) → (with_signals row (option_map (set_of script) signals)).request ≡ row.request
+signals_request script row None = refl
+signals_request script row (Some name) = refl
+
+-- a set of no signals is silent
+abbrev set_from : List Signal → SignalSet
+set_from signals = record {
+  ring = names_signal signals Ring;
+  dial_tone = names_signal signals DialTone;
+  ringing_tone = names_signal signals RingingTone;
+  busy_tone = names_signal signals BusyTone;
+  congestion_tone = names_signal signals CongestionTone;
+}
+
+empty_silent : (signals : List Signal) → not (is_empty signals) ≡ false → set_from signals ≡ silent
+empty_silent [] e = refl
+empty_silent (x ∷ xs) e = absurd (true≢false e)
+
+signals_silent : (script : Script) (row : LineRow) (signals : Option SignalsName) (was : Bool) → (was ≡ false → row.playing ≡ silent)
+    → plays_after script signals was ≡ false → (with_signals row (option_map (set_of script) signals)).playing ≡ silent
+signals_silent script row None was before e = before e
+signals_silent script row (Some name) was before e = empty_silent (signals_of script name) e
+
+module _ (script : Script) (row : LineRow) (signals : Option SignalsName) (number : ℕ) where
+  new_list : (events : Option EventsName) (was : EventsName) → row.list ≡ list_of script was
+      → (with_events (with_signals row (option_map (set_of script) signals)) (option_map (list_of script) events) number).row.list
+      ≡ list_of script (unwrap_or events was)
+  new_list None was e = signals_list script row signals ∙ e
+  new_list (Some name) was e = armed_list (with_signals row (option_map (set_of script) signals)) (list_of script name) number
+
+  new_playing : (events : Option EventsName) (was : Bool) → (was ≡ false → row.playing ≡ silent) → plays_after script signals was ≡ false
+      → (with_events (with_signals row (option_map (set_of script) signals)) (option_map (list_of script) events) number).row.playing ≡ silent
+  new_playing None was before e = signals_silent script row signals was before e
+  new_playing (Some name) was before e = armed_silent (with_signals row (option_map (set_of script) signals)) (list_of script name) number
+      (signals_silent script row signals was before e)
+
+  new_request : (events : Option EventsName) (was : Option ℕ) → ((q : ℕ) → was ≡ Some q → row.request ≡ Some q)
+      → (q : ℕ) → (if is_some events then Some number else was) ≡ Some q
+      → (with_events (with_signals row (option_map (set_of script) signals)) (option_map (list_of script) events) number).row.request ≡ Some q
+  new_request None was before q e = signals_request script row signals ∙ before q e
+  new_request (Some name) was before q e = armed_request (with_signals row (option_map (set_of script) signals)) (list_of script name) number ∙ e
+
+-- ---- a command for a line
+
+-- what is expected of a line, with one test for the line and one for its descriptor
+expects_at : (carries : Bool) (expects : ℕ → Option ℕ) (x number i : ℕ)
+    → expected_if carries expects x number i ≡ (if i == x then (if carries then Some number else expects i) else expects i)
+expects_at true expects x number i = refl
+expects_at false expects x number i = by_test (λ (o : Option ℕ). expects i ≡ o) (expects i) (expects i) (i == x) (λ e. refl) (λ e. refl)
+
+-- two lines of the call are one on the gateway exactly where they are one
+line_test : (lines : ℕ → ℕ) (x i : ℕ) → (lines x ≡ lines i → x ≡ i) → (lines x == lines i) ≡ (i == x)
+line_test lines x i once = by_equality (i == x) refl (lines x == lines i) refl
+  where
+    by_equality : (same : Bool) → (i == x) ≡ same → (one : Bool) → (lines x == lines i) ≡ one → one ≡ same
+    by_equality true e true d = refl
+    by_equality false e false d = refl
+    by_equality true e false d = absurd (true≢false (sym (eq-eqb (lines x) (lines i) (ap lines (sym (eqb-true i x e)))) ∙ d))
+    by_equality false e true d = absurd (true≢false (sym (eq-eqb i x (sym (once (eqb-true (lines x) (lines i) d)))) ∙ e))
+
+-- the row of a line by these descriptors
+abbrev row_by : Script → Option EventsName → Option SignalsName → LineRow → ℕ → LineRow
+row_by script events signals row number =
+    (with_events (with_signals row (option_map (set_of script) signals)) (option_map (list_of script) events) number).row
+
+module _ (script : Script) (lines : ℕ → ℕ) (expects : ℕ → Option ℕ) (line : ℕ → LineRow) (lists : ℕ → EventsName) (plays : ℕ → Bool)
+    (shown : AreShown script lines expects line lists plays) (x number : ℕ) (events : Option EventsName) (signals : Option SignalsName) where
+  list_at : (i : ℕ) (within : i < length script.lines) (same : Bool) → (i == x) ≡ same
+      → (if same then row_by script events signals (line (lines i)) number else line (lines i)).list
+      ≡ list_of script (if same then unwrap_or events (lists x) else lists i)
+  list_at i within true e = new_list script (line (lines i)) signals number events (lists x)
+      (shown.events i within ∙ ap (λ n. list_of script (lists n)) (eqb-true i x e))
+  list_at i within false e = shown.events i within
+
+  playing_at : (i : ℕ) (within : i < length script.lines) (same : Bool) → (i == x) ≡ same
+      → (if same then plays_after script signals (plays x) else plays i) ≡ false
+      → (if same then row_by script events signals (line (lines i)) number else line (lines i)).playing ≡ silent
+  playing_at i within true e may = new_playing script (line (lines i)) signals number events (plays x)
+      (λ was. shown.silent i within (ap plays (eqb-true i x e) ∙ was)) may
+  playing_at i within false e may = shown.silent i within may
+
+  request_at : (i q : ℕ) (within : i < length script.lines) (same : Bool) → (i == x) ≡ same
+      → (if same then (if is_some events then Some number else expects i) else expects i) ≡ Some q
+      → (if same then row_by script events signals (line (lines i)) number else line (lines i)).request ≡ Some q
+  request_at i q within true e is = new_request script (line (lines i)) signals number events (expects i) (λ p. shown.expected i p within) q is
+  request_at i q within false e is = shown.expected i q within is
+
+  -- the lines after a command's descriptors for the line at x
+  pub described_lines : ((i : ℕ) → i < length script.lines → lines x ≡ lines i → x ≡ i)
+      → AreShown script lines (expected_if (is_some events) expects x number)
+      (λ l. if lines x == l then row_by script events signals (line l) number else line l)
+      (with_at lists x (unwrap_or events (lists x))) (with_at plays x (plays_after script signals (plays x)))
+  described_lines once = record {
+    events = λ i within. rw (line_test lines x i (once i within)) (list_at i within (i == x) refl);
+    silent = λ i within may. rw (line_test lines x i (once i within)) (playing_at i within (i == x) refl may);
+    expected = λ i q within is. rw (line_test lines x i (once i within))
+        (request_at i q within (i == x) refl (sym (expects_at (is_some events) expects x number i) ∙ is));
+  }
+
+-- ---- a command that takes lines out of their context
+
+module _ (script : Script) (lines : ℕ → ℕ) (expects after : ℕ → Option ℕ) (line : ℕ → LineRow) (lists : ℕ → EventsName) (plays : ℕ → Bool)
+    (shown : AreShown script lines expects line lists plays) (out gone : ℕ → Bool) where
+  cleared_list : (i : ℕ) (within : i < length script.lines) (leaves : Bool)
+      → (if leaves then cleared (line (lines i)) else line (lines i)).list ≡ list_of script (if leaves then Empty else lists i)
+  cleared_list i within true = refl
+  cleared_list i within false = shown.events i within
+
+  cleared_playing : (i : ℕ) (within : i < length script.lines) (leaves : Bool) → (if leaves then false else plays i) ≡ false
+      → (if leaves then cleared (line (lines i)) else line (lines i)).playing ≡ silent
+  cleared_playing i within true e = refl
+  cleared_playing i within false e = shown.silent i within e
+
+  cleared_request : (i q : ℕ) (within : i < length script.lines) (leaves : Bool) → (if leaves then None else expects i) ≡ Some q
+      → (if leaves then cleared (line (lines i)) else line (lines i)).request ≡ Some q
+  cleared_request i q within true e = e
+  cleared_request i q within false e = shown.expected i q within e
+
+  pub cleared_lines : ((i : ℕ) → i < length script.lines → out (lines i) ≡ gone i)
+      → ((i : ℕ) → i < length script.lines → after i ≡ (if gone i then None else expects i))
+      → AreShown script lines after (λ l. if out l then cleared (line l) else line l)
+      (λ i. if gone i then Empty else lists i) (λ i. if gone i then false else plays i)
+  cleared_lines agree expected = record {
+    events = λ i within. rw (agree i within) (cleared_list i within (gone i));
+    silent = λ i within may. rw (agree i within) (cleared_playing i within (gone i) may);
+    expected = λ i q within is. rw (agree i within) (cleared_request i q within (gone i) (sym (expected i within) ∙ is));
+  }
+
+-- ---- who leaves with `subtract *`
+
+live_bound : (value : ContextValue) → is_live value ≡ true → not (is_free value) ≡ true
+live_bound Live e = refl
+live_bound Free e = absurd (true≢false (sym e))
+live_bound Stale e = absurd (true≢false (sym e))
+
+module _ (script : Script) (owned : TermId → Bool) (n m : Naming) (b : Board) (c : Configuration) (shown : Shown script owned n b c)
+    (built : AreBuilt n m b) (j : ℕ) (live : is_live (c.context j) ≡ true) where
+  null_apart : (x : ℕ) → n.contexts j ≡ Some x → (0 == x) ≡ false
+  null_apart x e = same_test (0 == x) false (λ zero. let above : 0 < x = (shown.context_real j x e).0.0 in
+      let is : 0 ≡ x = eqb-true 0 x zero in absurd (omega (arith, above, is))) (λ no. absurd (true≢false (sym no)))
+
+  in_test : (x : ℕ) → n.contexts j ≡ Some x → (spot : Spot) → ((i : ℕ) → spot ≡ In i → is_some (n.contexts i) ≡ true)
+      → (number_at n spot == x) ≡ is_in spot j
+  in_test x e Absent bound = null_apart x e
+  in_test x e Null bound = null_apart x e
+  in_test x e (In i) bound = by_number (some_of (n.contexts i) (bound i refl))
+    where
+      by_number : (y : ℕ) × (n.contexts i ≡ Some y) → (unwrap_or (n.contexts i) 0 == x) ≡ (i == j)
+      by_number (y, is) = ap (λ o. unwrap_or o 0 == x) is ∙ same_test (y == x) (i == j)
+          (λ same. eq-eqb i j (shown.context_once i j x (is ∙ ap (λ z. Some z) (eqb-true y x same)) e))
+          (λ same. eq-eqb y x (the_some y x (sym is ∙ ap n.contexts (eqb-true i j same) ∙ e)))
+
+  pub leaves_test : (i : ℕ) → i < length script.lines
+      → (place_of b (term.Line (record { 0 = n.lines i })) == context_for m j) ≡ is_in (c.spot (termination.Line i)) j
+  leaves_test i within =
+      let bound = some_of (n.contexts j) (shown.bound j ∙ live_bound (c.context j) live) in
+      ap (λ p. p == context_for m j) (shown.place (termination.Line i) within)
+      ∙ ap (λ o. number_at n (c.spot (termination.Line i)) == unwrap_or o 4294967295) (built.context j bound.0 bound.1)
+      ∙ in_test bound.0 bound.1 (c.spot (termination.Line i)) (λ k e. shown.in_bound (termination.Line i) k within e)
+
+-- a number is in a list of those that pass a test exactly where it passes
+found : (numbers : List ℕ) (n : ℕ) → list_any (λ other. other == n) numbers ≡ true → Contains numbers n
+found [] n e = absurd (true≢false (sym e))
+found (x ∷ numbers) n e = at_first (x == n) refl e (found numbers n)
+  where
+    at_first : (is : Bool) → (x == n) ≡ is → (is || list_any (λ other. other == n) numbers) ≡ true
+        → (list_any (λ other. other == n) numbers ≡ true → Contains numbers n) → Contains (x ∷ numbers) n
+    at_first true is any later = (0, omega arith, eqb-true x n is)
+    at_first false is any later = Contains-append_right (x ∷ []) numbers n (later any)
+
+pub listed_test : (test : ℕ → Bool) (numbers : List ℕ) → Lists test numbers → (n : ℕ) → is_listed numbers (Some n) ≡ test n
+listed_test test numbers lists n = same_test (list_any (λ other. other == n) numbers) (test n)
+    (λ listed. (lists.exactly n).0 (found numbers n listed))
+    (λ passes. let among = (lists.exactly n).1 passes in
+    list_any_at (λ other. other == n) numbers among.0 n among.1 (eq-eqb _ n among.2))

@@ -1,0 +1,219 @@
+-- What a request does to each line, and its notes: a line is armed, emptied or left by each command, the lines of others stay, and each note
+-- that is to be sent is of a line of the call, has the request's number, and is one that the line's list can raise if its descriptor stands.
+use Rattle.std.proofs.Common.{◌≡◌, ◌∙◌, ◌<◌, ℕ, Bool, true, false, List, [], ◌∷◌, ◌++◌, length, Option, Some, None, is_some, refl, sym, ap, subst, arith, true≢false, inl, inr}
+use Rattle.std.proofs.lemmas.Bool.{eqb-true, eq-eqb, false_from_ne_true}
+use Rattle.std.proofs.lemmas.List.Elements.{Contains-append_cases, Contains-append_left, Contains-append_right}
+use Rattle.std.specs.Prelude.{◌==◌, ◌&&◌, ◌||◌, not, if◌then◌else◌, unwrap_or, Contains, filter}
+use Rattle.std.specs.List.{list_any}
+use Rattle.mg_names.specs.declared.identifiers.TermId.TheVariants as term
+use Rattle.mg_model.specs.declared.commands.Command.{Command}
+use Rattle.mg_model.specs.declared.commands.Command.TheVariants.{AddLine, AddEphemeral, ModifyLine, ModifyEphemeral, MoveLine, MoveEphemeral, Subtract, SubtractAll, SetTopology}
+use Rattle.mg_model.specs.declared.items.Item.{Item}
+use Rattle.mg_model.specs.declared.line_events.Hook.{Hook}
+use Rattle.mg_model.specs.declared.line_events.Hook.TheVariants.{On, Off}
+use Rattle.mg_model.specs.declared.line_events.SignalSet.{SignalSet}
+use Rattle.mg_model.specs.Agent.{Agent, Made, command_of}
+use Rattle.mg_model.specs.Board.{Board}
+use Rattle.mg_model.specs.Configuration.{Configuration}
+use Rattle.mg_model.specs.Items.{Done, leaves}
+use Rattle.mg_model.specs.declared.transitions.EventItem.TheVariants.{OnHook, OffHook, Flash, Digits}
+use Rattle.mg_model.specs.LineEvents.{ListItem, LineRow, Note, Outcome, armed, cleared, is_standing, kind_of}
+use Rattle.mg_model.specs.Messages.{Descriptors, RequestCommand}
+use Rattle.mg_model.specs.RequestRun.{Running, with_signals, with_events, with_descriptors, described, described_row, line_after, is_line, rearms, note_from, raised, standing}
+use Rattle.mg_model.specs.Script.{Script}
+use Rattle.mg_model.specs.Accepted.{IsCommandOf}
+use Rattle.mg_safety.proofs.Shared.Single.{any_too, only_one}
+use Rattle.mg_safety.proofs.Shared.Cases.{by_test}
+use Rattle.mg_safety.proofs.Requests.RunLines.{armed_list, armed_request}
+use Rattle.mg_safety.proofs.Invariant.Shown.{naming, naming_at, Shown, Owner, owned_at, AreBuilt, raises_kind, list_raises}
+use Rattle.mg_safety.proofs.Invariant.Statements.{LineGoes}
+
+-- ---- each line
+
+set_list : (row : LineRow) (signals : Option SignalSet) → (with_signals row signals).list ≡ row.list
+set_list row None = refl
+set_list row (Some set) = refl
+
+set_request : (row : LineRow) (signals : Option SignalSet) → (with_signals row signals).request ≡ row.request
+set_request row None = refl
+set_request row (Some set) = refl
+
+-- descriptors without Events leave list and RequestID
+kept_by_descriptors : (row : LineRow) (signals : Option SignalSet) (events : Option (List ListItem)) (number : ℕ) → is_some events ≡ false
+    → ((with_events (with_signals row signals) events number).row.list ≡ row.list) × ((with_events (with_signals row signals) events number).row.request ≡ row.request)
+kept_by_descriptors row signals None number e = (set_list row signals, set_request row signals)
+kept_by_descriptors row signals (Some list) number e = absurd (true≢false e)
+
+goes_by_descriptors : (row : LineRow) (signals : Option SignalSet) (events : Option (List ListItem)) (number : ℕ)
+    → LineGoes number row (with_events (with_signals row signals) events number).row
+goes_by_descriptors row signals None number = inr (inr (set_list row signals, set_request row signals))
+goes_by_descriptors row signals (Some list) number = inl (armed_request (with_signals row signals) list number)
+
+goes_described : (row : LineRow) (d : Option (ℕ × Descriptors)) (l number : ℕ) → LineGoes number row (described_row d row l number)
+goes_described row None l number = inr (inr (refl, refl))
+goes_described row (Some (line, d)) l number = by_test (LineGoes number row) (with_descriptors row d number).row row (line == l)
+    (λ e. goes_by_descriptors row d.signals d.events number) (λ e. inr (inr (refl, refl)))
+
+pub line_goes : (r : Running) (command : RequestCommand) (item : Item) (number l : ℕ) → LineGoes number (r.line l) (line_after r command item number l)
+line_goes r command item number l = by_test (LineGoes number (r.line l)) (cleared (r.line l)) (described_row (described command) (r.line l) l number)
+    (leaves r.board item (term.Line (record { 0 = l }))) (λ e. inr (inl refl)) (λ e. goes_described (r.line l) (described command) l number)
+
+pub goes_on : (number : ℕ) (row mid after : LineRow) → LineGoes number row mid → LineGoes number mid after → LineGoes number row after
+goes_on number row mid after first (inl e) = inl e
+goes_on number row mid after first (inr (inl e)) = inr (inl e)
+goes_on number row mid after (inl e) (inr (inr kept)) = inl (kept.1 ∙ e)
+goes_on number row mid after (inr (inl e)) (inr (inr kept)) = inr (inl (kept.1 ∙ e))
+goes_on number row mid after (inr (inr was)) (inr (inr kept)) = inr (inr (kept.0 ∙ was.0, kept.1 ∙ was.1))
+
+-- ---- the lines of others
+
+-- a command describes a line of the call
+module _ (script : Script) (own : Owner) (e a : Agent) (made : Made) (results : List Done) (b : Board) (c : Configuration)
+    (shown : Shown script (owned_at own b) (naming e) b c) (built : AreBuilt (naming e) (naming_at a made results) b) where
+  line_held : (x l : ℕ) → x < length script.lines → (a.lines x == l) ≡ true → own.held l ≡ true
+  line_held x l inside same =
+      ap own.held (sym (eqb-true (a.lines x) l same) ∙ ap (λ (lines : ℕ → ℕ). lines x) built.lines) ∙ shown.line_owned x inside
+
+  no_line : {P : Type 0} → false ≡ true → P
+  no_line e = absurd (true≢false (sym e))
+
+  pub described_held : (command : Command) → IsCommandOf script command → (l : ℕ) → is_line (described (command_of script a made command)) l ≡ true
+      → own.held l ≡ true
+  described_held (AddLine create j x o) declared l same = line_held x l declared.1 same
+  described_held (AddEphemeral create j k o) declared l same = no_line same
+  described_held (ModifyLine place x o) declared l same = line_held x l declared.1 same
+  described_held (ModifyEphemeral place k o) declared l same = no_line same
+  described_held (MoveLine j x o) declared l same = line_held x l declared.1 same
+  described_held (MoveEphemeral j k o) declared l same = no_line same
+  described_held (Subtract j t) declared l same = no_line same
+  described_held (SubtractAll j) declared l same = no_line same
+  described_held (SetTopology j t u topology) declared l same = no_line same
+
+undescribed : (d : Option (ℕ × Descriptors)) (row : LineRow) (l number : ℕ) → is_line d l ≡ false → described_row d row l number ≡ row
+undescribed None row l number e = refl
+undescribed (Some (line, d)) row l number e = rw e refl
+
+pub other_line : (held : ℕ → Bool) (r : Running) (command : RequestCommand) (item : Item) (number : ℕ)
+    → ((l : ℕ) → leaves r.board item (term.Line (record { 0 = l })) ≡ true → held l ≡ true)
+    → ((l : ℕ) → is_line (described command) l ≡ true → held l ≡ true)
+    → (l : ℕ) → held l ≡ false → line_after r command item number l ≡ r.line l
+other_line held r command item number leaving describing l other =
+    by_test (λ (row : LineRow). row ≡ r.line l) (cleared (r.line l)) (described_row (described command) (r.line l) l number)
+    (leaves r.board item (term.Line (record { 0 = l }))) (λ e. absurd (true≢false (sym (leaving l e) ∙ other)))
+    (λ e. undescribed (described command) (r.line l) l number (false_from_ne_true (is_line (described command) l) (λ is. true≢false (sym (describing l is) ∙ other))))
+
+-- ---- the notes
+
+-- a note is one that a line with this row may send: its list raises it if its descriptor is of this request
+abbrev pub IsRaised : ℕ → LineRow → Note → Type 0
+IsRaised number row note = (note.request ≡ number) × (row.request ≡ Some number → list_raises row.list note.kind ≡ true)
+
+-- each note that is to be sent
+abbrev pub AreNotes : (ℕ → Bool) → ℕ → (ℕ → LineRow) → List (ℕ × Note) → Type 0
+AreNotes held number line notes = (l : ℕ) (note : Note) → Contains notes (l, note) → (held l ≡ true) × IsRaised number (line l) note
+
+pub no_notes : {P : Type 0} (l : ℕ) (note : Note) → Contains {X = ℕ × Note} [] (l, note) → P
+no_notes l note among = absurd (let below : among.0 < 0 = among.1 in omega (arith, below))
+
+standing_raises : (hook : Hook) (item : ListItem) → is_standing hook item ≡ true → raises_kind (kind_of hook) item ≡ true
+standing_raises On (OnHook strict) e = refl
+standing_raises On (OffHook strict) e = absurd (true≢false (sym e))
+standing_raises On Flash e = absurd (true≢false (sym e))
+standing_raises On (Digits map) e = absurd (true≢false (sym e))
+standing_raises Off (OnHook strict) e = absurd (true≢false (sym e))
+standing_raises Off (OffHook strict) e = refl
+standing_raises Off Flash e = absurd (true≢false (sym e))
+standing_raises Off (Digits map) e = absurd (true≢false (sym e))
+
+-- a note of a new descriptor
+armed_note : (row : LineRow) (list : List ListItem) (number : ℕ) (note : Note) → (armed row list number).note ≡ Some note
+    → (note.request ≡ number) × (list_raises list note.kind ≡ true)
+armed_note row list number note = by_test (λ (o : Outcome). o.note ≡ Some note → (note.request ≡ number) × (list_raises list note.kind ≡ true)) _ _
+    (list_any (is_standing row.hook) list)
+    (λ stands e. let is = ap (λ (o : Option Note). unwrap_or o note) e in (
+      sym (ap (λ (n : Note). n.request) is),
+      subst (λ (n : Note). list_raises list n.kind ≡ true) is
+          (any_too (is_standing row.hook) (raises_kind (kind_of row.hook)) (standing_raises row.hook) list stands),
+    ))
+    (λ stands e. absurd (true≢false (sym (ap is_some e))))
+
+descriptors_note : (row : LineRow) (signals : Option SignalSet) (events : Option (List ListItem)) (number : ℕ) (note : Note)
+    → (with_events (with_signals row signals) events number).note ≡ Some note → IsRaised number (with_events (with_signals row signals) events number).row note
+descriptors_note row signals None number note e = absurd (true≢false (sym (ap is_some e)))
+descriptors_note row signals (Some list) number note e =
+    let is = armed_note (with_signals row signals) list number note e in
+    (is.0, λ armed. ap (λ (items : List ListItem). list_raises items note.kind) (armed_list (with_signals row signals) list number) ∙ is.1)
+
+-- what a filter keeps
+kept_by : (test : (ℕ × Note) → Bool) (notes : List (ℕ × Note)) (n : ℕ × Note) → Contains (filter test notes) n → Contains notes n × (test n ≡ true)
+kept_by test [] n = λ among. absurd (let below : among.0 < 0 = among.1 in omega (arith, below))
+kept_by test (x ∷ notes) n = by_test (λ (kept : List (ℕ × Note)). Contains kept n → Contains (x ∷ notes) n × (test n ≡ true))
+    (x ∷ filter test notes) (filter test notes) (test x)
+    (λ passes among. elim (Contains-append_cases (x ∷ []) (filter test notes) n among) [
+      | inl first ↦ (Contains-append_left (x ∷ []) notes n first, ap test (sym (only_one x n first)) ∙ passes)
+      | inr later ↦ let rest = kept_by test notes n later in (Contains-append_right (x ∷ []) notes n rest.0, rest.1)
+    ])
+    (λ fails among. let rest = kept_by test notes n among in (Contains-append_right (x ∷ []) notes n rest.0, rest.1))
+
+-- the notes whose descriptor still stands
+kept_rows : (d : Option (ℕ × Descriptors)) (row : LineRow) (l number : ℕ) → rearms d l ≡ false
+    → ((described_row d row l number).list ≡ row.list) × ((described_row d row l number).request ≡ row.request)
+kept_rows None row l number e = (refl, refl)
+kept_rows (Some (line, d)) row l number e = at_line (line == l) e
+  where
+    at_line : (same : Bool) → (same && is_some d.events) ≡ false
+        → ((if same then (with_descriptors row d number).row else row).list ≡ row.list)
+        × ((if same then (with_descriptors row d number).row else row).request ≡ row.request)
+    at_line true none = kept_by_descriptors row d.signals d.events number none
+    at_line false none = (refl, refl)
+
+neither : (x y : Bool) → not (x || y) ≡ true → (x ≡ false) × (y ≡ false)
+neither true y e = absurd (true≢false (sym e))
+neither false true e = absurd (true≢false (sym e))
+neither false false e = (refl, refl)
+
+still_raised : (number : ℕ) (row after : LineRow) (note : Note) → (after.list ≡ row.list) × (after.request ≡ row.request)
+    → IsRaised number row note → IsRaised number after note
+still_raised number row after note kept is =
+    (is.0, λ armed. ap (λ (items : List ListItem). list_raises items note.kind) kept.0 ∙ is.1 (sym kept.1 ∙ armed))
+
+new_note : (line : ℕ) (o : Option Note) (l : ℕ) (note : Note) → Contains (note_from line o) (l, note) → (line ≡ l) × (o ≡ Some note)
+new_note line None l note among = no_notes l note among
+new_note line (Some one) l note among =
+    let is : (line, one) ≡ (l, note) = only_one (line, one) (l, note) among in
+    (ap (λ (n : ℕ × Note). n.0) is, ap (λ (n : ℕ × Note). Some n.1) is)
+
+module _ (held : ℕ → Bool) (r : Running) (command : RequestCommand) (item : Item) (number : ℕ) where
+  -- a line that leaves has no RequestID
+  on_row : (l : ℕ) (note : Note) → note.request ≡ number
+      → (leaves r.board item (term.Line (record { 0 = l })) ≡ false → IsRaised number (described_row (described command) (r.line l) l number) note)
+      → IsRaised number (line_after r command item number l) note
+  on_row l note is stays = by_test (λ (row : LineRow). IsRaised number row note) (cleared (r.line l)) (described_row (described command) (r.line l) l number)
+      (leaves r.board item (term.Line (record { 0 = l }))) (λ e. (is, λ armed. absurd (true≢false (sym (ap is_some armed))))) stays
+
+  raised_on : (d : Option (ℕ × Descriptors)) → ((l : ℕ) → is_line d l ≡ true → held l ≡ true) → (l : ℕ) (note : Note)
+      → Contains (raised r d number) (l, note) → (held l ≡ true) × IsRaised number (described_row d (r.line l) l number) note
+  raised_on None describing l note among = no_notes l note among
+  raised_on (Some (line, d)) describing l note among =
+      let is = new_note line (with_descriptors (r.line line) d number).note l note among in
+      let same : (line == l) ≡ true = eq-eqb line l is.0 in (
+        describing l same,
+        rw same (descriptors_note (r.line l) d.signals d.events number note
+            (ap (λ (n : ℕ). (with_descriptors (r.line n) d number).note) (sym is.0) ∙ is.1)),
+      )
+
+  pub notes_carried : ((l : ℕ) → is_line (described command) l ≡ true → held l ≡ true) → AreNotes held number r.line r.notes
+      → AreNotes held number (line_after r command item number) (standing r command item ++ raised r (described command) number)
+  notes_carried describing before l note among =
+      elim (Contains-append_cases (standing r command item) (raised r (described command) number) (l, note) among) [
+        | inl stands ↦
+            let kept = kept_by (λ (n : ℕ × Note). not (leaves r.board item (term.Line (record { 0 = n.0 })) || rearms (described command) n.0)) r.notes (l, note) stands in
+            let tests = neither (leaves r.board item (term.Line (record { 0 = l }))) (rearms (described command) l) kept.1 in
+            let was = before l note kept.0 in (
+              was.0,
+              on_row l note was.1.0 (λ e. still_raised number (r.line l) (described_row (described command) (r.line l) l number) note
+                  (kept_rows (described command) (r.line l) l number tests.1) was.1),
+            )
+        | inr new ↦
+            let is = raised_on (described command) describing l note new in (is.0, on_row l note is.1.0 (λ e. is.1))
+      ]

@@ -1,0 +1,257 @@
+-- What goes on from command to command of a request: changes of what is owned compose, the names that later commands create stay unbound,
+-- and a configuration is shown, and is well formed, whatever its link is.
+use Rattle.std.proofs.Common.{◌≡◌, ◌∙◌, ℕ, Bool, true, false, List, [], ◌∷◌, Option, Some, None, refl, sym, ap, true≢false, inl, inr}
+use Rattle.std.proofs.lemmas.Bool.{eqb-true, eq-eqb, and_from, false_from_ne_true}
+use Rattle.std.specs.Prelude.{◌==◌, ◌&&◌, ◌||◌, ◌⊎◌, not, if◌then◌else◌}
+use Rattle.std.specs.List.{list_all}
+use Rattle.mg_names.specs.declared.context_values.ContextValue.{ContextValue}
+use Rattle.mg_names.specs.declared.context_values.ContextValue.TheVariants.{Free, Live, Stale}
+use Rattle.mg_names.specs.declared.identifiers.TermId.{TermId}
+use Rattle.mg_names.specs.declared.identifiers.TermId.TheVariants.{Line, Eph}
+use Rattle.mg_names.specs.declared.phases.Link as phases
+use Rattle.mg_model.specs.declared.commands.Command.{Command}
+use Rattle.mg_model.specs.declared.commands.Command.TheVariants.{AddLine, AddEphemeral, ModifyLine, ModifyEphemeral, MoveLine, MoveEphemeral, Subtract, SubtractAll, SetTopology}
+use Rattle.mg_model.specs.declared.commands.Termination.{Termination}
+use Rattle.mg_model.specs.declared.commands.Termination.TheVariants as termination
+use Rattle.mg_model.specs.declared.components.Spot.{Spot}
+use Rattle.mg_model.specs.declared.components.Spot.TheVariants.{Absent, Null, In}
+use Rattle.mg_model.specs.Agent.{Agent}
+use Rattle.mg_model.specs.Board.{Board, place_of}
+use Rattle.mg_model.specs.Updates.{with_at}
+use Rattle.mg_model.specs.Configuration.{Configuration, IsWellFormed, is_same, is_in, is_live, is_free, is_present, value_of}
+use Rattle.mg_model.specs.Effects.{is_legal, effect, is_elsewhere}
+use Rattle.mg_model.specs.LineEvents.{LineRow}
+use Rattle.mg_model.specs.Request.{created_context, created_ephemeral}
+use Rattle.mg_model.specs.Script.{Script}
+use Rattle.mg_model.specs.Steps.{creates_unbound, with_link}
+use Rattle.mg_model.specs.Accepted.{is_apart, creates_apart}
+use Rattle.mg_safety.proofs.Shared.Cases.{and_first, and_second, by_test}
+use Rattle.mg_safety.proofs.Invariant.Shown.{Naming, Shown, LinesShown, Owner, owned_at, ChangesOwned}
+
+-- ---- changes of what is owned
+
+given_more : (created given before after : Bool) → (given ≡ true → after ≡ true) → (created || (given && not before)) ≡ true
+    → (created || (after && not before)) ≡ true
+given_more true given before after more e = refl
+given_more false true before after more e = rw (more refl) e
+given_more false false before after more e = absurd (true≢false (sym e))
+
+owned_more : (own : Owner) (b after : Board) → ((x : ℕ) → b.given_ephemeral x ≡ true → after.given_ephemeral x ≡ true)
+    → (t : TermId) → owned_at own b t ≡ true → owned_at own after t ≡ true
+owned_more own b after more (Line l) e = e
+owned_more own b after more (Eph x) e = given_more (own.created x) (b.given_ephemeral x) (own.before x) (after.given_ephemeral x) (more x) e
+
+pub unchanged : (own : Owner) (b : Board) → ChangesOwned own b b
+unchanged own b = record {
+  row = λ t other. refl;
+  cut = λ t u first second. refl;
+  given_context = λ x e. e;
+  given_ephemeral = λ x e. e;
+  place = λ t owned stands. inl (t, owned, refl);
+  line = λ l. refl;
+  ephemeral = λ x e. inl e;
+}
+
+module _ (own : Owner) (b mid after : Board) (first : ChangesOwned own b mid) (second : ChangesOwned own mid after) where
+  not_before : (t : TermId) → owned_at own after t ≡ false → owned_at own mid t ≡ false
+  not_before t other = false_from_ne_true (owned_at own mid t) (λ owned. true≢false (sym (owned_more own mid after second.given_ephemeral t owned) ∙ other))
+
+  ungiven : (was later : ℕ → Bool) (x : ℕ) → (was x ≡ true → later x ≡ true) → later x ≡ false → was x ≡ false
+  ungiven was later x kept none = false_from_ne_true (was x) (λ given. true≢false (sym (kept given) ∙ none))
+
+  place_before : (t : TermId) → owned_at own after t ≡ true → (place_of after t ≡ 0 → ⊥)
+      → ((u : TermId) × (owned_at own b u ≡ true) × (place_of b u ≡ place_of after t)) ⊎ (b.given_context (place_of after t) ≡ false)
+  place_before t owned stands = elim (second.place t owned stands) [
+    | inl (u, owned_then, same) ↦ elim (first.place u owned_then (λ zero. stands (sym same ∙ zero))) [
+      | inl (v, owned_before, place) ↦ inl (v, owned_before, place ∙ same)
+      | inr none ↦ inr (ap b.given_context (sym same) ∙ none)
+    ]
+    | inr none ↦ inr (ungiven b.given_context mid.given_context (place_of after t) (first.given_context (place_of after t)) none)
+  ]
+
+  pub changes_on : ChangesOwned own b after
+  changes_on = record {
+    row = λ t other. second.row t other ∙ first.row t (not_before t other);
+    cut = λ t u one other. second.cut t u one other ∙ first.cut t u (not_before t one) (not_before u other);
+    given_context = λ x e. second.given_context x (first.given_context x e);
+    given_ephemeral = λ x e. second.given_ephemeral x (first.given_ephemeral x e);
+    place = place_before;
+    line = λ l. second.line l ∙ first.line l;
+    ephemeral = λ x stands. elim (second.ephemeral x stands) [
+      | inl stood ↦ first.ephemeral x stood
+      | inr none ↦ inr (ungiven b.given_ephemeral mid.given_ephemeral x (first.given_ephemeral x) none)
+    ];
+  }
+
+-- ---- names that are unbound
+
+abbrev context_free : Configuration → Option ℕ → Bool
+context_free c None = true
+context_free c (Some j) = is_free (c.context j)
+
+abbrev ephemeral_absent : Configuration → Option ℕ → Bool
+ephemeral_absent c None = true
+ephemeral_absent c (Some k) = not (is_present (c.spot (termination.Ephemeral k)))
+
+unbound_is : (c : Configuration) (command : Command)
+    → creates_unbound c command ≡ (context_free c (created_context command) && ephemeral_absent c (created_ephemeral command))
+unbound_is c (AddLine true j i o) = refl
+unbound_is c (AddLine false j i o) = refl
+unbound_is c (AddEphemeral true j k o) = refl
+unbound_is c (AddEphemeral false j k o) = refl
+unbound_is c (ModifyLine place i o) = refl
+unbound_is c (ModifyEphemeral place k o) = refl
+unbound_is c (MoveLine j i o) = refl
+unbound_is c (MoveEphemeral j k o) = refl
+unbound_is c (Subtract j t) = refl
+unbound_is c (SubtractAll j) = refl
+unbound_is c (SetTopology j t u topology) = refl
+
+free_stays : (value : ContextValue) (stands : Bool) → is_free value ≡ true → is_free (value_of value stands) ≡ true
+free_stays Free stands e = refl
+free_stays Live stands e = absurd (true≢false (sym e))
+free_stays Stale stands e = absurd (true≢false (sym e))
+
+not_live : (value : ContextValue) → is_live value ≡ true → is_free value ≡ true → ⊥
+not_live Free live free = true≢false (sym live)
+not_live Live live free = true≢false (sym free)
+not_live Stale live free = true≢false (sym free)
+
+-- a command puts a termination into j, and i is another name
+put_free : (contexts : ℕ → ContextValue) (i j : ℕ) (value : ContextValue) (stands : Bool) → is_free (contexts i) ≡ true → (i ≡ j → ⊥)
+    → is_free (value_of (with_at contexts j value i) stands) ≡ true
+put_free contexts i j value stands free apart = by_test (λ (v : ContextValue). is_free (value_of v stands) ≡ true) value (contexts i) (i == j)
+    (λ same. absurd (apart (eqb-true i j same))) (λ differ. free_stays (contexts i) stands free)
+
+freed : (contexts : ℕ → ContextValue) (i j : ℕ) (stands : Bool) → is_free (contexts i) ≡ true
+    → is_free (value_of (with_at contexts j Free i) stands) ≡ true
+freed contexts i j stands free = by_test (λ (v : ContextValue). is_free (value_of v stands) ≡ true) Free (contexts i) (i == j)
+    (λ same. refl) (λ differ. free_stays (contexts i) stands free)
+
+not_same : (i j : ℕ) → not (j == i) ≡ true → i ≡ j → ⊥
+not_same i j apart same = true≢false (sym apart ∙ ap not (eq-eqb j i (sym same)))
+
+live_apart : (contexts : ℕ → ContextValue) (i j : ℕ) → is_live (contexts j) ≡ true → is_free (contexts i) ≡ true → i ≡ j → ⊥
+live_apart contexts i j live free same = not_live (contexts j) live (ap (λ n. is_free (contexts n)) (sym same) ∙ free)
+
+context_kept : (script : Script) (c : Configuration) (command : Command) (i : ℕ) → is_legal c command ≡ true
+    → is_apart (created_context command) (Some i) ≡ true → is_free (c.context i) ≡ true → is_free ((effect script c command).context i) ≡ true
+context_kept script c (AddLine true j x o) i legal apart free = put_free c.context i j Live _ free (not_same i j apart)
+context_kept script c (AddLine false j x o) i legal apart free = put_free c.context i j Live _ free
+    (live_apart c.context i j (and_first _ _ legal) free)
+context_kept script c (AddEphemeral true j k o) i legal apart free = put_free c.context i j Live _ free (not_same i j apart)
+context_kept script c (AddEphemeral false j k o) i legal apart free = put_free c.context i j Live _ free
+    (live_apart c.context i j (and_first _ _ legal) free)
+context_kept script c (ModifyLine place x o) i legal apart free = free
+context_kept script c (ModifyEphemeral place k o) i legal apart free = free
+context_kept script c (MoveLine j x o) i legal apart free = put_free c.context i j Live _ free (live_apart c.context i j (and_first _ _ legal) free)
+context_kept script c (MoveEphemeral j k o) i legal apart free = put_free c.context i j Live _ free
+    (live_apart c.context i j (and_first _ _ (and_first _ _ legal)) free)
+context_kept script c (Subtract j t) i legal apart free = free_stays (c.context i) _ free
+context_kept script c (SubtractAll j) i legal apart free =
+    freed c.context i j _ free
+context_kept script c (SetTopology j t u topology) i legal apart free = free
+
+absent_stays : (spots : Termination → Spot) (k : ℕ) (test : Bool) (spot : Spot) → (test ≡ true → not (is_present spot) ≡ true)
+    → not (is_present (spots (termination.Ephemeral k))) ≡ true → not (is_present (if test then spot else spots (termination.Ephemeral k))) ≡ true
+absent_stays spots k test spot new absent = by_test (λ (s : Spot). not (is_present s) ≡ true) spot (spots (termination.Ephemeral k)) test new (λ e. absent)
+
+elsewhere_present : (spot : Spot) (j : ℕ) → is_elsewhere spot j ≡ true → not (is_present spot) ≡ true → ⊥
+elsewhere_present Absent j elsewhere absent = true≢false (sym elsewhere)
+elsewhere_present Null j elsewhere absent = true≢false (sym absent)
+elsewhere_present (In i) j elsewhere absent = true≢false (sym absent)
+
+ephemeral_kept : (script : Script) (c : Configuration) (command : Command) (k : ℕ) → is_legal c command ≡ true
+    → is_apart (created_ephemeral command) (Some k) ≡ true → not (is_present (c.spot (termination.Ephemeral k))) ≡ true
+    → not (is_present ((effect script c command).spot (termination.Ephemeral k))) ≡ true
+ephemeral_kept script c (AddLine create j x o) k legal apart absent = absent
+ephemeral_kept script c (AddEphemeral create j x o) k legal apart absent = absent_stays c.spot k (k == x) (In j)
+    (λ same. absurd (not_same k x apart (eqb-true k x same))) absent
+ephemeral_kept script c (ModifyLine place x o) k legal apart absent = absent
+ephemeral_kept script c (ModifyEphemeral place x o) k legal apart absent = absent
+ephemeral_kept script c (MoveLine j x o) k legal apart absent = absent
+ephemeral_kept script c (MoveEphemeral j x o) k legal apart absent = absent_stays c.spot k (k == x) (In j)
+    (λ same. absurd (elsewhere_present (c.spot (termination.Ephemeral x)) j (and_second _ _ (and_first _ _ legal))
+    (ap (λ n. not (is_present (c.spot (termination.Ephemeral n)))) (sym (eqb-true k x same)) ∙ absent))) absent
+ephemeral_kept script c (Subtract j t) k legal apart absent =
+    absent_stays c.spot k (is_same t (termination.Ephemeral k)) Absent (λ same. refl) absent
+ephemeral_kept script c (SubtractAll j) k legal apart absent =
+    absent_stays c.spot k (is_in (c.spot (termination.Ephemeral k)) j) Absent (λ same. refl) absent
+ephemeral_kept script c (SetTopology j t u topology) k legal apart absent = absent
+
+module _ (script : Script) (c : Configuration) (command : Command) (legal : is_legal c command ≡ true) where
+  contexts_kept : (created : Option ℕ) → is_apart (created_context command) created ≡ true → context_free c created ≡ true
+      → context_free (effect script c command) created ≡ true
+  contexts_kept None apart free = refl
+  contexts_kept (Some i) apart free = context_kept script c command i legal apart free
+
+  ephemerals_kept : (created : Option ℕ) → is_apart (created_ephemeral command) created ≡ true → ephemeral_absent c created ≡ true
+      → ephemeral_absent (effect script c command) created ≡ true
+  ephemerals_kept None apart absent = refl
+  ephemerals_kept (Some k) apart absent = ephemeral_kept script c command k legal apart absent
+
+  unbound_kept : (other : Command) → creates_apart command other ≡ true → creates_unbound c other ≡ true
+      → creates_unbound (effect script c command) other ≡ true
+  unbound_kept other apart unbound =
+      let both = sym (unbound_is c other) ∙ unbound in
+      unbound_is (effect script c command) other
+      ∙ and_from _ _ (contexts_kept (created_context other) (and_first _ _ apart) (and_first _ _ both))
+      (ephemerals_kept (created_ephemeral other) (and_second _ _ apart) (and_second _ _ both))
+
+  -- the names that later commands create stay unbound
+  pub all_unbound : (more : List Command) → list_all (creates_apart command) more ≡ true → list_all (creates_unbound c) more ≡ true
+      → list_all (creates_unbound (effect script c command)) more ≡ true
+  all_unbound [] apart unbound = refl
+  all_unbound (other ∷ more) apart unbound = and_from _ _ (unbound_kept other (and_first _ _ apart) (and_first _ _ unbound))
+      (all_unbound more (and_second _ _ apart) (and_second _ _ unbound))
+
+-- ---- the link of a configuration
+
+pub formed_with_link : (c : Configuration) (link : phases.Link) → IsWellFormed (with_link c link) → IsWellFormed c
+formed_with_link c link f = record {
+  live = f.live;
+  absent_mode = f.absent_mode;
+  absent_remote = f.absent_remote;
+  named = f.named;
+  cut_within = f.cut_within;
+}
+
+-- the board and the lines show neither the state nor the link
+pub shown_still : (script : Script) (owned : TermId → Bool) (n : Naming) (b : Board) (c : Configuration) (state : ℕ) (link : phases.Link)
+    → Shown script owned n b c → Shown script owned n b (record c { state = state; link = link })
+shown_still script owned n b c state link s = record {
+  stands = s.stands;
+  place = s.place;
+  in_bound = s.in_bound;
+  mode = s.mode;
+  remote = s.remote;
+  cut = s.cut;
+  bound = s.bound;
+  line_stands = s.line_stands;
+  line_owned = s.line_owned;
+  line_once = s.line_once;
+  context_real = s.context_real;
+  context_once = s.context_once;
+  members = s.members;
+  ephemeral_slot = s.ephemeral_slot;
+  ephemeral_stands = s.ephemeral_stands;
+  ephemeral_owned = s.ephemeral_owned;
+  ephemeral_once = s.ephemeral_once;
+  ephemeral_named = s.ephemeral_named;
+}
+
+pub lines_with_link : (script : Script) (e : Agent) (line : ℕ → LineRow) (c : Configuration) (link : phases.Link)
+    → LinesShown script e line c → LinesShown script e line (with_link c link)
+lines_with_link script e line c link s = record { events = s.events; silent = s.silent; expected = s.expected }
+
+-- a command leaves the state
+pub effect_state : (script : Script) (c : Configuration) (command : Command) → (effect script c command).state ≡ c.state
+effect_state script c (AddLine create j i o) = refl
+effect_state script c (AddEphemeral create j k o) = refl
+effect_state script c (ModifyLine place i o) = refl
+effect_state script c (ModifyEphemeral place k o) = refl
+effect_state script c (MoveLine j i o) = refl
+effect_state script c (MoveEphemeral j k o) = refl
+effect_state script c (Subtract j t) = refl
+effect_state script c (SubtractAll j) = refl
+effect_state script c (SetTopology j t u topology) = refl

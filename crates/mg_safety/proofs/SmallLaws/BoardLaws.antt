@@ -1,0 +1,91 @@
+-- What a command leaves alone, and where a path stays.
+use Rattle.std.proofs.Common.{◌≡◌, ◌∙◌, ℕ, Bool, true, false, [], ◌∷◌, refl, sym, ap, arith, true≢false}
+use Rattle.std.specs.Prelude.{◌==◌, ◌&&◌, not, IsTrue}
+use Rattle.std.proofs.lemmas.Bool.{eqb-true}
+use Rattle.std.proofs.lemmas.Grind.{common_steps}
+use Rattle.mg_names.specs.declared.identifiers.TermId.{TermId}
+use Rattle.mg_names.specs.declared.identifiers.TermId.TheVariants.{Line, Eph}
+use Rattle.mg_model.specs.declared.items.Added.TheVariants as added
+use Rattle.mg_model.specs.declared.items.Item.TheVariants.{Add, Modify, Move, Subtract, SubtractAll, SetTopology}
+use Rattle.mg_model.specs.Board.{Board, same_term, place_of, mode_of}
+use Rattle.mg_model.specs.Items.{without_cuts}
+use Rattle.mg_model.specs.Media.{share_context, hops, crosses, goes_over}
+use Rattle.mg_model.specs.Media.{receives, sends}
+use Rattle.mg_safety.specs.Laws.{CommandsKeepOthers, AreClosed, PathsStayInside}
+use Rattle.mg_safety.proofs.Shared.Components.{same_term_is}
+use Rattle.mg_safety.proofs.Shared.Cases.{three_parts}
+
+-- another termination than one of these
+differs : (mine : TermId → Bool) (t u : TermId) → IsTrue (mine t) → mine u ≡ false → same_term u t ≡ false
+differs mine t u among other = go (same_term u t) refl
+  where
+    go : (b : Bool) → same_term u t ≡ b → b ≡ false
+    go true e = absurd (true≢false (sym (ap mine (same_term_is u t e) ∙ among) ∙ other))
+    go false e = refl
+
+differs_back : (mine : TermId → Bool) (t u : TermId) → IsTrue (mine t) → mine u ≡ false → same_term t u ≡ false
+differs_back mine t u among other = go (same_term t u) refl
+  where
+    go : (b : Bool) → same_term t u ≡ b → b ≡ false
+    go true e = absurd (true≢false (sym (ap mine (sym (same_term_is t u e)) ∙ among) ∙ other))
+    go false e = refl
+
+cut_kept : (cut : TermId → TermId → Bool) (leaves : TermId → Bool) (u v : TermId) → leaves u ≡ false → leaves v ≡ false
+    → without_cuts leaves cut u v ≡ cut u v
+cut_kept cut leaves u v first second = rw (first, second) refl
+
+-- who doesn't stand in a context whose terminations are all among these
+elsewhere : (mine : TermId → Bool) (b : Board) (c : ℕ) → ((t : TermId) → place_of b t ≡ c → IsTrue (mine t)) → (u : TermId) → mine u ≡ false
+    → (place_of b u == c) ≡ false
+elsewhere mine b c all u other = go (place_of b u == c) refl
+  where
+    go : (test : Bool) → (place_of b u == c) ≡ test → test ≡ false
+    go true e = absurd (true≢false (sym (all u (eqb-true (place_of b u) c e)) ∙ other))
+    go false e = refl
+
+pub commands_keep : CommandsKeepOthers
+commands_keep mine b (Add context (added.Line l) settings) chosen among = record {
+  rows = λ u other. rw (differs mine (Line l) u among other) refl;
+  cuts = λ u v first second. refl;
+}
+commands_keep mine b (Add context added.NewEphemeral settings) chosen among = record {
+  rows = λ u other. rw (differs mine (Eph chosen.ephemeral) u among other) refl;
+  cuts = λ u v first second. cut_kept b.cut (same_term (Eph chosen.ephemeral)) u v
+      (differs_back mine (Eph chosen.ephemeral) u among first) (differs_back mine (Eph chosen.ephemeral) v among second);
+}
+commands_keep mine b (Modify context t settings) chosen among = record {
+  rows = λ u other. rw (differs mine t u among other) refl;
+  cuts = λ u v first second. refl;
+}
+commands_keep mine b (Move context t settings) chosen among = record {
+  rows = λ u other. rw (differs mine t u among other) refl;
+  cuts = λ u v first second. cut_kept b.cut (same_term t) u v (differs_back mine t u among first) (differs_back mine t v among second);
+}
+commands_keep mine b (Subtract context t) chosen among = record {
+  rows = λ u other. rw (differs mine t u among other) refl;
+  cuts = λ u v first second. rw (differs mine t u among first, differs mine t v among second) refl;
+}
+commands_keep mine b (SubtractAll context) chosen among = record {
+  rows = λ u other. rw (elsewhere mine b context.0 among u other) refl;
+  cuts = λ u v first second. rw (elsewhere mine b context.0 among u first, elsewhere mine b context.0 among v second) refl;
+}
+commands_keep mine b (SetTopology context t u topology) chosen among = record {
+  rows = λ x other. refl;
+  cuts = λ x y first second. rw (differs mine t x among.0 first, differs mine u x among.1 first) refl;
+}
+
+-- ---- paths
+
+shares : (same shared inward outward cut : Bool) → IsTrue (not same && shared && inward && outward && not cut) → IsTrue shared
+shares same shared inward outward cut h = grind (arith, common_steps)
+
+hop_inside : (b : Board) (mine : TermId → Bool) → AreClosed b mine → (t u : TermId) → IsTrue (hops b t u) → IsTrue (mine t) → IsTrue (mine u)
+hop_inside b mine closed t u h inside =
+    closed.contexts t u inside (shares (same_term t u) (share_context b t u) (receives (mode_of b t)) (sends (mode_of b u)) (b.cut t u) h)
+
+pub paths_inside : PathsStayInside
+paths_inside b mine closed from to [] h inside = hop_inside b mine closed from to h inside
+paths_inside b mine closed from to (crossing ∷ more) h inside =
+    let p = three_parts (hops b from (Eph crossing.0)) (crosses b crossing.0 crossing.1) (goes_over b (Eph crossing.1) more to) h in
+    paths_inside b mine closed (Eph crossing.1) to more p.2
+    (closed.crossings crossing.0 crossing.1 (hop_inside b mine closed from (Eph crossing.0) p.0 inside) p.1)

@@ -1,0 +1,180 @@
+-- What an event leaves alone.
+use Rattle.std.proofs.Common.{◌≡◌, ◌∙◌, ◌+◌, ◌<◌, ◌≤◌, ◌++◌, ℕ, List, [], ◌∷◌, length, Option, Some, None, refl, sym, ap, subst, arith, inl, inr, zero, suc, get_or}
+use Rattle.std.specs.Prelude.{Contains, unwrap_or}
+use Rattle.std.proofs.lemmas.List.Elements.{Contains-append_cases}
+use Rattle.mg_names.specs.declared.identifiers.TermId.TheVariants.{Line}
+use Rattle.mg_model.specs.Agent.{Agent, replied, passed, noted, timed, heard}
+use Rattle.mg_model.specs.LineEvents.{Note}
+use Rattle.mg_model.specs.declared.line_events.LineEvent.{LineEvent}
+use Rattle.mg_model.specs.Gateway.{Gateway, last_executed, row_restarted, notes_from, sent_notes, reply_of}
+use Rattle.mg_model.specs.Messages.{Request, Reply, SentNote}
+use Rattle.mg_model.specs.RequestRun.{Refusal}
+use Rattle.mg_model.specs.World.{World, on_a_line, execute, reply, pass, note, timer, hear, restart, Executes, IsFirst, LineOccurs, AgentSteps, sent_in}
+use Rattle.mg_model.specs.Tables.{line_places}
+use Rattle.mg_safety.specs.Laws.{OldRequestsDoNothing, RestartsClearLines, EventsKeepOthers, AreNumbered, IsSameButReplies, IsSameFor}
+use Rattle.mg_safety.proofs.Shared.Cases.{at_another}
+use Rattle.mg_safety.proofs.Shared.Offered.{fresh_at, kept_at}
+use Rattle.mg_safety.proofs.SmallLaws.AgentLaws.{IsOwn, GivesOwn, replied_own, passed_own, noted_own, timed_own, heard_own}
+
+same_but_replies : (w after : World) (replies : List Reply) → after ≡ record w { replies = replies } → IsSameButReplies w after
+same_but_replies w after replies e = record {
+  gateway = ap (λ (x : World). x.gateway) e;
+  agents = ap (λ (x : World). x.agent) e;
+  requests = ap (λ (x : World). x.requests) e;
+  notes = ap (λ (x : World). x.notes) e;
+}
+
+by_case : (w after : World) (request : Request) (refusal : Refusal) → request.number ≤ last_executed w.gateway request.call
+    → Executes w request refusal after → IsSameButReplies w after
+by_case w after request refusal old (inl first) =
+    let above : last_executed w.gateway request.call < request.number = (fresh_at w.gateway request first.executed.is_fresh).1 in absurd (omega (arith, old, above))
+by_case w after request refusal old (inr (inl again)) = same_but_replies w after (again.answer ∷ w.replies) again.after_is
+by_case w after request refusal old (inr (inr dropped)) = same_but_replies w after w.replies dropped.1
+
+pub old_requests : OldRequestsDoNothing
+old_requests script w after request refusal occurs old = by_case w after request refusal old occurs.1
+
+pub restarts : RestartsClearLines
+restarts script w after occurs l row stands = record {
+  row = ap (λ (x : World). x.gateway.board.row (Line (record { 0 = l }))) occurs.1
+      ∙ ap (row_restarted (Line (record { 0 = l }))) stands;
+  list = ap (λ (x : World). (x.gateway.line l).list) occurs.1;
+  request = ap (λ (x : World). (x.gateway.line l).request) occurs.1;
+  playing = ap (λ (x : World). (x.gateway.line l).playing) occurs.1;
+  hook = ap (λ (x : World). (x.gateway.line l).hook) occurs.1;
+}
+
+-- ---- other calls
+
+-- whatever is among these is of a call
+abbrev AreOf : {A : Type 0} → (A → ℕ) → ℕ → List A → Type 0
+AreOf of call xs = (x : _) → Contains xs x → of x ≡ call
+
+-- what is sent is of another call, so what is of this one was sent before
+not_new : {A : Type 0} (of : A → ℕ) (call other : ℕ) (new old : List A) (x : A) → AreOf of call new → (call ≡ other → ⊥) → of x ≡ other
+    → Contains (new ++ old) x → Contains old x
+not_new of call other new old x own differ is there = elim (Contains-append_cases new old x there) [
+  | inl among ↦ absurd (differ (sym (own x among) ∙ is))
+  | inr before ↦ before
+]
+
+one_of : {A : Type 0} (of : A → ℕ) (call : ℕ) (x : A) → of x ≡ call → AreOf of call (x ∷ [])
+one_of of call x is y among = at_first among.0 among.1 among.2
+  where
+    at_first : (n : ℕ) → n < 1 → get_or (x ∷ []) n y ≡ y → of y ≡ call
+    at_first zero within same = ap of (sym same) ∙ is
+    at_first (suc n) within same = absurd (let below : suc n < 1 = within in omega (arith, below))
+
+none_of : {A : Type 0} (of : A → ℕ) (call : ℕ) → AreOf of call []
+none_of of call y among = absurd (let below : among.0 < 0 = among.1 in omega (arith, below))
+
+-- ---- an agent's step
+
+agent_keeps : (w after : World) (call other : ℕ) (step : Agent → Option Agent) → AreNumbered w
+    → ((a : Agent) → GivesOwn a.call (step a)) → (call ≡ other → ⊥) → AgentSteps w call step after → IsSameFor w after other
+agent_keeps w after call other step numbered own differ s = record {
+  agent = ap (λ (x : World). x.agent other) s.after_is ∙ at_another call other (Some s.agent) (w.agent other) (λ e. differ (sym e));
+  link = ap (λ (x : World). x.gateway.link other) s.after_is;
+  requests = λ request is there. not_new (λ (r : Request). r.call) call other (sent_in s.agent.phase) w.requests request
+      (subst (λ n. IsOwn n s.agent.phase) (numbered.agents call s.before s.open_call) (own s.before s.agent s.steps)) differ is
+      (subst (λ (x : World). Contains x.requests request) s.after_is there);
+  replies = λ answer is there. subst (λ (x : World). Contains x.replies answer) s.after_is there;
+  notes = λ sent is there. subst (λ (x : World). Contains x.notes sent) s.after_is there;
+}
+
+-- ---- an event of a line
+
+note_of_call : (g : Gateway) (call l : ℕ) (note : Option Note) → AreOf (λ (n : SentNote). n.call) call (notes_from g call l note)
+note_of_call g call l None = none_of (λ (n : SentNote). n.call) call
+note_of_call g call l (Some n) =
+    one_of (λ (m : SentNote). m.call) call (record { call = call; association = g.association; number = (g.link call).notes + 1; line = l; note = n }) refl
+
+line_keeps : (w after : World) (line : ℕ) (event : LineEvent) (call other : ℕ) → LineOccurs w line event after
+    → w.gateway.holder line ≡ Some call → (call ≡ other → ⊥) → IsSameFor w after other
+line_keeps w after line event call other o held differ =
+    let h = o.happens in
+    let mine : h.call ≡ call = ap (λ (x : Option ℕ). unwrap_or x call) (sym h.held ∙ held) in
+    let apart : h.call ≡ other → ⊥ = λ e. differ (sym mine ∙ e) in
+    record {
+      agent = ap (λ (x : World). x.agent other) o.after_is;
+      link = ap (λ (x : World). x.gateway.link other) o.after_is ∙ ap (λ (g : Gateway). g.link other) h.after_is
+          ∙ at_another h.call other (record { last = (w.gateway.link h.call).last; notes = (w.gateway.link h.call).notes + length o.sent }) (w.gateway.link other)
+          (λ e. apart (sym e));
+      requests = λ request is there. subst (λ (x : World). Contains x.requests request) o.after_is there;
+      replies = λ answer is there. subst (λ (x : World). Contains x.replies answer) o.after_is there;
+      notes = λ sent is there. not_new (λ (n : SentNote). n.call) h.call other o.sent w.notes sent
+          (subst (AreOf (λ (n : SentNote). n.call) h.call) (sym h.notes_are) (note_of_call w.gateway h.call line h.outcome.note)) apart is
+          (subst (λ (x : World). Contains x.notes sent) o.after_is there);
+    }
+
+-- ---- a request
+
+cons_of : {A : Type 0} (of : A → ℕ) (call : ℕ) (x : A) (xs : List A) → of x ≡ call → AreOf of call xs → AreOf of call (x ∷ xs)
+cons_of of call x xs is own y among = elim (Contains-append_cases (x ∷ []) xs y among) [
+  | inl first ↦ one_of of call x is y first
+  | inr later ↦ own y later
+]
+
+notes_of_call : (call association count : ℕ) (notes : List (ℕ × Note)) → AreOf (λ (n : SentNote). n.call) call (sent_notes call association count notes)
+notes_of_call call association count [] = none_of (λ (n : SentNote). n.call) call
+notes_of_call call association count (n ∷ more) =
+    cons_of (λ (m : SentNote). m.call) call (record { call = call; association = association; number = count + 1; line = n.0; note = n.1 })
+    (sent_notes call association (count + 1) more) refl (notes_of_call call association (count + 1) more)
+
+first_keeps : (w after : World) (request : Request) (refusal : Refusal) (call other : ℕ) → IsFirst w request refusal after → request.call ≡ call
+    → (call ≡ other → ⊥) → IsSameFor w after other
+first_keeps w after request refusal call other f of differ =
+    let x = f.executed in
+    let apart : request.call ≡ other → ⊥ = λ e. differ (sym of ∙ e) in
+    record {
+      agent = ap (λ (v : World). v.agent other) f.after_is;
+      link = ap (λ (v : World). v.gateway.link other) f.after_is ∙ ap (λ (g : Gateway). g.link other) x.after_is
+          ∙ at_another request.call other
+          (record { last = Some (reply_of request x.end x.failure); notes = (w.gateway.link request.call).notes + length x.end.notes })
+          (w.gateway.link other) (λ e. apart (sym e));
+      requests = λ r is there. subst (λ (v : World). Contains v.requests r) f.after_is there;
+      replies = λ answer is there. not_new (λ (r : Reply). r.call) request.call other (f.answer ∷ []) w.replies answer
+          (one_of (λ (r : Reply). r.call) request.call f.answer (ap (λ (r : Reply). r.call) x.reply_is)) apart is
+          (subst (λ (v : World). Contains v.replies answer) f.after_is there);
+      notes = λ sent is there. not_new (λ (n : SentNote). n.call) request.call other f.sent w.notes sent
+          (subst (AreOf (λ (n : SentNote). n.call) request.call) (sym x.notes_are)
+          (notes_of_call request.call request.association (w.gateway.link request.call).notes x.end.notes)) apart is
+          (subst (λ (v : World). Contains v.notes sent) f.after_is there);
+    }
+
+request_keeps : (w after : World) (request : Request) (refusal : Refusal) (call other : ℕ) → AreNumbered w → Executes w request refusal after
+    → request.call ≡ call → (call ≡ other → ⊥) → IsSameFor w after other
+request_keeps w after request refusal call other numbered (inl first) of differ = first_keeps w after request refusal call other first of differ
+request_keeps w after request refusal call other numbered (inr (inl again)) of differ = record {
+  agent = ap (λ (v : World). v.agent other) again.after_is;
+  link = ap (λ (v : World). v.gateway.link other) again.after_is;
+  requests = λ r is there. subst (λ (v : World). Contains v.requests r) again.after_is there;
+  replies = λ answer is there. not_new (λ (r : Reply). r.call) request.call other (again.answer ∷ []) w.replies answer
+      (one_of (λ (r : Reply). r.call) request.call again.answer (numbered.replies request.call again.answer (kept_at w.gateway request again.answer again.kept)))
+      (λ e. differ (sym of ∙ e)) is (subst (λ (v : World). Contains v.replies answer) again.after_is there);
+  notes = λ sent is there. subst (λ (v : World). Contains v.notes sent) again.after_is there;
+}
+request_keeps w after request refusal call other numbered (inr (inr dropped)) of differ = record {
+  agent = ap (λ (v : World). v.agent other) dropped.1;
+  link = ap (λ (v : World). v.gateway.link other) dropped.1;
+  requests = λ r is there. subst (λ (v : World). Contains v.requests r) dropped.1 there;
+  replies = λ answer is there. subst (λ (v : World). Contains v.replies answer) dropped.1 there;
+  notes = λ sent is there. subst (λ (v : World). Contains v.notes sent) dropped.1 there;
+}
+
+pub events_keep : EventsKeepOthers
+events_keep script w after (on_a_line line event) call other numbered occurs of differ = line_keeps w after line event call other occurs of differ
+events_keep script w after (execute request refusal) call other numbered occurs of differ =
+    request_keeps w after request refusal call other numbered occurs.1 of differ
+events_keep script w after (reply answer) call other numbered occurs of differ =
+    agent_keeps w after answer.call other (λ a. replied script a answer) numbered (λ a. replied_own script a answer) (λ e. differ (sym of ∙ e)) occurs.1
+events_keep script w after (pass one) call other numbered occurs of differ =
+    agent_keeps w after one other (passed script) numbered (passed_own script) (λ e. differ (sym of ∙ e)) occurs
+events_keep script w after (note sent) call other numbered occurs of differ =
+    agent_keeps w after sent.call other (λ a. noted script a (line_places script) sent) numbered (λ a. noted_own script a (line_places script) sent)
+    (λ e. differ (sym of ∙ e)) occurs.1
+events_keep script w after (timer one) call other numbered occurs of differ =
+    agent_keeps w after one other (timed script) numbered (timed_own script) (λ e. differ (sym of ∙ e)) occurs
+events_keep script w after (hear one association) call other numbered occurs of differ =
+    agent_keeps w after one other (λ a. heard script a association) numbered (λ a. heard_own script a association) (λ e. differ (sym of ∙ e)) occurs.1
+events_keep script w after restart call other numbered occurs of differ = absurd of

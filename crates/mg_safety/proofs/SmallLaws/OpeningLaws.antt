@@ -1,0 +1,74 @@
+-- Openings are good, and in a good world calls stay apart.
+use Rattle.std.proofs.Common.{◌≡◌, ◌∙◌, ℕ, Bool, List, [], ◌∷◌, Option, Some, None, is_some, refl, sym, ap, arith, inl, inr}
+use Rattle.std.proofs.lemmas.Grind.{common_steps}
+use Rattle.std.specs.Prelude.{◌==◌, ◌&&◌, not, IsTrue, unwrap_or}
+use Rattle.mg_names.specs.declared.identifiers.TermId.{TermId}
+use Rattle.mg_names.specs.declared.identifiers.TermId.TheVariants.{Line, Eph}
+use Rattle.mg_model.specs.declared.rows.Row.{Row}
+use Rattle.mg_model.specs.Agent.{Agent, opened}
+use Rattle.mg_model.specs.Board.{Board, same_term, place_of, place_in, mode_of}
+use Rattle.mg_model.specs.Media.{receives, sends}
+use Rattle.mg_model.specs.LineEvents.{LineRow}
+use Rattle.mg_model.specs.Media.{hops, crosses, goes_over, AreJoined}
+use Rattle.mg_model.specs.Script.{Script}
+use Rattle.mg_model.specs.World.{World, Opened, IsOpening, IsCleared, null_row}
+use Rattle.mg_safety.specs.Laws.{OpeningsAreGood, CallsStayApart}
+use Rattle.mg_safety.proofs.Shared.Cases.{three_parts}
+
+-- ---- nothing is joined where all stands in the null context
+
+no_hop : (b : Board) → ((t : TermId) → place_of b t ≡ 0) → (t u : TermId) → IsTrue (hops b t u) → ⊥
+no_hop b all t u h = at_null (place_of b t) (place_of b u) (same_term t u) (receives (mode_of b t)) (sends (mode_of b u)) (b.cut t u) (all t) h
+  where
+    at_null : (p q : ℕ) (same inward outward cut : Bool) → p ≡ 0
+        → IsTrue (not same && (not (p == 0) && p == q) && inward && outward && not cut) → ⊥
+    at_null p q same inward outward cut e h = grind (arith, common_steps)
+
+no_path : (b : Board) → ((t : TermId) → place_of b t ≡ 0) → (from to : TermId) (crossings : List (ℕ × ℕ)) → IsTrue (goes_over b from crossings to) → ⊥
+no_path b all from to [] h = no_hop b all from to h
+no_path b all from to (crossing ∷ more) h =
+    no_hop b all from (Eph crossing.0) (three_parts (hops b from (Eph crossing.0)) (crosses b crossing.0 crossing.1) (goes_over b (Eph crossing.1) more to) h).0
+
+-- ---- openings
+
+module _ (script : Script) (calls : List Opened) (w : World) (o : IsOpening script calls w) where
+  in_null_row : (row : Option Row) → ((r : Row) → row ≡ Some r → r ≡ null_row) → place_in row ≡ 0
+  in_null_row None all = refl
+  in_null_row (Some r) all = ap (λ (row : Row). row.place.0) (all r refl)
+
+  pub all_in_null : (t : TermId) → place_of w.gateway.board t ≡ 0
+  all_in_null (Line l) = in_null_row (w.gateway.board.row (Line l)) (o.others_null l.0)
+  all_in_null (Eph k) = ap place_in (o.no_ephemeral k)
+
+  none_joined : (l m : ℕ) → AreJoined w.gateway.board l m → ⊥
+  none_joined l m (inl path) = no_path w.gateway.board all_in_null (Line (record { 0 = l })) (Line (record { 0 = m })) path.0 path.1
+  none_joined l m (inr path) = no_path w.gateway.board all_in_null (Line (record { 0 = m })) (Line (record { 0 = l })) path.0 path.1
+
+  cleared : (call : ℕ) (a : Agent) → w.agent call ≡ Some a → IsCleared script w call a
+  cleared call a there =
+      let one = o.no_other_agent call a there in
+      let known : w.agent call ≡ Some (opened script one.0.call one.0.lines) = ap w.agent (sym one.2) ∙ o.agents one.0 one.1 in
+      let same : a ≡ opened script one.0.call one.0.lines = ap (λ (x : Option Agent). unwrap_or x a) (sym there ∙ known) in
+      let lines : (i : ℕ) → a.lines i ≡ one.0.lines i = λ i. ap (λ (x : Agent). x.lines i) same in
+      record {
+        no_ephemeral = λ k of. ap is_some (o.no_ephemeral k);
+        in_null = λ i within. (null_row, ap (λ l. w.gateway.board.row (Line (record { 0 = l }))) (lines i) ∙ o.lines_stand one.0 one.1 i within, refl);
+        is_silent = λ i within. ap (λ l. (w.gateway.line l).playing) (lines i) ∙ ap (λ (r : LineRow). r.playing) (o.lines_armed one.0 one.1 i within);
+        is_armed = λ i within. ap (λ l. (w.gateway.line l).list) (lines i) ∙ ap (λ (r : LineRow). r.list) (o.lines_armed one.0 one.1 i within);
+      }
+
+pub openings_good : OpeningsAreGood
+openings_good script calls w o = record {
+  joined = λ l m differ joined. absurd (none_joined script calls w o l m joined);
+  ended = λ call a there ended. cleared script calls w o call a there;
+}
+
+-- ---- good worlds
+
+pub calls_apart : CallsStayApart
+calls_apart script w good apart call other a b i j there where_other first second differ joined =
+    let unlike : a.lines i ≡ b.lines j → ⊥ = λ e. differ (apart call other a b i j there where_other first second e) in
+    let pair = good.joined (a.lines i) (b.lines j) unlike joined in
+    let mine = apart pair.call call pair.agent a pair.i i pair.open_call there pair.first.0 first pair.first.1 in
+    let theirs = apart pair.call other pair.agent b pair.j j pair.open_call where_other pair.second.0 second pair.second.1 in
+    differ (sym mine ∙ theirs)
