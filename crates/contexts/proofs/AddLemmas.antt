@@ -9,7 +9,8 @@ use Rattle.mg_model.specs.declared.items.Added.TheVariants as added
 use Rattle.mg_model.specs.declared.items.Item.TheVariants.{Add}
 use Rattle.mg_model.specs.declared.items.Settings.{Settings}
 use Rattle.mg_model.specs.Board.{Board}
-use Rattle.mg_model.specs.Items.{IsLegal, IsExecuted, is_context_number, choose, given, only_if}
+use Rattle.mg_model.specs.Numbers.{choose}
+use Rattle.mg_model.specs.Items.{IsLegal, IsExecuted, is_context_number, given, only_if}
 use Rattle.terminations.specs.Table.{is_given}
 use Rattle.contexts.specs.Steps.{created, CanBeAdded, IsAdded}
 use Rattle.contexts.proofs.ExecLemmas.{both_known, is_place, fits_from, no_numbers, not_null}

@@ -7,7 +7,8 @@ use Rattle.mg_names.specs.declared.identifiers.TermId.TheVariants.{Line, Eph}
 use Rattle.mg_model.specs.declared.rows.Row.{Row}
 use Rattle.mg_model.specs.Board.{same_term, place_in}
 use Rattle.mg_model.specs.Items.{without_cuts, subtracted}
-use Rattle.terminations.specs.Table.{row_with, cleared}
+use Rattle.terminations.specs.Table.{cleared}
+use Rattle.mg_model.specs.Board.{row_with}
 use Rattle.contexts.specs.declared.cuts.Cut.{Cut}
 use Rattle.contexts.specs.Groups.{listed, has_cut}
 use Rattle.contexts.specs.Sheet.{cut_of, stands_in, IsTied}

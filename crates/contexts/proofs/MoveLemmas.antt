@@ -8,7 +8,8 @@ use Rattle.mg_model.specs.declared.items.Settings.{Settings}
 use Rattle.mg_model.specs.declared.rows.Row.{Row}
 use Rattle.mg_model.specs.Board.{same_term, place_in}
 use Rattle.mg_model.specs.Items.{without_cuts, is_ephemeral_number, given}
-use Rattle.terminations.specs.Table.{Table, row_of, given_of, row_with, left, idle, IsCreated}
+use Rattle.terminations.specs.Table.{Table, row_of, given_of, left, IsCreated}
+use Rattle.mg_model.specs.Board.{row_with, null_row}
 use Rattle.contexts.specs.declared.cuts.Cut.{Cut}
 use Rattle.contexts.specs.Groups.{kept, has_member, with_member, without_member, without_cuts_of}
 use Rattle.contexts.specs.Rows.{row_in}
@@ -140,7 +141,7 @@ pub record CreatedAt (old new : Table) (number : ℕ) : Type 0 where
   pub fits : is_ephemeral_number number
   pub fresh : given_of old number ≡ false
   pub absent : row_of old (Eph number) ≡ None
-  pub rows : row_of new ≡ row_with (row_of old) (Eph number) (Some idle)
+  pub rows : row_of new ≡ row_with (row_of old) (Eph number) (Some null_row)
   pub numbers : given_of new ≡ given true number (given_of old)
 
 pub same_number : (i j : ℕ) → Eph i ≡ Eph j → i ≡ j
@@ -159,6 +160,6 @@ created_at old new t number is created =
 pub some_same : (t : TermId) (number : ℕ) (next : Option ℕ) → next ≡ Some number → option_map Eph next ≡ Some t → t ≡ Eph number
 some_same t number next is same = let at : option_map Eph (Some number) ≡ Some t = rw is at same in cc
 
-pub changed_new : (rows between after : TermId → Option Row) (t : TermId) (c : ℕ) (settings : Settings) → between ≡ row_with rows t (Some idle) →
-    after ≡ row_with between t (row_in c settings (between t)) → after ≡ row_with rows t (row_in c settings (Some idle))
-changed_new rows between after t c settings first second = changes_twice rows between after t (λ o. Some idle) (row_in c settings) first second
+pub changed_new : (rows between after : TermId → Option Row) (t : TermId) (c : ℕ) (settings : Settings) → between ≡ row_with rows t (Some null_row) →
+    after ≡ row_with between t (row_in c settings (between t)) → after ≡ row_with rows t (row_in c settings (Some null_row))
+changed_new rows between after t c settings first second = changes_twice rows between after t (λ o. Some null_row) (row_in c settings) first second

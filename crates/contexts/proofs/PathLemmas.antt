@@ -14,7 +14,8 @@ use Rattle.mg_model.specs.Board.{Board, same_term, exists, place_of, remote_of}
 use Rattle.mg_model.specs.Media.{share_context, hops, is_number, crosses, goes_over}
 use Rattle.terminations.specs.Table.{row_at}
 use Rattle.contexts.specs.Sheet.{stands_in}
-use Rattle.contexts.specs.Paths.{is_among, is_trail, avoids, Leads, crossed, arrival, LeadsBy, LeadsByOne}
+use Rattle.contexts.specs.Paths.{is_trail, avoids, Leads, crossed, arrival, LeadsBy, LeadsByOne}
+use Rattle.mg_model.specs.Members.{is_among}
 use Rattle.contexts.proofs.TermLemmas.{same_is, split_and, by_value, not_both}
 
 both : (a b : Bool) → a ≡ true → b ≡ true → (a && b) ≡ true
@@ -33,13 +34,13 @@ negated b h = rw h refl
 
 -- ---- what is found is a path
 
-pub among_tail : (i j : ℕ) (trail : List ℕ) → is_among j (i ∷ trail) ≡ false → is_among j trail ≡ false
-among_tail i j trail h = by_value (j == i) (λ e. let bad : (true || is_among j trail) ≡ false = rw e at h in absurd (search rules)) (λ e. let kept : (false || is_among j trail) ≡ false = rw e at h in kept)
+pub among_tail : (i j : ℕ) (trail : List ℕ) → is_among (i ∷ trail) j ≡ false → is_among trail j ≡ false
+among_tail i j trail h = by_value (j == i) (λ e. let bad : (true || is_among trail j) ≡ false = rw e at h in absurd (search rules)) (λ e. let kept : (false || is_among trail j) ≡ false = rw e at h in kept)
 
 pub avoids_tail : (i : ℕ) (trail : List ℕ) (crossings : List (ℕ × ℕ)) → avoids (i ∷ trail) crossings ≡ true → avoids trail crossings ≡ true
 avoids_tail i trail [] h = refl
 avoids_tail i trail (crossing ∷ more) h =
-    let parts = split_and (not (is_among crossing.1 (i ∷ trail))) (avoids (i ∷ trail) more) h in
+    let parts = split_and (not (is_among (i ∷ trail) crossing.1)) (avoids (i ∷ trail) more) h in
     both _ _ (negated _ (among_tail i crossing.1 trail (not_false _ parts.0))) (avoids_tail i trail more parts.1)
 
 pub record IsNext (b : Board) (trail : List ℕ) (from t : TermId) (i : ℕ) : Type 0 where
@@ -47,7 +48,7 @@ pub record IsNext (b : Board) (trail : List ℕ) (from t : TermId) (i : ℕ) : T
   pub is : t ≡ Eph e
   pub hop : hops b from (Eph e) ≡ true
   pub crossing : crosses b e i ≡ true
-  pub new : is_among i trail ≡ false
+  pub new : is_among trail i ≡ false
 
 pub next_from : (b : Board) (trail : List ℕ) (from t : TermId) (i : ℕ) → arrival b trail from t ≡ Some i → IsNext b trail from t i
 next_from b trail from (Line l) i h = absurd (search rules)
@@ -57,9 +58,9 @@ next_from b trail from (Eph e) i h = by_value (hops b from (Eph e))
   where
     go : (remote : Option ℕ) → hops b from (Eph e) ≡ true → crossed b trail e remote ≡ Some i → IsNext b trail from (Eph e) i
     go None hop k = absurd (search rules)
-    go (Some j) hop k = by_value (crosses b e j && not (is_among j trail))
+    go (Some j) hop k = by_value (crosses b e j && not (is_among trail j))
         (λ yes_it. let is_some : Some j ≡ Some i = rw yes_it at k in let same : j ≡ i = cc in
-        let parts = split_and (crosses b e j) (not (is_among j trail)) yes_it in
+        let parts = split_and (crosses b e j) (not (is_among trail j)) yes_it in
         record { e = e; is = refl; hop = hop; crossing = rw same at parts.0; new = rw same at (not_false _ parts.1) })
         (λ none. let bad : None ≡ Some i = rw none at k in absurd (search rules))
 
@@ -79,16 +80,16 @@ pub cut_short : (b : Board) (trail : List ℕ) (i : ℕ) (from to : TermId) (cro
     (avoids (i ∷ trail) crossings ≡ true) ⊎ Leads b (i ∷ trail) (Eph i) to
 cut_short b trail i from to [] a g = inl refl
 cut_short b trail i from to (crossing ∷ more) a g =
-    let apart = split_and (not (is_among crossing.1 trail)) (avoids trail more) a in
+    let apart = split_and (not (is_among trail crossing.1)) (avoids trail more) a in
     let parts = split_and (hops b from (Eph crossing.0) && crosses b crossing.0 crossing.1) (goes_over b (Eph crossing.1) more to) g in
     go (cut_short b trail i (Eph crossing.1) to more apart.1 parts.1) apart.0 parts.1
   where
-    go : (avoids (i ∷ trail) more ≡ true) ⊎ Leads b (i ∷ trail) (Eph i) to → not (is_among crossing.1 trail) ≡ true → goes_over b (Eph crossing.1) more to ≡ true →
+    go : (avoids (i ∷ trail) more ≡ true) ⊎ Leads b (i ∷ trail) (Eph i) to → not (is_among trail crossing.1) ≡ true → goes_over b (Eph crossing.1) more to ≡ true →
         (avoids (i ∷ trail) (crossing ∷ more) ≡ true) ⊎ Leads b (i ∷ trail) (Eph i) to
     go (inr leads) new g = inr leads
     go (inl avoided) new g = by_value (crossing.1 == i)
         (λ e. let same : crossing.1 ≡ i = same_number _ _ e in let at : goes_over b (Eph i) more to ≡ true = rw same at g in inr (more, avoided, at))
-        (λ e. let absent : is_among crossing.1 (i ∷ trail) ≡ false = rw e (not_false _ new) in inl (both _ _ (negated _ absent) avoided))
+        (λ e. let absent : is_among (i ∷ trail) crossing.1 ≡ false = rw e (not_false _ new) in inl (both _ _ (negated _ absent) avoided))
 
 pub leads_on : (b : Board) (trail : List ℕ) (i : ℕ) (to : TermId) (crossings : List (ℕ × ℕ)) → avoids trail crossings ≡ true → goes_over b (Eph i) crossings to ≡ true →
     Leads b (i ∷ trail) (Eph i) to
@@ -115,7 +116,7 @@ exists_beyond b e i h =
     let second = split_and (not (e == i) && exists b (Eph e) && exists b (Eph i)) (is_number (remote_of b (Eph e)) i) first.0 in
     (split_and (not (e == i) && exists b (Eph e)) (exists b (Eph i)) second.0).1
 
-pub arrives : (b : Board) (trail : List ℕ) (from : TermId) (e i : ℕ) → hops b from (Eph e) ≡ true → crosses b e i ≡ true → is_among i trail ≡ false →
+pub arrives : (b : Board) (trail : List ℕ) (from : TermId) (e i : ℕ) → hops b from (Eph e) ≡ true → crosses b e i ≡ true → is_among trail i ≡ false →
     arrival b trail from (Eph e) ≡ Some i
 arrives b trail from e i hop crossing new = rw (hop, crosses_to b e i crossing, crossing, new) refl
 
@@ -140,7 +141,7 @@ pub leads_by_one : (b : Board) (trail : List ℕ) (from to : TermId) (group : Li
     hops b from to ≡ false → Leads b trail from to → LeadsByOne b trail from to group
 leads_by_one b trail from to group members no_hop ([], a, g) = not_both (hops b from to) g no_hop
 leads_by_one b trail from to group members no_hop ((crossing ∷ more), a, g) =
-    let apart = split_and (not (is_among crossing.1 trail)) (avoids trail more) a in
+    let apart = split_and (not (is_among trail crossing.1)) (avoids trail more) a in
     let outer = split_and (hops b from (Eph crossing.0) && crosses b crossing.0 crossing.1) (goes_over b (Eph crossing.1) more to) g in
     let inner = split_and (hops b from (Eph crossing.0)) (crosses b crossing.0 crossing.1) outer.0 in
     by_one b trail from to (Eph crossing.0) group (members (Eph crossing.0) ∙ stands_beside b from (Eph crossing.0) inner.0)
@@ -157,32 +158,32 @@ avoids_nothing (crossing ∷ more) = avoids_nothing more
 pub trail_grows : (b : Board) (trail : List ℕ) (from t : TermId) (i : ℕ) → IsTrue (is_trail b trail) → arrival b trail from t ≡ Some i → IsTrue (is_trail b (i ∷ trail))
 trail_grows b trail from t i sound h =
     let next = next_from b trail from t i h in
-    both (not (is_among i trail) && exists b (Eph i)) _ (both _ _ (negated _ next.new) (exists_beyond b next.e i next.crossing)) sound
+    both (not (is_among trail i) && exists b (Eph i)) _ (both _ _ (negated _ next.new) (exists_beyond b next.e i next.crossing)) sound
 
 -- ---- a trail is no longer than the list of the ephemerals
 
 at_number : (q k : ℕ) → is_at (nat_cmp q) k ≡ nat_eq q k
 at_number q k = grind (arith, common_steps)
 
-none_equal : (i : ℕ) (before : List ℕ) → is_among i before ≡ false → AllByRecursion (λ y. nat_eq i y ≡ false) before
+none_equal : (i : ℕ) (before : List ℕ) → is_among before i ≡ false → AllByRecursion (λ y. nat_eq i y ≡ false) before
 none_equal i [] h = tt
 none_equal i (j ∷ before) h = by_value (nat_eq i j)
-    (λ e. let bad : (true || is_among i before) ≡ false = rw e at h in absurd (search rules))
-    (λ e. let more : (false || is_among i before) ≡ false = rw e at h in (e, none_equal i before more))
+    (λ e. let bad : (true || is_among before i) ≡ false = rw e at h in absurd (search rules))
+    (λ e. let more : (false || is_among before i) ≡ false = rw e at h in (e, none_equal i before more))
 
 distinct : (b : Board) (trail : List ℕ) → is_trail b trail ≡ true → IsDistinct nat_eq trail
 unfolding IsDistinct
 distinct b [] h = tt
 distinct b (i ∷ before) h =
-    let outer = split_and (not (is_among i before) && exists b (Eph i)) (is_trail b before) h in
-    let inner = split_and (not (is_among i before)) (exists b (Eph i)) outer.0 in
+    let outer = split_and (not (is_among before i) && exists b (Eph i)) (is_trail b before) h in
+    let inner = split_and (not (is_among before i)) (exists b (Eph i)) outer.0 in
     (none_equal i before (not_false _ inner.0), distinct b before outer.1)
 
 on_trail : (b : Board) (trail : List ℕ) (q : ℕ) → is_trail b trail ≡ true → list_any (nat_eq q) trail ≡ true → exists b (Eph q) ≡ true
 on_trail b [] q h k = absurd (search rules)
 on_trail b (i ∷ before) q h k =
-    let outer = split_and (not (is_among i before) && exists b (Eph i)) (is_trail b before) h in
-    let inner = split_and (not (is_among i before)) (exists b (Eph i)) outer.0 in
+    let outer = split_and (not (is_among before i) && exists b (Eph i)) (is_trail b before) h in
+    let inner = split_and (not (is_among before i)) (exists b (Eph i)) outer.0 in
     by_value (nat_eq q i)
     (λ e. let same : q ≡ i = same_number q i e in rw same inner.1)
     (λ e. let more : list_any (nat_eq q) before ≡ true = rw e at k in on_trail b before q outer.1 more)

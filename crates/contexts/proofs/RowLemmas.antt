@@ -9,7 +9,8 @@ use Rattle.mg_model.specs.declared.items.Settings.{Settings}
 use Rattle.mg_model.specs.declared.rows.Row.{Row}
 use Rattle.mg_model.specs.Board.{same_term, place_in}
 use Rattle.mg_model.specs.Items.{subtracted}
-use Rattle.terminations.specs.Table.{row_with, cleared}
+use Rattle.terminations.specs.Table.{cleared}
+use Rattle.mg_model.specs.Board.{row_with}
 use Rattle.contexts.specs.Rows.{mode_applied, remote_applied, fits, row_in}
 use Rattle.contexts.proofs.TermLemmas.{same_itself, same_is, by_value}
 

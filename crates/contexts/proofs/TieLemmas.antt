@@ -10,7 +10,7 @@ use Rattle.mg_names.specs.declared.identifiers.TermId.{TermId}
 use Rattle.mg_model.specs.declared.rows.Row.{Row}
 use Rattle.mg_model.specs.Board.{Board, same_term, place_in}
 use Rattle.mg_model.specs.Items.{without_cuts}
-use Rattle.terminations.specs.Table.{row_with}
+use Rattle.mg_model.specs.Board.{row_with}
 use Rattle.contexts.specs.declared.cuts.Cut.{Cut}
 use Rattle.contexts.specs.Groups.{items_in, group_at, listed, kept, has_member, has_cut, with_member, without_member, without_cuts_of, touches, is_of}
 use Rattle.contexts.specs.Sheet.{cuts_at, cut_of, stands_in, IsTied}

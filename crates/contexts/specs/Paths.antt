@@ -1,10 +1,10 @@
 -- The search for a path of media on a board: at which ephemerals media has arrived, and where it can arrive next. A reader should
 -- check that what the search may go over is a list of crossings that arrives at none of the ephemerals where media has been.
-use Rattle.std.specs.Prelude.{◌≡◌, ℕ, ◌==◌, Bool, true, not, ◌&&◌, if◌then◌else◌, IsTrue, List, [], ◌∷◌, Option, Some, None, ◌⊎◌}
-use Rattle.std.specs.List.{list_any}
+use Rattle.std.specs.Prelude.{◌≡◌, ℕ, Bool, true, not, ◌&&◌, if◌then◌else◌, IsTrue, List, [], ◌∷◌, Option, Some, None, ◌⊎◌}
 use Rattle.mg_names.specs.declared.identifiers.TermId.{TermId}
 use Rattle.mg_names.specs.declared.identifiers.TermId.TheVariants.{Line, Eph}
 use Rattle.mg_model.specs.Board.{Board, exists, remote_of}
+use Rattle.mg_model.specs.Members.{is_among}
 use Rattle.mg_model.specs.Media.{hops, crosses, goes_over}
 use Rattle.contexts.specs.declared.trail.Trail.{Trail, Start, After'}
 
@@ -13,18 +13,15 @@ abbrev pub arrived : Trail → List ℕ
 arrived Start = []
 arrived (After' i p before) = i ∷ arrived before
 
-abbrev pub is_among : ℕ → List ℕ → Bool
-is_among i trail = list_any (λ j. i == j) trail
-
 -- different ephemerals that exist
 abbrev pub is_trail : Board → List ℕ → Bool
 is_trail b [] = true
-is_trail b (i ∷ before) = not (is_among i before) && exists b (Eph i) && is_trail b before
+is_trail b (i ∷ before) = not (is_among before i) && exists b (Eph i) && is_trail b before
 
 -- whether no crossing arrives at an ephemeral of the trail
 abbrev pub avoids : List ℕ → List (ℕ × ℕ) → Bool
 avoids trail [] = true
-avoids trail (crossing ∷ more) = not (is_among crossing.1 trail) && avoids trail more
+avoids trail (crossing ∷ more) = not (is_among trail crossing.1) && avoids trail more
 
 -- media goes from the one to the other without arriving at an ephemeral of the trail
 abbrev pub Leads : Board → List ℕ → TermId → TermId → Type 0
@@ -33,7 +30,7 @@ Leads b trail from to = (crossings : List (ℕ × ℕ)) × IsTrue (avoids trail 
 -- where media crosses from an ephemeral, if it has not arrived there before
 abbrev pub crossed : Board → List ℕ → ℕ → Option ℕ → Option ℕ
 crossed b trail e None = None
-crossed b trail e (Some i) = if crosses b e i && not (is_among i trail) then Some i else None
+crossed b trail e (Some i) = if crosses b e i && not (is_among trail i) then Some i else None
 
 -- where media arrives next by way of a termination
 abbrev pub arrival : Board → List ℕ → TermId → TermId → Option ℕ

@@ -12,7 +12,8 @@ use Rattle.mg_names.specs.declared.identifiers.TermId.TheVariants.{Line, Eph}
 use Rattle.mg_model.specs.declared.rows.Row.{Row}
 use Rattle.mg_model.specs.Board.{Board, place_in}
 use Rattle.mg_model.specs.Items.{IsRising}
-use Rattle.terminations.specs.Table.{Table, row_of, given_of, is_given, idle}
+use Rattle.terminations.specs.Table.{Table, row_of, given_of, is_given}
+use Rattle.mg_model.specs.Board.{null_row}
 use Rattle.contexts.specs.declared.cuts.Cut.{Cut}
 use Rattle.contexts.specs.Groups.{has_member, has_cut}
 
@@ -48,11 +49,11 @@ pub record IsTied (rows : TermId → Option Row) (members : ℕ → Option (List
 
 -- ---- a gateway that starts
 
-abbrev pub is_among : List LineNo → ℕ → Bool
-is_among lines n = list_any (λ l. n == l.0) lines
+abbrev pub names_line : List LineNo → ℕ → Bool
+names_line lines n = list_any (λ l. n == l.0) lines
 
 abbrev pub started : List LineNo → TermId → Option Row
-started lines (Line l) = if is_among lines l.0 then Some idle else None
+started lines (Line l) = if names_line lines l.0 then Some null_row else None
 started lines (Eph k) = None
 
 -- rows, with nothing cut and no number given
@@ -68,10 +69,10 @@ pub record IsCount (has : ℕ → Type 0) (count : ℕ) : Type 0 where
 
 -- a line that is there stays
 abbrev pub or_idle : Option Row → Row
-or_idle None = idle
+or_idle None = null_row
 or_idle (Some row) = row
 
 -- rows with lines added
 abbrev pub filled : List LineNo → (TermId → Option Row) → TermId → Option Row
-filled lines rows (Line l) = if is_among lines l.0 then Some (or_idle (rows (Line l))) else rows (Line l)
+filled lines rows (Line l) = if names_line lines l.0 then Some (or_idle (rows (Line l))) else rows (Line l)
 filled lines rows (Eph k) = rows (Eph k)

@@ -7,7 +7,8 @@ use Rattle.mg_model.specs.declared.items.Settings.{Settings}
 use Rattle.mg_model.specs.declared.items.Added.{Added}
 use Rattle.mg_model.specs.declared.items.Added.TheVariants as added
 use Rattle.mg_model.specs.Board.{Board, ContextExists, exists, place_of, same_term}
-use Rattle.mg_model.specs.Items.{Done, Lists, is_ephemeral_number, with_ephemeral, given, choose, NoContextLeft, NoEphemeralLeft, EphemeralsUsedUp, placed}
+use Rattle.mg_model.specs.Numbers.{choose}
+use Rattle.mg_model.specs.Items.{Done, Lists, is_ephemeral_number, with_ephemeral, given, NoContextLeft, NoEphemeralLeft, EphemeralsUsedUp, placed}
 use Rattle.contexts.specs.Rows.{fits}
 use Rattle.contexts.specs.Sheet.{stands_in}
 

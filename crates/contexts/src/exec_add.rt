@@ -1,6 +1,7 @@
 //! Add on a board on which it is legal.
 ghost use Rattle.std.specs.Prelude.{◌≡◌, ◌≢◌, ◌+◌, ◌<◌, true, OnErr, IfOk};
-ghost use Rattle.mg_model.specs.Items.{IsLegal, IsExecuted, given, choose};
+ghost use Rattle.mg_model.specs.Numbers.{choose};
+ghost use Rattle.mg_model.specs.Items.{IsLegal, IsExecuted, given};
 ghost use Rattle.mg_model.specs.declared.items.Item.TheVariants as item;
 ghost use Rattle.contexts.specs.Sheet.{board_of};
 ghost use Rattle.contexts.specs.Steps.{IsAdded, CanBeAdded};

@@ -28,5 +28,3 @@ pub use board::Board;
 pub use done::Done;
 pub use fault::ExecFault;
 
-#[cfg(test)]
-mod tests;

@@ -2,8 +2,7 @@
 ghost use Rattle.std.specs.Prelude.{◌≡◌};
 ghost use Rattle.mg_names.specs.declared.identifiers.TermId.TheVariants.{Eph};
 ghost use Rattle.mg_model.specs.Board.{mode_of, remote_of};
-ghost use Rattle.mg_model.specs.Media.{share_context, hops, is_number, crosses};
-ghost use Rattle.mg_model.specs.Paths.{passes_in, passes_out};
+ghost use Rattle.mg_model.specs.Media.{receives, sends, share_context, hops, is_number, crosses};
 ghost use Rattle.contexts.specs.Sheet.{board_of};
 
 use crate::board::Board;
@@ -12,9 +11,9 @@ use crate::same::is_same;
 use mg_names::identifiers::TermId;
 use mg_names::modes::Mode;
 
-/// Whether media that a termination of this mode receives from outside passes into its context.
-fn passes_in(mode: Mode) -> bool
-    ensures { result ≡ passes_in mode }
+/// Whether a termination of this mode receives media from outside for its context (H.248.1 section 7.1.7).
+fn receives(mode: Mode) -> bool
+    ensures { result ≡ receives mode }
 {
     match mode {
         Mode::ReceiveOnly | Mode::SendReceive => true,
@@ -22,9 +21,9 @@ fn passes_in(mode: Mode) -> bool
     }
 }
 
-/// Whether media of its context passes out through a termination of this mode.
-fn passes_out(mode: Mode) -> bool
-    ensures { result ≡ passes_out mode }
+/// Whether a termination of this mode sends media of its context to the outside.
+fn sends(mode: Mode) -> bool
+    ensures { result ≡ sends mode }
 {
     match mode {
         Mode::SendOnly | Mode::SendReceive => true,
@@ -77,8 +76,8 @@ impl Board {
     {
         let apart = !is_same(source, sink);
         let shared = self.share_context(source, sink);
-        let inward = passes_in(self.mode_of(*source));
-        let outward = passes_out(self.mode_of(*sink));
+        let inward = receives(self.mode_of(*source));
+        let outward = sends(self.mode_of(*sink));
         let open = !self.is_cut(source, sink);
         apart && shared && inward && outward && open
     }

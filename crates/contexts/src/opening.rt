@@ -2,7 +2,8 @@
 ghost use Rattle.std.specs.Prelude.{◌≡◌, IfOk, OnOk, Some};
 ghost use Rattle.mg_names.specs.declared.identifiers.TermId.{TermId};
 ghost use Rattle.mg_names.specs.declared.identifiers.TermId.TheVariants.{Line};
-ghost use Rattle.terminations.specs.Table.{row_of, given_of, row_with};
+ghost use Rattle.terminations.specs.Table.{row_of, given_of};
+ghost use Rattle.mg_model.specs.Board.{row_with};
 ghost use Rattle.contexts.specs.Sheet.{board_of, opened, started, or_idle, filled};
 
 use crate::board::Board;

@@ -37,8 +37,8 @@ impl Board {
         ensures { IsTrue result ↔ LacksContext (board_of self.now) item.now }
     {
         match *item {
-            Item::Add { context, .. } => self.is_unknown_but(context, ContextId(0xFFFF_FFFE)),
-            Item::Modify { context, .. } => self.is_unknown_but(context, ContextId(0)),
+            Item::Add { context, .. } => self.is_unknown_but(context, ContextId::CHOOSE),
+            Item::Modify { context, .. } => self.is_unknown_but(context, ContextId::NULL),
             Item::Move { context, .. } => self.is_unknown(context),
             Item::Subtract { context, .. } => self.is_unknown(context),
             Item::SubtractAll { context } => self.is_unknown(context),

@@ -1,7 +1,8 @@
 //! How the rows of terminations change in a command.
 ghost use Rattle.std.specs.Prelude.{◌≡◌, ℕ, ◌<◌, true, false, Some, None, IsTrue, is_some};
 ghost use Rattle.mg_model.specs.Board.{place_in};
-ghost use Rattle.terminations.specs.Table.{row_of, given_of, row_with, cleared};
+ghost use Rattle.terminations.specs.Table.{row_of, given_of, cleared};
+ghost use Rattle.mg_model.specs.Board.{row_with};
 ghost use Rattle.contexts.specs.Rows.{mode_applied, remote_number, remote_applied, fits, row_in, IsLine};
 
 use mg_model::items::{RemoteSetting, Settings};

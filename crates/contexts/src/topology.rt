@@ -1,8 +1,7 @@
 //! The Topology descriptor (H.248.1 section 7.1.18).
-ghost use Rattle.std.specs.Prelude.{◌≡◌, false, OnOk, OnErr};
+ghost use Rattle.std.specs.Prelude.{◌≡◌, false, not, OnOk, OnErr};
 ghost use Rattle.mg_model.specs.Board.{same_term, place_of};
-ghost use Rattle.mg_model.specs.Effects.{cuts_forward, cuts_backward};
-ghost use Rattle.mg_model.specs.Items.{with_cut};
+ghost use Rattle.mg_model.specs.Items.{first_receives, second_receives, with_topology};
 ghost use Rattle.contexts.specs.Sheet.{board_of};
 
 use crate::board::Board;
@@ -13,7 +12,7 @@ use std::alloc::AllocError;
 
 /// Whether a topology cuts the way to the second termination.
 fn cuts_forward(topology: Topology) -> bool
-    ensures { result ≡ cuts_forward topology }
+    ensures { result ≡ not (second_receives topology) }
 {
     match topology {
         Topology::Isolate => true,
@@ -23,7 +22,7 @@ fn cuts_forward(topology: Topology) -> bool
 
 /// Whether a topology cuts the way back to the first termination.
 fn cuts_backward(topology: Topology) -> bool
-    ensures { result ≡ cuts_backward topology }
+    ensures { result ≡ not (first_receives topology) }
 {
     match topology {
         Topology::Isolate | Topology::Oneway => true,
@@ -45,7 +44,7 @@ impl Board {
         requires second { place_of (board_of self.old) u ≡ context }
         requires differ { same_term t u ≡ false }
         ensures ok { OnOk result (board_of self.new ≡ record (board_of self.old) {
-          cut = with_cut (with_cut (board_of self.old).cut t u (cuts_forward topology)) u t (cuts_backward topology);
+          cut = with_topology (board_of self.old).cut t u topology;
         }) }
         ensures err { OnErr result (board_of self.new ≡ board_of self.old) }
     {

@@ -1,7 +1,8 @@
 //! The ephemerals at which media has arrived on its way, the last one first. A trail lies on the stack, each one linked to the
 //! one before.
 ghost use Rattle.std.specs.Prelude.{◌≡◌};
-ghost use Rattle.contexts.specs.Paths.{is_among, arrived};
+ghost use Rattle.contexts.specs.Paths.{arrived};
+ghost use Rattle.mg_model.specs.Members.{is_among};
 
 /// The ephemerals at which media has arrived.
 #[derive(Drop)]
@@ -15,7 +16,7 @@ pub(crate) enum Trail<'a> {
 impl<'a> Trail<'a> {
     /// Whether media has arrived at an ephemeral.
     pub(crate) fn has(&self, ephemeral: u32) -> bool
-        ensures { result ≡ is_among ephemeral (arrived self.now) }
+        ensures { result ≡ is_among (arrived self.now) ephemeral }
     {
         match self {
             Trail::Start => false,

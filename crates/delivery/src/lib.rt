@@ -7,8 +7,6 @@ mod inbox;
 pub mod laws;
 mod link;
 mod numbers;
-#[cfg(test)]
-mod tests;
 
 pub use inbox::{Arrival, Inbox};
 pub use link::{Link, Offer};

@@ -17,5 +17,3 @@ pub use fault::MapFault;
 pub use map::{DigitMap, LIMIT};
 pub use step::Step;
 
-#[cfg(test)]
-mod tests;

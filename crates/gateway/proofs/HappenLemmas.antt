@@ -1,7 +1,8 @@
 -- An event of a line on a gateway: when it can't happen, and what it leaves where it does.
 use Rattle.std.proofs.Common.{◌≡◌, ◌∙◌, ℕ, ◌==◌, ◌+◌, ◌≤◌, Bool, true, false, if◌then◌else◌, List, [], ◌∷◌, length, Option, Some, None, is_some, option_map, Result, Ok, Err, refl, sym, ap, subst, arith, rules, true≢false}
 use Rattle.std.proofs.lemmas.Bool.{eqb-true}
-use Rattle.mg_model.specs.Gateway.{Gateway, LineEvent, Happens, outcome_of, notes_from, last_number}
+use Rattle.mg_model.specs.Numbers.{last_number}
+use Rattle.mg_model.specs.Gateway.{Gateway, LineEvent, Happens, outcome_of, notes_from}
 use Rattle.mg_model.specs.LineEvents.{LineRow, Note, Outcome}
 use Rattle.mg_model.specs.Messages.{SentNote}
 use Rattle.line_events.specs.declared.fault.LineFault.{LineFault}

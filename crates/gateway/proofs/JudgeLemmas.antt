@@ -2,7 +2,8 @@
 use Rattle.std.proofs.Common.{◌≡◌, ◌∙◌, ℕ, ◌+◌, ◌<◌, ◌≤◌, List, length, Option, Some, None, is_some, inl, inr, refl, sym, ap, subst, arith, true≢false}
 use Rattle.std.proofs.lemmas.List.{length-map}
 use Rattle.mg_model.specs.Delivery.{offer, kept as kept_again, discard, fresh}
-use Rattle.mg_model.specs.Gateway.{IsKept, IsDiscarded, number_of, last_number, sent_notes}
+use Rattle.mg_model.specs.Numbers.{last_number}
+use Rattle.mg_model.specs.Gateway.{IsKept, IsDiscarded, number_of, sent_notes}
 use Rattle.mg_model.specs.LineEvents.{Note}
 use Rattle.mg_model.specs.Messages.{Request, Reply, SentNote, Failure}
 use Rattle.mg_model.specs.Items.{Done}

@@ -9,7 +9,7 @@ use Rattle.mg_names.specs.declared.modes.Mode.TheVariants.{Inactive}
 use Rattle.mg_model.specs.declared.rows.Row.{Row}
 use Rattle.mg_model.specs.Board.{Board}
 use Rattle.mg_model.specs.LineEvents.{LineRow}
-use Rattle.contexts.specs.Sheet.{is_among}
+use Rattle.contexts.specs.Sheet.{names_line}
 use Rattle.requests.specs.Connected.{has_line, opened_line, lines_opened}
 use Rattle.requests.specs.Idle.{idle_row, deactivated}
 use Rattle.gateway.specs.Standby.{rows_idled, lines_armed}
@@ -36,7 +36,7 @@ idled_line rows k n false false e = refl
 
 -- the rows of a board after one more line
 pub idled_more : (b : Board) (l : LineNo) (lines : List LineNo) (t : TermId) → rows_idled lines (deactivated b l.0).row t ≡ rows_idled (l ∷ lines) b.row t
-idled_more b l lines (Line m) = idled_line b.row l.0 m.0 (m.0 == l.0) (is_among lines m.0) refl
+idled_more b l lines (Line m) = idled_line b.row l.0 m.0 (m.0 == l.0) (names_line lines m.0) refl
 idled_more b l lines (Eph k) = refl
 
 there_idle : (row : Option Row) → is_some (idle_row row) ≡ is_some row
@@ -71,4 +71,4 @@ armed_line_more rows k n false true true among e t = absurd (search (rules, t re
 pub armed_more : (b : Board) (rows : ℕ → LineRow) (l : LineNo) (lines : List LineNo) (n : ℕ)
     → lines_armed b lines (lines_opened (has_line b l.0) rows l.0) n ≡ lines_armed b (l ∷ lines) rows n
 armed_more b rows l lines n =
-    armed_line_more rows l.0 n (has_line b n) (has_line b l.0) (n == l.0) (is_among lines n) refl (λ e. ap (has_line b) (sym (eqb-true n l.0 e)))
+    armed_line_more rows l.0 n (has_line b n) (has_line b l.0) (n == l.0) (names_line lines n) refl (λ e. ap (has_line b) (sym (eqb-true n l.0 e)))

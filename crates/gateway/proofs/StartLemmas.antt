@@ -9,7 +9,7 @@ use Rattle.mg_model.specs.declared.rows.Row.{Row}
 use Rattle.mg_model.specs.Board.{Board, place_in}
 use Rattle.mg_model.specs.Gateway.{CallLink}
 use Rattle.mg_model.specs.LineEvents.{LineRow, new_line}
-use Rattle.contexts.specs.Sheet.{is_among, started}
+use Rattle.contexts.specs.Sheet.{names_line, started}
 use Rattle.contexts.specs.Sheet as sheet
 use Rattle.requests.specs.Connected.{board_in, line_in, has_line, is_idle, opened_line}
 use Rattle.requests.specs.Idle.{idle_row}
@@ -32,7 +32,7 @@ no_call_in calls e n = ap (λ (cs : List (ℕ × OpenCall)). call_in cs n) e ∙
 abbrev free_entry : Bool → Option (Option ℕ)
 free_entry among = if among then Some None else None
 
-started_there : (lines : List LineNo) (l : ℕ) (among : Bool) → is_among lines l ≡ among → has_line (sheet.opened (started lines)) l ≡ is_some (free_entry among)
+started_there : (lines : List LineNo) (l : ℕ) (among : Bool) → names_line lines l ≡ among → has_line (sheet.opened (started lines)) l ≡ is_some (free_entry among)
 started_there lines l true e = rw e refl
 started_there lines l false e = rw e refl
 
@@ -45,22 +45,22 @@ not_held true call e = cc
 not_held false call e = cc
 
 pub starts_tied : (w : Whole) (lines : List LineNo) → board_in w.connected ≡ sheet.opened (started lines) → w.calls ≡ []
-    → ((l : ℕ) → line_entry w.holders l ≡ (if is_among lines l then Some None else None)) → AreTied w
+    → ((l : ℕ) → line_entry w.holders l ≡ (if names_line lines l then Some None else None)) → AreTied w
 starts_tied w lines board calls entries = record {
   links = λ n c e. let k : None ≡ Some c = sym (no_call_in w.calls calls n) ∙ e in cc;
-  lines = λ l. ap (λ (b : Board). has_line b l) board ∙ started_there lines l (is_among lines l) refl ∙ ap is_some (sym (entries l));
-  holders = λ l call e. absurd (not_held (is_among lines l) call (sym (entries l) ∙ e));
+  lines = λ l. ap (λ (b : Board). has_line b l) board ∙ started_there lines l (names_line lines l) refl ∙ ap is_some (sym (entries l));
+  holders = λ l call e. absurd (not_held (names_line lines l) call (sym (entries l) ∙ e));
 }
 
 pub first_is : (w : Whole) (lines : List LineNo) → w.association ≡ 1 → board_in w.connected ≡ sheet.opened (started lines) → line_in w.connected ≡ (λ l. new_line)
-    → w.calls ≡ [] → ((l : ℕ) → line_entry w.holders l ≡ (if is_among lines l then Some None else None))
+    → w.calls ≡ [] → ((l : ℕ) → line_entry w.holders l ≡ (if names_line lines l then Some None else None))
     → (creator : ℕ → Option ℕ) → gateway_of creator w ≡ first_gateway lines creator
 unfolding gateway_of
 first_is w lines association board rows calls entries creator = λ i. record {
   association = association i;
   board = board i;
   line = rows i;
-  holder = λ l. (ap holder_of (entries l) ∙ nobody_holds (is_among lines l)) i;
+  holder = λ l. (ap holder_of (entries l) ∙ nobody_holds (names_line lines l)) i;
   creator = creator;
   link = λ call. ap link_of (no_call_in w.calls calls call) i;
 }
@@ -104,15 +104,15 @@ split : (a b : Bool) → (a && b) ≡ true → (a ≡ true) × (b ≡ true)
 split true b e = (refl, e)
 split false b e = absurd (search rules)
 
-all_among : (test : ℕ → Bool) (lines : List LineNo) (n : ℕ) → list_all (λ (l : LineNo). test l.0) lines ≡ true → is_among lines n ≡ true → test n ≡ true
+all_among : (test : ℕ → Bool) (lines : List LineNo) (n : ℕ) → list_all (λ (l : LineNo). test l.0) lines ≡ true → names_line lines n ≡ true → test n ≡ true
 all_among test [] n all among = absurd (search rules)
 all_among test (l ∷ lines) n all among =
     let both = split (test l.0) (list_all (λ (l : LineNo). test l.0) lines) all in
     by_first both.0 (n == l.0) refl (all_among test lines n both.1)
   where
-    by_first : test l.0 ≡ true → (same : Bool) → (n == l.0) ≡ same → (is_among lines n ≡ true → test n ≡ true) → test n ≡ true
+    by_first : test l.0 ≡ true → (same : Bool) → (n == l.0) ≡ same → (names_line lines n ≡ true → test n ≡ true) → test n ≡ true
     by_first first true e later = ap test (eqb-true n l.0 e) ∙ first
-    by_first first false e later = later (sym (ap (λ (b : Bool). b || is_among lines n) e) ∙ among)
+    by_first first false e later = later (sym (ap (λ (b : Bool). b || names_line lines n) e) ∙ among)
 
 idle_inactive : (row : Option Row) → (is_some row && (place_in row == 0)) ≡ true → idle_row row ≡ inactive_row row
 idle_inactive None e = refl
@@ -123,18 +123,18 @@ free_number b holder n = is_idle b n && not (is_some (holder n))
 
 idled_is : (b : Board) (holder : ℕ → Option ℕ) (lines : List LineNo) → list_all (is_free b holder) lines ≡ true → (t : TermId)
     → rows_idled lines b.row t ≡ rows_opened lines b.row t
-idled_is b holder lines free (Line l) = by_test (is_among lines l.0) refl
+idled_is b holder lines free (Line l) = by_test (names_line lines l.0) refl
   where
-    by_test : (among : Bool) → is_among lines l.0 ≡ among
+    by_test : (among : Bool) → names_line lines l.0 ≡ among
         → (if among then idle_row (b.row (Line l)) else b.row (Line l)) ≡ (if among then inactive_row (b.row (Line l)) else b.row (Line l))
     by_test true e = idle_inactive (b.row (Line l)) (split (is_idle b l.0) _ (all_among (free_number b holder) lines l.0 free e)).0
     by_test false e = refl
 idled_is b holder lines free (Eph k) = refl
 
 armed_is : (b : Board) (lines : List LineNo) → are_there b lines ≡ true → (rows : ℕ → LineRow) (n : ℕ) → lines_armed b lines rows n ≡ lines_opened lines rows n
-armed_is b lines there rows n = by_test (is_among lines n) refl (has_line b n) refl
+armed_is b lines there rows n = by_test (names_line lines n) refl (has_line b n) refl
   where
-    by_test : (among : Bool) → is_among lines n ≡ among → (is_there : Bool) → has_line b n ≡ is_there
+    by_test : (among : Bool) → names_line lines n ≡ among → (is_there : Bool) → has_line b n ≡ is_there
         → (if is_there && among then opened_line (rows n) else rows n) ≡ (if among then opened_line (rows n) else rows n)
     by_test true e true h = refl
     by_test true e false h = absurd (true≢false (sym (all_among (has_line b) lines n there e) ∙ h))
@@ -142,11 +142,11 @@ armed_is b lines there rows n = by_test (is_among lines n) refl (has_line b n) r
     by_test false e false h = refl
 
 held_is : (w : Whole) → AreTied w → (lines : List LineNo) → are_there (board_in w.connected) lines ≡ true → (call n : ℕ)
-    → holder_of (if is_among lines n && is_some (line_entry w.holders n) then Some (Some call) else line_entry w.holders n)
-    ≡ (if is_among lines n then Some call else holder_in w n)
-held_is w tied lines there call n = by_test (is_among lines n) refl (is_some (line_entry w.holders n)) refl
+    → holder_of (if names_line lines n && is_some (line_entry w.holders n) then Some (Some call) else line_entry w.holders n)
+    ≡ (if names_line lines n then Some call else holder_in w n)
+held_is w tied lines there call n = by_test (names_line lines n) refl (is_some (line_entry w.holders n)) refl
   where
-    by_test : (among : Bool) → is_among lines n ≡ among → (listed : Bool) → is_some (line_entry w.holders n) ≡ listed
+    by_test : (among : Bool) → names_line lines n ≡ among → (listed : Bool) → is_some (line_entry w.holders n) ≡ listed
         → holder_of (if among && listed then Some (Some call) else line_entry w.holders n) ≡ (if among then Some call else holder_in w n)
     by_test true e true h = refl
     by_test true e false h = absurd (true≢false (sym (all_among (has_line (board_in w.connected)) lines n there e) ∙ tied.lines n ∙ h))
@@ -163,7 +163,7 @@ link_opened association o false = refl
 pub opened_is : (w new : Whole) (call : ℕ) (lines : List LineNo) → AreTied w
     → opening_on (board_in w.connected) (holder_in w) (is_open w call) lines ≡ Ok tt → new.association ≡ w.association
     → ShowsOpened w.connected lines new.connected
-    → ((l : ℕ) → line_entry new.holders l ≡ (if is_among lines l && is_some (line_entry w.holders l) then Some (Some call) else line_entry w.holders l))
+    → ((l : ℕ) → line_entry new.holders l ≡ (if names_line lines l && is_some (line_entry w.holders l) then Some (Some call) else line_entry w.holders l))
     → ((n : ℕ) → call_in new.calls n ≡ (if n == call then Some (new_call w.association) else call_in w.calls n))
     → (creator : ℕ → Option ℕ) → gateway_of creator new ≡ opened (gateway_of creator w) call lines
 unfolding gateway_of

@@ -1,7 +1,8 @@
 -- A call that changes: what stays tied, which calls stay open, and that a request whose end is put in place was executed.
 use Rattle.std.proofs.Common.{◌≡◌, ◌∙◌, ℕ, ◌==◌, ◌+◌, ◌<◌, ◌≤◌, Bool, true, false, if◌then◌else◌, List, length, Option, Some, None, is_some, option_map, refl, sym, ap, subst, arith}
 use Rattle.std.proofs.lemmas.Bool.{eqb-true}
-use Rattle.mg_model.specs.Gateway.{Gateway, CallLink, after_request, last_number, number_of, reply_of, sent_notes, restarted, link_restarted, board_restarted}
+use Rattle.mg_model.specs.Numbers.{last_number}
+use Rattle.mg_model.specs.Gateway.{Gateway, CallLink, after_request, number_of, reply_of, sent_notes, restarted, link_restarted, board_restarted}
 use Rattle.mg_model.specs.LineEvents.{cleared}
 use Rattle.mg_model.specs.Messages.{Request, Reply, SentNote}
 use Rattle.mg_model.specs.RequestRun.{Running, Refusal}

@@ -2,7 +2,8 @@
 -- that of an execution leaves the gateway as it was, and when each one comes.
 use Rattle.std.specs.Prelude.{◌≡◌, ℕ, ◌+◌, ◌<◌, true, List, [], ◌∷◌, length, Option, Some, None, Result, Ok, Err, ◌⊎◌}
 use Rattle.mg_names.specs.declared.identifiers.Assoc.{Assoc}
-use Rattle.mg_model.specs.Gateway.{Gateway, LineEvent, last_executed, last_number, IsExecutedBy, IsKept, IsDiscarded, Happens, restarted}
+use Rattle.mg_model.specs.Numbers.{last_number}
+use Rattle.mg_model.specs.Gateway.{Gateway, LineEvent, last_executed, IsExecutedBy, IsKept, IsDiscarded, Happens, restarted}
 use Rattle.mg_model.specs.Messages.{Request, Reply, SentNote}
 use Rattle.mg_model.specs.RequestRun.{Refusal}
 use Rattle.gateway.specs.declared.answer.Answer.{Answer}

@@ -2,7 +2,8 @@
 -- the answer that it leads to.
 use Rattle.std.specs.Prelude.{◌≡◌, ℕ, ◌+◌, ◌≤◌, List, length, Option, Some, ◌⊎◌}
 use Rattle.mg_model.specs.Delivery.{offer, fresh}
-use Rattle.mg_model.specs.Gateway.{last_number, IsKept, IsDiscarded, reply_of, sent_notes}
+use Rattle.mg_model.specs.Numbers.{last_number}
+use Rattle.mg_model.specs.Gateway.{IsKept, IsDiscarded, reply_of, sent_notes}
 use Rattle.mg_model.specs.LineEvents.{Note}
 use Rattle.mg_model.specs.Messages.{Request, Reply, SentNote, Failure}
 use Rattle.mg_model.specs.RequestRun.{Refusal}

@@ -10,7 +10,7 @@ use Rattle.mg_model.specs.declared.rows.Row.{Row}
 use Rattle.mg_model.specs.Board.{Board}
 use Rattle.mg_model.specs.Gateway.{Gateway}
 use Rattle.mg_model.specs.LineEvents.{LineRow, new_line}
-use Rattle.contexts.specs.Sheet.{is_among, started}
+use Rattle.contexts.specs.Sheet.{names_line, started}
 use Rattle.contexts.specs.Sheet as sheet
 use Rattle.requests.specs.Connected.{has_line, is_idle, opened_line}
 use Rattle.gateway.specs.declared.fault.OpenFault.{OpenFault}
@@ -35,7 +35,7 @@ abbrev pub inactive_row : Option Row → Option Row
 inactive_row row = option_map (λ (r : Row). record r { mode = Inactive }) row
 
 abbrev pub rows_opened : List LineNo → (TermId → Option Row) → TermId → Option Row
-rows_opened lines rows (Line l) = if is_among lines l.0 then inactive_row (rows (Line l)) else rows (Line l)
+rows_opened lines rows (Line l) = if names_line lines l.0 then inactive_row (rows (Line l)) else rows (Line l)
 rows_opened lines rows (Eph k) = rows (Eph k)
 
 abbrev pub board_opened : List LineNo → Board → Board
@@ -43,7 +43,7 @@ board_opened lines b = record b { row = rows_opened lines b.row }
 
 -- a line is silent and armed by `al/of` with `strict=exact` alone, with RequestID 0; its hook state stays
 abbrev pub lines_opened : List LineNo → (ℕ → LineRow) → ℕ → LineRow
-lines_opened lines rows l = if is_among lines l then opened_line (rows l) else rows l
+lines_opened lines rows l = if names_line lines l then opened_line (rows l) else rows l
 
 -- the gateway after the opening of a call on lines
 abbrev pub opened : Gateway → ℕ → List LineNo → Gateway
@@ -51,7 +51,7 @@ opened g call lines = record {
   association = g.association;
   board = board_opened lines g.board;
   line = lines_opened lines g.line;
-  holder = λ l. if is_among lines l then Some call else g.holder l;
+  holder = λ l. if names_line lines l then Some call else g.holder l;
   creator = g.creator;
   link = λ c. if c == call then record { last = None; notes = 0 } else g.link c;
 }
@@ -60,7 +60,7 @@ opened g call lines = record {
 
 abbrev pub has_twice : List LineNo → Bool
 has_twice [] = false
-has_twice (l ∷ lines) = is_among lines l.0 || has_twice lines
+has_twice (l ∷ lines) = names_line lines l.0 || has_twice lines
 
 -- a line is there in the null context, and no call holds it
 abbrev pub is_free : Board → (ℕ → Option ℕ) → LineNo → Bool
@@ -83,9 +83,8 @@ opening_on b holder call_is_open lines =
 abbrev pub opening : Gateway → Bool → List LineNo → Result (Unit {0}) OpenFault
 opening g call_is_open lines = opening_on g.board g.holder call_is_open lines
 
--- the answer is this one, or memory ran out
-abbrev pub IsOrNoMemory : Result (Unit {0}) OpenFault → Result (Unit {0}) OpenFault → Type 0
-IsOrNoMemory (Ok done) expected = expected ≡ Ok tt
-IsOrNoMemory (Err NoMemory) expected = Unit {0}
-IsOrNoMemory (Err UnknownLine) expected = expected ≡ Err UnknownLine
-IsOrNoMemory (Err Taken) expected = expected ≡ Err Taken
+-- the fault says that memory ran out
+abbrev pub is_memory : OpenFault → Bool
+is_memory NoMemory = true
+is_memory UnknownLine = false
+is_memory Taken = false

@@ -10,7 +10,7 @@ use Rattle.mg_model.specs.Items.{Done}
 use Rattle.mg_model.specs.LineEvents.{LineRow, Note}
 use Rattle.mg_model.specs.Messages.{Request, Failure}
 use Rattle.mg_model.specs.RequestRun.{Refusal, RunsFrom}
-use Rattle.contexts.specs.Sheet.{is_among}
+use Rattle.contexts.specs.Sheet.{names_line}
 use Rattle.requests.specs.Connected.{Connected, board_in, line_in, has_line, start_in, end_in, opened_line}
 use Rattle.requests.specs.Idle.{idle_row}
 
@@ -38,14 +38,14 @@ pub record HasEnd (start : Connected) (request : Request) (refusal : Refusal) (e
 
 -- each of them that is in the null context is Inactive, and its row is that of an opened line
 abbrev pub rows_idled : List LineNo → (TermId → Option Row) → TermId → Option Row
-rows_idled lines rows (Line l) = if is_among lines l.0 then idle_row (rows (Line l)) else rows (Line l)
+rows_idled lines rows (Line l) = if names_line lines l.0 then idle_row (rows (Line l)) else rows (Line l)
 rows_idled lines rows (Eph k) = rows (Eph k)
 
 abbrev pub board_idled : List LineNo → Board → Board
 board_idled lines b = record b { row = rows_idled lines b.row }
 
 abbrev pub lines_armed : Board → List LineNo → (ℕ → LineRow) → ℕ → LineRow
-lines_armed b lines rows l = if has_line b l && is_among lines l then opened_line (rows l) else rows l
+lines_armed b lines rows l = if has_line b l && names_line lines l then opened_line (rows l) else rows l
 
 pub record ShowsOpened (start : Connected) (lines : List LineNo) (ended : Connected) : Type 0 where
   pub board : board_in ended ≡ board_idled lines (board_in start)

@@ -1,6 +1,6 @@
 //! Which call holds a line. There is an entry for each line, so that holding one takes no memory.
 ghost use Rattle.std.specs.Prelude.{◌≡◌, ℕ, ◌==◌, ◌&&◌, Some, None, IfOk, OnOk, is_some, if◌then◌else◌};
-ghost use Rattle.contexts.specs.Sheet.{is_among};
+ghost use Rattle.contexts.specs.Sheet.{names_line};
 ghost use Rattle.gateway.specs.Calls.{line_entry, holder_of};
 
 use mg_names::identifiers::LineNo;
@@ -21,7 +21,7 @@ fn add(holders: &mut Holders, line: u32) -> Result<(), AllocError>
 /// These lines, which nobody holds.
 #[tactic(auto, unfolding(crate::specs::Calls::line_entry))]
 pub(crate) fn new(alloc: Global, lines: &[LineNo]) -> Result<Holders, AllocError>
-    ensures { IfOk result (λ holders. (l : ℕ) → line_entry holders.entries l ≡ (if is_among lines.now l then Some None else None)) }
+    ensures { IfOk result (λ holders. (l : ℕ) → line_entry holders.entries l ≡ (if names_line lines.now l then Some None else None)) }
 {
     let mut holders = BTreeMap::new(alloc);
     for line in lines {
@@ -53,7 +53,7 @@ fn hold_one(holders: &mut Holders, line: u32, call: u32)
 
 /// A call holds these lines from now on.
 pub(crate) fn hold(holders: &mut Holders, lines: &[LineNo], call: u32)
-    ensures { (l : ℕ) → line_entry holders.new.entries l ≡ (if is_among lines.now l && is_some (line_entry holders.old.entries l) then Some (Some call) else line_entry holders.old.entries l) }
+    ensures { (l : ℕ) → line_entry holders.new.entries l ≡ (if names_line lines.now l && is_some (line_entry holders.old.entries l) then Some (Some call) else line_entry holders.old.entries l) }
 {
     for line in lines {
         hold_one(holders, line.0, call);

@@ -20,5 +20,3 @@ pub use answer::Answer;
 pub use fault::{CannotHappen, OpenFault};
 pub use gateway::Gateway;
 
-#[cfg(test)]
-mod tests;

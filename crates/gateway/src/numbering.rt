@@ -1,6 +1,7 @@
 //! The numbers of notes.
 ghost use Rattle.std.specs.Prelude.{◌≡◌, ◌+◌, ◌≤◌, IfOk, length};
-ghost use Rattle.mg_model.specs.Gateway.{last_number, sent_notes};
+ghost use Rattle.mg_model.specs.Numbers.{last_number};
+ghost use Rattle.mg_model.specs.Gateway.{sent_notes};
 ghost use Rattle.requests.specs.Views.{line_notes};
 
 use mg_names::identifiers::{Assoc, CallNo};

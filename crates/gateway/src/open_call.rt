@@ -1,9 +1,10 @@
 //! The opening of a call.
 ghost use Rattle.std.specs.Prelude.{◌≡◌, ℕ, ◌==◌, ◌||◌, Option, Ok, OnOk, OnErr};
 ghost use Rattle.std.specs.List.{list_all};
-ghost use Rattle.contexts.specs.Sheet.{is_among};
+ghost use Rattle.contexts.specs.Sheet.{names_line};
 ghost use Rattle.requests.specs.Connected.{board_in};
-ghost use Rattle.gateway.specs.Openings.{opened, opening, opening_on, has_twice, are_there, are_free, is_free, IsOrNoMemory};
+ghost use Rattle.gateway.specs.Openings.{opened, opening, opening_on, has_twice, are_there, are_free, is_free, is_memory};
+ghost use Rattle.mg_model.specs.Memory.{IsOrNoMemory};
 ghost use Rattle.gateway.specs.Whole.{gateway_of, holder_in, is_open};
 
 use crate::fault::OpenFault;
@@ -14,7 +15,7 @@ use std::alloc::AllocError;
 
 /// Whether a line is among others.
 fn is_among(lines: &[LineNo], line: LineNo) -> bool
-    ensures { result ≡ is_among lines.now line.0 }
+    ensures { result ≡ names_line lines.now line.0 }
 {
     lines.iter().any(|other| line.0 == other.0)
 }
@@ -106,7 +107,7 @@ impl Gateway {
     /// RequestID 0, and held by the call; no reply is kept and no note was sent. The fault of the lowest number that applies is answered,
     /// or `NoMemory` in its place.
     pub fn open_call(&mut self, call: CallNo, lines: &[LineNo]) -> Result<(), OpenFault>
-        ensures answer { (creator : ℕ → Option ℕ) → IsOrNoMemory result (opening (gateway_of creator self.old) (is_open self.old call.0) lines.now) }
+        ensures answer { (creator : ℕ → Option ℕ) → IsOrNoMemory is_memory result (opening (gateway_of creator self.old) (is_open self.old call.0) lines.now) }
         ensures opened { OnOk result ((creator : ℕ → Option ℕ) → gateway_of creator self.new ≡ opened (gateway_of creator self.old) call.0 lines.now) }
         ensures open_calls { OnOk result ((other : ℕ) → is_open self.new other ≡ ((other == call.0) || is_open self.old other)) }
         ensures unchanged { OnErr result (self.new ≡ self.old) }

@@ -1,5 +1,4 @@
 pub mod Faults
-pub mod Items
 pub mod Collecting
 pub mod Answers
 pub mod Rows

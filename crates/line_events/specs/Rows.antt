@@ -1,8 +1,9 @@
 -- The rows of the lines by number, and how a call changes the one row that it names.
-use Rattle.std.specs.Prelude.{◌≡◌, ℕ, ◌==◌, if◌then◌else◌, List, Option, Some, None, Result, Ok, Err}
+use Rattle.std.specs.Prelude.{◌≡◌, ℕ, Bool, true, false, List, Option, Some, None, Result, Ok, Err}
 use Rattle.std.specs.Ordering.{nat_cmp}
 use Rattle.std.specs.BTreeMap.{is_at}
 use Rattle.std.specs.Map.{lookup}
+use Rattle.mg_model.specs.Updates.{with_at}
 use Rattle.mg_model.specs.LineEvents.{LineRow, Outcome}
 use Rattle.line_events.specs.declared.fault.LineFault.{LineFault}
 use Rattle.line_events.specs.declared.fault.LineFault.TheVariants.{UnknownLine, CannotHappen, NoMemory}
@@ -11,10 +12,6 @@ use Rattle.line_events.specs.Answers.{Answer, row_after, answer}
 -- the row of a line; nothing where there is no such line
 unfoldable pub row_of : List (ℕ × LineRow) → ℕ → Option LineRow
 row_of rows n = lookup (is_at (nat_cmp n)) rows
-
--- the rows with one of them changed
-abbrev pub row_with : (ℕ → Option LineRow) → ℕ → Option LineRow → ℕ → Option LineRow
-row_with rows line row n = if n == line then row else rows n
 
 -- what happens on a line, by its row
 abbrev pub Happening : Type 0
@@ -26,18 +23,17 @@ after happens (Some row) = Some (row_after row (happens row))
 
 -- the rows after it: the row of the line is the one that it leaves, and where it can't happen, the one that was there
 abbrev pub rows_after : (ℕ → Option LineRow) → ℕ → Happening → ℕ → Option LineRow
-rows_after rows line happens = row_with rows line (after happens (rows line))
+rows_after rows line happens = with_at rows line (after happens (rows line))
 
 abbrev pub answer_on : Option LineRow → Happening → Answer
 answer_on None happens = Err UnknownLine
 answer_on (Some row) happens = answer (happens row)
 
--- the answer is this one, or memory ran out
-abbrev pub IsOrNoMemory : Answer → Answer → Type 0
-IsOrNoMemory (Ok note) expected = expected ≡ Ok note
-IsOrNoMemory (Err UnknownLine) expected = expected ≡ Err UnknownLine
-IsOrNoMemory (Err CannotHappen) expected = expected ≡ Err CannotHappen
-IsOrNoMemory (Err NoMemory) expected = Unit {0}
+-- the fault says that memory ran out
+abbrev pub is_memory : LineFault → Bool
+is_memory NoMemory = true
+is_memory UnknownLine = false
+is_memory CannotHappen = false
 
 -- a line is added that isn't there
 abbrev pub IsAdded : Result (Unit {0}) LineFault → Option LineRow → Type 0

@@ -15,11 +15,9 @@ mod rows;
 mod signals;
 
 pub use fault::LineFault;
-pub use item::EventItem;
+pub use item::ListItem;
 pub use lines::LineSet;
 pub use list::EventList;
 pub use note::Note;
 pub use row::LineRow;
 
-#[cfg(test)]
-mod tests;

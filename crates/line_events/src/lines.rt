@@ -33,7 +33,9 @@ impl Model for LineSet {
 }
 
 impl LineSet {
-    ghost use Rattle.line_events.specs.Rows.{row_of, row_with, rows_after, answer_on, IsOrNoMemory, IsAdded};
+    ghost use Rattle.line_events.specs.Rows.{row_of, rows_after, answer_on, is_memory, IsAdded};
+    ghost use Rattle.mg_model.specs.Memory.{IsOrNoMemory};
+    ghost use Rattle.mg_model.specs.Updates.{with_at};
 
     /// No line.
     #[tactic(auto, unfolding(crate::specs::Rows::row_of))]
@@ -67,7 +69,7 @@ impl LineSet {
     /// Adds a line: on hook, silent, with an empty Events descriptor. `CannotHappen` where it is there.
     pub fn add_line(&mut self, line: LineNo) -> Result<(), LineFault>
         ensures answer { IsAdded result (row_of self.old line.0) }
-        ensures rows { OnOk result (row_of self.new ≡ row_with (row_of self.old) line.0 (Some new_line)) }
+        ensures rows { OnOk result (row_of self.new ≡ with_at (row_of self.old) line.0 (Some new_line)) }
         ensures unchanged { OnErr result (row_of self.new ≡ row_of self.old) }
     {
         if rows::row(&self.rows, line.0).is_some() {
@@ -87,7 +89,7 @@ impl LineSet {
         list: &EventList,
         request: u32,
     ) -> Result<Option<Note>, LineFault>
-        ensures answer { IsOrNoMemory result (answer_on (row_of self.old line.0) (λ row. Some (armed row list.now request))) }
+        ensures answer { IsOrNoMemory is_memory result (answer_on (row_of self.old line.0) (λ row. Some (armed row list.now request))) }
         ensures rows { OnOk result (row_of self.new ≡ rows_after (row_of self.old) line.0 (λ row. Some (armed row list.now request))) }
         ensures unchanged { OnErr result (row_of self.new ≡ row_of self.old) }
     {

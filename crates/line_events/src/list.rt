@@ -2,35 +2,33 @@
 ghost use Rattle.std.specs.Prelude.{◌≡◌, [], IfOk, map, option_map};
 ghost use Rattle.std.specs.List.{list_any};
 ghost use Rattle.mg_model.specs.LineEvents.{is_hook, is_standing, is_flash, map_in};
-ghost use Rattle.line_events.specs.Items.{item_of};
 
-use crate::item::EventItem;
+use crate::item::{self, ListItem};
 use digits::DigitMap;
 use mg_model::line_events::Hook;
+use mg_model::transitions::EventItem;
 use std::alloc::{AllocError, Global};
 use std::marker::Model;
 
 /// The list of an Events descriptor (ITU-T H.248.1 v1 / RFC 3525, 7.1.9).
 #[derive(Drop)]
 pub struct EventList {
-    items: Vec<EventItem>,
+    items: Vec<ListItem>,
 }
 
 impl Model for EventList {
-    ghost use Rattle.std.specs.Prelude.{List, map};
+    ghost use Rattle.std.specs.Prelude.{List};
     ghost use Rattle.mg_model.specs.LineEvents.{ListItem};
-    ghost use Rattle.line_events.specs.Items.{item_of};
-
+    
     ghost Value = { List ListItem };
 
-    ghost view = { λ l. map item_of l.items.items };
+    ghost view = { λ l. l.items.items };
 }
 
-#[tactic(auto, using(crate::proofs::Lists::any_map))]
 impl EventList {
     /// The list of these items.
-    pub fn new(items: Vec<EventItem>) -> EventList
-        ensures { result ≡ map item_of items.items }
+    pub fn new(items: Vec<ListItem>) -> EventList
+        ensures { result ≡ items.items }
     {
         EventList { items }
     }
@@ -87,42 +85,42 @@ impl EventList {
 }
 
 /// The first digit map among items.
-fn map_among(items: &[EventItem]) -> Option<&DigitMap>
-    ensures { option_map (λ m. m.now) result ≡ map_in (map item_of items.now) }
+fn map_among(items: &[ListItem]) -> Option<&DigitMap>
+    ensures { option_map (λ m. m.now) result ≡ map_in items.now }
 {
     for item in items {
-        if let EventItem::DialledBy(map) = item {
+        if let EventItem::Digits(map) = item {
             return Some(map);
         }
     }
     None
 }
 
-fn has_hook(items: &[EventItem], hook: Hook) -> bool
-    ensures { result ≡ list_any (λ item. is_hook hook (item_of item)) items.now }
+fn has_hook(items: &[ListItem], hook: Hook) -> bool
+    ensures { result ≡ list_any (is_hook hook) items.now }
 {
-    items.iter().any(|item| item.is_hook(hook))
+    items.iter().any(|item| item::is_hook(item, hook))
 }
 
-fn has_standing(items: &[EventItem], hook: Hook) -> bool
-    ensures { result ≡ list_any (λ item. is_standing hook (item_of item)) items.now }
+fn has_standing(items: &[ListItem], hook: Hook) -> bool
+    ensures { result ≡ list_any (is_standing hook) items.now }
 {
-    items.iter().any(|item| item.is_standing(hook))
+    items.iter().any(|item| item::is_standing(item, hook))
 }
 
-fn has_flash(items: &[EventItem]) -> bool
-    ensures { result ≡ list_any (λ item. is_flash (item_of item)) items.now }
+fn has_flash(items: &[ListItem]) -> bool
+    ensures { result ≡ list_any is_flash items.now }
 {
-    items.iter().any(|item| item.is_flash())
+    items.iter().any(|item| item::is_flash(item))
 }
 
 /// The same items again.
-fn copied(alloc: Global, items: &[EventItem]) -> Result<Vec<EventItem>, AllocError>
+fn copied(alloc: Global, items: &[ListItem]) -> Result<Vec<ListItem>, AllocError>
     ensures { IfOk result (λ v. v.items ≡ items.now) }
 {
     let mut found = Vec::new(alloc);
     for item in items {
-        let item = item.copy(alloc)?;
+        let item = item::copy(alloc, item)?;
         found.push(item)?;
     }
     Ok(found)

@@ -13,7 +13,7 @@ use Rattle.mg_model.specs.LineEvents.{ListItem}
 use Rattle.mg_model.specs.declared.references.ContextRef.TheVariants.{Number}
 use Rattle.mg_model.specs.Messages.{RequestCommand, add_line}
 use Rattle.mg_model.specs.RequestRun.{item_at}
-use Rattle.mg_model.specs.World.{null_row}
+use Rattle.mg_model.specs.Board.{null_row}
 use Rattle.mg_safety.proofs.Shared.Cases.{false_not_true}
 use Rattle.mg_safety.proofs.Shared.Single.{none_in}
 

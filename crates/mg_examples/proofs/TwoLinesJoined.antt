@@ -19,7 +19,8 @@ use Rattle.mg_model.specs.RequestRun.{Running, after_command, item_at, RunsFrom}
 use Rattle.mg_model.specs.Script.{Script}
 use Rattle.mg_model.specs.Tables.{state_of, is_marked}
 use Rattle.mg_examples.proofs.Creations.{creates, picks, made, created, none_listed, is_unknown, is_taken, creation_executed}
-use Rattle.mg_model.specs.World.{World, IsFirst, IsGood, null_row, with_gateway}
+use Rattle.mg_model.specs.World.{World, IsFirst, IsGood, with_gateway}
+use Rattle.mg_model.specs.Board.{null_row}
 
 -- ---- the request
 

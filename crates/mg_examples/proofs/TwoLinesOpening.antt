@@ -13,7 +13,8 @@ use Rattle.mg_model.specs.declared.line_events.LineEvent.TheVariants as event
 use Rattle.mg_model.specs.Gateway.{Gateway, with_line, with_notes}
 use Rattle.mg_model.specs.LineEvents.{LineRow, new_line}
 use Rattle.mg_model.specs.Script.{Script}
-use Rattle.mg_model.specs.World.{World, LineOccurs, Opened, IsOpening, armed_line, null_row, with_gateway}
+use Rattle.mg_model.specs.World.{World, LineOccurs, Opened, IsOpening, armed_line, with_gateway}
+use Rattle.mg_model.specs.Board.{null_row}
 use Rattle.mg_examples.specs.Talk.{call, off_hook}
 use Rattle.mg_safety.proofs.Shared.Cases.{none_is_some, the_some}
 use Rattle.mg_examples.proofs.PointFacts.{below_two}

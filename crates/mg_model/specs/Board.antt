@@ -2,7 +2,7 @@
 -- which identifiers were given out in this association (H.248.1 section 6). Functions over all identifiers, so what a
 -- command leaves alone is plain to see. A reader should check that a context has no existence of its own: it exists
 -- exactly where a termination stands in it.
-use Rattle.std.specs.Prelude.{◌≡◌, ℕ, ◌==◌, Bool, false, Option, Some, None, is_some}
+use Rattle.std.specs.Prelude.{◌≡◌, ℕ, ◌==◌, Bool, false, if◌then◌else◌, Option, Some, None, is_some}
 use Rattle.mg_names.specs.declared.identifiers.TermId.{TermId}
 use Rattle.mg_names.specs.declared.identifiers.TermId.TheVariants.{Line, Eph}
 use Rattle.mg_names.specs.declared.modes.Mode.{Mode}
@@ -25,6 +25,14 @@ same_term (Line i) (Line j) = i.0 == j.0
 same_term (Line i) (Eph j) = false
 same_term (Eph i) (Line j) = false
 same_term (Eph i) (Eph j) = i == j
+
+-- the rows with one of them changed
+abbrev pub row_with : (TermId → Option Row) → TermId → Option Row → TermId → Option Row
+row_with rows t row u = if same_term u t then row else rows u
+
+-- the row of a termination in the null context on which nothing is set
+abbrev pub null_row : Row
+null_row = record { place = record { 0 = null }; mode = Inactive; remote = None }
 
 -- whether a termination exists
 abbrev pub exists : Board → TermId → Bool

@@ -20,7 +20,7 @@ use Rattle.mg_model.specs.declared.items.RemoteSetting.{RemoteSetting}
 use Rattle.mg_model.specs.declared.items.RemoteSetting.TheVariants.{Nothing, Ephemeral}
 use Rattle.mg_model.specs.declared.items.Settings.{Settings}
 use Rattle.mg_model.specs.declared.rows.Row.{Row}
-use Rattle.mg_model.specs.Board.{Board, same_term, exists, place_of, mode_of, remote_of, ContextExists}
+use Rattle.mg_model.specs.Board.{Board, row_with, null_row, same_term, exists, place_of, mode_of, remote_of, ContextExists}
 use Rattle.mg_model.specs.Numbers.{null, choose, last_ephemeral}
 
 -- ---- when a code applies
@@ -151,7 +151,7 @@ row_at c settings mode remote =
     record { place = record { 0 = c }; mode = unwrap_or settings.mode mode; remote = remote_set settings.remote remote }
 
 abbrev pub with_row : Board → TermId → Option Row → Board
-with_row b t row = record b { row = λ u. if same_term u t then row else b.row u }
+with_row b t row = record b { row = row_with b.row t row }
 
 -- a termination stands in a context, with what is set on it
 abbrev pub placed : Board → TermId → ℕ → Settings → Board
@@ -163,7 +163,7 @@ without_cuts leaves cut t u = if leaves t || leaves u then false else cut t u
 
 -- the row after a Subtract: a line stands in the null context, Inactive (this profile's own); an ephemeral is no more
 abbrev pub subtracted : TermId → Option Row
-subtracted (Line l) = Some (record { place = record { 0 = null }; mode = Inactive; remote = None })
+subtracted (Line l) = Some null_row
 subtracted (Eph k) = None
 
 abbrev pub without : Board → (TermId → Bool) → Board

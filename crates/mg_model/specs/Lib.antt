@@ -1,5 +1,7 @@
 pub mod Numbers
 pub mod Updates
+pub mod Members
+pub mod Memory
 pub mod Script
 pub mod Configuration
 pub mod Tables

@@ -3,12 +3,11 @@
 -- event is missing, that each says of everything else that it stays, and what a good world is: that is the promise.
 use Rattle.std.specs.Prelude.{◌≡◌, ℕ, ◌<◌, ◌≤◌, ◌==◌, false, IsTrue, if◌then◌else◌, List, [], ◌∷◌, ◌++◌, length, Contains, Option, Some, None, ◌⊎◌}
 use Rattle.mg_names.specs.declared.identifiers.TermId.TheVariants.{Line, Eph}
-use Rattle.mg_names.specs.declared.modes.Mode.TheVariants.{Inactive}
 use Rattle.mg_names.specs.declared.strictness.Strict.TheVariants.{Exact}
 use Rattle.mg_model.specs.declared.line_events.LineEvent.{LineEvent}
 use Rattle.mg_model.specs.declared.rows.Row.{Row}
 use Rattle.mg_model.specs.Agent.{Agent, Phase, awaits_reply, awaits_pass, resting, replied, passed, noted, timed, heard, opened}
-use Rattle.mg_model.specs.Board.{exists}
+use Rattle.mg_model.specs.Board.{exists, null_row}
 use Rattle.mg_model.specs.Gateway.{Gateway, IsExecutedBy, IsKept, IsDiscarded, Happens, restarted}
 use Rattle.mg_model.specs.declared.transitions.EventItem.TheVariants.{OffHook}
 use Rattle.mg_model.specs.LineEvents.{LineRow, new_line, silent}
@@ -128,9 +127,6 @@ pub record AreDistinct (script : Script) (calls : List Opened) : Type 0 where
 -- a line is armed by `al/of` with `strict=exact` alone, with RequestID 0, on hook and silent
 abbrev pub armed_line : LineRow
 armed_line = record new_line { list = OffHook Exact ∷ []; request = Some opening_request }
-
-abbrev pub null_row : Row
-null_row = record { place = record { 0 = null }; mode = Inactive; remote = None }
 
 -- association 1; finitely many calls, each at rest in the start state, each of its lines in the null context, Inactive,
 -- silent, armed and on hook; nothing was sent

@@ -19,7 +19,8 @@ use Rattle.mg_model.specs.Media.{receives, sends, share_context, crosses, goes_o
 use Rattle.mg_model.specs.Messages.{Request, Reply, SentNote}
 use Rattle.mg_model.specs.RequestRun.{Refusal}
 use Rattle.mg_model.specs.Script.{Script}
-use Rattle.mg_model.specs.World.{World, Event, on_a_line, execute, reply, pass, note, timer, hear, restart, Occurs, Opened, IsOpening, IsGood, null_row}
+use Rattle.mg_model.specs.World.{World, Event, on_a_line, execute, reply, pass, note, timer, hear, restart, Occurs, Opened, IsOpening, IsGood}
+use Rattle.mg_model.specs.Board.{null_row}
 
 -- nothing but the replies that were sent
 pub record IsSameButReplies (w after : World) : Type 0 where

@@ -17,7 +17,8 @@ use Rattle.mg_model.specs.Messages.{Descriptors, RequestCommand, add_line, add_e
 use Rattle.mg_model.specs.RequestRun.{Running, item_at, described, described_row, rearms, raised, line_after, after_command}
 use Rattle.contexts.proofs.ExecLemmas.{both_known, is_true_from, not_null}
 use Rattle.contexts.proofs.TermLemmas.{same_is, split_and}
-use Rattle.requests.specs.Commands.{is_among, IsThere, raised_on, row_in, finished}
+use Rattle.requests.specs.Commands.{IsThere, raised_on, row_in, finished}
+use Rattle.mg_model.specs.Members.{is_among}
 use Rattle.requests.specs.Connected.{has_line}
 
 -- ---- lines that a command finds

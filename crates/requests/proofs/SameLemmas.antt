@@ -9,7 +9,8 @@ use Rattle.mg_model.specs.declared.items.Item.{Item}
 use Rattle.mg_model.specs.declared.items.Item.TheVariants.{Add, Modify, Move, Subtract, SubtractAll, SetTopology}
 use Rattle.mg_model.specs.declared.items.RemoteSetting.TheVariants.{Ephemeral}
 use Rattle.mg_model.specs.Board.{Board}
-use Rattle.mg_model.specs.Items.{Chosen, Done, IsExecuted, Applies, effect, only_if, given, creates_context, creates_ephemeral, choose, placed, with_ephemeral}
+use Rattle.mg_model.specs.Numbers.{choose}
+use Rattle.mg_model.specs.Items.{Chosen, Done, IsExecuted, Applies, effect, only_if, given, creates_context, creates_ephemeral, placed, with_ephemeral}
 use Rattle.mg_model.specs.LineEvents.{LineRow}
 use Rattle.mg_model.specs.Messages.{ContextRef, context, context_made_at, EphemeralRef, ephemeral, ephemeral_made_at, TerminationRef, on_line, on_ephemeral, RemoteRef, no_remote, remote_to, Descriptors, RequestCommand, add_line, add_ephemeral, modify, move, subtract, subtract_all, set_topology, Failure}
 use Rattle.mg_model.specs.RequestRun.{Running, Refusal, RunsFrom, Executes, Fails, context_at, ephemeral_at, termination_at, remote_at, settings_at, item_at, line_after}

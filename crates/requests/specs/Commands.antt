@@ -8,15 +8,13 @@ use Rattle.mg_names.specs.declared.identifiers.LineNo.{LineNo}
 use Rattle.mg_model.specs.Board.{Board}
 use Rattle.mg_model.specs.Items.{Done}
 use Rattle.mg_model.specs.LineEvents.{LineRow, Note, new_line, cleared}
+use Rattle.mg_model.specs.Members.{is_among}
 use Rattle.mg_model.specs.Messages.{Descriptors, RequestCommand}
 use Rattle.mg_model.specs.RequestRun.{Running, Refusal, Executes, Fails, described_row, note_from, with_descriptors, rearms}
 use Rattle.requests.specs.declared.outcome.LineNote.{LineNote}
 use Rattle.requests.specs.declared.progress.Progress.{Progress}
 use Rattle.requests.specs.Connected.{has_line, end_in}
 use Rattle.requests.specs.Views.{line_note, line_notes}
-
-abbrev pub is_among : List ℕ → ℕ → Bool
-is_among numbers n = list_any (λ m. n == m) numbers
 
 -- rows with lines added; one that is there stays
 abbrev pub filled : List LineNo → (ℕ → Option LineRow) → ℕ → Option LineRow

@@ -4,7 +4,8 @@ ghost use Rattle.mg_model.specs.Items.{IsExecuted, IsLegal, IsRefused};
 ghost use Rattle.mg_model.specs.LineEvents.{new_line};
 ghost use Rattle.contexts.specs.Faults.{IsFault};
 ghost use Rattle.contexts.specs.Sheet.{opened, started};
-ghost use Rattle.line_events.specs.Rows.{row_of, row_with};
+ghost use Rattle.line_events.specs.Rows.{row_of};
+ghost use Rattle.mg_model.specs.Updates.{with_at};
 ghost use Rattle.requests.specs.Commands.{filled, IsThere, row_in, noted, raised_on};
 ghost use Rattle.requests.specs.Connected.{board_in, line_in, has_line, is_idle};
 ghost use Rattle.requests.specs.Views.{line_described};
@@ -43,7 +44,7 @@ impl Model for Connections {
 
 /// Adds a line, unless it is there.
 fn add_line(rows: &mut LineSet, line: LineNo) -> Result<(), AllocError>
-    ensures { OnOk result (row_of rows.new ≡ row_with (row_of rows.old) line.0 (Some (unwrap_or (row_of rows.old line.0) new_line))) }
+    ensures { OnOk result (row_of rows.new ≡ with_at (row_of rows.old) line.0 (Some (unwrap_or (row_of rows.old line.0) new_line))) }
 {
     match rows.add_line(line) {
         Err(LineFault::NoMemory) => Err(AllocError),

@@ -1,7 +1,8 @@
 //! The descriptors that a command gives to a line.
 ghost use Rattle.std.specs.Prelude.{◌≡◌, ℕ, Some, IfOk, OnOk, OnErr, is_some, option_map, option_and_then};
 ghost use Rattle.mg_model.specs.RequestRun.{with_signals, with_events, with_descriptors, described_row, of_termination, described};
-ghost use Rattle.line_events.specs.Rows.{row_of, row_with};
+ghost use Rattle.line_events.specs.Rows.{row_of};
+ghost use Rattle.mg_model.specs.Updates.{with_at};
 ghost use Rattle.requests.specs.Commands.{rows_cleared, noted, raised_in};
 ghost use Rattle.requests.specs.Views.{descriptors_of, line_described, termination_ref, command_of};
 
@@ -15,7 +16,7 @@ use std::alloc::AllocError;
 
 /// A new Signals descriptor, where a command has one.
 fn set_signals(lines: &mut LineSet, line: LineNo, signals: Option<SignalSet>)
-    ensures { row_of lines.new ≡ row_with (row_of lines.old) line.0 (option_map (λ row. with_signals row signals) (row_of lines.old line.0)) }
+    ensures { row_of lines.new ≡ with_at (row_of lines.old) line.0 (option_map (λ row. with_signals row signals) (row_of lines.old line.0)) }
 {
     if let Some(set) = signals {
         let _ = lines.signal(line, set);
@@ -29,7 +30,7 @@ fn set_events(
     events: &Option<EventList>,
     number: u32,
 ) -> Result<Option<Note>, AllocError>
-    ensures rows { OnOk result (row_of lines.new ≡ row_with (row_of lines.old) line.0 (option_map (λ row. (with_events row events.now number).row) (row_of lines.old line.0))) }
+    ensures rows { OnOk result (row_of lines.new ≡ with_at (row_of lines.old) line.0 (option_map (λ row. (with_events row events.now number).row) (row_of lines.old line.0))) }
     ensures note { IfOk result (λ note. note ≡ option_and_then (λ row. (with_events row events.now number).note) (row_of lines.old line.0)) }
     ensures unchanged { OnErr result (row_of lines.new ≡ row_of lines.old) }
 {
@@ -50,7 +51,7 @@ fn set_on(
     descriptors: &Descriptors,
     number: u32,
 ) -> Result<Option<Note>, AllocError>
-    ensures rows { OnOk result (row_of lines.new ≡ row_with (row_of lines.old) line.0 (option_map (λ row. (with_descriptors row (descriptors_of descriptors.now) number).row) (row_of lines.old line.0))) }
+    ensures rows { OnOk result (row_of lines.new ≡ with_at (row_of lines.old) line.0 (option_map (λ row. (with_descriptors row (descriptors_of descriptors.now) number).row) (row_of lines.old line.0))) }
     ensures note { IfOk result (λ note. note ≡ option_and_then (λ row. (with_descriptors row (descriptors_of descriptors.now) number).note) (row_of lines.old line.0)) }
     ensures there { (n : ℕ) → is_some (row_of lines.new n) ≡ is_some (row_of lines.old n) }
 {

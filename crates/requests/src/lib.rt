@@ -28,5 +28,3 @@ pub use refusal::Refusal;
 pub use reply::Reply;
 pub use request::Request;
 
-#[cfg(test)]
-mod tests;

@@ -1,7 +1,8 @@
 //! A request while it runs.
 ghost use Rattle.std.specs.Prelude.{◌≡◌, [], ◌∷◌, ◌++◌, map, IfOk, OnOk};
 ghost use Rattle.mg_model.specs.RequestRun.{RunsFrom, is_chosen, rearms, described};
-ghost use Rattle.requests.specs.Commands.{is_among, running, IsThere, notes_left, noted, finished, IsStep};
+ghost use Rattle.requests.specs.Commands.{running, IsThere, notes_left, noted, finished, IsStep};
+ghost use Rattle.mg_model.specs.Members.{is_among};
 ghost use Rattle.requests.specs.Connected.{board_in, start_in};
 ghost use Rattle.requests.specs.Views.{chosen_of, command_of, line_described, line_notes};
 

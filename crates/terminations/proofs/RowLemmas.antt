@@ -1,4 +1,4 @@
--- Rows by number: each of them made idle.
+-- Rows by number: each of them made null_row.
 use Rattle.std.proofs.Common.{◌≡◌, ℕ, Bool, true, false, cond, List, [], ◌∷◌, map, Option, Some, refl}
 use Rattle.mg_model.specs.declared.rows.Row.{Row}
 use Rattle.std.specs.Map.{lookup}
@@ -6,15 +6,16 @@ use Rattle.mg_names.specs.declared.identifiers.TermId.{TermId}
 use Rattle.mg_names.specs.declared.identifiers.TermId.TheVariants.{Eph}
 use Rattle.std.proofs.Common.{◌+◌, IsTrue, arith}
 use Rattle.std.proofs.lemmas.Grind.{common_steps}
-use Rattle.terminations.specs.Table.{overwritten, idle, with_remote, is_given}
+use Rattle.terminations.specs.Table.{overwritten, with_remote, is_given}
+use Rattle.mg_model.specs.Board.{null_row}
 
--- what a look-up finds in rows that were all made idle
-pub lookup-idle : (test : ℕ → Bool) (rows : List (ℕ × Row)) → lookup test (map (λ (e : ℕ × Row). (e.0, idle)) rows) ≡ overwritten idle (lookup test rows)
+-- what a look-up finds in rows that were all made null_row
+pub lookup-idle : (test : ℕ → Bool) (rows : List (ℕ × Row)) → lookup test (map (λ (e : ℕ × Row). (e.0, null_row)) rows) ≡ overwritten null_row (lookup test rows)
 lookup-idle test [] = refl
 lookup-idle test (e ∷ rows) = by_test (test e.0) (lookup-idle test rows)
   where
-    by_test : (b : Bool) → lookup test (map (λ (e : ℕ × Row). (e.0, idle)) rows) ≡ overwritten idle (lookup test rows) →
-        cond b (Some idle) (lookup test (map (λ (e : ℕ × Row). (e.0, idle)) rows)) ≡ overwritten idle (cond b (Some e.1) (lookup test rows))
+    by_test : (b : Bool) → lookup test (map (λ (e : ℕ × Row). (e.0, null_row)) rows) ≡ overwritten null_row (lookup test rows) →
+        cond b (Some null_row) (lookup test (map (λ (e : ℕ × Row). (e.0, null_row)) rows)) ≡ overwritten null_row (cond b (Some e.1) (lookup test rows))
     by_test true more = refl
     by_test false more = more
 

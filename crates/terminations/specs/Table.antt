@@ -11,9 +11,9 @@ use Rattle.mg_names.specs.declared.identifiers.ContextId.{ContextId}
 use Rattle.mg_names.specs.declared.identifiers.TermId.{TermId}
 use Rattle.mg_names.specs.declared.identifiers.TermId.TheVariants.{Line, Eph}
 use Rattle.mg_names.specs.declared.modes.Mode.{Mode}
-use Rattle.mg_names.specs.declared.modes.Mode.TheVariants.{Inactive}
 use Rattle.mg_model.specs.declared.rows.Row.{Row}
-use Rattle.mg_model.specs.Board.{same_term}
+use Rattle.mg_model.specs.Numbers.{last_ephemeral}
+use Rattle.mg_model.specs.Board.{row_with, null_row}
 use Rattle.mg_model.specs.Items.{given, is_ephemeral_number}
 
 pub record Table : Type 0 where
@@ -40,15 +40,7 @@ given_of table n = is_given table.last n
 
 -- the number of the ephemeral that is created next
 abbrev pub next_of : Table → Option ℕ
-next_of table = if nat_lt table.last 4294967295 then Some (table.last + 1) else None
-
--- the rows with one of them changed
-abbrev pub row_with : (TermId → Option Row) → TermId → Option Row → TermId → Option Row
-row_with rows t row u = if same_term u t then row else rows u
-
--- the row of a termination in the null context on which nothing is set
-abbrev pub idle : Row
-idle = record { place = record { 0 = 0 }; mode = Inactive; remote = None }
+next_of table = if nat_lt table.last last_ephemeral then Some (table.last + 1) else None
 
 -- ---- how a row changes; a row that isn't there stays so
 
@@ -86,7 +78,7 @@ with_remote (Eph k) remote (Some row) = Some (record row { remote = remote })
 -- a line goes to the null context, Inactive; an ephemeral is no more
 abbrev pub cleared : TermId → Option Row → Option Row
 cleared (Line l) None = None
-cleared (Line l) (Some row) = Some idle
+cleared (Line l) (Some row) = Some null_row
 cleared (Eph k) row = None
 
 -- ---- the answers
@@ -128,5 +120,5 @@ pub record IsCreated (old new : Table) (t : TermId) : Type 0 where
   pub fits : is_ephemeral_number number
   pub fresh : given_of old number ≡ false
   pub absent : row_of old t ≡ None
-  pub rows : row_of new ≡ row_with (row_of old) t (Some idle)
+  pub rows : row_of new ≡ row_with (row_of old) t (Some null_row)
   pub numbers : given_of new ≡ given true number (given_of old)

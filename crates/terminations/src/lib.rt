@@ -9,5 +9,3 @@ mod terms;
 pub use faults::{AddLineFault, CreateFault};
 pub use terms::Terms;
 
-#[cfg(test)]
-mod tests;

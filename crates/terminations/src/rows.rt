@@ -1,7 +1,8 @@
 //! Rows by number.
 ghost use Rattle.std.specs.Prelude.{◌≡◌, ℕ, ◌==◌, Some, None, OnOk, OnErr, IfOk, if◌then◌else◌};
 ghost use Rattle.std.specs.BTreeMap.{IsUnchanged};
-ghost use Rattle.terminations.specs.Table.{row_at, overwritten, idle};
+ghost use Rattle.terminations.specs.Table.{row_at, overwritten};
+ghost use Rattle.mg_model.specs.Board.{null_row};
 
 use mg_model::rows::Row;
 use mg_names::identifiers::ContextId;
@@ -34,9 +35,9 @@ pub(crate) fn overwrite(rows: &mut Rows, number: u32, row: Row)
     }
 }
 
-/// Writes an idle row at a number.
+/// Writes an null_row row at a number.
 pub(crate) fn insert_idle(rows: &mut Rows, number: u32) -> Result<(), AllocError>
-    ensures ok { OnOk result ((n : ℕ) → row_at rows.new.entries n ≡ (if n == number then Some idle else row_at rows.old.entries n)) }
+    ensures ok { OnOk result ((n : ℕ) → row_at rows.new.entries n ≡ (if n == number then Some null_row else row_at rows.old.entries n)) }
     ensures err { OnErr result (rows.new.entries ≡ rows.old.entries) }
 {
     rows.insert(number, IDLE)?;
@@ -50,9 +51,9 @@ pub(crate) fn remove(rows: &mut Rows, number: u32)
     rows.remove(&number);
 }
 
-/// Makes every row idle.
+/// Makes every row null_row.
 pub(crate) fn make_idle(rows: &mut Rows)
-    ensures { (n : ℕ) → row_at rows.new.entries n ≡ overwritten idle (row_at rows.old.entries n) }
+    ensures { (n : ℕ) → row_at rows.new.entries n ≡ overwritten null_row (row_at rows.old.entries n) }
 {
     rows.retain(|_, row| {
         *row = IDLE;

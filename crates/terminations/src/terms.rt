@@ -35,7 +35,8 @@ impl Model for Terms {
 
 #[tactic(auto, unfolding(crate::specs::Table::row_of, crate::specs::Table::given_of))]
 impl Terms {
-    ghost use Rattle.terminations.specs.Table.{row_of, given_of, row_with, idle, put, left, destroyed, with_mode, with_remote, cleared, known, unless_taken, known_ephemeral, overwritten, IsBare, IsCreated, next_of};
+    ghost use Rattle.terminations.specs.Table.{row_of, given_of, put, left, destroyed, with_mode, with_remote, cleared, known, unless_taken, known_ephemeral, overwritten, IsBare, IsCreated, next_of};
+    ghost use Rattle.mg_model.specs.Board.{row_with, null_row};
 
     /// No termination, and no number given.
     pub fn new(alloc: Global) -> Terms
@@ -65,7 +66,7 @@ impl Terms {
     pub fn add_line(&mut self, line: LineNo) -> Result<(), AddLineFault>
         ensures known { result ≡ Err AddLineFault.Known → IsTrue (is_some (row_of self.old (Line line))) }
         ensures new { OnOk result (row_of self.old (Line line) ≡ None) }
-        ensures rows { OnOk result (row_of self.new ≡ row_with (row_of self.old) (Line line) (Some idle)) }
+        ensures rows { OnOk result (row_of self.new ≡ row_with (row_of self.old) (Line line) (Some null_row)) }
         ensures given { OnOk result (given_of self.new ≡ given_of self.old) }
         ensures unchanged { OnErr result (self.new ≡ self.old) }
     {

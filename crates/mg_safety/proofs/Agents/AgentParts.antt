@@ -16,7 +16,7 @@ use Rattle.mg_model.specs.Steps as steps
 use Rattle.mg_model.specs.Steps.{Step, entering, reply_step, steps_by_link, steps_of}
 use Rattle.mg_model.specs.Tables.{state_of}
 use Rattle.mg_model.specs.LineEvents.{silent}
-use Rattle.mg_model.specs.World.{null_row}
+use Rattle.mg_model.specs.Board.{null_row}
 use Rattle.mg_safety.proofs.Shared.Single.{only_here}
 use Rattle.mg_safety.proofs.Shared.Cases.{none_is_some, the_some}
 use Rattle.mg_safety.proofs.Invariant.Sound.{Stands, IsCurrent, IsLost, IsSentBy}

@@ -20,7 +20,8 @@ use Rattle.mg_model.specs.LineEvents.{LineRow}
 use Rattle.mg_model.specs.Messages.{Reply}
 use Rattle.mg_model.specs.Script.{Script}
 use Rattle.mg_model.specs.Steps.{opening}
-use Rattle.mg_model.specs.World.{World, Opened, IsOpening, armed_line, null_row}
+use Rattle.mg_model.specs.World.{World, Opened, IsOpening, armed_line}
+use Rattle.mg_model.specs.Board.{null_row}
 use Rattle.mg_model.specs.Accepted.{IsSlot}
 use Rattle.mg_safety.proofs.Agents.Entering.{not_resting}
 use Rattle.mg_safety.proofs.Shared.Cases.{none_is_some, where_true}

@@ -10,7 +10,8 @@ use Rattle.mg_model.specs.Entries.{Entry}
 use Rattle.mg_model.specs.Gateway.{restarted, row_restarted, board_restarted}
 use Rattle.mg_model.specs.Messages.{Request, Reply, SentNote}
 use Rattle.mg_model.specs.Script.{Script}
-use Rattle.mg_model.specs.World.{World, restart, with_gateway, null_row}
+use Rattle.mg_model.specs.World.{World, restart, with_gateway}
+use Rattle.mg_model.specs.Board.{null_row}
 use Rattle.mg_safety.proofs.Shared.Cases.{none_is_some}
 use Rattle.mg_safety.proofs.Agents.EffectiveAgent.{same_lines}
 use Rattle.mg_safety.proofs.Invariant.Shown.{IsAccounted}

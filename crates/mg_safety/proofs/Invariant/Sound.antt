@@ -14,7 +14,8 @@ use Rattle.mg_model.specs.Gateway.{Gateway, last_executed}
 use Rattle.mg_model.specs.LineEvents.{silent}
 use Rattle.mg_model.specs.Messages.{Request, Reply, SentNote, Failure}
 use Rattle.mg_model.specs.Script.{Script}
-use Rattle.mg_model.specs.World.{World, null_row}
+use Rattle.mg_model.specs.World.{World}
+use Rattle.mg_model.specs.Board.{null_row}
 use Rattle.mg_model.specs.Accepted.{IsSlot}
 use Rattle.mg_safety.proofs.Invariant.Shown.{naming, Shown, LinesShown, IsAccounted, Owner, owned_at, list_raises}
 use Rattle.mg_model.specs.declared.commands.Termination.{Termination}

@@ -11,7 +11,8 @@ use Rattle.mg_model.specs.Media.{receives, sends}
 use Rattle.mg_model.specs.LineEvents.{LineRow}
 use Rattle.mg_model.specs.Media.{hops, crosses, goes_over, AreJoined}
 use Rattle.mg_model.specs.Script.{Script}
-use Rattle.mg_model.specs.World.{World, Opened, IsOpening, IsCleared, null_row}
+use Rattle.mg_model.specs.World.{World, Opened, IsOpening, IsCleared}
+use Rattle.mg_model.specs.Board.{null_row}
 use Rattle.mg_safety.specs.Laws.{OpeningsAreGood, CallsStayApart}
 use Rattle.mg_safety.proofs.Shared.Cases.{three_parts}
 

@@ -1,7 +1,7 @@
 use Rattle.std.proofs.Common.{◌≡◌, ◌∙◌, Bool, not, ◌||◌, List, [], ◌∷◌, map, filter, cond, true, false, refl, ap, rules}
 use Rattle.std.proofs.lemmas.Fn.{filter_same}
 use Rattle.mg_model.specs.RequestRun.{rearms}
-use Rattle.requests.specs.Commands.{is_among}
+use Rattle.mg_model.specs.Members.{is_among}
 use Rattle.requests.specs.Views.{line_described, line_note, line_notes}
 use Rattle.requests.proofs.progress.keep_standing.Goals as goal
 

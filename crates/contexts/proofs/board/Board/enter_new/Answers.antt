@@ -2,7 +2,8 @@ use Rattle.std.proofs.Common.{◌≡◌, ◌∙◌, Some, sym, ap, refl, None}
 use Rattle.mg_names.specs.declared.identifiers.TermId.TheVariants.{Eph}
 use Rattle.mg_model.specs.Board.{same_term, place_in}
 use Rattle.mg_model.specs.Items.{without_cuts}
-use Rattle.terminations.specs.Table.{row_of, row_with, idle, next_of}
+use Rattle.terminations.specs.Table.{row_of, next_of}
+use Rattle.mg_model.specs.Board.{row_with, null_row}
 use Rattle.contexts.specs.Groups.{group_at}
 use Rattle.contexts.specs.Rows.{row_in}
 use Rattle.contexts.specs.Sheet.{board_of}
@@ -25,11 +26,11 @@ created c = created_at c.self.inside.terms c.create.new.self c.in-Ok-create.fiel
     (some_same c.in-Ok-create.field-0 c.in-Some.number (next_of c.self.inside.terms) (sym c.next.ensures.next ∙ c.in-Some.is) (rw c.in-Ok-create.is at c.create.ensures.next))
     (rw c.in-Ok-create.is at c.create.ensures.fresh)
 
-rows_after : (c : goal.After-place) → row_of c.place.new.terms ≡ row_with (row_of c.self.inside.terms) (Eph c.in-Some.number) (row_in c.args.context.0 c.args.settings.now (Some idle))
+rows_after : (c : goal.After-place) → row_of c.place.new.terms ≡ row_with (row_of c.self.inside.terms) (Eph c.in-Some.number) (row_in c.args.context.0 c.args.settings.now (Some null_row))
 rows_after c = changed_new (row_of c.self.inside.terms) (row_of c.create.new.self) (row_of c.place.new.terms) (Eph c.in-Some.number) c.args.context.0 c.args.settings.now (created c).rows c.place.ensures.rows
 
 enters : (c : goal.After-place) → Enters (row_of c.self.inside.terms) (row_of c.place.new.terms) (group_at c.self.inside.members.entries) (group_at c.enter.new.members.entries)
-    (Eph c.in-Some.number) (row_in c.args.context.0 c.args.settings.now (Some idle)) c.args.context.0
+    (Eph c.in-Some.number) (row_in c.args.context.0 c.args.settings.now (Some null_row)) c.args.context.0
 enters c = record {
   was = rw (created c).absent refl;
   not_null = c.requires.to_context;

@@ -3,7 +3,8 @@ use Rattle.mg_names.specs.declared.identifiers.TermId.{TermId}
 use Rattle.mg_model.specs.declared.rows.Row.{Row}
 use Rattle.mg_model.specs.Items.{without_cuts}
 use Rattle.mg_model.specs.Board.{same_term}
-use Rattle.terminations.specs.Table.{row_of, row_with, left}
+use Rattle.terminations.specs.Table.{row_of, left}
+use Rattle.mg_model.specs.Board.{row_with}
 use Rattle.contexts.specs.Groups.{group_at}
 use Rattle.contexts.specs.Rows.{row_in}
 use Rattle.contexts.specs.Sheet.{board_of}

@@ -1,7 +1,7 @@
 use Rattle.std.proofs.Common.{Bool, ◌∙◌, sym, ap, refl}
 use Rattle.mg_names.specs.declared.identifiers.TermId.{TermId}
-use Rattle.mg_model.specs.Effects.{cuts_forward, cuts_backward}
-use Rattle.mg_model.specs.Items.{with_cut}
+use Rattle.std.specs.Prelude.{not}
+use Rattle.mg_model.specs.Items.{with_cut, first_receives, second_receives}
 use Rattle.terminations.specs.Table.{row_of}
 use Rattle.contexts.specs.Groups.{group_at}
 use Rattle.contexts.specs.Sheet.{board_of}
@@ -18,7 +18,7 @@ returns-in_default-clause-err c = rw (← c.self.view_is) (same_boards _ _ refl
 pub invariant_of-self-2 : goal.invariant_of-self-2
 unfolding board_of
 invariant_of-self-2 c =
-    let sets : Sets (row_of c.self.inside.terms) (group_at c.self.inside.cuts.entries) (group_at c.set.new.cuts.entries) c.args.t c.args.u (cuts_forward c.args.topology) (cuts_backward c.args.topology) c.args.context = record {
+    let sets : Sets (row_of c.self.inside.terms) (group_at c.self.inside.cuts.entries) (group_at c.set.new.cuts.entries) c.args.t c.args.u (not (second_receives c.args.topology)) (not (first_receives c.args.topology)) c.args.context = record {
       not_null = c.requires.not_null;
       first = rw (← c.self.view_is) at c.requires.first;
       second = rw (← c.self.view_is) at c.requires.second;
@@ -30,7 +30,7 @@ invariant_of-self-2 c =
 pub returns-clause-ok : goal.returns-clause-ok
 unfolding board_of
 returns-clause-ok c =
-    let sets : Sets (row_of c.self.inside.terms) (group_at c.self.inside.cuts.entries) (group_at c.set.new.cuts.entries) c.args.t c.args.u (cuts_forward c.args.topology) (cuts_backward c.args.topology) c.args.context = record {
+    let sets : Sets (row_of c.self.inside.terms) (group_at c.self.inside.cuts.entries) (group_at c.set.new.cuts.entries) c.args.t c.args.u (not (second_receives c.args.topology)) (not (first_receives c.args.topology)) c.args.context = record {
       not_null = c.requires.not_null;
       first = rw (← c.self.view_is) at c.requires.first;
       second = rw (← c.self.view_is) at c.requires.second;
@@ -39,5 +39,5 @@ returns-clause-ok c =
     } in
     rw (← c.self.view_is) (same_boards _ _ refl
     (cut_of_same (row_of c.self.inside.terms) _ _ (cuts_viewed c.set.new.cuts.entries) ∙ cut_set _ _ _ _ _ _ _ _ sets
-    ∙ ap (λ (cut : TermId → TermId → Bool). with_cut (with_cut cut c.args.t c.args.u (cuts_forward c.args.topology)) c.args.u c.args.t (cuts_backward c.args.topology)) (sym (cut_of_same (row_of c.self.inside.terms) _ _ (cuts_viewed c.self.inside.cuts.entries))))
+    ∙ ap (λ (cut : TermId → TermId → Bool). with_cut (with_cut cut c.args.t c.args.u (not (second_receives c.args.topology))) c.args.u c.args.t (not (first_receives c.args.topology))) (sym (cut_of_same (row_of c.self.inside.terms) _ _ (cuts_viewed c.self.inside.cuts.entries))))
     refl refl)

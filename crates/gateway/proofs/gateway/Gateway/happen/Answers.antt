@@ -1,5 +1,6 @@
 use Rattle.std.proofs.Common.{◌≡◌, ◌∙◌, ◌+◌, ◌≤◌, true, Some, None, Ok, refl, sym, ap, subst, arith, true≢false}
-use Rattle.mg_model.specs.Gateway.{last_number, outcome_of}
+use Rattle.mg_model.specs.Numbers.{last_number}
+use Rattle.mg_model.specs.Gateway.{outcome_of}
 use Rattle.line_events.specs.Raising.{is_raised}
 use Rattle.requests.specs.Connected.{line_in}
 use Rattle.requests.specs.Views.{event_of}

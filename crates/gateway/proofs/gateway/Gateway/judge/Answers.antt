@@ -2,7 +2,7 @@ use Rattle.std.proofs.Common.{◌≡◌, ◌∙◌, ℕ, ◌<◌, ◌+◌, Some,
 use Rattle.std.proofs.lemmas.Bool.Decides.{nat_tests}
 use Rattle.std.proofs.lemmas.List.{length-map}
 use Rattle.mg_model.specs.Delivery.{offer}
-use Rattle.mg_model.specs.Gateway.{last_number}
+use Rattle.mg_model.specs.Numbers.{last_number}
 use Rattle.mg_model.specs.Messages.{Request, Reply}
 use Rattle.mg_model.specs.Gateway.{IsKept}
 use Rattle.std.proofs.Common.{subst}

@@ -1,6 +1,6 @@
 use Rattle.std.proofs.Common.{◌≡◌, ◌+◌, ◌≤◌, length, refl, subst, arith}
 use Rattle.std.proofs.lemmas.List.{length-map}
-use Rattle.mg_model.specs.Gateway.{last_number}
+use Rattle.mg_model.specs.Numbers.{last_number}
 use Rattle.mg_model.specs.Messages.{Request}
 use Rattle.requests.specs.Views.{chosen_of, line_notes}
 use Rattle.gateway.specs.Standby.{IsEnd}

@@ -1,5 +1,6 @@
 use Rattle.std.proofs.Common.{◌≡◌, Some, rules, sym, ◌∙◌, ap}
-use Rattle.terminations.specs.Table.{row_of, row_with, left, overwritten}
+use Rattle.terminations.specs.Table.{row_of, left, overwritten}
+use Rattle.mg_model.specs.Board.{row_with}
 use Rattle.terminations.proofs.terms.Terms.leave.Goals as goal
 
 pub returns-clause-rows : goal.returns-clause-rows

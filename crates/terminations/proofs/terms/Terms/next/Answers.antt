@@ -1,4 +1,4 @@
-use Rattle.std.proofs.Common.{◌≡◌, ◌+◌, arith, rules, IsTrue}
+use Rattle.std.proofs.Common.{◌+◌, arith, IsTrue}
 use Rattle.std.proofs.lemmas.Grind.{common_steps}
 use Rattle.terminations.specs.Table.{given_of, is_given}
 use Rattle.terminations.proofs.RowLemmas.{next_not_given}

@@ -1,6 +1,7 @@
 use Rattle.std.proofs.Common.{◌≡◌, Some, sym, ◌∙◌, ap, arith}
 use Rattle.std.proofs.lemmas.Grind.{common_steps}
-use Rattle.terminations.specs.Table.{row_of, row_with, put, overwritten}
+use Rattle.terminations.specs.Table.{row_of, put, overwritten}
+use Rattle.mg_model.specs.Board.{row_with}
 use Rattle.terminations.proofs.terms.Terms.put.Goals as goal
 
 pub returns-clause-rows : goal.returns-clause-rows

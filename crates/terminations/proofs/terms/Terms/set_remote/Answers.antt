@@ -1,5 +1,6 @@
 use Rattle.std.proofs.Common.{◌≡◌, Some, sym, ◌∙◌, ap}
-use Rattle.terminations.specs.Table.{row_of, row_with}
+use Rattle.terminations.specs.Table.{row_of}
+use Rattle.mg_model.specs.Board.{row_with}
 use Rattle.terminations.proofs.RowLemmas.{remote_overwritten}
 use Rattle.terminations.proofs.terms.Terms.set_remote.Goals as goal
 

@@ -1,4 +1,4 @@
-use crate::{AddLineFault, Terms};
+use terminations::{AddLineFault, Terms};
 use mg_names::codes::Code;
 use mg_names::identifiers::{ContextId, LineNo, TermId};
 use mg_names::modes::Mode;

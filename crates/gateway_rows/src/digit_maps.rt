@@ -1,6 +1,6 @@
 ghost use Rattle.digits.specs.Progress.{Follows};
 
-use crate::{Collector, DigitMap, MapFault, Step};
+use digits::{Collector, DigitMap, MapFault, Step};
 use mg_model::line_events::Method;
 use mg_names::symbols::Symbol;
 use std::test::Fail;

@@ -1,4 +1,4 @@
-use crate::{Answer, CannotHappen, Gateway, OpenFault};
+use gateway::{Answer, CannotHappen, Gateway, OpenFault};
 use line_events::{EventItem, EventList};
 use mg_model::line_events::Hook;
 use mg_names::codes::Code;

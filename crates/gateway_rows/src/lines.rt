@@ -1,6 +1,7 @@
-use crate::{EventItem, EventList, LineFault, LineSet, Note};
+use line_events::{EventList, LineFault, LineSet, Note};
 use digits::DigitMap;
 use mg_model::line_events::{Hook, Method, SignalSet};
+use mg_model::transitions::EventItem;
 use mg_names::identifiers::LineNo;
 use mg_names::kinds::Kind;
 use mg_names::signals::Signal;
@@ -103,7 +104,7 @@ fn first_list(alloc: Global) -> Result<EventList, Fail> {
     let map = DigitMap::parse(alloc, "12|123")?;
     let items = vec![in alloc;
         EventItem::OffHook(Strict::Exact),
-        EventItem::DialledBy(map),
+        EventItem::Digits(map),
     ]?;
     Ok(EventList::new(items))
 }

@@ -1,4 +1,4 @@
-use crate::{Board, Done, ExecFault};
+use contexts::{Board, Done, ExecFault};
 use mg_model::items::{Added, Item, RemoteSetting, Settings};
 use mg_names::codes::Code;
 use mg_names::identifiers::{ContextId, LineNo, TermId};

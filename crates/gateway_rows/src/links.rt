@@ -1,4 +1,4 @@
-use crate::{Arrival, Inbox, Link, Offer, laws};
+use delivery::{Arrival, Inbox, Link, Offer, laws};
 use mg_names::identifiers::Assoc;
 use std::test::Fail;
 

@@ -1,4 +1,4 @@
-use crate::{
+use requests::{
     Connections, ContextRef, Descriptors, EphemeralRef, LineEvent, Outcome, Refusal, RemoteRef,
     Reply, Request, RequestCommand, SentNote, TerminationRef,
 };
