@@ -2,7 +2,8 @@
 use Rattle.std.proofs.Common.{◌≡◌, ◌∙◌, ℕ, ◌==◌, ◌+◌, ◌≤◌, Bool, true, false, if◌then◌else◌, List, [], ◌∷◌, length, Option, Some, None, is_some, option_map, Result, Ok, Err, refl, sym, ap, subst, arith, rules, true≢false}
 use Rattle.std.proofs.lemmas.Bool.{eqb-true}
 use Rattle.mg_model.specs.Numbers.{last_number}
-use Rattle.mg_model.specs.Gateway.{Gateway, LineEvent, Happens, outcome_of, notes_from}
+use Rattle.mg_model.specs.declared.line_events.LineEvent.{LineEvent}
+use Rattle.mg_model.specs.Gateway.{Gateway, Happens, outcome_of, notes_from}
 use Rattle.mg_model.specs.LineEvents.{LineRow, Note, Outcome}
 use Rattle.mg_model.specs.Messages.{SentNote}
 use Rattle.line_events.specs.declared.fault.LineFault.{LineFault}

@@ -1,9 +1,9 @@
 -- What is found of a request before it runs, and what its run leaves.
-use Rattle.std.proofs.Common.{◌≡◌, ◌∙◌, ℕ, ◌+◌, ◌<◌, ◌≤◌, List, length, Option, Some, None, is_some, inl, inr, refl, sym, ap, subst, arith, true≢false}
+use Rattle.std.proofs.Common.{◌≡◌, ◌∙◌, ℕ, ◌+◌, ◌<◌, ◌≤◌, List, length, Option, Some, None, is_some, refl, sym, ap, subst, arith, true≢false}
 use Rattle.std.proofs.lemmas.List.{length-map}
 use Rattle.mg_model.specs.Delivery.{offer, kept as kept_again, discard, fresh}
 use Rattle.mg_model.specs.Numbers.{last_number}
-use Rattle.mg_model.specs.Gateway.{IsKept, IsDiscarded, number_of, sent_notes}
+use Rattle.mg_model.specs.Gateway.{IsKept, IsDiscarded, offer_to, sent_notes}
 use Rattle.mg_model.specs.LineEvents.{Note}
 use Rattle.mg_model.specs.Messages.{Request, Reply, SentNote, Failure}
 use Rattle.mg_model.specs.Items.{Done}
@@ -17,7 +17,7 @@ use Rattle.gateway.specs.Execution.{IsNew, IsRun}
 use Rattle.gateway.specs.Standby.{IsEnd}
 use Rattle.gateway.specs.Whole.{Whole, gateway_of, is_open}
 use Rattle.gateway.proofs.NoteLemmas.{notes_at_most}
-use Rattle.gateway.proofs.OfferLemmas.{fresh_offer, kept_offer, discard_offer}
+use Rattle.gateway.proofs.OfferLemmas.{offer_is}
 
 pub nobody : (w : Whole) (call : ℕ) (request : Request) → call_in w.calls call ≡ None → IsAddressed w call request → ⊥
 unfolding is_open
@@ -36,37 +36,23 @@ module _ (w : Whole) (call : ℕ) (request : Request) (state : OpenCall) (found 
   pub by_link : (P : Option OpenCall → Type 0) → P (Some state) → P (call_in w.calls request.call)
   by_link P h = subst P (sym found_request) h
 
+  -- the model's link says the same of the request
+  asked : (creator : ℕ → Option ℕ) → offer_to (gateway_of creator w) request ≡ offer (delivery_link state) request.association request.number
+  asked creator = offer_is w request state found_request of_association creator
+
   pub is_discarded : offer (delivery_link state) request.association request.number ≡ discard → (creator : ℕ → Option ℕ) → IsDiscarded (gateway_of creator w) request
-  unfolding gateway_of
-  is_discarded e creator =
-      elim (discard_offer state request.association request.number e) [
-        | inl other ↦ inl (λ (same : request.association ≡ w.association). other (same ∙ sym of_association))
-        | inr rest ↦ inr (elim rest [
-          | inl lower ↦ inl (by_link (λ (o : Option OpenCall). request.number < number_of (link_of o).last) lower)
-          | inr zeroth ↦ inr zeroth
-        ])
-      ]
+  is_discarded e creator = asked creator ∙ e
 
   pub is_kept : (reply : Reply) → offer (delivery_link state) request.association request.number ≡ kept_again reply → (creator : ℕ → Option ℕ) → IsKept (gateway_of creator w) request reply
-  unfolding gateway_of
-  is_kept reply e creator =
-      let offered = kept_offer state request.association request.number reply e in
-      record {
-        current = offered.0 ∙ of_association;
-        same_number = offered.1.1;
-        kept = ap (λ (o : Option OpenCall). (link_of o).last) found_request ∙ offered.1.0;
-      }
+  is_kept reply e creator = asked creator ∙ e
 
   pub has_no_room : offer (delivery_link state) request.association request.number ≡ fresh → last_number < state.notes + length request.commands
       → (creator : ℕ → Option ℕ) → HasNoRoom (gateway_of creator w) request
   unfolding gateway_of
-  has_no_room e full creator =
-      let offered = fresh_offer state request.association request.number e in
-      record {
-        current = offered.0 ∙ of_association;
-        newer = by_link (λ (o : Option OpenCall). number_of (link_of o).last < request.number) offered.1;
-        full = by_link (λ (o : Option OpenCall). last_number < (link_of o).notes + length request.commands) full;
-      }
+  has_no_room e full creator = record {
+    is_fresh = asked creator ∙ e;
+    full = by_link (λ (o : Option OpenCall). last_number < (link_of o).notes + length request.commands) full;
+  }
 
 -- ---- the run
 

@@ -1,7 +1,8 @@
 -- What is done on two connections that show the same leaves them showing the same.
 use Rattle.std.proofs.Common.{◌≡◌, ◌∙◌, ℕ, sym, ap}
 use Rattle.mg_model.specs.Board.{Board}
-use Rattle.mg_model.specs.Gateway.{LineEvent, outcome_of, board_restarted}
+use Rattle.mg_model.specs.declared.line_events.LineEvent.{LineEvent}
+use Rattle.mg_model.specs.Gateway.{outcome_of, board_restarted}
 use Rattle.mg_model.specs.LineEvents.{LineRow, cleared}
 use Rattle.mg_names.specs.declared.identifiers.LineNo.{LineNo}
 use Rattle.std.proofs.Common.{List}

@@ -8,6 +8,7 @@ use Rattle.mg_names.specs.declared.identifiers.TermId.TheVariants.{Line, Eph}
 use Rattle.mg_model.specs.declared.rows.Row.{Row}
 use Rattle.mg_model.specs.Board.{Board, place_in}
 use Rattle.mg_model.specs.Gateway.{CallLink}
+use Rattle.mg_model.specs.Memory.{IsOrNoMemory}
 use Rattle.mg_model.specs.LineEvents.{LineRow, new_line}
 use Rattle.contexts.specs.Sheet.{names_line, started}
 use Rattle.contexts.specs.Sheet as sheet
@@ -16,7 +17,7 @@ use Rattle.requests.specs.Idle.{idle_row}
 use Rattle.gateway.specs.declared.fault.OpenFault.{OpenFault}
 use Rattle.gateway.specs.declared.fault.OpenFault.TheVariants.{NoMemory, UnknownLine, Taken}
 use Rattle.gateway.specs.Calls.{OpenCall, call_in, line_entry, link_of, holder_of, new_call}
-use Rattle.gateway.specs.Openings.{first_gateway, inactive_row, rows_opened, board_opened, lines_opened, opened, is_free, are_there, has_twice, opening_on, IsOrNoMemory}
+use Rattle.gateway.specs.Openings.{first_gateway, inactive_row, rows_opened, board_opened, lines_opened, opened, is_free, are_there, has_twice, opening_on, is_memory}
 use Rattle.gateway.specs.Standby.{rows_idled, board_idled, lines_armed, ShowsOpened}
 use Rattle.gateway.specs.Whole.{Whole, AreTied, gateway_of, holder_in, is_open}
 
@@ -71,7 +72,7 @@ none_open w calls call = ap is_some (no_call_in w.calls calls call)
 
 -- ---- what is answered to an opening
 
-pub or_no_memory : (r expected : Result (Unit {0}) OpenFault) → r ≡ expected → IsOrNoMemory r expected
+pub or_no_memory : (r expected : Result (Unit {0}) OpenFault) → r ≡ expected → IsOrNoMemory is_memory r expected
 or_no_memory (Ok done) expected e = sym e
 or_no_memory (Err NoMemory) expected e = tt
 or_no_memory (Err UnknownLine) expected e = sym e

@@ -1,8 +1,8 @@
 -- A call that changes: what stays tied, which calls stay open, and that a request whose end is put in place was executed.
 use Rattle.std.proofs.Common.{◌≡◌, ◌∙◌, ℕ, ◌==◌, ◌+◌, ◌<◌, ◌≤◌, Bool, true, false, if◌then◌else◌, List, length, Option, Some, None, is_some, option_map, refl, sym, ap, subst, arith}
 use Rattle.std.proofs.lemmas.Bool.{eqb-true}
-use Rattle.mg_model.specs.Numbers.{last_number}
-use Rattle.mg_model.specs.Gateway.{Gateway, CallLink, after_request, number_of, reply_of, sent_notes, restarted, link_restarted, board_restarted}
+use Rattle.mg_model.specs.Numbers.{last_number, last_association}
+use Rattle.mg_model.specs.Gateway.{Gateway, CallLink, after_request, reply_of, sent_notes, restarted, link_restarted, board_restarted}
 use Rattle.mg_model.specs.LineEvents.{cleared}
 use Rattle.mg_model.specs.Messages.{Request, Reply, SentNote}
 use Rattle.mg_model.specs.RequestRun.{Running, Refusal}
@@ -11,7 +11,7 @@ use Rattle.gateway.specs.Answers.{IsAddressed, IsExecution, IsNext, SameOpen}
 use Rattle.gateway.specs.Calls.{OpenCall, call_in, line_entry, link_of, holder_of, with_call, keeping, restarting}
 use Rattle.gateway.specs.Execution.{IsNew, IsRun}
 use Rattle.gateway.specs.Whole.{Whole, AreTied, gateway_of, is_open}
-use Rattle.gateway.proofs.OfferLemmas.{fresh_offer}
+use Rattle.gateway.proofs.OfferLemmas.{offer_is}
 
 -- by a look-up, with its value
 found : {X : Type 0} {P : Type 0} (o : Option X) → (o ≡ None → P) → ((x : X) → o ≡ Some x → P) → P
@@ -86,7 +86,6 @@ executed_put old request refusal last ended reply kept notes last_after calls ne
     let end : Running = end_in ended reply.results run.raised in
     let after : Gateway = after_request g request end run.failure in
     let state : OpenCall = new.state in
-    let offered = fresh_offer state request.association request.number new.is_fresh in
     let link_is : g.link request.call ≡ link_of (Some state) = ap link_of new.is_state in
     let last_is : last ≡ (g.link request.call).notes = new.last_is ∙ ap (λ (x : CallLink). x.notes) (sym link_is) in
     let kept_is : kept ≡ reply_of request end run.failure = run.kept_is ∙ run.reply_is in
@@ -96,8 +95,7 @@ executed_put old request refusal last ended reply kept notes last_after calls ne
         record {
           end = end;
           failure = run.failure;
-          current = offered.0 ∙ new.of_association;
-          newer = subst (λ (x : CallLink). number_of x.last < request.number) (sym link_is) offered.1;
+          is_fresh = offer_is old request state new.is_state new.of_association creator ∙ new.is_fresh;
           room = subst (λ (n : ℕ). n + length request.commands ≤ last_number) last_is new.room;
           runs = run.is_end;
           after_is = refl;
@@ -163,7 +161,7 @@ pub open_restarted : (old new : Whole) → ((n : ℕ) → call_in new.calls n �
 unfolding is_open
 open_restarted old new calls n = ap is_some (calls n) ∙ some_restarted new.association (call_in old.calls n)
 
-pub next_is : (v now new : Whole) → v ≡ now → v.association + 1 < 18446744073709551616 → new.association ≡ v.association + 1
+pub next_is : (v now new : Whole) → v ≡ now → v.association + 1 < last_association + 1 → new.association ≡ v.association + 1
     → board_in new.connected ≡ board_restarted (board_in v.connected) → line_in new.connected ≡ (λ l. cleared (line_in v.connected l)) → new.holders ≡ v.holders
     → ((n : ℕ) → call_in new.calls n ≡ option_map (restarting new.association) (call_in v.calls n)) → IsNext now new new.association
 next_is v now new e room association board lines holders calls = subst (λ (w : Whole). IsNext w new new.association) e (record {

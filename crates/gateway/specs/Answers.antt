@@ -2,8 +2,10 @@
 -- that of an execution leaves the gateway as it was, and when each one comes.
 use Rattle.std.specs.Prelude.{◌≡◌, ℕ, ◌+◌, ◌<◌, true, List, [], ◌∷◌, length, Option, Some, None, Result, Ok, Err, ◌⊎◌}
 use Rattle.mg_names.specs.declared.identifiers.Assoc.{Assoc}
-use Rattle.mg_model.specs.Numbers.{last_number}
-use Rattle.mg_model.specs.Gateway.{Gateway, LineEvent, last_executed, IsExecutedBy, IsKept, IsDiscarded, Happens, restarted}
+use Rattle.mg_model.specs.Numbers.{last_number, last_association}
+use Rattle.mg_model.specs.declared.line_events.LineEvent.{LineEvent}
+use Rattle.mg_model.specs.Gateway.{Gateway, offer_to, IsExecutedBy, IsKept, IsDiscarded, Happens, restarted}
+use Rattle.mg_model.specs.Delivery.{fresh}
 use Rattle.mg_model.specs.Messages.{Request, Reply, SentNote}
 use Rattle.mg_model.specs.RequestRun.{Refusal}
 use Rattle.gateway.specs.declared.answer.Answer.{Answer}
@@ -33,8 +35,7 @@ IsExecution old request refusal new reply notes =
 
 -- it would be executed, but the numbers of notes could run out
 pub record HasNoRoom (g : Gateway) (request : Request) : Type 0 where
-  pub current : request.association ≡ g.association
-  pub newer : last_executed g request.call < request.number
+  pub is_fresh : offer_to g request ≡ fresh
   pub full : last_number < (g.link request.call).notes + length request.commands
 
 abbrev pub IsAnswered : Whole → ℕ → Request → Refusal → Whole → Answer → Type 0
@@ -70,9 +71,9 @@ IsHappened old line event new (Err _) = CannotOccur old line event × IsSame old
 pub record IsNext (old new : Whole) (association : ℕ) : Type 0 where
   pub restarts : (creator : ℕ → Option ℕ) → gateway_of (λ k. None) new ≡ restarted (gateway_of creator old)
   pub answered : association ≡ new.association
-  pub room : old.association < 18446744073709551615
+  pub room : old.association < last_association
   pub open_calls : SameOpen old new
 
 abbrev pub IsRestarted : Whole → Whole → Result Assoc fault.CannotHappen → Type 0
 IsRestarted old new (Ok association) = IsNext old new association.0
-IsRestarted old new (Err _) = (old.association ≡ 18446744073709551615) × (new ≡ old)
+IsRestarted old new (Err _) = (old.association ≡ last_association) × (new ≡ old)

@@ -5,7 +5,7 @@ use Rattle.std.specs.Ordering.{nat_cmp}
 use Rattle.std.specs.BTreeMap.{is_at}
 use Rattle.std.specs.Map.{lookup}
 use Rattle.mg_model.specs.Delivery.{Link, offer, fresh}
-use Rattle.mg_model.specs.Gateway.{CallLink}
+use Rattle.mg_model.specs.Gateway.{CallLink, numbered}
 use Rattle.mg_model.specs.Messages.{Reply}
 
 -- an open call: the association of its link, the reply that is kept, and how many notes were sent
@@ -13,10 +13,6 @@ pub record OpenCall : Type 0 where
   pub association : ℕ
   pub last : Option Reply
   pub notes : ℕ
-
-abbrev pub numbered : Option Reply → Option (ℕ × Reply)
-numbered None = None
-numbered (Some reply) = Some (reply.number, reply)
 
 -- the link of delivery that a call has
 abbrev pub delivery_link : OpenCall → Link Reply

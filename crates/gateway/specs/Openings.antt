@@ -1,6 +1,6 @@
 -- A gateway that starts, and the opening of a call. A reader should check that a line is taken that a call holds, that is named
 -- twice or that stands in a context, and that an opening leaves hook states and everything else as it was.
-use Rattle.std.specs.Prelude.{◌≡◌, ℕ, ◌==◌, Bool, false, not, ◌&&◌, ◌||◌, if◌then◌else◌, List, [], ◌∷◌, Option, Some, None, is_some, option_map, Result, Ok, Err}
+use Rattle.std.specs.Prelude.{ℕ, ◌==◌, Bool, true, false, not, ◌&&◌, ◌||◌, if◌then◌else◌, List, [], ◌∷◌, Option, Some, None, is_some, option_map, Result, Ok, Err}
 use Rattle.std.specs.List.{list_all}
 use Rattle.mg_names.specs.declared.identifiers.LineNo.{LineNo}
 use Rattle.mg_names.specs.declared.identifiers.TermId.{TermId}
@@ -9,6 +9,7 @@ use Rattle.mg_names.specs.declared.modes.Mode.TheVariants.{Inactive}
 use Rattle.mg_model.specs.declared.rows.Row.{Row}
 use Rattle.mg_model.specs.Board.{Board}
 use Rattle.mg_model.specs.Gateway.{Gateway}
+use Rattle.mg_model.specs.Numbers.{first_association}
 use Rattle.mg_model.specs.LineEvents.{LineRow, new_line}
 use Rattle.contexts.specs.Sheet.{names_line, started}
 use Rattle.contexts.specs.Sheet as sheet
@@ -20,7 +21,7 @@ use Rattle.gateway.specs.declared.fault.OpenFault.TheVariants.{NoMemory, Unknown
 
 abbrev pub first_gateway : List LineNo → (ℕ → Option ℕ) → Gateway
 first_gateway lines creator = record {
-  association = 1;
+  association = first_association;
   board = sheet.opened (started lines);
   line = λ l. new_line;
   holder = λ l. None;

@@ -5,13 +5,14 @@ ghost use Rattle.mg_model.specs.LineEvents.{new_line, cleared};
 ghost use Rattle.contexts.specs.Sheet.{opened, started};
 ghost use Rattle.line_events.specs.Raising.{is_raised};
 ghost use Rattle.requests.specs.Connected.{board_in, line_in, has_line, is_idle, answer_where, lines_after};
-ghost use Rattle.requests.specs.Views.{chosen_of, line_notes, event_of};
+ghost use Rattle.requests.specs.Views.{chosen_of, line_notes};
 ghost use Rattle.gateway.specs.Standby.{ShowsSame, ShowsOpened, IsEnd, HasEnd};
 
 use contexts::{Board, Done};
 use line_events::{LineFault, Note};
 use mg_names::identifiers::LineNo;
-use requests::{Connections, LineEvent, Outcome, Refusal, Request};
+use mg_model::line_events::LineEvent;
+use requests::{Connections, Outcome, Refusal, Request};
 use std::alloc::{AllocError, Global};
 use std::marker::Model;
 use std::mem;
@@ -82,7 +83,7 @@ impl Duplicated {
 
     /// Whether an event on a line raises a note.
     pub(crate) fn raises(&self, line: LineNo, event: LineEvent) -> bool
-        ensures { result ≡ is_raised (outcome_of (line_in self.now line.0) (event_of event)) }
+        ensures { result ≡ is_raised (outcome_of (line_in self.now line.0) event) }
     {
         self.active.raises(line, event)
     }
@@ -155,9 +156,9 @@ impl Duplicated {
         line: LineNo,
         event: LineEvent,
     ) -> Result<Option<Note>, LineFault>
-        ensures answer { result ≡ answer_where (has_line (board_in self.old) line.0) (outcome_of (line_in self.old line.0) (event_of event)) }
+        ensures answer { result ≡ answer_where (has_line (board_in self.old) line.0) (outcome_of (line_in self.old line.0) event) }
         ensures board { board_in self.new ≡ board_in self.old }
-        ensures lines { line_in self.new ≡ lines_after (has_line (board_in self.old) line.0) (line_in self.old) line.0 (outcome_of (line_in self.old line.0) (event_of event)) }
+        ensures lines { line_in self.new ≡ lines_after (has_line (board_in self.old) line.0) (line_in self.old) line.0 (outcome_of (line_in self.old line.0) event) }
     {
         let answer = self.active.happen(line, event);
         let Some(standby) = &mut self.standby else {

@@ -8,7 +8,7 @@ use crate::answer::Answer;
 use crate::gateway::Gateway;
 use crate::{calls, numbering};
 use delivery::Offer;
-use mg_names::identifiers::CallNo;
+use mg_names::identifiers::{CallNo, LAST_NUMBER};
 use requests::{Connections, Outcome, Refusal, Reply, Request, SentNote};
 use std::alloc::AllocError;
 
@@ -56,7 +56,7 @@ impl Gateway {
             },
             Offer::Fresh => {
                 let last = state.notes();
-                if request.commands().len() > (u32::MAX - last) as usize {
+                if request.commands().len() > (LAST_NUMBER - last) as usize {
                     Judged::Full
                 } else {
                     Judged::New(last)

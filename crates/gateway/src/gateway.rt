@@ -45,7 +45,7 @@ impl Gateway {
         let holders = holders::new(alloc, lines)?;
         Ok(Gateway {
             alloc,
-            association: Assoc(1),
+            association: Assoc::FIRST,
             connections,
             holders,
             calls: BTreeMap::new(alloc),

@@ -1,12 +1,12 @@
 //! An event of a line.
-ghost use Rattle.requests.specs.Views.{event_of};
 ghost use Rattle.gateway.specs.Answers.{IsHappened};
 
 use crate::fault::CannotHappen;
 use crate::gateway::Gateway;
 use crate::{calls, holders};
-use mg_names::identifiers::{CallNo, LineNo};
-use requests::{LineEvent, SentNote};
+use mg_names::identifiers::{CallNo, LAST_NUMBER, LineNo};
+use mg_model::line_events::LineEvent;
+use requests::SentNote;
 
 impl Gateway {
     /// An event of a line, and the note of it to the call that holds the line. It can't happen where no call holds the line, where the
@@ -16,7 +16,7 @@ impl Gateway {
         line: LineNo,
         event: LineEvent,
     ) -> Result<Option<SentNote>, CannotHappen>
-        ensures { IsHappened self.old line.0 (event_of event) self.new result }
+        ensures { IsHappened self.old line.0 event self.new result }
     {
         let Some(call) = holders::holder(&self.holders, line.0) else {
             return Err(CannotHappen);
@@ -25,7 +25,7 @@ impl Gateway {
             return Err(CannotHappen);
         };
         let last = state.notes();
-        if last == u32::MAX && self.connections.raises(line, event) {
+        if last == LAST_NUMBER && self.connections.raises(line, event) {
             return Err(CannotHappen);
         }
         let Ok(note) = self.connections.happen(line, event) else {

@@ -13,7 +13,8 @@ use Rattle.mg_model.specs.declared.rows.Row.{Row}
 use Rattle.mg_model.specs.Board.{Board, exists, same_term, place_in}
 use Rattle.mg_model.specs.Items.{Chosen, Done, IsLegal, IsExecuted, effect, leaves}
 use Rattle.mg_model.specs.LineEvents.{LineRow, cleared, Note}
-use Rattle.mg_model.specs.Messages.{Descriptors, RequestCommand, add_line, add_ephemeral, modify, move, subtract, subtract_all, set_topology, on_line, on_ephemeral}
+use Rattle.mg_model.specs.declared.references.TerminationRef.TheVariants as on
+use Rattle.mg_model.specs.Messages.{Descriptors, RequestCommand, add_line, add_ephemeral, modify, move, subtract, subtract_all, set_topology}
 use Rattle.mg_model.specs.RequestRun.{Running, item_at, described, described_row, rearms, raised, line_after, after_command}
 use Rattle.contexts.proofs.ExecLemmas.{both_known, is_true_from, not_null}
 use Rattle.contexts.proofs.TermLemmas.{same_is, split_and}
@@ -67,10 +68,10 @@ there_stays b after stays (Some (l, d)) there = stays l ∙ there
 there_before : (b : Board) (results : List Done) (command : RequestCommand) → IsLegal b (item_at results command) → IsThere b (described command)
 there_before b results (add_line c l d) legal = (both_known _ _ (legal UnknownTermination)).0
 there_before b results (add_ephemeral c d) legal = tt
-there_before b results (modify c (on_line l) d) legal = (both_known _ _ (legal UnknownTermination)).0
-there_before b results (modify c (on_ephemeral e) d) legal = tt
-there_before b results (move c (on_line l) d) legal = (both_known _ _ (legal UnknownTermination)).0
-there_before b results (move c (on_ephemeral e) d) legal = tt
+there_before b results (modify c (on.Line l) d) legal = (both_known _ _ (legal UnknownTermination)).0
+there_before b results (modify c (on.Ephemeral e) d) legal = tt
+there_before b results (move c (on.Line l) d) legal = (both_known _ _ (legal UnknownTermination)).0
+there_before b results (move c (on.Ephemeral e) d) legal = tt
 there_before b results (subtract c t) legal = tt
 there_before b results (subtract_all c) legal = tt
 there_before b results (set_topology c t u topology) legal = tt

@@ -12,7 +12,16 @@ use Rattle.mg_model.specs.Board.{Board}
 use Rattle.mg_model.specs.Numbers.{choose}
 use Rattle.mg_model.specs.Items.{Chosen, Done, IsExecuted, Applies, effect, only_if, given, creates_context, creates_ephemeral, placed, with_ephemeral}
 use Rattle.mg_model.specs.LineEvents.{LineRow}
-use Rattle.mg_model.specs.Messages.{ContextRef, context, context_made_at, EphemeralRef, ephemeral, ephemeral_made_at, TerminationRef, on_line, on_ephemeral, RemoteRef, no_remote, remote_to, Descriptors, RequestCommand, add_line, add_ephemeral, modify, move, subtract, subtract_all, set_topology, Failure}
+use Rattle.mg_model.specs.declared.references.ContextRef.{ContextRef}
+use Rattle.mg_model.specs.declared.references.ContextRef.TheVariants.{Number, MadeAt}
+use Rattle.mg_model.specs.declared.references.EphemeralRef.{EphemeralRef}
+use Rattle.mg_model.specs.declared.references.EphemeralRef.TheVariants as ephemeral
+use Rattle.mg_model.specs.declared.references.RemoteRef.{RemoteRef}
+use Rattle.mg_model.specs.declared.references.RemoteRef.TheVariants as remote
+use Rattle.mg_model.specs.declared.references.TerminationRef.{TerminationRef}
+use Rattle.mg_model.specs.declared.references.TerminationRef.TheVariants as on
+use Rattle.mg_model.specs.Numbers.{all, no_ephemeral}
+use Rattle.mg_model.specs.Messages.{Descriptors, RequestCommand, add_line, add_ephemeral, modify, move, subtract, subtract_all, set_topology, Failure}
 use Rattle.mg_model.specs.RequestRun.{Running, Refusal, RunsFrom, Executes, Fails, context_at, ephemeral_at, termination_at, remote_at, settings_at, item_at, line_after}
 use Rattle.requests.specs.Commands.{created}
 
@@ -37,23 +46,23 @@ module _ (xs ys : List Done) (same : map created xs ≡ map created ys) where
   found p = sym (slice_get-map created xs p) ∙ ap (λ cs. slice_get cs p) same ∙ slice_get-map created ys p
 
   context_same : (c : ContextRef) → context_at xs c ≡ context_at ys c
-  context_same (context n) = refl
-  context_same (context_made_at p) = ap (λ (o : Option ℕ). unwrap_or o 4294967295)
+  context_same (Number n) = refl
+  context_same (MadeAt p) = ap (λ (o : Option ℕ). unwrap_or o all)
       (context_read (slice_get xs p) ∙ ap (λ o. option_and_then (λ (x : Option ℕ × Option ℕ). x.0) o) (found p) ∙ sym (context_read (slice_get ys p)))
 
   ephemeral_same : (e : EphemeralRef) → ephemeral_at xs e ≡ ephemeral_at ys e
-  ephemeral_same (ephemeral n) = refl
-  ephemeral_same (ephemeral_made_at p) = ap (λ (o : Option ℕ). unwrap_or o 0)
+  ephemeral_same (ephemeral.Number n) = refl
+  ephemeral_same (ephemeral.MadeAt p) = ap (λ (o : Option ℕ). unwrap_or o no_ephemeral)
       (ephemeral_read (slice_get xs p) ∙ ap (λ o. option_and_then (λ (x : Option ℕ × Option ℕ). x.1) o) (found p) ∙ sym (ephemeral_read (slice_get ys p)))
 
   termination_same : (t : TerminationRef) → termination_at xs t ≡ termination_at ys t
-  termination_same (on_line l) = refl
-  termination_same (on_ephemeral e) = ap Eph (ephemeral_same e)
+  termination_same (on.Line l) = refl
+  termination_same (on.Ephemeral e) = ap Eph (ephemeral_same e)
 
   remote_same : (o : Option RemoteRef) → option_map (remote_at xs) o ≡ option_map (remote_at ys) o
   remote_same None = refl
-  remote_same (Some no_remote) = refl
-  remote_same (Some (remote_to e)) = ap (λ (k : ℕ). Some (Ephemeral k)) (ephemeral_same e)
+  remote_same (Some remote.Nothing) = refl
+  remote_same (Some (remote.To e)) = ap (λ (k : ℕ). Some (Ephemeral k)) (ephemeral_same e)
 
   settings_same : (d : Descriptors) → settings_at xs d ≡ settings_at ys d
   settings_same d i = record { mode = d.mode; remote = remote_same d.remote i }

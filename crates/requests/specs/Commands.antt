@@ -1,7 +1,7 @@
 -- What the steps of one command do: which lines are among those that left, how the rows and the notes go on, and what a step
 -- of the run is. Only contracts inside the crate cite these; a reader who takes `RunsFrom` of the model for the run needs none of
 -- them, and may check that a step is the command's execution or its failure, as the model has them.
-use Rattle.std.specs.Prelude.{◌≡◌, ℕ, ◌==◌, Bool, true, not, ◌||◌, if◌then◌else◌, List, [], ◌∷◌, ◌++◌, filter, Option, Some, None, unwrap_or, option_map, option_and_then}
+use Rattle.std.specs.Prelude.{◌≡◌, ℕ, ◌==◌, true, not, ◌||◌, if◌then◌else◌, List, [], ◌∷◌, ◌++◌, filter, Option, Some, None, unwrap_or, option_map, option_and_then}
 use Rattle.std.specs.List.{list_any}
 use Rattle.mg_names.specs.declared.codes.Code.{Code}
 use Rattle.mg_names.specs.declared.identifiers.LineNo.{LineNo}

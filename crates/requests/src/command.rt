@@ -1,5 +1,5 @@
 //! A command of a request.
-use crate::references::{ContextRef, RemoteRef, TerminationRef};
+use mg_model::references::{ContextRef, RemoteRef, TerminationRef};
 use line_events::EventList;
 use mg_model::line_events::SignalSet;
 use mg_names::identifiers::LineNo;

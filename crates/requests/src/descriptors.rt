@@ -4,11 +4,11 @@ ghost use Rattle.mg_model.specs.RequestRun.{with_signals, with_events, with_desc
 ghost use Rattle.line_events.specs.Rows.{row_of};
 ghost use Rattle.mg_model.specs.Updates.{with_at};
 ghost use Rattle.requests.specs.Commands.{rows_cleared, noted, raised_in};
-ghost use Rattle.requests.specs.Views.{descriptors_of, line_described, termination_ref, command_of};
+ghost use Rattle.requests.specs.Views.{descriptors_of, line_described, command_of};
 
 use crate::command::{Descriptors, RequestCommand};
 use crate::outcome::LineNote;
-use crate::references::TerminationRef;
+use mg_model::references::TerminationRef;
 use line_events::{EventList, LineFault, LineSet, Note};
 use mg_model::line_events::SignalSet;
 use mg_names::identifiers::LineNo;
@@ -92,7 +92,7 @@ fn of_termination<'a>(
     termination: TerminationRef,
     descriptors: &'a Descriptors,
 ) -> Option<(LineNo, &'a Descriptors)>
-    ensures { line_described result ≡ of_termination (termination_ref termination) (descriptors_of descriptors.now) }
+    ensures { line_described result ≡ of_termination termination (descriptors_of descriptors.now) }
 {
     match termination {
         TerminationRef::Line(line) => Some((line, descriptors)),

@@ -1,34 +1,19 @@
 //! What happens on the lines.
 ghost use Rattle.std.specs.Prelude.{◌≡◌, [], ◌∷◌, IfOk, OnOk, OnErr};
 ghost use Rattle.mg_model.specs.Gateway.{outcome_of, board_restarted};
-ghost use Rattle.mg_model.specs.LineEvents.{OffHook, cleared};
+ghost use Rattle.mg_model.specs.LineEvents.{cleared};
+ghost use Rattle.mg_model.specs.Numbers.{opening_request};
+ghost use Rattle.mg_model.specs.declared.transitions.EventItem.TheVariants.{OffHook};
 ghost use Rattle.mg_names.specs.declared.strictness.Strict.TheVariants.{Exact};
 ghost use Rattle.requests.specs.Connected.{board_in, line_in, has_line, answer_where, lines_after, lines_opened};
-ghost use Rattle.requests.specs.Views.{event_of};
 
 use crate::connections::Connections;
-use line_events::{EventItem, EventList, LineFault, Note};
-use mg_model::line_events::{Hook, SignalSet};
-use mg_names::identifiers::LineNo;
-use mg_names::signals::Signal;
+use line_events::{EventList, LineFault, Note};
+use mg_model::line_events::{LineEvent, SignalSet};
+use mg_model::transitions::EventItem;
+use mg_names::identifiers::{LineNo, OPENING_REQUEST};
 use mg_names::strictness::Strict;
-use mg_names::symbols::Symbol;
 use std::alloc::{AllocError, Global};
-
-/// What happens on a line.
-#[derive(Clone, Copy, Debug, PartialEq, Eq)]
-pub enum LineEvent {
-    /// The hook goes to a state (H.248.1 Annex E.9).
-    Hook(Hook),
-    /// The user flashes the hook (Annex E.9).
-    Flash,
-    /// The user dials a symbol (Annex E.6).
-    Digit(Symbol),
-    /// The timer of the digit map ends (H.248.1 section 7.1.14).
-    Pause,
-    /// A signal that plays ends, at any moment (this profile's own).
-    SignalEnd(Signal),
-}
 
 /// `al/of` with `strict=exact` alone.
 fn opening_list(alloc: Global) -> Result<EventList, AllocError>
@@ -43,9 +28,9 @@ impl Connections {
     /// An event on a line, and the note that it raises. `UnknownLine` for a line that isn't there, `CannotHappen` for an event that
     /// can't happen on the line as it is; it takes no memory.
     pub fn happen(&mut self, line: LineNo, event: LineEvent) -> Result<Option<Note>, LineFault>
-        ensures answer { result ≡ answer_where (has_line (board_in self.old) line.0) (outcome_of (line_in self.old line.0) (event_of event)) }
+        ensures answer { result ≡ answer_where (has_line (board_in self.old) line.0) (outcome_of (line_in self.old line.0) event) }
         ensures board { board_in self.new ≡ board_in self.old }
-        ensures lines { line_in self.new ≡ lines_after (has_line (board_in self.old) line.0) (line_in self.old) line.0 (outcome_of (line_in self.old line.0) (event_of event)) }
+        ensures lines { line_in self.new ≡ lines_after (has_line (board_in self.old) line.0) (line_in self.old) line.0 (outcome_of (line_in self.old line.0) event) }
     {
         match event {
             LineEvent::Hook(hook) => self.lines.hook(line, hook),
@@ -64,7 +49,7 @@ impl Connections {
         ensures unchanged { OnErr result (line_in self.new ≡ line_in self.old) }
     {
         let list = opening_list(self.alloc)?;
-        if let Err(LineFault::NoMemory) = self.lines.arm(line, &list, 0) {
+        if let Err(LineFault::NoMemory) = self.lines.arm(line, &list, OPENING_REQUEST) {
             return Err(AllocError);
         }
         let _ = self.lines.signal(line, SignalSet::SILENT);

@@ -2,10 +2,10 @@
 ghost use Rattle.std.specs.Prelude.{◌≡◌, option_map};
 ghost use Rattle.mg_model.specs.declared.items.Item.TheVariants as item;
 ghost use Rattle.mg_model.specs.RequestRun.{context_at, ephemeral_at, termination_at, remote_at, settings_at, item_at};
-ghost use Rattle.requests.specs.Views.{context_ref, ephemeral_ref, termination_ref, remote_ref, descriptors_of, command_of};
+ghost use Rattle.requests.specs.Views.{descriptors_of, command_of};
 
 use crate::command::{Descriptors, RequestCommand};
-use crate::references::{ContextRef, EphemeralRef, RemoteRef, TerminationRef};
+use mg_model::references::{ContextRef, EphemeralRef, RemoteRef, TerminationRef};
 use contexts::Done;
 use mg_model::items::{Added, Item, RemoteSetting, Settings};
 use mg_names::identifiers::{ContextId, TermId};
@@ -13,20 +13,20 @@ use mg_names::topologies::Topology;
 
 /// The number of a context; ALL, which is no context, where none was created at the place.
 pub(crate) fn context_at(results: &[Done], context: ContextRef) -> ContextId
-    ensures { result.0 ≡ context_at results.now (context_ref context) }
+    ensures { result.0 ≡ context_at results.now context }
 {
     match context {
         ContextRef::Number(context) => context,
         ContextRef::MadeAt(place) => match results.get(place) {
-            Some(done) => ContextId(done.context().unwrap_or(0xFFFF_FFFF)),
-            None => ContextId(0xFFFF_FFFF),
+            Some(done) => ContextId(done.context().unwrap_or(ContextId::ALL.0)),
+            None => ContextId::ALL,
         },
     }
 }
 
 /// The number of an ephemeral; 0, which no ephemeral has, where none was created at the place.
 pub(crate) fn ephemeral_at(results: &[Done], ephemeral: EphemeralRef) -> u32
-    ensures { result ≡ ephemeral_at results.now (ephemeral_ref ephemeral) }
+    ensures { result ≡ ephemeral_at results.now ephemeral }
 {
     match ephemeral {
         EphemeralRef::Number(number) => number,
@@ -39,7 +39,7 @@ pub(crate) fn ephemeral_at(results: &[Done], ephemeral: EphemeralRef) -> u32
 
 /// The termination.
 fn termination_at(results: &[Done], termination: TerminationRef) -> TermId
-    ensures { result ≡ termination_at results.now (termination_ref termination) }
+    ensures { result ≡ termination_at results.now termination }
 {
     match termination {
         TerminationRef::Line(line) => TermId::Line(line),
@@ -49,7 +49,7 @@ fn termination_at(results: &[Done], termination: TerminationRef) -> TermId
 
 /// The Remote.
 fn remote_at(results: &[Done], remote: RemoteRef) -> RemoteSetting
-    ensures { result ≡ remote_at results.now (remote_ref remote) }
+    ensures { result ≡ remote_at results.now remote }
 {
     match remote {
         RemoteRef::Nothing => RemoteSetting::Nothing,
@@ -73,7 +73,7 @@ fn settings_at(results: &[Done], descriptors: &Descriptors) -> Settings
 
 /// Add on the connection model.
 fn added_at(results: &[Done], context: ContextRef, added: Added, descriptors: &Descriptors) -> Item
-    ensures { result ≡ item.Add (record { 0 = context_at results.now (context_ref context) }) added (settings_at results.now (descriptors_of descriptors.now)) }
+    ensures { result ≡ item.Add (record { 0 = context_at results.now context }) added (settings_at results.now (descriptors_of descriptors.now)) }
 {
     Item::Add {
         context: context_at(results, context),
@@ -90,7 +90,7 @@ fn topology_at(
     second: TerminationRef,
     topology: Topology,
 ) -> Item
-    ensures { result ≡ item.SetTopology (record { 0 = context_at results.now (context_ref context) }) (termination_at results.now (termination_ref first)) (termination_at results.now (termination_ref second)) topology }
+    ensures { result ≡ item.SetTopology (record { 0 = context_at results.now context }) (termination_at results.now first) (termination_at results.now second) topology }
 {
     Item::SetTopology {
         context: context_at(results, context),

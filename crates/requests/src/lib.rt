@@ -12,7 +12,6 @@ mod note;
 mod outcome;
 mod progress;
 mod raising;
-mod references;
 mod refusal;
 mod reply;
 mod request;
@@ -20,10 +19,8 @@ mod run;
 
 pub use command::{Descriptors, RequestCommand};
 pub use connections::Connections;
-pub use event::LineEvent;
 pub use note::SentNote;
 pub use outcome::{LineNote, Outcome};
-pub use references::{ContextRef, EphemeralRef, RemoteRef, TerminationRef};
 pub use refusal::Refusal;
 pub use reply::Reply;
 pub use request::Request;

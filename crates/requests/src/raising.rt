@@ -3,16 +3,15 @@ ghost use Rattle.std.specs.Prelude.{◌≡◌};
 ghost use Rattle.mg_model.specs.Gateway.{outcome_of};
 ghost use Rattle.line_events.specs.Raising.{is_raised};
 ghost use Rattle.requests.specs.Connected.{line_in};
-ghost use Rattle.requests.specs.Views.{event_of};
 
 use crate::connections::Connections;
-use crate::event::LineEvent;
+use mg_model::line_events::LineEvent;
 use mg_names::identifiers::LineNo;
 
 impl Connections {
     /// Whether an event on a line raises a note. On a line that isn't there none does.
     pub fn raises(&self, line: LineNo, event: LineEvent) -> bool
-        ensures { result ≡ is_raised (outcome_of (line_in self.now line.0) (event_of event)) }
+        ensures { result ≡ is_raised (outcome_of (line_in self.now line.0) event) }
     {
         let Some(row) = self.lines.row(line) else {
             return false;
