@@ -6,7 +6,8 @@
 use gateway::{Answer, Gateway};
 use mg_names::identifiers::{CallNo, ContextId, LineNo};
 use mg_names::modes::Mode;
-use requests::{ContextRef, Descriptors, Request, RequestCommand};
+use mg_model::references::ContextRef;
+use requests::{Descriptors, Request, RequestCommand};
 use std::alloc::Global;
 use std::io::Write;
 use std::process::ExitCode;

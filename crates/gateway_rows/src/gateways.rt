@@ -1,15 +1,14 @@
 use gateway::{Answer, CannotHappen, Gateway, OpenFault};
-use line_events::{EventItem, EventList};
-use mg_model::line_events::Hook;
+use line_events::{EventList, ListItem};
+use mg_model::line_events::{Hook, LineEvent};
+use mg_model::references::{ContextRef, TerminationRef};
+use mg_model::transitions::EventItem;
 use mg_names::codes::Code;
 use mg_names::identifiers::{Assoc, CallNo, ContextId, LineNo, TermId};
 use mg_names::kinds::Kind;
 use mg_names::modes::Mode;
 use mg_names::strictness::Strict;
-use requests::{
-    ContextRef, Descriptors, LineEvent, Refusal, Reply, Request, RequestCommand, SentNote,
-    TerminationRef,
-};
+use requests::{Descriptors, Refusal, Reply, Request, RequestCommand, SentNote};
 use std::alloc::{AllocError, Global};
 use std::test::Fail;
 
@@ -33,7 +32,7 @@ fn gateway(alloc: Global) -> Result<Gateway, Fail> {
 }
 
 /// An Events descriptor with this item alone.
-fn events(alloc: Global, item: EventItem) -> Result<Descriptors, AllocError> {
+fn events(alloc: Global, item: ListItem) -> Result<Descriptors, AllocError> {
     Ok(Descriptors {
         mode: None,
         remote: None,

@@ -1,5 +1,5 @@
-use line_events::{EventList, LineFault, LineSet, Note};
 use digits::DigitMap;
+use line_events::{EventList, LineFault, LineSet, Note};
 use mg_model::line_events::{Hook, Method, SignalSet};
 use mg_model::transitions::EventItem;
 use mg_names::identifiers::LineNo;
@@ -102,10 +102,7 @@ const SECOND: [(Event, After); 10] = [
 /// Off-hook by transition alone, and the map `12|123`.
 fn first_list(alloc: Global) -> Result<EventList, Fail> {
     let map = DigitMap::parse(alloc, "12|123")?;
-    let items = vec![in alloc;
-        EventItem::OffHook(Strict::Exact),
-        EventItem::Digits(map),
-    ]?;
+    let items = vec![in alloc; EventItem::OffHook(Strict::Exact), EventItem::Digits(map)]?;
     Ok(EventList::new(items))
 }
 

@@ -1,15 +1,16 @@
-use requests::{
-    Connections, ContextRef, Descriptors, EphemeralRef, LineEvent, Outcome, Refusal, RemoteRef,
-    Reply, Request, RequestCommand, SentNote, TerminationRef,
-};
-use line_events::{EventItem, EventList, LineFault};
-use mg_model::line_events::{Hook, SignalSet};
+use line_events::{EventList, LineFault, ListItem};
+use mg_model::line_events::{Hook, LineEvent, SignalSet};
+use mg_model::references::{ContextRef, EphemeralRef, RemoteRef, TerminationRef};
+use mg_model::transitions::EventItem;
 use mg_names::codes::Code;
 use mg_names::identifiers::{Assoc, CallNo, ContextId, LineNo, TermId};
 use mg_names::kinds::Kind;
 use mg_names::modes::Mode;
 use mg_names::signals::Signal;
 use mg_names::strictness::Strict;
+use requests::{
+    Connections, Descriptors, Outcome, Refusal, Reply, Request, RequestCommand, SentNote,
+};
 use std::alloc::{AllocError, Global};
 use std::test::Fail;
 
@@ -28,7 +29,7 @@ fn nothing() -> Descriptors {
 }
 
 /// An Events descriptor with one item.
-fn events(alloc: Global, item: EventItem) -> Result<Descriptors, AllocError> {
+fn events(alloc: Global, item: ListItem) -> Result<Descriptors, AllocError> {
     Ok(Descriptors {
         mode: None,
         remote: None,

@@ -1,7 +1,7 @@
-use terminations::{AddLineFault, Terms};
 use mg_names::codes::Code;
 use mg_names::identifiers::{ContextId, LineNo, TermId};
 use mg_names::modes::Mode;
+use terminations::{AddLineFault, Terms};
 
 #[test]
 fn each_call_once(rt: HostRuntime) {
