@@ -6,7 +6,5 @@ pub mod Texts
 pub mod Documents
 pub mod Faults
 pub mod Reading
-pub mod Table
-pub mod Words
 pub mod Meaning
 pub mod Laws

@@ -38,7 +38,7 @@ use Rattle.scriptreader.specs.declared.unbuilt.Unbuilt.TheVariants.{NoMeaning, M
 use Rattle.scriptreader.specs.Written as document
 use Rattle.scriptreader.specs.Names.{is_among}
 use Rattle.scriptreader.specs.Shape.{◌>>=◌, only_if}
-use Rattle.scriptreader.specs.Table.{place_of}
+use Rattle.script_table.specs.Table.{place_of}
 use Rattle.scriptreader.specs.Faults.{Scope, scope_of, is_too_large}
 
 -- What a function returned, seen by view, is what is meant: nothing is where it says so, unless memory ran out.

@@ -5,12 +5,9 @@ ghost use Rattle.scriptreader.specs.Meaning.{Builds, each, pair_for, transition_
 ghost use Rattle.digits.specs.Reading.{map_of};
 
 use crate::faults::is_too_large;
-use crate::lists::{EventsList, NamedMap, SignalsList};
 use crate::lookups::{number, number_if_given, slot};
 use crate::requests::commands;
 use crate::scope::Scope;
-use crate::script::Script;
-use crate::state::State;
 use crate::syntax::{
     Document, WrittenEvents, WrittenItem, WrittenMap, WrittenPair, WrittenSignals, WrittenState,
     WrittenTransition,
@@ -20,6 +17,7 @@ use crate::word::Word;
 use digits::{DigitMap, MapFault};
 use mg_model::transitions::{EventItem, Pair, Transition};
 use mg_names::signals::Signal;
+use script_table::{EventsList, NamedMap, Script, SignalsList, State, Tables};
 use std::alloc::{AllocError, Global};
 
 #[tactic(auto, unfolding(crate::specs::Meaning::pair_for))]
@@ -237,7 +235,7 @@ fn script_in(alloc: Global, scope: &Scope, document: &Document) -> Result<Script
     let lines = texts(alloc, document.lines.as_slice())?;
     let contexts = texts(alloc, document.contexts.as_slice())?;
     let ephemerals = texts(alloc, document.ephemerals.as_slice())?;
-    Ok(Script {
+    Ok(Script::new(Tables {
         lines,
         contexts,
         ephemerals,
@@ -247,7 +245,7 @@ fn script_in(alloc: Global, scope: &Scope, document: &Document) -> Result<Script
         states,
         start,
         restart,
-    })
+    }))
 }
 
 /// The table of a document that has no fault.

@@ -15,7 +15,6 @@ mod fault;
 mod faults;
 mod items;
 pub mod laws;
-mod lists;
 mod lookups;
 mod named;
 mod names;
@@ -23,20 +22,15 @@ mod reader;
 mod reads;
 mod requests;
 mod scope;
-mod script;
-mod state;
 mod syntax;
 mod tables;
 mod texts;
 mod unbuilt;
 mod unread;
 mod word;
-mod words;
 
 pub use fault::ScriptFault;
 pub use reader::read_script;
-pub use script::Script;
-pub use state::State;
 
 #[cfg(test)]
 mod tests;

@@ -1,6 +1,6 @@
 //! The words of steps.
 ghost use Rattle.std.specs.Prelude.{◌≡◌, IfOk, string_bytes};
-ghost use Rattle.scriptreader.specs.Words.{words_of};
+ghost use Rattle.script_table.specs.Words.{words_of};
 
 use crate::script::Script;
 use mg_model::steps::StepName;

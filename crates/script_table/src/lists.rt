@@ -8,9 +8,11 @@ use std::marker::Model;
 
 /// An events list (H.248.1 section 7.1.9): its name, and its items in their order.
 #[derive(Drop)]
-pub(crate) struct EventsList {
-    pub(crate) name: String,
-    pub(crate) items: Vec<EventItem>,
+pub struct EventsList {
+    /// The name.
+    pub name: String,
+    /// The items, in their order.
+    pub items: Vec<EventItem>,
 }
 
 impl Model for EventsList {
@@ -36,11 +38,13 @@ impl EventsList {
     }
 }
 
-/// A signals list (H.248.1 section 7.1.11).
+/// A signals list (H.248.1 section 7.1.11): its name, and its signals in their order.
 #[derive(Drop)]
-pub(crate) struct SignalsList {
-    pub(crate) name: String,
-    pub(crate) items: Vec<Signal>,
+pub struct SignalsList {
+    /// The name.
+    pub name: String,
+    /// The signals, in their order.
+    pub items: Vec<Signal>,
 }
 
 impl Model for SignalsList {
@@ -62,9 +66,11 @@ impl SignalsList {
 
 /// A digit map (H.248.1 section 7.1.14) with its name.
 #[derive(Drop)]
-pub(crate) struct NamedMap {
-    pub(crate) name: String,
-    pub(crate) map: DigitMap,
+pub struct NamedMap {
+    /// The name.
+    pub name: String,
+    /// The map.
+    pub map: DigitMap,
 }
 
 impl Model for NamedMap {

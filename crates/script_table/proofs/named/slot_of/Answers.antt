@@ -1,7 +1,7 @@
 use Rattle.std.proofs.Common.{◌<◌, arith, string_bytes, sym, ◌∙◌, String, Global}
 use Rattle.std.specs.Str.{bytes_eq}
-use Rattle.scriptreader.proofs.Places.{position-mapped, slot_is}
-use Rattle.scriptreader.proofs.script.slot_of.Goals as goal
+use Rattle.script_table.proofs.MappedPlaces.{position-mapped, slot_is}
+use Rattle.script_table.proofs.named.slot_of.Goals as goal
 
 pub returns-in_err-place : goal.returns-in_err-place
 returns-in_err-place c = c.from_residual.ensures ∙ (c.in_err-place.ensures.place ∙ sym (position-mapped (λ other. bytes_eq c.args.name.now other) (λ (n : String Global). string_bytes n) c.args.names.now))

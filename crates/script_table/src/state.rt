@@ -12,14 +12,22 @@ use std::marker::Model;
 /// and where it leads. This profile's own.
 #[derive(Drop)]
 pub struct State {
-    pub(crate) name: String,
-    pub(crate) commands: Vec<Command>,
-    pub(crate) talk: Vec<Pair>,
-    pub(crate) is_end: bool,
-    pub(crate) ok: Option<u8>,
-    pub(crate) fault: Option<u8>,
-    pub(crate) timer: Option<u8>,
-    pub(crate) on: Vec<Transition>,
+    /// The name.
+    pub name: String,
+    /// The commands of its request, in their order.
+    pub commands: Vec<Command>,
+    /// The pairs of lines that it marks as talking.
+    pub talk: Vec<Pair>,
+    /// Whether a call ends in it.
+    pub is_end: bool,
+    /// The place of the state that a reply without a failure leads to.
+    pub ok: Option<u8>,
+    /// The place of the state that a reply with a failure leads to.
+    pub fault: Option<u8>,
+    /// The place of the state that the timer leads to.
+    pub timer: Option<u8>,
+    /// The states that notes of lines lead to.
+    pub on: Vec<Transition>,
 }
 
 impl Model for State {
