@@ -7,7 +7,7 @@ use Rattle.mg_model.specs.Entries.{Entry}
 use Rattle.mg_model.specs.Obligations.{IsFirstFault}
 use Rattle.scriptreader.specs.declared.fault.ScriptFault.{ScriptFault}
 use Rattle.scriptreader.specs.Reading.{ReadsScript, tree_read}
-use Rattle.scriptreader.specs.Words.{words_of}
+use Rattle.script_table.specs.Words.{words_of}
 use Rattle.mgcall.specs.Output.{Text, Line, usage, sections, too_long, script_fault, certificate_fault, yes, no, no_memory}
 use Rattle.mgcall.specs.Verdict.{AreRead, Judges}
 use Rattle.mgcall.specs.Verdicts.{NamesFault}

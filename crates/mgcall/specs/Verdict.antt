@@ -11,7 +11,7 @@ use Rattle.scriptreader.specs.declared.fault.ScriptFault.{ScriptFault}
 use Rattle.scriptreader.specs.declared.fault.ScriptFault.TheVariants as scripts
 use Rattle.scriptreader.specs.FaultNames as script_names
 use Rattle.scriptreader.specs.Reading.{ReadsScript}
-use Rattle.scriptreader.specs.Words.{words_of}
+use Rattle.script_table.specs.Words.{words_of}
 use Rattle.certificate.specs.declared.fault.CertFault.{CertFault}
 use Rattle.certificate.specs.declared.fault.CertFault.TheVariants as certificates
 use Rattle.certificate.specs.FaultNames as certificate_names

@@ -5,7 +5,7 @@ use Rattle.mg_model.specs.Script.{Script}
 use Rattle.mg_model.specs.Entries.{Entry}
 use Rattle.mg_model.specs.Obligations.{IsFirstFault}
 use Rattle.scriptreader.specs.Reading.{ReadsScript}
-use Rattle.scriptreader.specs.Words.{words_of}
+use Rattle.script_table.specs.Words.{words_of}
 use Rattle.mgcall.specs.Output.{Text, Line, no, no_memory}
 use Rattle.mgcall.specs.Verdict.{AreRead, HasScriptFault, HasCertificateFault, IsChecked}
 use Rattle.mgcall.specs.declared.verdict.Verdict.{Verdict}

@@ -3,13 +3,14 @@ ghost use Rattle.std.specs.Prelude.{◌≡◌, IfOk, option_map, string_bytes};
 ghost use Rattle.mgcall.specs.Replies.{answer_line};
 ghost use Rattle.mgcall.specs.Verdict.{Judges};
 ghost use Rattle.mgcall.specs.Verdicts.{NamesFault};
-ghost use Rattle.scriptreader.specs.Words.{words_of};
+ghost use Rattle.script_table.specs.Words.{words_of};
 
 use crate::answer::{Answer, Broken};
 use crate::verdict::{CheckFault, Verdict, check};
 use mg_model::faults::Fault;
 use mg_model::steps::StepName;
-use scriptreader::{Script, read_script};
+use script_table::Script;
+use scriptreader::read_script;
 use std::alloc::{AllocError, Global};
 
 /// The words of a step, with the names of the script's lines.

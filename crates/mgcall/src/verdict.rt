@@ -7,8 +7,9 @@ use certificate::{Cert, CertFault, read_cert};
 use closure::first_fault::{first_fault, points};
 use mg_model::faults::Fault;
 use mg_safety::runs::every_run_is_good;
+use script_table::Script;
 use scriptreader::laws::accepted_scripts;
-use scriptreader::{Script, ScriptFault, read_script};
+use scriptreader::{ScriptFault, read_script};
 use std::alloc::Global;
 use std::marker::Model;
 

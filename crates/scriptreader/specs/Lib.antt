@@ -1,12 +1,8 @@
 pub mod FaultNames
-pub mod Names
-pub mod Shape
 pub mod Written
 pub mod Texts
 pub mod Documents
 pub mod Faults
 pub mod Reading
-pub mod Table
-pub mod Words
 pub mod Meaning
 pub mod Laws

@@ -1,6 +1,6 @@
 use Rattle.std.proofs.Common.{List, ℕ, Bor, sym, ◌∙◌}
 use Rattle.std.specs.Str.{bytes_eq}
-use Rattle.scriptreader.proofs.Places.{position-mapped}
+use Rattle.script_table.proofs.MappedPlaces.{position-mapped}
 use Rattle.scriptreader.proofs.names.Names.place.Goals as goal
 
 pub returns : goal.returns
