@@ -12,7 +12,7 @@ pub struct EventsList {
     /// The name.
     pub name: String,
     /// The items, in their order.
-    pub items: Vec<EventItem>,
+    pub items: Vec<EventItem<u8>>,
 }
 
 impl Model for EventsList {
@@ -31,7 +31,7 @@ impl EventsList {
         self.name.as_str()
     }
 
-    pub(crate) fn items(&self) -> &[EventItem]
+    pub(crate) fn items(&self) -> &[EventItem<u8>]
         ensures { result.now ≡ self.now.items }
     {
         self.items.as_slice()

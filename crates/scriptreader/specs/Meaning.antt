@@ -198,7 +198,7 @@ state_for k s = do
 
 -- ---- lists and maps
 
-unfoldable pub item_for : Scope → WrittenItem → Option EventItem
+unfoldable pub item_for : Scope → WrittenItem → Option (EventItem ℕ)
 item_for k (item.OnHook strict) = Some (OnHook strict)
 item_for k (item.OffHook strict) = Some (OffHook strict)
 item_for k item.Flash = Some Flash

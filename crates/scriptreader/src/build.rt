@@ -117,7 +117,7 @@ fn texts(alloc: Global, words: &[Word]) -> Result<Vec<String>, AllocError>
 }
 
 #[tactic(auto, unfolding(crate::specs::Meaning::item_for))]
-fn item(scope: &Scope, written: &WrittenItem) -> Result<EventItem, Unbuilt>
+fn item(scope: &Scope, written: &WrittenItem) -> Result<EventItem<u8>, Unbuilt>
     ensures { Builds (λ item. item) result (item_for scope.now written.now) }
 {
     match written {
@@ -128,7 +128,7 @@ fn item(scope: &Scope, written: &WrittenItem) -> Result<EventItem, Unbuilt>
     }
 }
 
-fn items(alloc: Global, scope: &Scope, written: &[WrittenItem]) -> Result<Vec<EventItem>, Unbuilt>
+fn items(alloc: Global, scope: &Scope, written: &[WrittenItem]) -> Result<Vec<EventItem<u8>>, Unbuilt>
     ensures { Builds (λ items. items.items) result (each (item_for scope.now) written.now) }
 {
     let mut found = Vec::new(alloc);
