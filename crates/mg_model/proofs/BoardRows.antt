@@ -15,7 +15,8 @@ use Rattle.mg_model.specs.declared.items.RemoteSetting.TheVariants.{Nothing, Eph
 use Rattle.mg_model.specs.declared.items.Settings.{Settings}
 use Rattle.mg_model.specs.declared.rows.Row.{Row}
 use Rattle.mg_model.specs.Board.{Board}
-use Rattle.mg_model.specs.Items.{effect, choose, lacks_termination}
+use Rattle.mg_model.specs.Numbers.{choose}
+use Rattle.mg_model.specs.Items.{effect, lacks_termination}
 use Rattle.mg_model.specs.Media.{goes_over}
 
 abbrev line : ℕ → TermId

@@ -18,16 +18,25 @@ use Rattle.mg_model.specs.declared.commands.SignalsName.{SignalsName}
 use Rattle.mg_model.specs.declared.commands.Termination.{Termination}
 use Rattle.mg_model.specs.declared.commands.Termination.TheVariants as termination
 use Rattle.mg_model.specs.declared.line_events.SignalSet.{SignalSet}
+use Rattle.mg_model.specs.declared.references.ContextRef.{ContextRef}
+use Rattle.mg_model.specs.declared.references.ContextRef.TheVariants.{Number, MadeAt}
+use Rattle.mg_model.specs.declared.references.EphemeralRef.{EphemeralRef}
+use Rattle.mg_model.specs.declared.references.EphemeralRef.TheVariants as ephemeral
+use Rattle.mg_model.specs.declared.references.RemoteRef.{RemoteRef}
+use Rattle.mg_model.specs.declared.references.RemoteRef.TheVariants.{Nothing, To}
+use Rattle.mg_model.specs.declared.references.TerminationRef.{TerminationRef}
+use Rattle.mg_model.specs.declared.references.TerminationRef.TheVariants.{Line, Ephemeral}
 use Rattle.mg_model.specs.declared.transitions.EventItem.{EventItem}
 use Rattle.mg_model.specs.declared.transitions.EventItem.TheVariants as item
-use Rattle.mg_model.specs.Configuration.{with_at}
-use Rattle.mg_model.specs.Gateway.{last_number}
-use Rattle.mg_model.specs.Items.{Done, choose, null}
+use Rattle.mg_model.specs.Delivery.{Inbox, arrival, is_new, with_accepted}
+use Rattle.mg_model.specs.Items.{Done}
 use Rattle.mg_model.specs.LineEvents.{ListItem, OnHook, OffHook, Flash, DialledBy, Note}
-use Rattle.mg_model.specs.Messages.{ContextRef, context, context_made_at, EphemeralRef, ephemeral, ephemeral_made_at, TerminationRef, on_line, on_ephemeral, RemoteRef, no_remote, remote_to, Descriptors, RequestCommand, add_line, add_ephemeral, modify, move, subtract, subtract_all, set_topology, Request, Reply, SentNote, Failure}
+use Rattle.mg_model.specs.Messages.{Descriptors, RequestCommand, add_line, add_ephemeral, modify, move, subtract, subtract_all, set_topology, Request, Reply, SentNote, Failure}
+use Rattle.mg_model.specs.Numbers.{null, choose, all, no_ephemeral, first_association, first_number, opening_request, last_number}
 use Rattle.mg_model.specs.Request.{Names, built, created_context, created_ephemeral}
 use Rattle.mg_model.specs.Script.{Script, NamedMap, DigitMap}
 use Rattle.mg_model.specs.Tables.{state_of, items_of, signals_of, target_in, is_empty}
+use Rattle.mg_model.specs.Updates.{with_at}
 
 -- what the agent waits for: the reply to a request, or `pass` where its request was empty; or it is at rest
 pub data Phase : Type 0 where
@@ -109,12 +118,12 @@ made_after made command place = record {
 
 -- a name that the request created means what it created, and else what it is bound to
 abbrev pub context_or : Option ℕ → Option ℕ → ContextRef
-context_or (Some place) bound = context_made_at place
-context_or None bound = context (unwrap_or bound 4294967295)
+context_or (Some place) bound = MadeAt place
+context_or None bound = Number (record { 0 = unwrap_or bound all })
 
 abbrev pub ephemeral_or : Option ℕ → Option ℕ → EphemeralRef
-ephemeral_or (Some place) bound = ephemeral_made_at place
-ephemeral_or None bound = ephemeral (unwrap_or bound 0)
+ephemeral_or (Some place) bound = ephemeral.MadeAt place
+ephemeral_or None bound = ephemeral.Number (unwrap_or bound no_ephemeral)
 
 abbrev pub context_ref : Agent → Made → ℕ → ContextRef
 context_ref a made j = context_or (made.contexts j) (a.contexts j)
@@ -123,19 +132,19 @@ abbrev pub ephemeral_ref : Agent → Made → ℕ → EphemeralRef
 ephemeral_ref a made k = ephemeral_or (made.ephemerals k) (a.ephemerals k)
 
 abbrev pub added_to : Agent → Made → Bool → ℕ → ContextRef
-added_to a made create j = if create then context choose else context_ref a made j
+added_to a made create j = if create then Number (record { 0 = choose }) else context_ref a made j
 
 abbrev pub place_ref : Agent → Made → Place → ContextRef
-place_ref a made NullContext = context null
+place_ref a made NullContext = Number (record { 0 = null })
 place_ref a made (Context j) = context_ref a made j
 
 abbrev pub termination_ref : Agent → Made → Termination → TerminationRef
-termination_ref a made (termination.Line i) = on_line (a.lines i)
-termination_ref a made (termination.Ephemeral k) = on_ephemeral (ephemeral_ref a made k)
+termination_ref a made (termination.Line i) = Line (record { 0 = a.lines i })
+termination_ref a made (termination.Ephemeral k) = Ephemeral (ephemeral_ref a made k)
 
 abbrev pub remote_ref : Agent → Made → RemoteOption → RemoteRef
-remote_ref a made NoneGiven = no_remote
-remote_ref a made (Peer k) = remote_to (ephemeral_ref a made k)
+remote_ref a made NoneGiven = Nothing
+remote_ref a made (Peer k) = To (ephemeral_ref a made k)
 
 abbrev pub line_descriptors : Script → LineOptions → Descriptors
 line_descriptors script o = record {
@@ -151,12 +160,12 @@ ephemeral_descriptors a made o = record { mode = o.mode; remote = option_map (re
 abbrev pub command_of : Script → Agent → Made → Command → RequestCommand
 command_of script a made (AddLine create j i o) = add_line (added_to a made create j) (a.lines i) (line_descriptors script o)
 command_of script a made (AddEphemeral create j k o) = add_ephemeral (added_to a made create j) (ephemeral_descriptors a made o)
-command_of script a made (ModifyLine place i o) = modify (place_ref a made place) (on_line (a.lines i)) (line_descriptors script o)
+command_of script a made (ModifyLine place i o) = modify (place_ref a made place) (Line (record { 0 = a.lines i })) (line_descriptors script o)
 command_of script a made (ModifyEphemeral place k o) =
-    modify (place_ref a made place) (on_ephemeral (ephemeral_ref a made k)) (ephemeral_descriptors a made o)
-command_of script a made (MoveLine j i o) = move (context_ref a made j) (on_line (a.lines i)) (line_descriptors script o)
+    modify (place_ref a made place) (Ephemeral (ephemeral_ref a made k)) (ephemeral_descriptors a made o)
+command_of script a made (MoveLine j i o) = move (context_ref a made j) (Line (record { 0 = a.lines i })) (line_descriptors script o)
 command_of script a made (MoveEphemeral j k o) =
-    move (context_ref a made j) (on_ephemeral (ephemeral_ref a made k)) (ephemeral_descriptors a made o)
+    move (context_ref a made j) (Ephemeral (ephemeral_ref a made k)) (ephemeral_descriptors a made o)
 command_of script a made (Subtract j t) = subtract (context_ref a made j) (termination_ref a made t)
 command_of script a made (SubtractAll j) = subtract_all (context_ref a made j)
 command_of script a made (SetTopology j t u topology) =
@@ -292,15 +301,19 @@ is_resting resting = true
 is_resting awaits_pass = false
 is_resting (awaits_reply request) = false
 
--- a note is accepted at rest, in a state that isn't an end, in the agent's association, and once
+-- the inbox of the agent
+abbrev pub inbox_of : Agent → Inbox
+inbox_of a = record { association = a.association; accepted = a.accepted }
+
+-- a note is accepted at rest, in a state that isn't an end, where it is new to the inbox
 abbrev pub may_accept : Script → Agent → SentNote → Bool
 may_accept script a sent =
-    is_resting a.phase && not (state_of script a.state).is_end && sent.association == a.association && not (a.accepted sent.number)
+    is_resting a.phase && not (state_of script a.state).is_end && is_new (arrival (inbox_of a) sent.association sent.number)
 
 abbrev pub noted : Script → Agent → List ℕ → SentNote → Option Agent
 noted script a slots sent =
     if may_accept script a sent
-    then entered_or_stays script (record a { accepted = with_at a.accepted sent.number true }) (target_of script a (line_in a sent.line slots) sent.note)
+    then entered_or_stays script (record a { accepted = (with_accepted (inbox_of a) sent.number).accepted }) (target_of script a (line_in a sent.line slots) sent.note)
     else None
 
 abbrev pub timed : Script → Agent → Option Agent
@@ -327,11 +340,11 @@ opened script call lines = record {
   call = call;
   state = script.start;
   phase = resting;
-  association = 1;
+  association = first_association;
   lines = lines;
   contexts = λ j. None;
   ephemerals = λ k. None;
-  next = 1;
-  expected = λ i. if nat_lt i (length script.lines) then Some 0 else None;
+  next = first_number;
+  expected = λ i. if nat_lt i (length script.lines) then Some opening_request else None;
   accepted = λ n. false;
 }

@@ -8,6 +8,7 @@ use Rattle.mg_names.specs.declared.identifiers.TermId.TheVariants.{Line, Eph}
 use Rattle.mg_names.specs.declared.modes.Mode.{Mode}
 use Rattle.mg_names.specs.declared.modes.Mode.TheVariants.{Inactive}
 use Rattle.mg_model.specs.declared.rows.Row.{Row}
+use Rattle.mg_model.specs.Numbers.{null}
 
 pub record Board : Type 0 where
   -- the row of a termination; nothing where it doesn't exist
@@ -31,7 +32,7 @@ exists b t = is_some (b.row t)
 
 -- the number of the context in which a row stands; what doesn't exist stands in none, and is read as in the null one
 abbrev pub place_in : Option Row → ℕ
-place_in None = 0
+place_in None = null
 place_in (Some row) = row.place.0
 
 abbrev pub mode_in : Option Row → Mode
@@ -53,4 +54,4 @@ remote_of b t = remote_in (b.row t)
 
 -- a context other than the null context, in which a termination stands
 abbrev pub ContextExists : Board → ℕ → Type 0
-ContextExists b c = (c ≡ 0 → ⊥) × ((t : TermId) × (place_of b t ≡ c))
+ContextExists b c = (c ≡ null → ⊥) × ((t : TermId) × (place_of b t ≡ c))

@@ -104,10 +104,6 @@ pub record IsWellFormed (c : Configuration) : Type 0 where
   pub cut_within : (t u : Termination) → IsTrue (c.cut t u) →
       (j : ℕ) × (IsTrue (is_in (c.spot t) j) × IsTrue (is_in (c.spot u) j))
 
--- f but for one number, where it is v
-abbrev pub with_at : {A : Type 0} → (ℕ → A) → ℕ → A → ℕ → A
-with_at f i v = λ k. if k == i then v else f k
-
 -- f but for one termination, where it is v
 abbrev pub with_of : {A : Type 0} → (Termination → A) → Termination → A → Termination → A
 with_of f t v = λ u. if is_same u t then v else f u

@@ -2,6 +2,7 @@
 -- once; that a new number confirms all lower ones is this profile's own). A reader should check that a number is fresh only
 -- where it is above the last one that was kept, in the link's association.
 use Rattle.std.specs.Prelude.{ℕ, ◌==◌, Bool, true, false, if◌then◌else◌, nat_lt, Option, Some, None}
+use Rattle.mg_model.specs.Updates.{with_at}
 
 -- a link: its association, and the last request's number with what is kept of it
 pub record Link (R : Type 0) : Type 0 where
@@ -44,10 +45,19 @@ abbrev pub arrival : Inbox → ℕ → ℕ → Arrival
 arrival inbox association number =
     if association == inbox.association then (if inbox.accepted number then was_seen else arrives_new) else is_old
 
+abbrev pub is_new : Arrival → Bool
+is_new arrives_new = true
+is_new was_seen = false
+is_new is_old = false
+
 abbrev pub new_inbox : ℕ → Inbox
 new_inbox association = record { association = association; accepted = λ n. false }
+
+-- a number is accepted
+abbrev pub with_accepted : Inbox → ℕ → Inbox
+with_accepted inbox number = record inbox { accepted = with_at inbox.accepted number true }
 
 -- the inbox after a note arrived: a new number is accepted
 abbrev pub after_arrival : Inbox → ℕ → ℕ → Inbox
 after_arrival inbox association number =
-    if association == inbox.association then record inbox { accepted = λ n. if n == number then true else inbox.accepted n } else inbox
+    if association == inbox.association then with_accepted inbox number else inbox

@@ -24,7 +24,8 @@ use Rattle.mg_model.specs.declared.components.Remote.{Remote}
 use Rattle.mg_model.specs.declared.components.Remote.TheVariants.{Unset, Gone, To}
 use Rattle.mg_model.specs.Script.{Script}
 use Rattle.mg_model.specs.Tables.{signals_of, is_empty}
-use Rattle.mg_model.specs.Configuration.{Configuration, is_same, is_in, is_null, is_present, is_live, with_at, with_of, settled}
+use Rattle.mg_model.specs.Updates.{with_at}
+use Rattle.mg_model.specs.Configuration.{Configuration, is_same, is_in, is_null, is_present, is_live, with_of, settled}
 
 -- the place names an existing context, or the null context
 abbrev pub place_exists : Configuration → Place → Bool

@@ -14,7 +14,8 @@ use Rattle.mg_model.specs.declared.commands.EventsName.TheVariants.{Empty}
 use Rattle.mg_model.specs.declared.commands.Termination.{Termination}
 use Rattle.mg_model.specs.declared.components.Spot.{Spot}
 use Rattle.mg_model.specs.declared.components.Remote.{Remote}
-use Rattle.mg_model.specs.Configuration.{Configuration, IsWellFormed, with_at, with_of}
+use Rattle.mg_model.specs.Updates.{with_at}
+use Rattle.mg_model.specs.Configuration.{Configuration, IsWellFormed, with_of}
 use Rattle.mg_model.specs.Effects.{with_pair}
 use Rattle.mg_model.specs.Steps.{unused}
 

@@ -1,16 +1,17 @@
 -- The gateway whole: its association, the connection model, its lines, for each call the reply that its link keeps and the
 -- count of its notes, and what events do to it. A reader should check that a request is executed at most once (H.248.1
 -- section 8.1), that messages of another association do nothing, and what a restart takes away.
-use Rattle.std.specs.Prelude.{◌≡◌, ℕ, ◌+◌, ◌<◌, ◌≤◌, ◌==◌, false, if◌then◌else◌, List, [], ◌∷◌, length, Option, Some, None, ◌⊎◌}
+use Rattle.std.specs.Prelude.{◌≡◌, ℕ, ◌+◌, ◌≤◌, ◌==◌, false, if◌then◌else◌, List, [], ◌∷◌, length, Option, Some, None, option_map}
 use Rattle.mg_names.specs.declared.identifiers.TermId.{TermId}
-use Rattle.mg_names.specs.declared.signals.Signal.{Signal}
-use Rattle.mg_names.specs.declared.symbols.Symbol.{Symbol}
-use Rattle.mg_model.specs.declared.line_events.Hook.{Hook}
+use Rattle.mg_model.specs.declared.line_events.LineEvent.{LineEvent}
+use Rattle.mg_model.specs.declared.line_events.LineEvent.TheVariants.{Hook, Flash, Digit, Pause, SignalEnd}
 use Rattle.mg_model.specs.declared.rows.Row.{Row}
 use Rattle.mg_model.specs.Board.{Board}
+use Rattle.mg_model.specs.Delivery.{Link, Offer, fresh, kept, discard, offer}
 use Rattle.mg_model.specs.Items.{subtracted}
 use Rattle.mg_model.specs.LineEvents.{LineRow, Note, Outcome, cleared, hooked, flashed, dialled, paused, signal_ended}
 use Rattle.mg_model.specs.Messages.{Request, Reply, SentNote, Failure}
+use Rattle.mg_model.specs.Numbers.{last_number}
 use Rattle.mg_model.specs.RequestRun.{Running, Refusal, RunsFrom}
 
 -- the link of a call: the reply to the last request that was executed, if there is one, and how many notes were sent
@@ -28,19 +29,15 @@ pub record Gateway : Type 0 where
   pub creator : ℕ → Option ℕ
   pub link : ℕ → CallLink
 
--- the greatest number of a transaction and of a note
-abbrev pub last_number : ℕ
-last_number = 4294967295
-
 -- ---- requests
 
--- the number of the last request that was executed, 0 where there is none
-abbrev pub number_of : Option Reply → ℕ
-number_of None = 0
-number_of (Some reply) = reply.number
+-- what the link of a call keeps, in the gateway's association: the reply to the last request, under its number
+abbrev pub link_in : Gateway → ℕ → Link Reply
+link_in g call = record { association = g.association; last = option_map (λ (reply : Reply). (reply.number, reply)) (g.link call).last }
 
-abbrev pub last_executed : Gateway → ℕ → ℕ
-last_executed g call = number_of (g.link call).last
+-- what that link says of a request that arrives
+abbrev pub offer_to : Gateway → Request → Offer Reply
+offer_to g request = offer (link_in g request.call) request.association request.number
 
 abbrev pub with_link : Gateway → ℕ → CallLink → Gateway
 with_link g call link = record g { link = λ c. if c == call then link else g.link c }
@@ -68,13 +65,11 @@ after_request g request end failure =
     with_link (record g { board = end.board; line = end.line; creator = creator_after g request end }) request.call
     (record { last = Some (reply_of request end failure); notes = (g.link request.call).notes + length end.notes })
 
--- a request of this association whose number is greater than the last is executed. Where the numbers of notes could run out it
--- can't happen (this profile's own)
+-- a request whose number is fresh is executed. Where the numbers of notes could run out it can't happen (this profile's own)
 pub record IsExecutedBy (g : Gateway) (request : Request) (refusal : Refusal) (after : Gateway) (reply : Reply) (notes : List SentNote) : Type 0 where
   pub end : Running
   pub failure : Option Failure
-  pub current : request.association ≡ g.association
-  pub newer : last_executed g request.call < request.number
+  pub is_fresh : offer_to g request ≡ fresh
   pub room : (g.link request.call).notes + length request.commands ≤ last_number
   pub runs : RunsFrom request.number refusal (start_of g) 0 request.commands end failure
   pub after_is : after ≡ after_request g request end failure
@@ -82,31 +77,21 @@ pub record IsExecutedBy (g : Gateway) (request : Request) (refusal : Refusal) (a
   pub notes_are : notes ≡ sent_notes request.call request.association (g.link request.call).notes end.notes
 
 -- a request with the number of the last one has its reply sent once more
-pub record IsKept (g : Gateway) (request : Request) (reply : Reply) : Type 0 where
-  pub current : request.association ≡ g.association
-  pub same_number : request.number ≡ reply.number
-  pub kept : (g.link request.call).last ≡ Some reply
+abbrev pub IsKept : Gateway → Request → Reply → Type 0
+IsKept g request reply = offer_to g request ≡ kept reply
 
 -- any other does nothing: one of another association, one with a lower number, and one with the number 0, which no request has
 abbrev pub IsDiscarded : Gateway → Request → Type 0
-IsDiscarded g request =
-    (request.association ≡ g.association → ⊥) ⊎ ((request.number < last_executed g request.call) ⊎ (request.number ≡ 0))
+IsDiscarded g request = offer_to g request ≡ discard
 
 -- ---- what users do, and signals that end
 
-pub data LineEvent : Type 0 where
-  hook : Hook → LineEvent
-  flash : LineEvent
-  digit : Symbol → LineEvent
-  pause : LineEvent
-  signal_end : Signal → LineEvent
-
 abbrev pub outcome_of : LineRow → LineEvent → Option Outcome
-outcome_of row (hook h) = hooked row h
-outcome_of row flash = flashed row
-outcome_of row (digit s) = dialled row s
-outcome_of row pause = paused row
-outcome_of row (signal_end s) = signal_ended row s
+outcome_of row (Hook h) = hooked row h
+outcome_of row Flash = flashed row
+outcome_of row (Digit s) = dialled row s
+outcome_of row Pause = paused row
+outcome_of row (SignalEnd s) = signal_ended row s
 
 abbrev pub with_line : Gateway → ℕ → LineRow → Gateway
 with_line g l row = record g { line = λ other. if other == l then row else g.line other }

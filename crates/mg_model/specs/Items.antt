@@ -2,7 +2,7 @@
 -- (H.248.1 section 7.2 on the commands, 7.1.18 on Topology). Where a rule is this profile's own it says so. A reader
 -- should check each command's places of the codes, that the codes go in the order 411, 430, 433, 435, 510, and that
 -- what a command doesn't name stays as it was.
-use Rattle.std.specs.Prelude.{◌≡◌, ℕ, ◌<◌, ◌==◌, Bool, true, false, not, ◌&&◌, ◌||◌, IsTrue, if◌then◌else◌, List, [], ◌∷◌, Contains, Option, Some, None, unwrap_or, ◌⊎◌, ◌↔◌}
+use Rattle.std.specs.Prelude.{◌≡◌, ℕ, ◌<◌, ◌≤◌, ◌==◌, Bool, true, false, not, ◌&&◌, ◌||◌, IsTrue, if◌then◌else◌, List, [], ◌∷◌, Contains, Option, Some, None, unwrap_or, ◌⊎◌, ◌↔◌}
 use Rattle.mg_names.specs.declared.codes.Code.{Code}
 use Rattle.mg_names.specs.declared.codes.Code.TheVariants.{UnknownContext, UnknownTermination, AlreadyInContext, NotInContext, InternalFailure, InsufficientResources}
 use Rattle.mg_names.specs.declared.identifiers.ContextId.{ContextId}
@@ -10,6 +10,8 @@ use Rattle.mg_names.specs.declared.identifiers.TermId.{TermId}
 use Rattle.mg_names.specs.declared.identifiers.TermId.TheVariants.{Line, Eph}
 use Rattle.mg_names.specs.declared.modes.Mode.{Mode}
 use Rattle.mg_names.specs.declared.modes.Mode.TheVariants.{Inactive}
+use Rattle.mg_names.specs.declared.topologies.Topology.{Topology}
+use Rattle.mg_names.specs.declared.topologies.Topology.TheVariants.{Isolate, Oneway, Bothway}
 use Rattle.mg_model.specs.declared.items.Added.{Added}
 use Rattle.mg_model.specs.declared.items.Added.TheVariants as added
 use Rattle.mg_model.specs.declared.items.Item.{Item}
@@ -19,14 +21,7 @@ use Rattle.mg_model.specs.declared.items.RemoteSetting.TheVariants.{Nothing, Eph
 use Rattle.mg_model.specs.declared.items.Settings.{Settings}
 use Rattle.mg_model.specs.declared.rows.Row.{Row}
 use Rattle.mg_model.specs.Board.{Board, same_term, exists, place_of, mode_of, remote_of, ContextExists}
-use Rattle.mg_model.specs.Effects.{cuts_forward, cuts_backward}
-
--- the null context and CHOOSE, by their numbers
-abbrev pub null : ℕ
-null = 0
-
-abbrev pub choose : ℕ
-choose = 4294967294
+use Rattle.mg_model.specs.Numbers.{null, choose, last_ephemeral}
 
 -- ---- when a code applies
 
@@ -81,7 +76,7 @@ abbrev pub is_context_number : ℕ → Type 0
 is_context_number n = (0 < n) × (n < choose)
 
 abbrev pub is_ephemeral_number : ℕ → Type 0
-is_ephemeral_number n = (0 < n) × (n < 4294967296)
+is_ephemeral_number n = (0 < n) × (n ≤ last_ephemeral)
 
 -- no number is left for what the command creates (this profile's own)
 abbrev pub NoContextLeft : Board → Type 0
@@ -196,6 +191,23 @@ abbrev pub with_added : Board → Added → Chosen → ℕ → Settings → Boar
 with_added b (added.Line l) chosen c settings = placed b (Line l) c settings
 with_added b added.NewEphemeral chosen c settings = with_ephemeral b chosen.ephemeral c settings
 
+-- who receives after a Topology descriptor (H.248.1 section 7.1.18): `isolate`, neither; `oneway`, the second of the triple from the
+-- first and not the other way; `bothway`, each from the other
+abbrev pub second_receives : Topology → Bool
+second_receives Isolate = false
+second_receives Oneway = true
+second_receives Bothway = true
+
+abbrev pub first_receives : Topology → Bool
+first_receives Isolate = false
+first_receives Oneway = false
+first_receives Bothway = true
+
+-- what was set for a pair is replaced: media is cut where the one is not to receive from the other
+abbrev pub with_topology : (TermId → TermId → Bool) → TermId → TermId → Topology → TermId → TermId → Bool
+with_topology cut t u topology =
+    with_cut (with_cut cut t u (not (second_receives topology))) u t (not (first_receives topology))
+
 -- the terminations that a command takes out of their context for good
 abbrev pub leaves : Board → Item → TermId → Bool
 leaves b (Subtract context t) u = same_term u t
@@ -207,7 +219,7 @@ moved b (Add context what settings) chosen = with_added b what chosen (target co
 moved b (Modify context t settings) chosen = placed b t context.0 settings
 moved b (Move context t settings) chosen = placed (record b { cut = without_cuts (same_term t) b.cut }) t context.0 settings
 moved b (SetTopology context t u topology) chosen =
-    record b { cut = with_cut (with_cut b.cut t u (cuts_forward topology)) u t (cuts_backward topology) }
+    record b { cut = with_topology b.cut t u topology }
 moved b item chosen = without b (leaves b item)
 
 -- the board after a command that is legal

@@ -1,3 +1,5 @@
+pub mod Numbers
+pub mod Updates
 pub mod Script
 pub mod Configuration
 pub mod Tables

@@ -1,21 +1,37 @@
 -- Paths of media on the gateway, and joined lines. Within a context media goes by modes and topology (H.248.1 sections
 -- 7.1.5 and 7.1.18); from one context to another it crosses only between two ephemerals that name each other (this
 -- profile's own). The definition is about lists of crossings. A reader should check the direction: a hop needs that the
--- first termination passes media into the context, and the second out of it.
-use Rattle.std.specs.Prelude.{ℕ, ◌==◌, Bool, false, not, ◌&&◌, IsTrue, List, [], ◌∷◌, Option, Some, None, ◌⊎◌}
+-- first termination receives media for the context, and the second sends it out.
+use Rattle.std.specs.Prelude.{ℕ, ◌==◌, Bool, true, false, not, ◌&&◌, IsTrue, List, [], ◌∷◌, Option, Some, None, ◌⊎◌}
 use Rattle.mg_names.specs.declared.identifiers.TermId.{TermId}
 use Rattle.mg_names.specs.declared.identifiers.TermId.TheVariants.{Line, Eph}
+use Rattle.mg_names.specs.declared.modes.Mode.{Mode}
+use Rattle.mg_names.specs.declared.modes.Mode.TheVariants.{Inactive, SendOnly, ReceiveOnly, SendReceive}
 use Rattle.mg_model.specs.Board.{Board, same_term, exists, place_of, mode_of, remote_of}
-use Rattle.mg_model.specs.Paths.{passes_in, passes_out}
+use Rattle.mg_model.specs.Numbers.{null}
+
+-- what each mode lets through, seen from outside the context (H.248.1 section 7.1.7): a termination receives from outside, for its
+-- context, in ReceiveOnly and SendReceive, and sends what its context has to the outside in SendOnly and SendReceive
+abbrev pub receives : Mode → Bool
+receives ReceiveOnly = true
+receives SendReceive = true
+receives SendOnly = false
+receives Inactive = false
+
+abbrev pub sends : Mode → Bool
+sends SendOnly = true
+sends SendReceive = true
+sends ReceiveOnly = false
+sends Inactive = false
 
 -- both stand in one context that is not the null context
 abbrev pub share_context : Board → TermId → TermId → Bool
-share_context b t u = not (place_of b t == 0) && place_of b t == place_of b u
+share_context b t u = not (place_of b t == null) && place_of b t == place_of b u
 
 -- media goes from t to u, two different terminations of one context
 abbrev pub hops : Board → TermId → TermId → Bool
 hops b t u =
-    not (same_term t u) && share_context b t u && passes_in (mode_of b t) && passes_out (mode_of b u) && not (b.cut t u)
+    not (same_term t u) && share_context b t u && receives (mode_of b t) && sends (mode_of b u) && not (b.cut t u)
 
 abbrev pub is_number : Option ℕ → ℕ → Bool
 is_number None k = false

@@ -6,26 +6,11 @@ use Rattle.mg_names.specs.declared.codes.Code.{Code}
 use Rattle.mg_names.specs.declared.modes.Mode.{Mode}
 use Rattle.mg_names.specs.declared.topologies.Topology.{Topology}
 use Rattle.mg_model.specs.declared.line_events.SignalSet.{SignalSet}
+use Rattle.mg_model.specs.declared.references.ContextRef.{ContextRef}
+use Rattle.mg_model.specs.declared.references.RemoteRef.{RemoteRef}
+use Rattle.mg_model.specs.declared.references.TerminationRef.{TerminationRef}
 use Rattle.mg_model.specs.Items.{Done}
 use Rattle.mg_model.specs.LineEvents.{ListItem, Note}
-
--- a context: by its number, CHOOSE and NULL among them, or the one that an earlier command of the request created
-pub data ContextRef : Type 0 where
-  context : ℕ → ContextRef
-  context_made_at : ℕ → ContextRef
-
--- an ephemeral: by its number, or the one that an earlier command created
-pub data EphemeralRef : Type 0 where
-  ephemeral : ℕ → EphemeralRef
-  ephemeral_made_at : ℕ → EphemeralRef
-
-pub data TerminationRef : Type 0 where
-  on_line : ℕ → TerminationRef
-  on_ephemeral : EphemeralRef → TerminationRef
-
-pub data RemoteRef : Type 0 where
-  no_remote : RemoteRef
-  remote_to : EphemeralRef → RemoteRef
 
 -- what a command sets; Events and Signals descriptors are for lines alone
 pub record Descriptors : Type 0 where

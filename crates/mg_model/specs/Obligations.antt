@@ -2,6 +2,8 @@
 -- calls is safe; that is a theorem of its own. This profile's own. A reader should check each obligation, and that
 -- their order is the one in which the answer `no` names the first.
 use Rattle.std.specs.Prelude.{◌≡◌, ℕ, ◌<◌, false, IsTrue, List, [], ◌∷◌, length, slice_get, Option, Some, None, ◌⊎◌}
+use Rattle.mg_names.specs.declared.obligations.Obligation.{Obligation}
+use Rattle.mg_names.specs.declared.obligations.Obligation.TheVariants as obligation
 use Rattle.mg_names.specs.declared.phases.Link.TheVariants.{Sent, Resting}
 use Rattle.mg_model.specs.declared.commands.Termination.TheVariants.{Line, Ephemeral}
 use Rattle.mg_model.specs.declared.components.Spot.TheVariants.{Absent, Null}
@@ -35,21 +37,21 @@ EndedIsCleared script c =
 abbrev pub CreatedAreUnbound : Script → Configuration → Type 0
 CreatedAreUnbound script c = c.link ≡ Sent → IsTrue (names_unbound script c)
 
--- an obligation: of the certificate as a whole, of a point of an entry, or of a step of a point
-pub data Obligation : Type 0 where
-  OpeningCovered : Obligation
-  ResetCovered : Obligation
-  Marked : (entry point : ℕ) → Obligation
-  Cleared : (entry point : ℕ) → Obligation
-  Unbound : (entry point : ℕ) → Obligation
-  StepCovered : (entry point step : ℕ) → Obligation
+-- what an obligation asks, place by place: of the certificate as a whole, of a point of an entry, or of a step of a point
+pub data Claim : Type 0 where
+  OpeningCovered : Claim
+  ResetCovered : Claim
+  Marked : (entry point : ℕ) → Claim
+  Cleared : (entry point : ℕ) → Claim
+  Unbound : (entry point : ℕ) → Claim
+  StepCovered : (entry point step : ℕ) → Claim
 
 -- a fact of the point with this number in the entry at this place, where there is such a point
 abbrev pub AtPoint : List Entry → ℕ → ℕ → (Configuration → Type 0) → Type 0
 AtPoint entries e p P =
     (entry : Entry) → slice_get entries e ≡ Some entry → (c : Configuration) → IsPointOf entry p c → P c
 
-abbrev pub Holds : Script → List Entry → Obligation → Type 0
+abbrev pub Holds : Script → List Entry → Claim → Type 0
 Holds script entries OpeningCovered = IsCovered entries (opening script)
 Holds script entries ResetCovered = IsCovered entries (reset script)
 Holds script entries (Marked e p) = AtPoint entries e p (JoinedAreMarked script)
@@ -60,7 +62,7 @@ Holds script entries (StepCovered e p s) =
 
 -- the order in which obligations are named: the opening, the reset, then by entry and point, and in a point joined
 -- lines, ended calls, created names, then the steps in their order
-abbrev pub rank_in_point : Obligation → ℕ
+abbrev pub rank_in_point : Claim → ℕ
 rank_in_point OpeningCovered = 0
 rank_in_point ResetCovered = 0
 rank_in_point (Marked e p) = 0
@@ -68,11 +70,11 @@ rank_in_point (Cleared e p) = 1
 rank_in_point (Unbound e p) = 2
 rank_in_point (StepCovered e p s) = 3
 
-abbrev pub step_in_point : Obligation → ℕ
+abbrev pub step_in_point : Claim → ℕ
 step_in_point (StepCovered e p s) = s
 step_in_point _ = 0
 
-abbrev pub point_of : Obligation → ℕ × ℕ
+abbrev pub point_of : Claim → ℕ × ℕ
 point_of (Marked e p) = (e, p)
 point_of (Cleared e p) = (e, p)
 point_of (Unbound e p) = (e, p)
@@ -80,7 +82,7 @@ point_of (StepCovered e p s) = (e, p)
 point_of _ = (0, 0)
 
 -- 0 for the opening, 1 for the reset, 2 for what belongs to a point
-abbrev pub part_of : Obligation → ℕ
+abbrev pub part_of : Claim → ℕ
 part_of OpeningCovered = 0
 part_of ResetCovered = 1
 part_of (Marked e p) = 2
@@ -88,7 +90,7 @@ part_of (Cleared e p) = 2
 part_of (Unbound e p) = 2
 part_of (StepCovered e p s) = 2
 
-abbrev pub key_of : Obligation → List ℕ
+abbrev pub key_of : Claim → List ℕ
 key_of o = part_of o ∷ (point_of o).0 ∷ (point_of o).1 ∷ rank_in_point o ∷ step_in_point o ∷ []
 
 -- the first difference of two lists of numbers decides
@@ -97,19 +99,19 @@ KeyBefore [] ys = ⊥
 KeyBefore (x ∷ xs) [] = ⊥
 KeyBefore (x ∷ xs) (y ∷ ys) = (x < y) ⊎ ((x ≡ y) × KeyBefore xs ys)
 
-abbrev pub ComesBefore : Obligation → Obligation → Type 0
+abbrev pub ComesBefore : Claim → Claim → Type 0
 ComesBefore a b = KeyBefore (key_of a) (key_of b)
 
--- what the answer `no` says of an obligation: its number, and its entry and point where there are such
-abbrev pub fault_number : Obligation → ℕ
-fault_number OpeningCovered = 1
-fault_number ResetCovered = 6
-fault_number (Marked e p) = 3
-fault_number (Cleared e p) = 4
-fault_number (Unbound e p) = 5
-fault_number (StepCovered e p s) = 2
+-- what the answer `no` says of a claim: the obligation that it is of, and its entry and point where there are such
+abbrev pub obligation_of : Claim → Obligation
+obligation_of OpeningCovered = obligation.OpeningCovered
+obligation_of ResetCovered = obligation.ResetCovered
+obligation_of (Marked e p) = obligation.JoinedMarked
+obligation_of (Cleared e p) = obligation.EndedCleared
+obligation_of (Unbound e p) = obligation.CreatedUnbound
+obligation_of (StepCovered e p s) = obligation.StepsCovered
 
-abbrev pub entry_named : Obligation → Option ℕ
+abbrev pub entry_named : Claim → Option ℕ
 entry_named OpeningCovered = None
 entry_named ResetCovered = None
 entry_named (Marked e p) = Some e
@@ -117,7 +119,7 @@ entry_named (Cleared e p) = Some e
 entry_named (Unbound e p) = Some e
 entry_named (StepCovered e p s) = Some e
 
-abbrev pub point_named : Obligation → Option ℕ
+abbrev pub point_named : Claim → Option ℕ
 point_named OpeningCovered = None
 point_named ResetCovered = None
 point_named (Marked e p) = Some p
@@ -126,7 +128,7 @@ point_named (Unbound e p) = Some p
 point_named (StepCovered e p s) = Some p
 
 -- the fault names the step that breaks its obligation, and none for the other obligations
-abbrev pub NamesStep : Script → List Entry → Obligation → Option StepName → Type 0
+abbrev pub NamesStep : Script → List Entry → Claim → Option StepName → Type 0
 NamesStep script entries (StepCovered e p s) named =
     (entry : Entry) × (slice_get entries e ≡ Some entry) × ((c : Configuration) × IsPointOf entry p c
     × ((step : Step) × (slice_get (steps_of script c) s ≡ Some step) × (named ≡ Some step.0)))
@@ -134,14 +136,14 @@ NamesStep script entries _ named = named ≡ None
 
 -- no obligation is broken
 abbrev pub NoneBroken : Script → List Entry → Type 0
-NoneBroken script entries = (o : Obligation) → Holds script entries o
+NoneBroken script entries = (o : Claim) → Holds script entries o
 
 -- the fault is that of the first obligation that is broken
 pub record IsFirstFault (script : Script) (entries : List Entry) (fault : Fault) : Type 0 where
-  pub obligation : Obligation
-  pub broken : Holds script entries obligation → ⊥
-  pub before : (earlier : Obligation) → ComesBefore earlier obligation → Holds script entries earlier
-  pub number : fault.number ≡ fault_number obligation
-  pub entry : fault.entry ≡ entry_named obligation
-  pub point : fault.point ≡ point_named obligation
-  pub step : NamesStep script entries obligation fault.step
+  pub claim : Claim
+  pub broken : Holds script entries claim → ⊥
+  pub before : (earlier : Claim) → ComesBefore earlier claim → Holds script entries earlier
+  pub obligation : fault.obligation ≡ obligation_of claim
+  pub entry : fault.entry ≡ entry_named claim
+  pub point : fault.point ≡ point_named claim
+  pub step : NamesStep script entries claim fault.step

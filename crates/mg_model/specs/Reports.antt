@@ -1,14 +1,15 @@
 -- What a plan's report says of each call, and how the histories of several shards are one history. A reader should check
 -- which message each step of a plan delivers, that a step which cannot happen is counted idle, and that the report speaks of each
 -- call run alone on a gateway of its own. This profile's own.
-use Rattle.std.specs.Prelude.{◌≡◌, ℕ, zero, suc, ◌+◌, ◌≤◌, ◌==◌, Bool, true, false, not, ◌&&◌, if◌then◌else◌, List, [], ◌∷◌, ◌++◌, Contains, slice_index_or, Option, Some, None, ◌⊎◌, codes}
+use Rattle.std.specs.Prelude.{◌≡◌, ℕ, zero, suc, ◌+◌, ◌≤◌, ◌==◌, Bool, true, false, ◌&&◌, if◌then◌else◌, List, [], ◌∷◌, ◌++◌, Contains, slice_index_or, Option, Some, None, ◌⊎◌, codes}
 use Rattle.std.specs.List.{find, flat_map}
 use Rattle.mg_names.specs.declared.codes.Code.TheVariants.{InternalFailure}
 use Rattle.mg_names.specs.declared.signals.Signal.{Signal}
 use Rattle.mg_names.specs.declared.symbols.Symbol.{Symbol}
 use Rattle.mg_model.specs.declared.line_events.Hook.TheVariants.{On, Off}
-use Rattle.mg_model.specs.Agent.{Agent, Phase, awaits_reply, awaits_pass, resting}
-use Rattle.mg_model.specs.Gateway.{hook, flash, digit, pause, signal_end}
+use Rattle.mg_model.specs.declared.line_events.LineEvent.TheVariants.{Hook, Flash, Digit, Pause, SignalEnd}
+use Rattle.mg_model.specs.Agent.{Agent, Phase, awaits_reply, awaits_pass, resting, inbox_of}
+use Rattle.mg_model.specs.Delivery.{is_new, arrival}
 use Rattle.mg_model.specs.Messages.{Request, Reply, SentNote}
 use Rattle.mg_model.specs.RequestRun.{Refusal}
 use Rattle.mg_model.specs.Script.{Script}
@@ -52,9 +53,9 @@ MeansRequest w call which request = find (λ (r : Request). is_of call which r.c
 abbrev pub MeansReply : World → ℕ → Option ℕ → Reply → Type 0
 MeansReply w call which answer = find (λ (r : Reply). is_of call which r.call r.number) w.replies ≡ Some answer
 
--- a note of the call in the agent's association that it did not accept
+-- a note of the call that is new to the agent's inbox
 abbrev pub is_waiting : Agent → SentNote → Bool
-is_waiting a sent = sent.call == a.call && sent.association == a.association && not (a.accepted sent.number)
+is_waiting a sent = sent.call == a.call && is_new (arrival (inbox_of a) sent.association sent.number)
 
 abbrev pub MeansNote : World → Agent → Option ℕ → SentNote → Type 0
 MeansNote w a None sent =
@@ -68,12 +69,12 @@ refusal_at (Some place) = Some (place, InternalFailure)
 
 -- the step means the event, in this world, for this agent
 abbrev pub Means : World → Agent → PlanStep → Event → Type 0
-Means w a (goes_off l) event = event ≡ on_a_line (a.lines l) (hook Off)
-Means w a (goes_on l) event = event ≡ on_a_line (a.lines l) (hook On)
-Means w a (flashes l) event = event ≡ on_a_line (a.lines l) flash
-Means w a (dials l s) event = event ≡ on_a_line (a.lines l) (digit s)
-Means w a (pauses l) event = event ≡ on_a_line (a.lines l) pause
-Means w a (ends l s) event = event ≡ on_a_line (a.lines l) (signal_end s)
+Means w a (goes_off l) event = event ≡ on_a_line (a.lines l) (Hook Off)
+Means w a (goes_on l) event = event ≡ on_a_line (a.lines l) (Hook On)
+Means w a (flashes l) event = event ≡ on_a_line (a.lines l) Flash
+Means w a (dials l s) event = event ≡ on_a_line (a.lines l) (Digit s)
+Means w a (pauses l) event = event ≡ on_a_line (a.lines l) Pause
+Means w a (ends l s) event = event ≡ on_a_line (a.lines l) (SignalEnd s)
 Means w a (executes which place) event =
     (request : Request) × MeansRequest w a.call which request × (event ≡ execute request (refusal_at place))
 Means w a (takes_reply which) event = (answer : Reply) × MeansReply w a.call which answer × (event ≡ reply answer)

@@ -1,7 +1,7 @@
 -- The built request of a state: its commands in order, without those that use a name that is neither bound nor created
 -- by an earlier command that was kept. This profile's own. A reader should check which names each command uses: a
 -- created name is not used by the command that creates it, a Remote is.
-use Rattle.std.specs.Prelude.{ℕ, Bool, true, not, ◌&&◌, ◌||◌, if◌then◌else◌, List, [], ◌∷◌, Option, Some, None}
+use Rattle.std.specs.Prelude.{ℕ, Bool, true, ◌&&◌, ◌||◌, if◌then◌else◌, List, [], ◌∷◌, Option, Some, None}
 use Rattle.mg_model.specs.declared.commands.Command.{Command}
 use Rattle.mg_model.specs.declared.commands.Command.TheVariants.{AddLine, AddEphemeral, ModifyLine, ModifyEphemeral, MoveLine, MoveEphemeral, Subtract, SubtractAll, SetTopology}
 use Rattle.mg_model.specs.declared.commands.Place.{Place}
@@ -10,19 +10,12 @@ use Rattle.mg_model.specs.declared.commands.RemoteOption.{RemoteOption}
 use Rattle.mg_model.specs.declared.commands.RemoteOption.TheVariants.{NoneGiven, Peer}
 use Rattle.mg_model.specs.declared.commands.Termination.{Termination}
 use Rattle.mg_model.specs.declared.commands.Termination.TheVariants.{Line, Ephemeral}
-use Rattle.mg_model.specs.Configuration.{Configuration, is_free, is_present, with_at}
+use Rattle.mg_model.specs.Updates.{with_at}
 
 -- the names that commands may use: contexts, and ephemerals
 pub record Names : Type 0 where
   pub contexts : ℕ → Bool
   pub ephemerals : ℕ → Bool
-
--- the names that are bound in a configuration
-abbrev pub bound_names : Configuration → Names
-bound_names c = record {
-  contexts = λ j. not (is_free (c.context j));
-  ephemerals = λ k. is_present (c.spot (Ephemeral k));
-}
 
 abbrev pub place_known : Names → Place → Bool
 place_known names NullContext = true

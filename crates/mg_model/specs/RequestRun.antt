@@ -13,30 +13,39 @@ use Rattle.mg_model.specs.declared.items.RemoteSetting.{RemoteSetting}
 use Rattle.mg_model.specs.declared.items.RemoteSetting.TheVariants.{Nothing, Ephemeral}
 use Rattle.mg_model.specs.declared.items.Settings.{Settings}
 use Rattle.mg_model.specs.declared.line_events.SignalSet.{SignalSet}
+use Rattle.mg_model.specs.declared.references.ContextRef.{ContextRef}
+use Rattle.mg_model.specs.declared.references.ContextRef.TheVariants.{Number, MadeAt}
+use Rattle.mg_model.specs.declared.references.EphemeralRef.{EphemeralRef}
+use Rattle.mg_model.specs.declared.references.EphemeralRef.TheVariants as ephemeral
+use Rattle.mg_model.specs.declared.references.RemoteRef.{RemoteRef}
+use Rattle.mg_model.specs.declared.references.RemoteRef.TheVariants as remote
+use Rattle.mg_model.specs.declared.references.TerminationRef.{TerminationRef}
+use Rattle.mg_model.specs.declared.references.TerminationRef.TheVariants as on
 use Rattle.mg_model.specs.Board.{Board}
 use Rattle.mg_model.specs.Items.{Done, IsLegal, IsRefused, IsExecuted, leaves}
 use Rattle.mg_model.specs.LineEvents.{ListItem, LineRow, Note, Outcome, armed, signalled, cleared, stays}
-use Rattle.mg_model.specs.Messages.{ContextRef, context, context_made_at, EphemeralRef, ephemeral, ephemeral_made_at, TerminationRef, on_line, on_ephemeral, RemoteRef, no_remote, remote_to, Descriptors, RequestCommand, add_line, add_ephemeral, modify, move, subtract, subtract_all, set_topology, Failure}
+use Rattle.mg_model.specs.Numbers.{all, no_ephemeral}
+use Rattle.mg_model.specs.Messages.{Descriptors, RequestCommand, add_line, add_ephemeral, modify, move, subtract, subtract_all, set_topology, Failure}
 
 -- ---- names, by what the earlier commands created
 
 -- a place at which no context was created stands for ALL, which is no context; one at which no ephemeral was created for 0,
 -- which is no ephemeral. So such commands are answered 411 and 430
 abbrev pub context_at : List Done → ContextRef → ℕ
-context_at results (context n) = n
-context_at results (context_made_at p) = unwrap_or (option_and_then (λ (done : Done). done.context) (slice_get results p)) 4294967295
+context_at results (Number n) = n.0
+context_at results (MadeAt p) = unwrap_or (option_and_then (λ (done : Done). done.context) (slice_get results p)) all
 
 abbrev pub ephemeral_at : List Done → EphemeralRef → ℕ
-ephemeral_at results (ephemeral n) = n
-ephemeral_at results (ephemeral_made_at p) = unwrap_or (option_and_then (λ (done : Done). done.ephemeral) (slice_get results p)) 0
+ephemeral_at results (ephemeral.Number n) = n
+ephemeral_at results (ephemeral.MadeAt p) = unwrap_or (option_and_then (λ (done : Done). done.ephemeral) (slice_get results p)) no_ephemeral
 
 abbrev pub termination_at : List Done → TerminationRef → TermId
-termination_at results (on_line l) = Line (record { 0 = l })
-termination_at results (on_ephemeral e) = Eph (ephemeral_at results e)
+termination_at results (on.Line l) = Line l
+termination_at results (on.Ephemeral e) = Eph (ephemeral_at results e)
 
 abbrev pub remote_at : List Done → RemoteRef → RemoteSetting
-remote_at results no_remote = Nothing
-remote_at results (remote_to e) = Ephemeral (ephemeral_at results e)
+remote_at results remote.Nothing = Nothing
+remote_at results (remote.To e) = Ephemeral (ephemeral_at results e)
 
 abbrev pub settings_at : List Done → Descriptors → Settings
 settings_at results d = record { mode = d.mode; remote = option_map (remote_at results) d.remote }
@@ -56,8 +65,8 @@ item_at results (set_topology c t u topology) =
 
 -- the line that a command's descriptors are for, with the descriptors
 abbrev pub of_termination : TerminationRef → Descriptors → Option (ℕ × Descriptors)
-of_termination (on_line l) d = Some (l, d)
-of_termination (on_ephemeral e) d = None
+of_termination (on.Line l) d = Some (l.0, d)
+of_termination (on.Ephemeral e) d = None
 
 abbrev pub described : RequestCommand → Option (ℕ × Descriptors)
 described (add_line c l d) = Some (l, d)

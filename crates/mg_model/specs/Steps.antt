@@ -20,15 +20,22 @@ use Rattle.mg_model.specs.declared.components.Remote.TheVariants.{Unset}
 use Rattle.mg_model.specs.declared.steps.StepName.{StepName}
 use Rattle.mg_model.specs.declared.steps.StepName.TheVariants.{Refuse, Execute, Reply, Observe, Timer}
 use Rattle.mg_model.specs.Script.{Script}
-use Rattle.mg_model.specs.Tables.{state_of, items_of, raises, target_in, is_empty}
+use Rattle.mg_model.specs.Tables.{state_of, items_of, raises, target_in, is_empty, line_places}
 use Rattle.mg_model.specs.Configuration.{Configuration, is_free, is_present}
-use Rattle.mg_model.specs.Request.{bound_names, built, created_context, created_ephemeral}
+use Rattle.mg_model.specs.Request.{Names, built, created_context, created_ephemeral}
 use Rattle.mg_model.specs.Effects.{is_legal, effect}
 use Rattle.std.specs.Prelude.{nat_lt}
 
 -- a step, with the configuration that it leads to
 abbrev pub Step : Type 0
 Step = StepName × Configuration
+
+-- the names that are bound in a configuration
+abbrev pub bound_names : Configuration → Names
+bound_names c = record {
+  contexts = λ j. not (is_free (c.context j));
+  ephemerals = λ k. is_present (c.spot (Ephemeral k));
+}
 
 -- the request that a state builds in a configuration
 abbrev pub request_in : Script → Configuration → ℕ → List Command
@@ -97,15 +104,6 @@ observation script c line kind =
 
 abbrev pub observations : Script → Configuration → ℕ → List Step
 observations script c line = flat_map (observation script c line) all_kinds
-
--- the first n numbers of these
-abbrev pub below : ℕ → List ℕ → List ℕ
-below n [] = []
-below n (i ∷ more) = if nat_lt i n then i ∷ below n more else []
-
--- the places of a script's lines, in their order
-abbrev pub line_places : Script → List ℕ
-line_places script = below (length script.lines) (0 ∷ 1 ∷ 2 ∷ 3 ∷ [])
 
 abbrev pub steps_by_link : Script → Configuration → Link → List Step
 steps_by_link script c Sent =

@@ -1,6 +1,6 @@
 -- What a script's tables say at a place. A place that the table does not have is read as a state with nothing in it,
 -- or as a list with no item. A reader should check the two predefined events lists and the predefined signals list.
-use Rattle.std.specs.Prelude.{ℕ, ◌==◌, Bool, true, false, ◌&&◌, ◌||◌, List, [], ◌∷◌, Option, None, unwrap_or, option_map, find, slice_get}
+use Rattle.std.specs.Prelude.{ℕ, ◌==◌, Bool, true, false, ◌&&◌, ◌||◌, if◌then◌else◌, nat_lt, List, [], ◌∷◌, length, Option, None, unwrap_or, option_map, find, slice_get}
 use Rattle.std.specs.List.{list_any}
 use Rattle.mg_names.specs.declared.kinds.Kind.{Kind}
 use Rattle.mg_names.specs.declared.kinds.Kind.TheVariants.{On, Of, Fl, Full, Part}
@@ -31,6 +31,15 @@ no_state = record {
 
 abbrev pub state_of : Script → ℕ → State
 state_of script i = unwrap_or (slice_get script.states i) no_state
+
+-- the first n numbers of these
+abbrev pub below : ℕ → List ℕ → List ℕ
+below n [] = []
+below n (i ∷ more) = if nat_lt i n then i ∷ below n more else []
+
+-- the places of a script's lines, in their order
+abbrev pub line_places : Script → List ℕ
+line_places script = below (length script.lines) (0 ∷ 1 ∷ 2 ∷ 3 ∷ [])
 
 -- the items of an events list
 abbrev pub items_of : Script → EventsName → List EventItem

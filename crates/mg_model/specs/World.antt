@@ -5,17 +5,18 @@ use Rattle.std.specs.Prelude.{◌≡◌, ℕ, ◌<◌, ◌≤◌, ◌==◌, fals
 use Rattle.mg_names.specs.declared.identifiers.TermId.TheVariants.{Line, Eph}
 use Rattle.mg_names.specs.declared.modes.Mode.TheVariants.{Inactive}
 use Rattle.mg_names.specs.declared.strictness.Strict.TheVariants.{Exact}
+use Rattle.mg_model.specs.declared.line_events.LineEvent.{LineEvent}
 use Rattle.mg_model.specs.declared.rows.Row.{Row}
 use Rattle.mg_model.specs.Agent.{Agent, Phase, awaits_reply, awaits_pass, resting, replied, passed, noted, timed, heard, opened}
 use Rattle.mg_model.specs.Board.{exists}
-use Rattle.mg_model.specs.Gateway.{Gateway, LineEvent, IsExecutedBy, IsKept, IsDiscarded, Happens, restarted}
+use Rattle.mg_model.specs.Gateway.{Gateway, IsExecutedBy, IsKept, IsDiscarded, Happens, restarted}
 use Rattle.mg_model.specs.LineEvents.{OffHook, LineRow, new_line, silent}
 use Rattle.mg_model.specs.Media.{AreJoined}
 use Rattle.mg_model.specs.Messages.{Request, Reply, SentNote}
+use Rattle.mg_model.specs.Numbers.{null, first_association, last_association, opening_request}
 use Rattle.mg_model.specs.RequestRun.{Refusal}
 use Rattle.mg_model.specs.Script.{Script}
-use Rattle.mg_model.specs.Steps.{line_places}
-use Rattle.mg_model.specs.Tables.{state_of, is_marked}
+use Rattle.mg_model.specs.Tables.{state_of, is_marked, line_places}
 
 pub record World : Type 0 where
   pub gateway : Gateway
@@ -103,7 +104,7 @@ Occurs script w (timer call) after = AgentSteps w call (timed script) after
 Occurs script w (hear call association) after =
     (association ≤ w.gateway.association) × AgentSteps w call (λ a. heard script a association) after
 Occurs script w restart after =
-    (w.gateway.association < 18446744073709551615) × (after ≡ with_gateway w (restarted w.gateway))
+    (w.gateway.association < last_association) × (after ≡ with_gateway w (restarted w.gateway))
 
 -- the events of a list happen one after the other
 unfoldable pub Runs : Script → List Event → World → World → Type 0
@@ -125,16 +126,16 @@ pub record AreDistinct (script : Script) (calls : List Opened) : Type 0 where
 
 -- a line is armed by `al/of` with `strict=exact` alone, with RequestID 0, on hook and silent
 abbrev pub armed_line : LineRow
-armed_line = record new_line { list = OffHook Exact ∷ []; request = Some 0 }
+armed_line = record new_line { list = OffHook Exact ∷ []; request = Some opening_request }
 
 abbrev pub null_row : Row
-null_row = record { place = record { 0 = 0 }; mode = Inactive; remote = None }
+null_row = record { place = record { 0 = null }; mode = Inactive; remote = None }
 
 -- association 1; finitely many calls, each at rest in the start state, each of its lines in the null context, Inactive,
 -- silent, armed and on hook; nothing was sent
 pub record IsOpening (script : Script) (calls : List Opened) (w : World) : Type 0 where
   pub distinct : AreDistinct script calls
-  pub association : w.gateway.association ≡ 1
+  pub association : w.gateway.association ≡ first_association
   pub lines_stand : (one : Opened) → Contains calls one → (i : ℕ) → i < length script.lines
       → w.gateway.board.row (Line (record { 0 = one.lines i })) ≡ Some null_row
   pub lines_armed : (one : Opened) → Contains calls one → (i : ℕ) → i < length script.lines
@@ -179,7 +180,7 @@ pub record IsMarkedPair (script : Script) (w : World) (l m : ℕ) : Type 0 where
 -- list that is exactly `al/of` with `strict=exact`
 pub record IsCleared (script : Script) (w : World) (call : ℕ) (a : Agent) : Type 0 where
   pub no_ephemeral : (k : ℕ) → w.gateway.creator k ≡ Some call → exists w.gateway.board (Eph k) ≡ false
-  pub in_null : (i : ℕ) → i < length script.lines → (row : Row) × (w.gateway.board.row (Line (record { 0 = a.lines i })) ≡ Some row) × (row.place.0 ≡ 0)
+  pub in_null : (i : ℕ) → i < length script.lines → (row : Row) × (w.gateway.board.row (Line (record { 0 = a.lines i })) ≡ Some row) × (row.place.0 ≡ null)
   pub is_silent : (i : ℕ) → i < length script.lines → (w.gateway.line (a.lines i)).playing ≡ silent
   pub is_armed : (i : ℕ) → i < length script.lines → (w.gateway.line (a.lines i)).list ≡ OffHook Exact ∷ []
 

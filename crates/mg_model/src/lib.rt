@@ -9,6 +9,7 @@ pub mod faults;
 pub mod items;
 pub mod line_events;
 pub mod positions;
+pub mod references;
 pub mod rows;
 pub mod steps;
 pub mod transitions;

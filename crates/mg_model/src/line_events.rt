@@ -1,3 +1,6 @@
+use mg_names::signals::Signal;
+use mg_names::symbols::Symbol;
+
 /// The hook state of a line (H.248.1 Annex E.9).
 #[derive(Clone, Copy, Debug, PartialEq, Eq)]
 pub enum Hook {
@@ -42,4 +45,19 @@ impl SignalSet {
         busy_tone: false,
         congestion_tone: false,
     };
+}
+
+/// What happens on a line.
+#[derive(Clone, Copy, Debug, PartialEq, Eq)]
+pub enum LineEvent {
+    /// The hook goes to a state (H.248.1 Annex E.9).
+    Hook(Hook),
+    /// The user flashes the hook (Annex E.9).
+    Flash,
+    /// The user dials a symbol (Annex E.6).
+    Digit(Symbol),
+    /// The timer of the digit map ends (H.248.1 section 7.1.14).
+    Pause,
+    /// A signal that plays ends, at any moment (this profile's own).
+    SignalEnd(Signal),
 }

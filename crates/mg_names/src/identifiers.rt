@@ -32,3 +32,14 @@ pub enum TermId {
 /// (H.248.1 section 11.2 on ServiceChange; the numbers are this profile's own).
 #[derive(Clone, Copy, Debug, PartialEq, Eq, Hash)]
 pub struct Assoc(pub u64);
+
+impl Assoc {
+    /// The first association.
+    pub const FIRST: Assoc = Assoc(1);
+}
+
+/// The greatest number of a transaction and of a note. This profile's own.
+pub const LAST_NUMBER: u32 = u32::MAX;
+
+/// The RequestID of the Events descriptor with which a line is opened, which no transaction carries. This profile's own.
+pub const OPENING_REQUEST: u32 = 0;

@@ -8,6 +8,7 @@ pub mod events;
 pub mod identifiers;
 pub mod kinds;
 pub mod modes;
+pub mod obligations;
 pub mod phases;
 pub mod signals;
 pub mod slots;

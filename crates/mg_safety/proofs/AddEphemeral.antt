@@ -16,10 +16,12 @@ use Rattle.mg_model.specs.declared.commands.Termination.TheVariants as terminati
 use Rattle.mg_model.specs.declared.components.Spot.TheVariants.{Null, In}
 use Rattle.mg_model.specs.declared.rows.Row.{Row}
 use Rattle.mg_model.specs.Board.{Board, same_term, exists, mode_in, remote_in, ContextExists}
-use Rattle.mg_model.specs.Configuration.{Configuration, is_same, is_present, is_live, is_free, with_at, with_of, stands_in}
+use Rattle.mg_model.specs.Updates.{with_at}
+use Rattle.mg_model.specs.Configuration.{Configuration, is_same, is_present, is_live, is_free, with_of, stands_in}
 use Rattle.mg_model.specs.Effects as effects
+use Rattle.mg_model.specs.Numbers.{choose}
 use Rattle.mg_model.specs.Effects.{remote_legal}
-use Rattle.mg_model.specs.Items.{choose, effect, given, is_context_number, is_ephemeral_number, row_at, target, with_ephemeral}
+use Rattle.mg_model.specs.Items.{effect, given, is_context_number, is_ephemeral_number, row_at, target, with_ephemeral}
 use Rattle.mg_model.specs.Request.{remote_option_known}
 use Rattle.mg_model.specs.Script.{Script}
 use Rattle.mg_safety.proofs.Components.{free_as_before, same_term_self}

@@ -11,9 +11,9 @@ use Rattle.mg_model.specs.Gateway.{Gateway, last_executed}
 use Rattle.mg_model.specs.Messages.{Request}
 use Rattle.mg_model.specs.Script.{Script}
 use Rattle.mg_model.specs.Steps as steps
-use Rattle.mg_model.specs.Steps.{Step, entering, line_places, observations}
+use Rattle.mg_model.specs.Steps.{Step, entering, observations}
 use Rattle.std.specs.List.{flat_map}
-use Rattle.mg_model.specs.Tables.{state_of}
+use Rattle.mg_model.specs.Tables.{state_of, line_places}
 use Rattle.mg_model.specs.World.{World, pass, timer}
 use Rattle.mg_safety.proofs.Cases.{none_is_some}
 use Rattle.mg_safety.proofs.Shown.{naming, Shown, LinesShown}

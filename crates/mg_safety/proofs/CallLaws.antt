@@ -9,7 +9,7 @@ use Rattle.mg_model.specs.Gateway.{Gateway, LineEvent, last_executed, row_restar
 use Rattle.mg_model.specs.Messages.{Request, Reply, SentNote}
 use Rattle.mg_model.specs.RequestRun.{Refusal}
 use Rattle.mg_model.specs.World.{World, on_a_line, execute, reply, pass, note, timer, hear, restart, Executes, IsFirst, LineOccurs, AgentSteps, sent_in}
-use Rattle.mg_model.specs.Steps.{line_places}
+use Rattle.mg_model.specs.Tables.{line_places}
 use Rattle.mg_safety.specs.Laws.{OldRequestsDoNothing, RestartsClearLines, EventsKeepOthers, AreNumbered, IsSameButReplies, IsSameFor}
 use Rattle.mg_safety.proofs.Cases.{at_another}
 use Rattle.mg_safety.proofs.AgentLaws.{IsOwn, GivesOwn, replied_own, passed_own, noted_own, timed_own, heard_own}

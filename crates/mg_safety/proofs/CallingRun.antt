@@ -8,7 +8,7 @@ use Rattle.mg_model.specs.declared.transitions.Transition.{Transition}
 use Rattle.mg_model.specs.Agent.{Agent, noted}
 use Rattle.mg_model.specs.Gateway.{hook}
 use Rattle.mg_model.specs.Script.{Script}
-use Rattle.mg_model.specs.Steps.{line_places}
+use Rattle.mg_model.specs.Tables.{line_places}
 use Rattle.mg_model.specs.World.{World, Event, on_a_line, note, execute, AgentSteps, agent_steps, Runs}
 use Rattle.mg_safety.specs.Needed.{EndsBadly}
 use Rattle.mg_safety.specs.Talk.{call, off_hook}

@@ -11,7 +11,8 @@ use Rattle.mg_model.specs.declared.components.Remote.TheVariants.{Unset, Gone, T
 use Rattle.mg_model.specs.declared.components.Spot.{Spot}
 use Rattle.mg_model.specs.declared.components.Spot.TheVariants.{Null, In}
 use Rattle.mg_model.specs.Board.{Board, same_term, exists, place_of, place_in, mode_in, remote_in}
-use Rattle.mg_model.specs.Configuration.{Configuration, is_same, is_present, with_at}
+use Rattle.mg_model.specs.Updates.{with_at}
+use Rattle.mg_model.specs.Configuration.{Configuration, is_same, is_present}
 use Rattle.mg_model.specs.Script.{Script}
 use Rattle.mg_model.specs.Accepted.{IsSlot}
 use Rattle.mg_safety.proofs.Components.{is_same_is, same_term_is, same_term_self}

@@ -10,7 +10,8 @@ use Rattle.mg_model.specs.declared.commands.Termination.TheVariants as terminati
 use Rattle.mg_model.specs.declared.components.Spot.TheVariants.{Null}
 use Rattle.mg_model.specs.declared.rows.Row.{Row}
 use Rattle.mg_model.specs.Board.{Board, same_term, exists, place_of, place_in}
-use Rattle.mg_model.specs.Configuration.{Configuration, with_at, with_of}
+use Rattle.mg_model.specs.Updates.{with_at}
+use Rattle.mg_model.specs.Configuration.{Configuration, with_of}
 use Rattle.mg_model.specs.Items.{given, without_cuts}
 use Rattle.mg_safety.proofs.Cases.{none_is_some, the_some}
 use Rattle.mg_safety.proofs.Binding.{with_at_here, with_at_kept, with_at_some, given_new, given_still}

@@ -7,7 +7,8 @@ use Rattle.mg_names.specs.declared.identifiers.TermId.TheVariants.{Line}
 use Rattle.mg_names.specs.declared.modes.Mode.{Mode}
 use Rattle.mg_model.specs.declared.rows.Row.{Row}
 use Rattle.mg_model.specs.Board.{Board, place_in}
-use Rattle.mg_model.specs.Items.{Chosen, Done, Lists, IsExecuted, IsLegal, effect, choose, is_context_number}
+use Rattle.mg_model.specs.Numbers.{choose}
+use Rattle.mg_model.specs.Items.{Chosen, Done, Lists, IsExecuted, IsLegal, effect, is_context_number}
 use Rattle.mg_model.specs.LineEvents.{ListItem}
 use Rattle.mg_model.specs.Messages.{RequestCommand, add_line, context}
 use Rattle.mg_model.specs.RequestRun.{item_at}

@@ -11,7 +11,8 @@ use Rattle.mg_model.specs.declared.components.Spot.TheVariants.{In}
 use Rattle.mg_model.specs.Board.{Board, exists, place_of}
 use Rattle.mg_model.specs.Configuration.{Configuration, IsWellFormed, is_in, is_live}
 use Rattle.mg_model.specs.Effects.{place_exists, stands_at}
-use Rattle.mg_model.specs.Items.{choose, is_context_number}
+use Rattle.mg_model.specs.Numbers.{choose}
+use Rattle.mg_model.specs.Items.{is_context_number}
 use Rattle.mg_model.specs.Request.{place_known}
 use Rattle.mg_model.specs.Script.{Script}
 use Rattle.mg_model.specs.Accepted.{IsScript, IsSlot}

@@ -8,7 +8,8 @@ use Rattle.mg_model.specs.declared.commands.Command.TheVariants.{AddLine, AddEph
 use Rattle.mg_model.specs.Agent.{Agent, Made, Phase, awaits_reply, awaits_pass, resting, entered_with, entered, built_by, command_of, commands_of, made_after, none_made, request_of}
 use Rattle.mg_model.specs.Configuration.{Configuration}
 use Rattle.mg_model.specs.Entries.{Entry}
-use Rattle.mg_model.specs.Gateway.{Gateway, last_executed, last_number}
+use Rattle.mg_model.specs.Numbers.{last_number}
+use Rattle.mg_model.specs.Gateway.{Gateway, last_executed}
 use Rattle.mg_model.specs.LineEvents.{LineRow}
 use Rattle.mg_model.specs.Messages.{Request, RequestCommand}
 use Rattle.mg_model.specs.Request.{Names, built}

@@ -14,7 +14,8 @@ use Rattle.mg_model.specs.declared.commands.RemoteOption.TheVariants.{NoneGiven,
 use Rattle.mg_model.specs.declared.commands.Termination.TheVariants as termination
 use Rattle.mg_model.specs.declared.components.Spot.TheVariants.{In}
 use Rattle.mg_model.specs.Board.{Board, exists, place_of, mode_of, remote_of}
-use Rattle.mg_model.specs.Configuration.{Configuration, is_live, with_at, with_of, stands_in}
+use Rattle.mg_model.specs.Updates.{with_at}
+use Rattle.mg_model.specs.Configuration.{Configuration, is_live, with_of, stands_in}
 use Rattle.mg_model.specs.Effects as effects
 use Rattle.mg_model.specs.Effects.{is_elsewhere, place_exists, stands_at, remote_legal}
 use Rattle.mg_model.specs.Items.{effect, names_nothing}

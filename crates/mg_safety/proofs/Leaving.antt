@@ -17,7 +17,8 @@ use Rattle.mg_model.specs.declared.rows.Row.{Row}
 use Rattle.mg_model.specs.Board.{Board, exists, place_of, place_in, mode_in, remote_in}
 use Rattle.mg_model.specs.Configuration.{Configuration, is_present, is_free, settled, stands_in}
 use Rattle.mg_model.specs.Effects.{without_terminations, without_cuts_of, spot_after, remote_after}
-use Rattle.mg_model.specs.Items.{subtracted, without, null}
+use Rattle.mg_model.specs.Numbers.{null}
+use Rattle.mg_model.specs.Items.{subtracted, without}
 use Rattle.mg_model.specs.Script.{Script}
 use Rattle.mg_model.specs.Accepted.{IsSlot}
 use Rattle.mg_safety.proofs.Components.{free_as_before}

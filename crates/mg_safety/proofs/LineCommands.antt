@@ -16,10 +16,12 @@ use Rattle.mg_model.specs.declared.items.Item.TheVariants.{Modify}
 use Rattle.mg_model.specs.declared.items.Settings.{Settings}
 use Rattle.mg_model.specs.declared.rows.Row.{Row}
 use Rattle.mg_model.specs.Board.{Board, same_term, exists, place_of, mode_of, remote_of, ContextExists}
-use Rattle.mg_model.specs.Configuration.{Configuration, is_null, is_live, is_free, with_at, with_of, stands_in}
+use Rattle.mg_model.specs.Updates.{with_at}
+use Rattle.mg_model.specs.Configuration.{Configuration, is_null, is_live, is_free, with_of, stands_in}
 use Rattle.mg_model.specs.Effects as effects
+use Rattle.mg_model.specs.Numbers.{choose}
 use Rattle.mg_model.specs.Effects.{is_elsewhere}
-use Rattle.mg_model.specs.Items.{Chosen, is_context_number, choose, effect, row_at, target}
+use Rattle.mg_model.specs.Items.{Chosen, is_context_number, effect, row_at, target}
 use Rattle.mg_model.specs.Script.{Script}
 use Rattle.mg_model.specs.Accepted.{IsSlot}
 use Rattle.mg_safety.proofs.Components.{free_as_before}

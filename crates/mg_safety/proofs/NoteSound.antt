@@ -6,14 +6,14 @@ use Rattle.std.specs.Prelude.{◌==◌, ◌&&◌, not, if◌then◌else◌, ◌�
 use Rattle.mg_names.specs.declared.phases.Link.TheVariants.{Resting}
 use Rattle.mg_model.specs.declared.steps.StepName.TheVariants as names
 use Rattle.mg_model.specs.Agent.{Agent, resting, entered_or_stays, is_resting, line_in, list_of, may_accept, noted, target_of}
-use Rattle.mg_model.specs.Configuration.{Configuration, with_at}
+use Rattle.mg_model.specs.Updates.{with_at}
+use Rattle.mg_model.specs.Configuration.{Configuration}
 use Rattle.mg_model.specs.Entries.{Entry}
 use Rattle.mg_model.specs.Gateway.{Gateway, last_executed}
 use Rattle.mg_model.specs.Messages.{SentNote}
 use Rattle.mg_model.specs.Script.{Script}
 use Rattle.mg_model.specs.Steps as steps
-use Rattle.mg_model.specs.Steps.{line_places}
-use Rattle.mg_model.specs.Tables.{state_of, items_of, raises, target_in}
+use Rattle.mg_model.specs.Tables.{state_of, items_of, raises, target_in, line_places}
 use Rattle.mg_model.specs.World.{World, note}
 use Rattle.mg_safety.proofs.Cases.{none_is_some, the_some}
 use Rattle.mg_safety.proofs.Sound.{Stands, IsCurrent, IsLost, IsNoteSound, IsNoteStanding, CallIsSound}

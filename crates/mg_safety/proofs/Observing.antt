@@ -16,8 +16,8 @@ use Rattle.mg_model.specs.Agent.{Agent, line_in, same_number, target_of, list_it
 use Rattle.mg_model.specs.Configuration.{Configuration}
 use Rattle.mg_model.specs.LineEvents.{ListItem, Note}
 use Rattle.mg_model.specs.Script.{Script}
-use Rattle.mg_model.specs.Steps.{Step, all_kinds, below, entered, entering, line_places, observation, observations, steps_by_link}
-use Rattle.mg_model.specs.Tables.{state_of, items_of, item_raises, raises, target_in}
+use Rattle.mg_model.specs.Steps.{Step, all_kinds, entered, entering, observation, observations, steps_by_link}
+use Rattle.mg_model.specs.Tables.{state_of, items_of, item_raises, raises, target_in, below, line_places}
 use Rattle.mg_safety.proofs.Single.{only_here, only_one}
 use Rattle.mg_safety.proofs.Shown.{raises_kind, list_raises}
 

@@ -15,7 +15,8 @@ use Rattle.mg_model.specs.declared.commands.LineOptions.{LineOptions}
 use Rattle.mg_model.specs.declared.commands.Termination.{Termination}
 use Rattle.mg_model.specs.declared.commands.Termination.TheVariants.{Line, Ephemeral}
 use Rattle.mg_model.specs.declared.components.Spot.TheVariants.{In}
-use Rattle.mg_model.specs.Configuration.{Configuration, is_same, is_in, is_live, with_at, with_of, value_of, stands_in, settled}
+use Rattle.mg_model.specs.Updates.{with_at}
+use Rattle.mg_model.specs.Configuration.{Configuration, is_same, is_in, is_live, with_of, value_of, stands_in, settled}
 use Rattle.mg_model.specs.Effects.{is_legal, effect, put_in, with_line_options, with_ephemeral_options, without_cuts_of, without_terminations, spot_after, remote_after, with_pair, cuts_forward, cuts_backward, plays_after, remote_set}
 use Rattle.mg_model.specs.Script.{Script}
 use Rattle.mg_model.specs.Accepted.{IsSlot, IsContext, IsCommandOf}

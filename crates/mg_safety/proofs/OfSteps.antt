@@ -18,10 +18,10 @@ use Rattle.mg_model.specs.declared.steps.StepName.{StepName}
 use Rattle.mg_model.specs.declared.steps.StepName.TheVariants.{Refuse, Execute, Reply, Observe, Timer}
 use Rattle.mg_model.specs.Configuration.{Configuration}
 use Rattle.mg_model.specs.Effects.{is_legal, effect}
-use Rattle.mg_model.specs.Request.{Names, uses_known, names_after, built, bound_names}
+use Rattle.mg_model.specs.Request.{Names, uses_known, names_after, built}
 use Rattle.mg_model.specs.Script.{Script, State}
-use Rattle.mg_model.specs.Steps.{Step, steps_of, steps_by_link, request_in, entered, with_link, refusals, executed, execution, names_unbound, entering, reply_step, all_kinds, observation, observations, line_places, unused, opening, reset}
-use Rattle.mg_model.specs.Tables.{state_of, no_state, items_of, raises, target_in}
+use Rattle.mg_model.specs.Steps.{Step, steps_of, steps_by_link, request_in, entered, with_link, refusals, executed, execution, names_unbound, entering, reply_step, all_kinds, observation, observations, unused, opening, reset, bound_names}
+use Rattle.mg_model.specs.Tables.{state_of, no_state, items_of, raises, target_in, line_places}
 use Rattle.mg_model.specs.Accepted.{IsScript, IsSlot, IsCommandOf, IsStateOf}
 use Rattle.mg_safety.proofs.Declared.{past_is_not_below, unused_past}
 use Rattle.mg_safety.proofs.OfScript.{of_effect}

@@ -18,10 +18,10 @@ use Rattle.mg_model.specs.Entries.{Entry}
 use Rattle.mg_model.specs.Gateway.{Gateway, start_of}
 use Rattle.mg_model.specs.Items.{Done, IsExecuted}
 use Rattle.mg_model.specs.Messages.{Failure}
-use Rattle.mg_model.specs.Request.{Names, built, bound_names}
+use Rattle.mg_model.specs.Request.{Names, built}
 use Rattle.mg_model.specs.RequestRun.{Running, Refusal, Executes, RunsFrom, after_command, line_after, described, is_line}
 use Rattle.mg_model.specs.Script.{Script}
-use Rattle.mg_model.specs.Steps.{Step, creates_unbound, executed, execution, refusals, steps_by_link, with_link, names_unbound}
+use Rattle.mg_model.specs.Steps.{Step, creates_unbound, executed, execution, refusals, steps_by_link, with_link, names_unbound, bound_names}
 use Rattle.mg_model.specs.Tables.{state_of}
 use Rattle.mg_model.specs.Accepted.{IsScript, IsCommandOf, create_once}
 use Rattle.mg_safety.proofs.Single.{first_in}

@@ -11,7 +11,8 @@ use Rattle.mg_model.specs.declared.commands.LineOptions.{LineOptions}
 use Rattle.mg_model.specs.declared.commands.Termination.TheVariants as termination
 use Rattle.mg_model.specs.Agent.{Agent, Made, line_descriptors, expected_if, is_listed, command_of, after_result}
 use Rattle.mg_model.specs.Board.{Board, place_of}
-use Rattle.mg_model.specs.Configuration.{Configuration, with_at, is_in, is_live}
+use Rattle.mg_model.specs.Updates.{with_at}
+use Rattle.mg_model.specs.Configuration.{Configuration, is_in, is_live}
 use Rattle.mg_model.specs.Effects.{plays_after, is_legal, effect}
 use Rattle.mg_model.specs.Items.{Done, IsExecuted}
 use Rattle.mg_model.specs.LineEvents.{LineRow, cleared}

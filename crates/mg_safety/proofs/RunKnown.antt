@@ -14,7 +14,8 @@ use Rattle.mg_model.specs.Agent.{Agent, bound_by, bound_if}
 use Rattle.mg_model.specs.Board.{Board}
 use Rattle.mg_model.specs.Configuration.{Configuration, is_present, is_free}
 use Rattle.mg_model.specs.Items.{Done, IsExecuted}
-use Rattle.mg_model.specs.Request.{Names, bound_names, uses_known, with_name, names_after, created_context, created_ephemeral, built}
+use Rattle.mg_model.specs.Steps.{bound_names}
+use Rattle.mg_model.specs.Request.{Names, uses_known, with_name, names_after, created_context, created_ephemeral, built}
 use Rattle.mg_model.specs.Script.{Script, State}
 use Rattle.mg_model.specs.Tables.{state_of, no_state}
 use Rattle.mg_model.specs.Accepted.{IsScript, IsCommandOf, IsStateOf, creates_apart, create_once}

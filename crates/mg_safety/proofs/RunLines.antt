@@ -21,7 +21,8 @@ use Rattle.mg_model.specs.declared.components.Spot.TheVariants.{Absent, Null, In
 use Rattle.mg_model.specs.declared.line_events.SignalSet.{SignalSet}
 use Rattle.mg_model.specs.Agent.{list_of, names_signal, set_of, expected_if, is_listed}
 use Rattle.mg_model.specs.Board.{Board, place_of}
-use Rattle.mg_model.specs.Configuration.{Configuration, with_at, is_in, is_live, is_free}
+use Rattle.mg_model.specs.Updates.{with_at}
+use Rattle.mg_model.specs.Configuration.{Configuration, is_in, is_live, is_free}
 use Rattle.mg_model.specs.Effects.{plays_after}
 use Rattle.mg_model.specs.Items.{Lists}
 use Rattle.mg_model.specs.LineEvents.{ListItem, LineRow, Outcome, armed, cleared, silent, is_standing}

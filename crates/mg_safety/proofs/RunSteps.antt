@@ -17,7 +17,8 @@ use Rattle.mg_model.specs.declared.components.Spot.{Spot}
 use Rattle.mg_model.specs.declared.components.Spot.TheVariants.{Absent, Null, In}
 use Rattle.mg_model.specs.Agent.{Agent}
 use Rattle.mg_model.specs.Board.{Board, place_of}
-use Rattle.mg_model.specs.Configuration.{Configuration, IsWellFormed, is_same, is_in, is_live, is_free, is_present, value_of, with_at}
+use Rattle.mg_model.specs.Updates.{with_at}
+use Rattle.mg_model.specs.Configuration.{Configuration, IsWellFormed, is_same, is_in, is_live, is_free, is_present, value_of}
 use Rattle.mg_model.specs.Effects.{is_legal, effect, is_elsewhere}
 use Rattle.mg_model.specs.LineEvents.{LineRow}
 use Rattle.mg_model.specs.Request.{created_context, created_ephemeral}

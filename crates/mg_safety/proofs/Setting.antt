@@ -17,7 +17,8 @@ use Rattle.mg_model.specs.declared.components.Spot.{Spot}
 use Rattle.mg_model.specs.declared.components.Spot.TheVariants.{In}
 use Rattle.mg_model.specs.declared.rows.Row.{Row}
 use Rattle.mg_model.specs.Board.{Board, same_term, exists, mode_of, mode_in, remote_of, remote_in}
-use Rattle.mg_model.specs.Configuration.{Configuration, is_same, is_present, is_free, with_at, with_of}
+use Rattle.mg_model.specs.Updates.{with_at}
+use Rattle.mg_model.specs.Configuration.{Configuration, is_same, is_present, is_free, with_of}
 use Rattle.mg_model.specs.Effects as effects
 use Rattle.mg_model.specs.Effects.{without_cuts_of}
 use Rattle.mg_model.specs.Items as items

@@ -29,8 +29,10 @@ use Rattle.mg_model.specs.declared.items.Settings.{Settings}
 use Rattle.mg_model.specs.declared.rows.Row.{Row}
 use Rattle.mg_model.specs.Agent.{Agent, Made, list_of, bound_if, is_listed}
 use Rattle.mg_model.specs.Board.{Board, exists, place_of, place_in, mode_in, remote_in, ContextExists}
-use Rattle.mg_model.specs.Configuration.{Configuration, is_present, is_free, with_at}
-use Rattle.mg_model.specs.Items.{Done, choose, null, is_context_number}
+use Rattle.mg_model.specs.Updates.{with_at}
+use Rattle.mg_model.specs.Numbers.{choose, null}
+use Rattle.mg_model.specs.Configuration.{Configuration, is_present, is_free}
+use Rattle.mg_model.specs.Items.{Done, is_context_number}
 use Rattle.mg_model.specs.LineEvents.{LineRow, ListItem, OnHook, OffHook, Flash, DialledBy, silent}
 use Rattle.mg_model.specs.Request.{Names}
 use Rattle.mg_model.specs.Script.{Script}

@@ -15,7 +15,8 @@ use Rattle.mg_model.specs.declared.commands.Termination.TheVariants as terminati
 use Rattle.mg_model.specs.declared.components.Spot.TheVariants.{In}
 use Rattle.mg_model.specs.Agent.{is_listed}
 use Rattle.mg_model.specs.Board.{Board, exists, place_of, same_term, ContextExists}
-use Rattle.mg_model.specs.Configuration.{Configuration, is_same, is_in, is_free, is_live, with_at}
+use Rattle.mg_model.specs.Updates.{with_at}
+use Rattle.mg_model.specs.Configuration.{Configuration, is_same, is_in, is_free, is_live}
 use Rattle.mg_model.specs.Effects.{is_legal, effect}
 use Rattle.mg_model.specs.Items.{Done, Lists, leaves, without}
 use Rattle.mg_model.specs.Request.{termination_known}

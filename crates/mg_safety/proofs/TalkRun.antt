@@ -8,7 +8,7 @@ use Rattle.mg_model.specs.Agent.{Agent, noted, replied}
 use Rattle.mg_model.specs.Gateway.{Gateway, after_request}
 use Rattle.mg_model.specs.LineEvents.{ListItem, OnHook}
 use Rattle.mg_model.specs.RequestRun.{Running}
-use Rattle.mg_model.specs.Steps.{line_places}
+use Rattle.mg_model.specs.Tables.{line_places}
 use Rattle.mg_model.specs.World.{World, AgentSteps, agent_steps, IsFirst, Runs, with_gateway}
 use Rattle.mg_safety.specs.Talk.{basic, off_hook, to_talk, all_done, to_a_talk, LeadsToATalk}
 use Rattle.mg_safety.proofs.Single.{first_in}

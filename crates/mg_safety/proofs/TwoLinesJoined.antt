@@ -8,7 +8,8 @@ use Rattle.mg_names.specs.declared.modes.Mode.TheVariants.{SendReceive}
 use Rattle.mg_model.specs.declared.transitions.Pair.{Pair}
 use Rattle.mg_model.specs.Board.{Board}
 use Rattle.mg_model.specs.Gateway.{Gateway, number_of, after_request, start_of}
-use Rattle.mg_model.specs.Items.{Done, IsExecuted, IsLegal, effect, choose}
+use Rattle.mg_model.specs.Numbers.{choose}
+use Rattle.mg_model.specs.Items.{Done, IsExecuted, IsLegal, effect}
 use Rattle.mg_model.specs.LineEvents.{ListItem}
 use Rattle.mg_model.specs.Media.{AreJoined}
 use Rattle.mg_model.specs.Messages.{Descriptors, RequestCommand, add_line, context_made_at, Request, Reply}

@@ -13,7 +13,7 @@ use Rattle.mg_model.specs.declared.line_events.Hook.TheVariants as hooks
 use Rattle.mg_model.specs.declared.transitions.EventItem.TheVariants as item
 use Rattle.mg_model.specs.declared.transitions.Pair.{Pair}
 use Rattle.mg_model.specs.Gateway.{hook}
-use Rattle.mg_model.specs.Items.{choose}
+use Rattle.mg_model.specs.Numbers.{choose}
 use Rattle.mg_model.specs.LineEvents.{OnHook}
 use Rattle.mg_model.specs.Media.{AreJoined}
 use Rattle.mg_model.specs.Messages.{add_line, context, context_made_at, Request, Reply, SentNote}

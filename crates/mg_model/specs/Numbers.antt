@@ -1,0 +1,40 @@
+-- The numbers that mean something by themselves: the ContextIDs that are the number of no context (H.248.1 section 6.1.2), and where the
+-- numbers of associations, of transactions and notes, and of ephemerals begin and end (this profile's own). Both sides of the
+-- definitions go by these names.
+use Rattle.std.specs.Prelude.{ℕ}
+
+-- the null context, CHOOSE and ALL
+abbrev pub null : ℕ
+null = 0
+
+abbrev pub choose : ℕ
+choose = 4294967294
+
+abbrev pub all : ℕ
+all = 4294967295
+
+-- the number that no ephemeral has
+abbrev pub no_ephemeral : ℕ
+no_ephemeral = 0
+
+-- the greatest number of an ephemeral
+abbrev pub last_ephemeral : ℕ
+last_ephemeral = 4294967295
+
+-- the first association, and the last
+abbrev pub first_association : ℕ
+first_association = 1
+
+abbrev pub last_association : ℕ
+last_association = 18446744073709551615
+
+-- the first number of a transaction, the RequestID of the descriptor that a line opens with, and the greatest number of a transaction
+-- and of a note
+abbrev pub first_number : ℕ
+first_number = 1
+
+abbrev pub opening_request : ℕ
+opening_request = 0
+
+abbrev pub last_number : ℕ
+last_number = 4294967295

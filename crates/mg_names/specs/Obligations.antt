@@ -1,0 +1,12 @@
+-- The numbers of the obligations of a certificate, as the answer `no` names them. This profile's own.
+use Rattle.std.specs.Prelude.{ℕ}
+use Rattle.mg_names.specs.declared.obligations.Obligation.{Obligation}
+use Rattle.mg_names.specs.declared.obligations.Obligation.TheVariants.{OpeningCovered, StepsCovered, JoinedMarked, EndedCleared, CreatedUnbound, ResetCovered}
+
+abbrev pub obligation_number : Obligation → ℕ
+obligation_number OpeningCovered = 1
+obligation_number StepsCovered = 2
+obligation_number JoinedMarked = 3
+obligation_number EndedCleared = 4
+obligation_number CreatedUnbound = 5
+obligation_number ResetCovered = 6

@@ -1,0 +1,35 @@
+ghost use Rattle.std.specs.Prelude.{◌≡◌};
+ghost use Rattle.mg_names.specs.Obligations.{obligation_number};
+
+/// An obligation of a certificate. Where none is broken, every run of the script is good. This profile's own.
+#[derive(Clone, Copy, Debug, PartialEq, Eq, Hash)]
+pub enum Obligation {
+    /// The configuration that a call opens in is in an entry.
+    OpeningCovered,
+    /// The result of each step of each point is in an entry.
+    StepsCovered,
+    /// Lines that are joined are marked as talking in the point's state.
+    JoinedMarked,
+    /// A call that rests in an end state has its lines silent, in the null context and armed for off-hook, and no ephemeral.
+    EndedCleared,
+    /// While a request is sent, the names that its state creates are not bound.
+    CreatedUnbound,
+    /// The configuration that a call has once it heard of a restart is in an entry.
+    ResetCovered,
+}
+
+impl Obligation {
+    /// The number by which the answer `no` names it, 1 to 6.
+    pub fn number(self) -> u8
+        ensures { result ≡ obligation_number self }
+    {
+        match self {
+            Obligation::OpeningCovered => 1,
+            Obligation::StepsCovered => 2,
+            Obligation::JoinedMarked => 3,
+            Obligation::EndedCleared => 4,
+            Obligation::CreatedUnbound => 5,
+            Obligation::ResetCovered => 6,
+        }
+    }
+}
