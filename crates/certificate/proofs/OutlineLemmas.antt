@@ -4,7 +4,7 @@ use Rattle.std.specs.Prelude.{◌==◌, ◌||◌, option_map, unwrap_or, is_some
 use Rattle.std.specs.List.{list_any}
 use Rattle.std.proofs.lemmas.List.Sums.{sum_by-cons}
 use Rattle.mg_model.specs.Script.{Script}
-use Rattle.certificate.specs.Listed.{Listed}
+use Rattle.entry_table.specs.Listed.{Listed}
 use Rattle.certificate.specs.Certificate.{listed_meant, checked, checked_or, Faults, has_empty, is_large, has_crowd, entries_for, some_below}
 use Rattle.certificate.specs.Outlines.{outline_of, outline_meant, limit_passed, outlined_for, has_crowd_in}
 use Rattle.certificate.specs.Shape.{each, ◌>>=◌}

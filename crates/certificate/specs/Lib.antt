@@ -3,10 +3,8 @@ pub mod Components
 pub mod Document
 pub mod FaultNames
 pub mod Laws
-pub mod Listed
 pub mod Naming
 pub mod Outlines
 pub mod Ranks
 pub mod Shape
-pub mod Shown
 pub mod Written

@@ -4,13 +4,13 @@ ghost use Rattle.std.specs.List.{list_all};
 ghost use Rattle.certificate.specs.Components.{is_slot, is_pair};
 ghost use Rattle.certificate.specs.Naming.{different, pair_named, pair_of, parts_of, termination_named};
 
-use crate::key::is_same;
 use crate::reads::Row;
 use crate::vocabulary::Vocabulary;
 use crate::word::Words;
+use configuration::spots::is_same;
 use mg_model::commands::Termination;
 use mg_names::slots::Slot;
-use scriptreader::Script;
+use script_table::Script;
 
 /// The termination of a name.
 fn termination(script: &Script, name: &str) -> Option<Termination>

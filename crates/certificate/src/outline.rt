@@ -12,7 +12,7 @@ use crate::draft::{has_empty, is_large, read_draft};
 use crate::fault::CertFault;
 use crate::key::Key;
 use crate::written::WrittenEntry;
-use scriptreader::Script;
+use script_table::Script;
 use std::alloc::Global;
 
 /// How many entries a state may have.

@@ -11,8 +11,8 @@ use mg_names::modes::Mode;
 use mg_names::slots::Slot;
 
 /// Whether two terminations are one.
-pub fn is_same(one: Termination, other: Termination) -> bool
-    ensures { result ≡ is_same one other }
+pub fn is_same(one: &Termination, other: &Termination) -> bool
+    ensures { result ≡ is_same one.now other.now }
 {
     match one {
         Termination::Line(i) => match other {

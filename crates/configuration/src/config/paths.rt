@@ -14,7 +14,7 @@ use mg_names::slots::Slot;
 fn hops(config: &Config, source: &Termination, sink: &Termination) -> bool
     ensures { result ≡ hops (configuration_of config.now) source.now sink.now }
 {
-    let apart = !spots::is_same(*source, *sink);
+    let apart = !spots::is_same(source, sink);
     let here = config.spot(*source);
     let there = config.spot(*sink);
     let shared = spots::is_shared(here, there);
