@@ -1,5 +1,5 @@
 //! A built request, command by command.
-ghost use Rattle.std.specs.Prelude.{◌≡◌, ◌∷◌, [], IfSome, IfNone};
+ghost use Rattle.std.specs.Prelude.{◌≡◌, ◌<◌, ◌^◌, ◌∷◌, [], IfSome, IfNone, length};
 ghost use Rattle.mg_model.specs.Tables.{state_of, is_empty};
 ghost use Rattle.mg_model.specs.Request.{built};
 ghost use Rattle.built_request.specs.Known.{names_of};
@@ -34,7 +34,8 @@ impl<'a> Request<'a> {
     /// The request that a state builds where these names are bound; it has no commands where the script has no such
     /// state.
     pub fn new(script: &'a Script, names: Names, state: u8) -> Request<'a>
-        ensures { result ≡ built (names_of names) (state_of script.now state).commands }
+        ensures value { result ≡ built (names_of names) (state_of script.now state).commands }
+        ensures few { length result < 2 ^ 64 }
     {
         let commands = script.commands_of(state);
         Request {

@@ -2,7 +2,7 @@ use Rattle.std.proofs.Common.{◌∙◌}
 use Rattle.configuration.specs.Config.{configuration_of}
 use Rattle.configuration.proofs.SlotLemmas.{absent_past_eight}
 use Rattle.closure.proofs.SubtractLemmas.{subtracted_all}
-use Rattle.closure.proofs.effects.subtract_all.Goals as goal
+use Rattle.closure.proofs.effects.subtract.subtract_all.Goals as goal
 
 pub returns : goal.returns
 returns c =

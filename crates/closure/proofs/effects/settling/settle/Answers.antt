@@ -2,7 +2,7 @@ use Rattle.std.proofs.Common.{◌≡◌, ℕ, slice_index_or, refl, ap, ◌∙�
 use Rattle.configuration.specs.Config.{configuration_of}
 use Rattle.closure.specs.Turns.{settled_at}
 use Rattle.closure.proofs.SettleLemmas.{settled_all}
-use Rattle.closure.proofs.effects.settle.Goals as goal
+use Rattle.closure.proofs.effects.settling.settle.Goals as goal
 
 pub returns : goal.returns
 returns c =

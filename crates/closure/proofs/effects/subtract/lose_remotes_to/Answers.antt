@@ -2,7 +2,7 @@ use Rattle.std.proofs.Common.{◌≡◌, ℕ, slice_index_or, refl, ap, ◌∙�
 use Rattle.configuration.specs.Config.{configuration_of}
 use Rattle.closure.specs.Turns.{lost_at}
 use Rattle.closure.proofs.SubtractLemmas.{lost_all}
-use Rattle.closure.proofs.effects.lose_remotes_to.Goals as goal
+use Rattle.closure.proofs.effects.subtract.lose_remotes_to.Goals as goal
 
 pub returns : goal.returns
 returns c =
