@@ -1,5 +1,5 @@
 //! The names that commands may use.
-ghost use Rattle.std.specs.Prelude.{◌≡◌, false, slice_index_or};
+ghost use Rattle.std.specs.Prelude.{◌≡◌, ◌&&◌, false, slice_index_or};
 ghost use Rattle.std.specs.List.{list_any};
 ghost use Rattle.mg_model.specs.Request.{uses_known, names_after, place_known, termination_known, remote_option_known};
 
@@ -60,6 +60,20 @@ impl Names {
         }
     }
 
+    /// Whether a context and a termination that is looked for in it are known.
+    fn has_in(&self, context: Slot, termination: &Termination) -> bool
+        ensures { result ≡ ((names_of self.now).contexts context && termination_known (names_of self.now) termination.now) }
+    {
+        self.has_context(context) && self.has_termination(termination)
+    }
+
+    /// Whether a place and an ephemeral that is looked for there are known.
+    fn has_at(&self, place: &Place, ephemeral: Slot) -> bool
+        ensures { result ≡ (place_known (names_of self.now) place.now && (names_of self.now).ephemerals ephemeral) }
+    {
+        self.has_place(place) && self.has_ephemeral(ephemeral)
+    }
+
     fn has_remote(&self, options: &EphemeralOptions) -> bool
         ensures { result ≡ remote_option_known (names_of self.now) options.now.remote }
     {
@@ -91,30 +105,27 @@ impl Names {
                 place,
                 ephemeral,
                 options,
-            } => self.has_place(&place)
-                && self.has_ephemeral(ephemeral)
-                && self.has_remote(&options),
+            } => self.has_at(&place, ephemeral) && self.has_remote(&options),
             Command::MoveLine { context, .. } => self.has_context(context),
             Command::MoveEphemeral {
                 context,
                 ephemeral,
                 options,
-            } => self.has_context(context)
-                && self.has_ephemeral(ephemeral)
-                && self.has_remote(&options),
+            } => {
+                self.has_in(context, &Termination::Ephemeral(ephemeral))
+                    && self.has_remote(&options)
+            }
             Command::Subtract {
                 context,
                 termination,
-            } => self.has_context(context) && self.has_termination(&termination),
+            } => self.has_in(context, &termination),
             Command::SubtractAll { context } => self.has_context(context),
             Command::SetTopology {
                 context,
                 first,
                 second,
                 ..
-            } => self.has_context(context)
-                && self.has_termination(&first)
-                && self.has_termination(&second),
+            } => self.has_in(context, &first) && self.has_termination(&second),
         }
     }
 
