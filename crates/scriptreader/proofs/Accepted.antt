@@ -12,13 +12,14 @@ use Rattle.scriptreader.specs.declared.fault.ScriptFault.{ScriptFault}
 use Rattle.scriptreader.specs.declared.syntax.WrittenCommand.{WrittenCommand}
 use Rattle.scriptreader.specs.Documents.{document_in}
 use Rattle.scriptreader.specs.Faults.{Scope, scope_of, event_text, is_one_line, is_loop, repeats, created_by, state_repeats, has_duplicate, is_too_large, fault_of}
-use Rattle.scriptreader.specs.Meaning.{each, if_given, number_for, command_for, pair_for, transition_for, state_for, events_list_for, signals_list_for, named_map_for, state_at, script_in, script_meant}
+use Rattle.typed_values.specs.Shape.{each, optional_at}
+use Rattle.scriptreader.specs.Meaning.{number_for, command_for, pair_for, transition_for, state_for, events_list_for, signals_list_for, named_map_for, state_at, script_in, script_meant}
 use Rattle.scriptreader.specs.Reading.{ReadsScript, document_read, fault_or_table, tree_read}
 use Rattle.scriptreader.specs.Written as document
 use Rattle.scriptreader.proofs.Created.{created_once}
 use Rattle.scriptreader.proofs.Declared.{Declares, carried, command_within}
-use Rattle.scriptreader.proofs.Meanings.{IsFaultless, faultless, small}
-use Rattle.scriptreader.proofs.Repeats.{or_left, or_right}
+use Rattle.scriptreader.proofs.Faultless.{IsFaultless, faultless, small}
+use Rattle.scriptreader.proofs.BooleanTests.{or_left, or_right}
 use Rattle.scriptreader.proofs.Slots.{bound, kept}
 
 -- what holds of the meaning of each element that a test lets through holds of all meanings
@@ -41,9 +42,9 @@ module _ (k : Scope) (script : Script) (declares : Declares k script) where
       let once : repeats (flat_map created_by s.commands) ≡ false = or_right (list_any (λ command. is_loop command) s.commands) _ (or_right (list_any (λ pair. is_one_line pair) s.talk) _ none) in
       bound (each (command_for k) s.commands) _ state e (λ commands are e2.
       bound (each (pair_for k) s.talk) _ state e2 (λ talk at3 e3.
-      bound (if_given (number_for k.states) s.ok) _ state e3 (λ ok at4 e4.
-      bound (if_given (number_for k.states) s.fault) _ state e4 (λ fault at5 e5.
-      bound (if_given (number_for k.states) s.timer) _ state e5 (λ timer at6 e6.
+      bound (optional_at (number_for k.states) s.ok) _ state e3 (λ ok at4 e4.
+      bound (optional_at (number_for k.states) s.fault) _ state e4 (λ fault at5 e5.
+      bound (optional_at (number_for k.states) s.timer) _ state e5 (λ timer at6 e6.
       bound (each (transition_for k) s.on) _ state e6 (λ on at7 same.
       carried (IsStateOf script) (record { name = s.name; commands = commands; talk = talk; is_end = s.is_end; ok = ok; fault = fault; timer = timer; on = on }) state same
       (commands_within s.commands commands are, created_once k s.commands commands are once)))))))

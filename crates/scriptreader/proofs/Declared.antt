@@ -18,9 +18,10 @@ use Rattle.mg_names.specs.declared.topologies.Topology.{Topology}
 use Rattle.scriptreader.specs.declared.syntax.Options.{Options}
 use Rattle.scriptreader.specs.declared.syntax.WrittenCommand.{WrittenCommand}
 use Rattle.scriptreader.specs.declared.syntax.WrittenCommand.TheVariants as written
-use Rattle.scriptreader.specs.Names.{is_among}
+use Rattle.typed_values.specs.Names.{is_among}
 use Rattle.scriptreader.specs.Faults.{Scope}
-use Rattle.scriptreader.specs.Meaning.{if_given, slot_for, remote_for, termination_for, place_for, line_options_for, ephemeral_options_for, add_line_for, add_ephemeral_for, modify_line_for, modify_ephemeral_for, move_line_for, move_ephemeral_for, subtract_for, subtract_all_for, topology_for, command_for}
+use Rattle.typed_values.specs.Shape.{optional_at}
+use Rattle.scriptreader.specs.Meaning.{slot_for, remote_for, termination_for, place_for, line_options_for, ephemeral_options_for, add_line_for, add_ephemeral_for, modify_line_for, modify_ephemeral_for, move_line_for, move_ephemeral_for, subtract_for, subtract_all_for, topology_for, command_for}
 use Rattle.scriptreader.proofs.Slots.{bound, slot_within}
 
 -- the script declares the names of the scope
@@ -65,14 +66,14 @@ module _ (k : Scope) (script : Script) (declares : Declares k script) where
       (λ h. carried (λ (r : RemoteOption). IsRemote script (Some r)) NoneGiven remote h tt)
       (λ h. bound (slot_for k.ephemerals name) _ remote h (λ n at same. carried (λ (r : RemoteOption). IsRemote script (Some r)) (Peer n) remote same (ephemeral_within name n at)))
 
-  remote_within : (o : Option (List ℕ)) (remote : Option RemoteOption) → if_given (remote_for k) o ≡ Some remote → IsRemote script remote
+  remote_within : (o : Option (List ℕ)) (remote : Option RemoteOption) → optional_at (remote_for k) o ≡ Some remote → IsRemote script remote
   remote_within None remote e = carried (IsRemote script) None remote e tt
   remote_within (Some name) remote e =
       bound (remote_for k name) _ remote e (λ r at same. carried (IsRemote script) (Some r) remote same (peer_within name r at))
 
   options_within : (o : Options) (options : EphemeralOptions) → ephemeral_options_for k o ≡ Some options → IsRemote script options.remote
   options_within o options e =
-      bound (if_given (remote_for k) o.remote) _ options e (λ r at same.
+      bound (optional_at (remote_for k) o.remote) _ options e (λ r at same.
       carried (λ (x : EphemeralOptions). IsRemote script x.remote) (record { mode = o.mode; remote = r }) options same (remote_within o.remote r at))
 
   -- ---- commands

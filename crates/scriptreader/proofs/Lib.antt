@@ -1,7 +1,8 @@
-pub mod Places
-pub mod Shapes
 pub mod Signs
 pub mod Repeats
+pub mod BooleanTests
+pub mod FoundNames
+pub mod Faultless
 pub mod Meanings
 pub mod Readings
 pub mod Slots

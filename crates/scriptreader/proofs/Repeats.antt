@@ -3,9 +3,10 @@ use Rattle.std.proofs.Common.{◌≡◌, ℕ, List, [], ◌∷◌, ◌++◌, map
 use Rattle.std.specs.Prelude.{◌||◌}
 use Rattle.std.proofs.lemmas.List.{append-nil}
 use Rattle.std.specs.Str.{bytes_eq}
-use Rattle.scriptreader.specs.Names.{is_among, repeats_after}
+use Rattle.typed_values.specs.Names.{is_among, repeats_after}
 use Rattle.scriptreader.specs.Written.{Document}
 use Rattle.scriptreader.specs.Faults.{Scope, IsScopeOf, scope_of, has_duplicate}
+use Rattle.scriptreader.proofs.BooleanTests.{or_left, or_right}
 
 abbrev either : Bool → Bool → Bool
 either a b = a || b
@@ -52,14 +53,6 @@ third_repeats before middle late xs ys zs a b c none is no-a mid is-b no-b last 
     g ∙ sym (all_three xs ys zs ∙ rw (e, f) refl)
 
 -- ---- what has no duplicate repeats no name
-
-pub or_left : (a b : Bool) → (a || b) ≡ false → a ≡ false
-or_left true b e = absurd cc
-or_left false b e = refl
-
-pub or_right : (a b : Bool) → (a || b) ≡ false → b ≡ false
-or_right true b e = absurd cc
-or_right false b e = e
 
 among_more : (text : List ℕ) (before seen : List (List ℕ)) → is_among text (before ++ seen) ≡ false → is_among text seen ≡ false
 among_more text [] seen e = e

@@ -5,7 +5,7 @@ use Rattle.std.specs.Str.{bytes_eq}
 use Rattle.std.proofs.lemmas.List.Quantifiers.{position-Some}
 use Rattle.std.proofs.lemmas.Option.{option_and_then_some}
 use Rattle.std.proofs.lemmas.Slice.Eq.{bytes_eq-Decides}
-use Rattle.scriptreader.specs.Shape.{◌>>=◌, only_if}
+use Rattle.typed_values.specs.Shape.{◌>>=◌, only_if}
 use Rattle.script_table.specs.Table.{place_of}
 use Rattle.scriptreader.specs.Meaning.{slot_for}
 

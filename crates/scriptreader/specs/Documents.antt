@@ -9,8 +9,9 @@ use Rattle.scriptreader.specs.declared.syntax.WrittenCommand.{WrittenCommand}
 use Rattle.scriptreader.specs.declared.syntax.WrittenPair.{WrittenPair}
 use Rattle.scriptreader.specs.declared.syntax.WrittenTransition.{WrittenTransition}
 use Rattle.scriptreader.specs.Written.{Events, Signals, State, Document}
-use Rattle.scriptreader.specs.Names.{is_name}
-use Rattle.scriptreader.specs.Shape.{◌>>=◌, only_if, list_of, needed, optional, listed, has_only}
+use Rattle.typed_values.specs.Names.{is_name}
+use Rattle.typed_values.specs.Shape.{◌>>=◌, only_if}
+use Rattle.toml_values.specs.Keys.{list_of, needed, optional, listed, has_only}
 use Rattle.scriptreader.specs.Texts.{words_of, item_of, pair_of, command_of}
 
 abbrev pub item_meant : Data → Option WrittenItem

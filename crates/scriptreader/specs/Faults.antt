@@ -17,7 +17,7 @@ use Rattle.scriptreader.specs.declared.syntax.Options.{Options}
 use Rattle.scriptreader.specs.declared.syntax.WrittenCommand.{WrittenCommand}
 use Rattle.scriptreader.specs.declared.syntax.WrittenCommand.TheVariants.{Add, Modify, Move, Subtract, SubtractAll, SetTopology}
 use Rattle.scriptreader.specs.Written.{State, Document}
-use Rattle.scriptreader.specs.Names.{is_declarable, is_among, repeats_after, each_once}
+use Rattle.typed_values.specs.Names.{is_declarable, is_among, repeats_after, each_once}
 use Rattle.scriptreader.specs.Texts.{suits_line, suits_ephemeral}
 
 -- ---- BadName: a declared name that may not be declared

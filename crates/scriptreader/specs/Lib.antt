@@ -1,6 +1,4 @@
 pub mod FaultNames
-pub mod Names
-pub mod Shape
 pub mod Written
 pub mod Texts
 pub mod Documents

@@ -1,7 +1,7 @@
 -- The table that a document means: every mention of a thing is its place, from 0, among those that are declared. Where a
 -- name isn't among those that it is looked up in, or the document is past a limit, there is no table. A reader should
 -- check in which list each name is looked up.
-use Rattle.std.specs.Prelude.{◌≡◌, ℕ, List, [], ◌∷◌, map, Bool, not, nat_lt, codes, if◌then◌else◌, Option, Some, None, Result, Ok, Err}
+use Rattle.std.specs.Prelude.{◌≡◌, ℕ, List, map, Bool, not, nat_lt, codes, if◌then◌else◌, Option, Some, None, Result, Ok, Err}
 use Rattle.std.specs.Str.{bytes_eq}
 use Rattle.digits.specs.declared.fault.MapFault.{MapFault}
 use Rattle.digits.specs.Reading.{map_of}
@@ -36,8 +36,8 @@ use Rattle.scriptreader.specs.declared.syntax.WrittenTransition.{WrittenTransiti
 use Rattle.scriptreader.specs.declared.unbuilt.Unbuilt.{Unbuilt}
 use Rattle.scriptreader.specs.declared.unbuilt.Unbuilt.TheVariants.{NoMeaning, Memory}
 use Rattle.scriptreader.specs.Written as document
-use Rattle.scriptreader.specs.Names.{is_among}
-use Rattle.scriptreader.specs.Shape.{◌>>=◌, only_if}
+use Rattle.typed_values.specs.Names.{is_among}
+use Rattle.typed_values.specs.Shape.{◌>>=◌, only_if, each, optional_at}
 use Rattle.script_table.specs.Table.{place_of}
 use Rattle.scriptreader.specs.Faults.{Scope, scope_of, is_too_large}
 
@@ -49,16 +49,6 @@ Lacks NoMeaning meaning = meaning ≡ None
 abbrev pub Builds : {X Y : Type 0} → (X → Y) → Result X Unbuilt → Option Y → Type 0
 Builds view (Ok x) meaning = meaning ≡ Some (view x)
 Builds view (Err e) meaning = Lacks e meaning
-
--- what each element means, or nothing where one means nothing
-abbrev pub each : {A B : Type 0} → (A → Option B) → List A → Option (List B)
-each f [] = Some []
-each f (x ∷ xs) = f x >>= λ y. each f xs >>= λ ys. Some (y ∷ ys)
-
--- what may be left out
-abbrev pub if_given : {A B : Type 0} → (A → Option B) → Option A → Option (Option B)
-if_given f None = Some None
-if_given f (Some x) = f x >>= λ y. Some (Some y)
 
 -- ---- names
 
@@ -103,13 +93,13 @@ place_for k (Some name) = slot_for k.contexts name >>= λ context. Some (Context
 
 abbrev pub line_options_for : Scope → Options → Option LineOptions
 line_options_for k options = do
-  events ← if_given (events_for k) options.events
-  signals ← if_given (signals_for k) options.signals
+  events ← optional_at (events_for k) options.events
+  signals ← optional_at (signals_for k) options.signals
   Some (record { mode = options.mode; events = events; signals = signals })
 
 abbrev pub ephemeral_options_for : Scope → Options → Option EphemeralOptions
 ephemeral_options_for k options = do
-  remote ← if_given (remote_for k) options.remote
+  remote ← optional_at (remote_for k) options.remote
   Some (record { mode = options.mode; remote = remote })
 
 unfoldable pub add_line_for : Scope → Bool → List ℕ → List ℕ → Options → Option Command
@@ -200,9 +190,9 @@ unfoldable pub state_for : Scope → document.State → Option State
 state_for k s = do
   commands ← each (command_for k) s.commands
   talk ← each (pair_for k) s.talk
-  ok ← if_given (number_for k.states) s.ok
-  fault ← if_given (number_for k.states) s.fault
-  timer ← if_given (number_for k.states) s.timer
+  ok ← optional_at (number_for k.states) s.ok
+  fault ← optional_at (number_for k.states) s.fault
+  timer ← optional_at (number_for k.states) s.timer
   on ← each (transition_for k) s.on
   Some (record { name = s.name; commands = commands; talk = talk; is_end = s.is_end; ok = ok; fault = fault; timer = timer; on = on })
 

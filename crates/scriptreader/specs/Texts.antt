@@ -13,8 +13,8 @@ use Rattle.scriptreader.specs.declared.syntax.WrittenPair.{WrittenPair}
 use Rattle.scriptreader.specs.declared.syntax.Options.{Options}
 use Rattle.scriptreader.specs.declared.syntax.WrittenCommand.{WrittenCommand}
 use Rattle.scriptreader.specs.declared.syntax.WrittenCommand.TheVariants.{Add, Modify, Move, Subtract, SubtractAll, SetTopology}
-use Rattle.scriptreader.specs.Names.{is_name}
-use Rattle.scriptreader.specs.Shape.{◌>>=◌, only_if}
+use Rattle.typed_values.specs.Names.{is_name}
+use Rattle.typed_values.specs.Shape.{◌>>=◌, only_if}
 
 -- the words of a text, with one space between them
 abbrev pub words_of : List ℕ → List (List ℕ)

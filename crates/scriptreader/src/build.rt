@@ -1,7 +1,8 @@
 //! The table that a document means. Where the document has no fault, each look-up here finds what it looks for.
 ghost use Rattle.std.specs.Prelude.{◌≡◌, Some, None, IfOk, map, string_bytes};
 ghost use Rattle.scriptreader.specs.Faults.{fault_of, scope_of};
-ghost use Rattle.scriptreader.specs.Meaning.{Builds, each, pair_for, transition_for, state_for, item_for, events_list_for, signals_list_for, named_map_for, if_read, state_at, script_in, script_meant};
+ghost use Rattle.typed_values.specs.Shape.{each};
+ghost use Rattle.scriptreader.specs.Meaning.{Builds, pair_for, transition_for, state_for, item_for, events_list_for, signals_list_for, named_map_for, if_read, state_at, script_in, script_meant};
 ghost use Rattle.digits.specs.Reading.{map_of};
 
 use crate::faults::is_too_large;
@@ -9,16 +10,16 @@ use crate::lookups::{number, number_if_given, slot};
 use crate::requests::commands;
 use crate::scope::Scope;
 use crate::syntax::{
-    Document, WrittenEvents, WrittenItem, WrittenMap, WrittenPair, WrittenSignals, WrittenState,
-    WrittenTransition,
+    Document, WrittenEvents, WrittenItem, WrittenMap, WrittenPair, WrittenSignal, WrittenSignals,
+    WrittenState, WrittenTransition,
 };
 use crate::unbuilt::Unbuilt;
-use crate::word::Word;
 use digits::{DigitMap, MapFault};
 use mg_model::transitions::{EventItem, Pair, Transition};
 use mg_names::signals::Signal;
 use script_table::{EventsList, NamedMap, Script, SignalsList, State, Tables};
 use std::alloc::{AllocError, Global};
+use typed_values::Word;
 
 #[tactic(auto, unfolding(crate::specs::Meaning::pair_for))]
 fn pair(scope: &Scope, written: &WrittenPair) -> Result<Pair, Unbuilt>
@@ -161,11 +162,21 @@ fn events_lists(
     Ok(found)
 }
 
+fn signals(alloc: Global, written: &[WrittenSignal]) -> Result<Vec<Signal>, AllocError>
+    ensures { IfOk result (λ signals. signals.items ≡ written.now) }
+{
+    let mut found = Vec::new(alloc);
+    for one in written {
+        found.push(one.signal)?;
+    }
+    Ok(found)
+}
+
 fn signals_list(alloc: Global, written: &WrittenSignals) -> Result<SignalsList, AllocError>
     ensures { IfOk result (λ list. list ≡ signals_list_for written.now) }
 {
     let name = text(alloc, &written.name)?;
-    let items: Vec<Signal> = Vec::from_slice(alloc, written.items.as_slice())?;
+    let items = signals(alloc, written.items.as_slice())?;
     Ok(SignalsList { name, items })
 }
 

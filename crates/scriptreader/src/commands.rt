@@ -1,14 +1,14 @@
 //! The texts of commands.
 ghost use Rattle.std.specs.Prelude.{◌≡◌, map, if◌then◌else◌, ◌||◌};
-ghost use Rattle.scriptreader.specs.Shape.{Shapes};
+ghost use Rattle.typed_values.specs.Shape.{Shapes};
 ghost use Rattle.scriptreader.specs.Texts.{command_of, add_of, modify_of, move_of, subtract_of, topology_of, options_from, no_options, with_option, with_mode, with_events, with_signals, with_remote, suits_line, suits_ephemeral};
 
 use crate::syntax::{Options, WrittenCommand};
 use crate::texts::{self, marked, name};
-use crate::unread::Unread;
 use mg_names::modes::Mode;
 use mg_names::topologies::Topology;
 use std::alloc::Global;
+use typed_values::Unread;
 
 /// The command that these words write.
 #[tactic(auto, unfolding(crate::specs::Texts::command_of))]

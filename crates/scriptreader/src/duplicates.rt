@@ -2,7 +2,7 @@
 ghost use Rattle.std.specs.Prelude.{◌≡◌, ◌++◌, [], false, map, IfOk};
 ghost use Rattle.mg_names.specs.Words.{signal_text};
 ghost use Rattle.std.specs.List.{flat_map, list_any};
-ghost use Rattle.scriptreader.specs.Names.{repeats_after};
+ghost use Rattle.typed_values.specs.Names.{repeats_after};
 ghost use Rattle.scriptreader.specs.Faults.{has_duplicate, is_loop, is_one_line, created_by, state_repeats, event_text};
 
 use crate::named::{add_all, repeats};
@@ -10,8 +10,8 @@ use crate::names::Names;
 use crate::syntax::{
     Document, WrittenCommand, WrittenEvents, WrittenPair, WrittenSignals, WrittenState,
 };
-use crate::word::Word;
 use std::alloc::{AllocError, Global};
+use typed_values::Word;
 
 /// Whether something is declared, listed or created twice, or paired with itself.
 #[tactic(auto, unfolding(crate::specs::Faults::has_duplicate))]

@@ -1,7 +1,7 @@
 //! The faults of a document that are not of its shape, the lowest first.
 ghost use Rattle.std.specs.Prelude.{◌≡◌, ◌++◌, List, ℕ, None, false, not, nat_lt, length, IfOk, OnOk};
 ghost use Rattle.std.specs.List.{list_any, flat_map};
-ghost use Rattle.scriptreader.specs.Names.{each_once};
+ghost use Rattle.typed_values.specs.Names.{each_once};
 ghost use Rattle.scriptreader.specs.Faults.{has_bad_name, has_duplicate, is_bad_map, has_bad_map, has_unknown, names_state, scope_of, is_too_large, unmakes, makes_and_subtracts, contexts_made, ephemerals_made, lacks_fault, has_vain_outcome, is_end_that_goes_on, state_fault_of, use_fault_of, fault_of};
 
 use crate::duplicates::has_duplicate;
@@ -10,9 +10,9 @@ use crate::named::are_declarable;
 use crate::names::Names;
 use crate::scope::Scope;
 use crate::syntax::{Document, WrittenCommand, WrittenMap, WrittenState};
-use crate::word::Word;
 use digits::{DigitMap, MapFault};
 use std::alloc::{AllocError, Global};
+use typed_values::Word;
 
 /// Whether a declared name may not be declared.
 #[tactic(auto, unfolding(crate::specs::Faults::has_bad_name))]

@@ -1,15 +1,15 @@
 //! The texts of items, and of pairs that talk.
 ghost use Rattle.std.specs.Prelude.{◌≡◌};
 ghost use Rattle.mg_names.specs.Words.{strict_named};
-ghost use Rattle.scriptreader.specs.Shape.{Shapes};
+ghost use Rattle.typed_values.specs.Shape.{Shapes};
 ghost use Rattle.scriptreader.specs.Texts.{plain_named, valued_named, item_of, pair_of};
 
 use crate::syntax::{WrittenItem, WrittenPair};
 use crate::texts::{self, name};
-use crate::unread::Unread;
 use mg_names::events::EventName;
 use mg_names::strictness::Strict;
 use std::alloc::Global;
+use typed_values::Unread;
 
 /// The item of an events list that a text writes.
 #[tactic(auto, unfolding(crate::specs::Texts::item_of))]

@@ -1,16 +1,17 @@
 //! What the names of a document stand for: their places among those that it declares.
 ghost use Rattle.std.specs.Prelude.{◌≡◌};
-ghost use Rattle.scriptreader.specs.Meaning.{Builds, if_given, slot_for, number_for, events_for, signals_for, remote_for, termination_for, place_for, line_options_for, ephemeral_options_for};
+ghost use Rattle.typed_values.specs.Shape.{optional_at};
+ghost use Rattle.scriptreader.specs.Meaning.{Builds, slot_for, number_for, events_for, signals_for, remote_for, termination_for, place_for, line_options_for, ephemeral_options_for};
 
 use crate::names::Names;
 use crate::scope::Scope;
 use crate::syntax::Options;
 use crate::unbuilt::Unbuilt;
-use crate::word::Word;
 use mg_model::commands::{
     EphemeralOptions, EventsName, LineOptions, Place, RemoteOption, SignalsName, Termination,
 };
 use mg_names::slots::Slot;
+use typed_values::Word;
 
 /// The slot of a name.
 pub(crate) fn slot(names: &Names, name: &Word) -> Result<Slot, Unbuilt>
@@ -40,7 +41,7 @@ pub(crate) fn number(names: &Names, name: &Word) -> Result<u8, Unbuilt>
 
 /// The place of a name, where there is a name.
 pub(crate) fn number_if_given(names: &Names, name: &Option<Word>) -> Result<Option<u8>, Unbuilt>
-    ensures { Builds (λ number. number) result (if_given (number_for names.now) name.now) }
+    ensures { Builds (λ number. number) result (optional_at (number_for names.now) name.now) }
 {
     match name {
         Some(name) => Ok(Some(number(names, name)?)),
@@ -59,7 +60,7 @@ fn events_name(scope: &Scope, name: &Word) -> Result<EventsName, Unbuilt>
 }
 
 fn events_if_given(scope: &Scope, name: &Option<Word>) -> Result<Option<EventsName>, Unbuilt>
-    ensures { Builds (λ events. events) result (if_given (events_for scope.now) name.now) }
+    ensures { Builds (λ events. events) result (optional_at (events_for scope.now) name.now) }
 {
     match name {
         Some(name) => Ok(Some(events_name(scope, name)?)),
@@ -77,7 +78,7 @@ fn signals_name(scope: &Scope, name: &Word) -> Result<SignalsName, Unbuilt>
 }
 
 fn signals_if_given(scope: &Scope, name: &Option<Word>) -> Result<Option<SignalsName>, Unbuilt>
-    ensures { Builds (λ signals. signals) result (if_given (signals_for scope.now) name.now) }
+    ensures { Builds (λ signals. signals) result (optional_at (signals_for scope.now) name.now) }
 {
     match name {
         Some(name) => Ok(Some(signals_name(scope, name)?)),
@@ -95,7 +96,7 @@ fn remote(scope: &Scope, name: &Word) -> Result<RemoteOption, Unbuilt>
 }
 
 fn remote_if_given(scope: &Scope, name: &Option<Word>) -> Result<Option<RemoteOption>, Unbuilt>
-    ensures { Builds (λ remote. remote) result (if_given (remote_for scope.now) name.now) }
+    ensures { Builds (λ remote. remote) result (optional_at (remote_for scope.now) name.now) }
 {
     match name {
         Some(name) => Ok(Some(remote(scope, name)?)),

@@ -1,14 +1,15 @@
 //! What has a name in a document, and names that come twice.
 ghost use Rattle.std.specs.Prelude.{◌≡◌, ◌++◌, IfOk, map, List, [], false, ℕ};
 ghost use Rattle.std.specs.List.{list_all};
-ghost use Rattle.scriptreader.specs.Names.{is_declarable, repeats_after};
+ghost use Rattle.typed_values.specs.Names.{is_declarable, repeats_after};
 
 use crate::names::Names;
-use crate::syntax::{WrittenEvents, WrittenItem, WrittenMap, WrittenSignals, WrittenState};
-use crate::word::{self, Word};
+use crate::syntax::{
+    WrittenEvents, WrittenItem, WrittenMap, WrittenSignal, WrittenSignals, WrittenState,
+};
 use mg_names::events::EventName;
-use mg_names::signals::Signal;
 use std::alloc::{AllocError, Global};
+use typed_values::{Word, is_name, is_reserved};
 
 /// A thing of a document that is told from others of its kind by a name.
 pub(crate) trait Named {
@@ -74,13 +75,13 @@ impl Named for WrittenItem {
     }
 }
 
-impl Named for Signal {
+impl Named for WrittenSignal {
     ghost use Rattle.mg_names.specs.Words.{signal_text};
 
     ghost called = { signal_text };
 
     fn name(&self) -> &str {
-        self.text()
+        self.signal.text()
     }
 }
 
@@ -88,7 +89,7 @@ impl Named for Signal {
 fn is_declarable(name: &str) -> bool
     ensures { result ≡ is_declarable name.now }
 {
-    word::is_name(name) && !word::is_reserved(name)
+    is_name(name) && !is_reserved(name)
 }
 
 /// Whether each of these has a name that may be declared.

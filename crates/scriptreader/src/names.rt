@@ -1,6 +1,6 @@
 //! Tables of names.
 ghost use Rattle.std.specs.Prelude.{◌≡◌, [], ◌∷◌, ◌++◌, IfOk, if◌then◌else◌, not};
-ghost use Rattle.scriptreader.specs.Names.{is_among};
+ghost use Rattle.typed_values.specs.Names.{is_among};
 ghost use Rattle.script_table.specs.Table.{place_of};
 
 use indexmap::IndexSet;

@@ -6,11 +6,11 @@ ghost use Rattle.scriptreader.specs.Reading.{Answers, ReadsScript, document_read
 
 use crate::fault::ScriptFault;
 use crate::syntax::Document;
-use crate::unread::Unread;
 use crate::{build, faults, tables};
 use script_table::Script;
 use std::alloc::Global;
 use toml::Table;
+use typed_values::Unread;
 
 /// The script that a document is.
 fn of_document(alloc: Global, document: &Document) -> Result<Script, ScriptFault>

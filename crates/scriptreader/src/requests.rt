@@ -1,15 +1,17 @@
 //! The commands of a state's request, as its table has them.
-ghost use Rattle.std.specs.Prelude.{◌≡◌};
-ghost use Rattle.scriptreader.specs.Meaning.{Builds, each, command_for, add_line_for, add_ephemeral_for, modify_line_for, modify_ephemeral_for, move_line_for, move_ephemeral_for, subtract_for, subtract_all_for, topology_for};
+ghost use Rattle.std.specs.Prelude.{◌≡◌, if◌then◌else◌};
+ghost use Rattle.typed_values.specs.Names.{is_among};
+ghost use Rattle.typed_values.specs.Shape.{each};
+ghost use Rattle.scriptreader.specs.Meaning.{Builds, command_for, add_line_for, add_ephemeral_for, modify_line_for, modify_ephemeral_for, move_line_for, move_ephemeral_for, subtract_for, subtract_all_for, topology_for};
 
 use crate::lookups::{ephemeral_options, line_options, place, slot, termination};
 use crate::scope::Scope;
 use crate::syntax::{Options, WrittenCommand};
 use crate::unbuilt::Unbuilt;
-use crate::word::Word;
 use mg_model::commands::Command;
 use mg_names::topologies::Topology;
 use std::alloc::Global;
+use typed_values::Word;
 
 #[tactic(auto, unfolding(crate::specs::Meaning::add_line_for))]
 fn add_line(
@@ -91,6 +93,22 @@ fn modify_ephemeral(
     })
 }
 
+fn modify(
+    scope: &Scope,
+    place: &Option<Word>,
+    name: &Word,
+    options: &Options,
+) -> Result<Command, Unbuilt>
+    ensures { Builds (λ command. command) result
+        (if is_among name.now scope.now.lines then modify_line_for scope.now place.now name.now options.now else modify_ephemeral_for scope.now place.now name.now options.now) }
+{
+    if scope.lines.has(name.as_str()) {
+        modify_line(scope, place, name, options)
+    } else {
+        modify_ephemeral(scope, place, name, options)
+    }
+}
+
 #[tactic(auto, unfolding(crate::specs::Meaning::move_line_for))]
 fn move_line(
     scope: &Scope,
@@ -127,6 +145,22 @@ fn move_ephemeral(
         ephemeral,
         options,
     })
+}
+
+fn move_to(
+    scope: &Scope,
+    context: &Word,
+    name: &Word,
+    options: &Options,
+) -> Result<Command, Unbuilt>
+    ensures { Builds (λ command. command) result
+        (if is_among name.now scope.now.lines then move_line_for scope.now context.now name.now options.now else move_ephemeral_for scope.now context.now name.now options.now) }
+{
+    if scope.lines.has(name.as_str()) {
+        move_line(scope, context, name, options)
+    } else {
+        move_ephemeral(scope, context, name, options)
+    }
 }
 
 #[tactic(auto, unfolding(crate::specs::Meaning::subtract_for))]
@@ -193,24 +227,12 @@ fn command(scope: &Scope, written: &WrittenCommand) -> Result<Command, Unbuilt>
             place,
             name,
             options,
-        } => {
-            if scope.lines.has(name.as_str()) {
-                modify_line(scope, place, name, options)
-            } else {
-                modify_ephemeral(scope, place, name, options)
-            }
-        }
+        } => modify(scope, place, name, options),
         WrittenCommand::Move {
             context,
             name,
             options,
-        } => {
-            if scope.lines.has(name.as_str()) {
-                move_line(scope, context, name, options)
-            } else {
-                move_ephemeral(scope, context, name, options)
-            }
-        }
+        } => move_to(scope, context, name, options),
         WrittenCommand::Subtract { context, name } => subtract(scope, context, name),
         WrittenCommand::SubtractAll { context } => subtract_all(scope, context),
         WrittenCommand::SetTopology {

@@ -1,7 +1,7 @@
 //! The names that a document declares, and whether it uses others.
 ghost use Rattle.std.specs.Prelude.{◌≡◌, ◌&&◌, [], false, map, if◌then◌else◌, IfOk, OnOk};
 ghost use Rattle.std.specs.List.{list_all};
-ghost use Rattle.scriptreader.specs.Names.{is_among, repeats_after};
+ghost use Rattle.typed_values.specs.Names.{is_among, repeats_after};
 
 use crate::named::{Named, add_all};
 use crate::names::Names;
@@ -9,9 +9,9 @@ use crate::syntax::{
     Document, Options, WrittenCommand, WrittenEvents, WrittenItem, WrittenPair, WrittenState,
     WrittenTransition,
 };
-use crate::word::Word;
 use std::alloc::{AllocError, Global};
 use std::marker::Model;
+use typed_values::Word;
 
 /// The names that a document declares, of each kind in their order.
 #[derive(Drop)]

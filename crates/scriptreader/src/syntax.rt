@@ -1,11 +1,11 @@
 //! A document as it is written: every mention of a thing is still its name.
-use crate::word::Word;
 use mg_names::kinds::Kind;
 use mg_names::modes::Mode;
 use mg_names::signals::Signal;
 use mg_names::strictness::Strict;
 use mg_names::topologies::Topology;
 use std::marker::Model;
+use typed_values::Word;
 
 /// An item of an events list.
 #[derive(Drop)]
@@ -31,11 +31,25 @@ impl Model for WrittenEvents {
     ghost view = { λ e. record { name = e.name; items = e.items.items } };
 }
 
+/// A signal of a signals list.
+#[derive(Drop)]
+pub(crate) struct WrittenSignal {
+    pub(crate) signal: Signal,
+}
+
+impl Model for WrittenSignal {
+    ghost use Rattle.mg_names.specs.declared.signals.Signal.{Signal};
+
+    ghost Value = { Signal };
+
+    ghost view = { λ s. s.signal };
+}
+
 /// A signals list.
 #[derive(Drop)]
 pub(crate) struct WrittenSignals {
     pub(crate) name: Word,
-    pub(crate) items: Vec<Signal>,
+    pub(crate) items: Vec<WrittenSignal>,
 }
 
 impl Model for WrittenSignals {

@@ -2,23 +2,22 @@
 ghost use Rattle.std.specs.Prelude.{◌≡◌, codes};
 ghost use Rattle.toml.specs.View.{view, table_view};
 ghost use Rattle.toml.specs.Data.{get_member};
-ghost use Rattle.scriptreader.specs.Shape.{Shapes};
+ghost use Rattle.typed_values.specs.Shape.{Shapes};
 ghost use Rattle.scriptreader.specs.Documents.{on_at, lines_of, line_of, kinds_of, transition_of, added_to, document_in};
 
-use crate::reads::{
-    Reads, entries, has_only, listed, member, needed, needed_list, optional, table, text,
-};
 use crate::syntax::{
-    Document, WrittenCommand, WrittenEvents, WrittenItem, WrittenMap, WrittenPair, WrittenSignals,
-    WrittenState, WrittenTransition,
+    Document, WrittenCommand, WrittenEvents, WrittenItem, WrittenMap, WrittenPair, WrittenSignal,
+    WrittenSignals, WrittenState, WrittenTransition,
 };
-use crate::unread::Unread;
-use crate::word::{self, Word};
 use crate::{commands, items, texts};
 use mg_names::kinds::Kind;
 use mg_names::signals::Signal;
 use std::alloc::Global;
 use toml::{Table, Value};
+use toml_values::{
+    Reads, entries, has_only, listed, member, needed, needed_list, optional, table, text,
+};
+use typed_values::{Unread, Word, is_name};
 
 impl Reads for WrittenItem {
     ghost use Rattle.scriptreader.specs.Documents.{item_meant};
@@ -36,7 +35,7 @@ impl Reads for WrittenItem {
     }
 }
 
-impl Reads for Signal {
+impl Reads for WrittenSignal {
     ghost use Rattle.scriptreader.specs.Documents.{signal_meant};
     ghost use Rattle.mg_names.specs.declared.signals.Signal.{Signal};
 
@@ -46,10 +45,10 @@ impl Reads for Signal {
 
     ghost meaning = { signal_meant };
 
-    fn read(_alloc: Global, value: &Value) -> Result<Signal, Unread> {
+    fn read(_alloc: Global, value: &Value) -> Result<WrittenSignal, Unread> {
         let text = text(value)?;
         match Signal::read(text) {
-            Some(signal) => Ok(signal),
+            Some(signal) => Ok(WrittenSignal { signal }),
             None => Err(Unread::BadKey),
         }
     }
@@ -228,7 +227,7 @@ fn of_line(
 ) -> Result<(), Unread>
     ensures { Shapes (λ _. found.new.items) result (added_to found.old.items (line_of line.now (view kinds.now))) }
 {
-    if !word::is_name(line) {
+    if !is_name(line) {
         return Err(Unread::BadKey);
     }
     of_kinds(alloc, line, table(kinds)?, found)

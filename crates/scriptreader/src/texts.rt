@@ -1,11 +1,10 @@
 //! The parts of texts: words, names, and what a sign divides.
 ghost use Rattle.std.specs.Prelude.{◌≡◌, ◌<◌, IfOk, map, option_map};
-ghost use Rattle.scriptreader.specs.Shape.{Shapes};
+ghost use Rattle.typed_values.specs.Shape.{Shapes};
 ghost use Rattle.scriptreader.specs.Texts.{words_of, parts_at, name_of, marked_of};
 
-use crate::unread::Unread;
-use crate::word::{self, Word};
 use std::alloc::{AllocError, Global};
+use typed_values::{Unread, Word, is_name};
 
 /// The words of a text, between its spaces.
 pub(crate) fn words(alloc: Global, text: &str) -> Result<Vec<&str>, AllocError>
@@ -26,7 +25,7 @@ pub(crate) fn split_once(text: &str, sign: char) -> Option<(&str, &str)>
 pub(crate) fn name(alloc: Global, text: &str) -> Result<Word, Unread>
     ensures { Shapes (λ w. w) result (name_of text.now) }
 {
-    if !word::is_name(text) {
+    if !is_name(text) {
         return Err(Unread::BadKey);
     }
     Ok(Word::copy(alloc, text)?)

@@ -1,4 +1,5 @@
-use Rattle.scriptreader.proofs.Meanings.{faultless, never_lacks, lacks_none}
+use Rattle.scriptreader.proofs.Faultless.{faultless}
+use Rattle.scriptreader.proofs.Meanings.{never_lacks, lacks_none}
 use Rattle.scriptreader.proofs.build.script.Goals as goal
 
 pub new-requires : goal.new-requires

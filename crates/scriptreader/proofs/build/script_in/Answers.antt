@@ -1,6 +1,7 @@
 use Rattle.std.proofs.Common.{length, arith, ap, sym, ◌∙◌}
 use Rattle.scriptreader.specs.Meaning.{events_list_for, state_for}
-use Rattle.scriptreader.proofs.Meanings.{small, each_length}
+use Rattle.scriptreader.proofs.Faultless.{small}
+use Rattle.scriptreader.proofs.Meanings.{each_length}
 use Rattle.scriptreader.proofs.build.script_in.Goals as goal
 
 pub new-requires-clause-lines : goal.new-requires-clause-lines

@@ -1,6 +1,7 @@
 use Rattle.std.proofs.Common.{◌≡◌, drop}
-use Rattle.scriptreader.specs.Meaning.{each, state_for}
-use Rattle.scriptreader.proofs.Shapes.{with_front}
+use Rattle.typed_values.specs.Shape.{each}
+use Rattle.scriptreader.specs.Meaning.{state_for}
+use Rattle.typed_values.proofs.Fronts.{with_front}
 use Rattle.scriptreader.proofs.build.states.Given as goal
 
 abbrev pub invariant-loop-one : goal.invariant-loop-one

@@ -1,6 +1,7 @@
 use Rattle.std.proofs.Common.{◌≡◌, drop}
-use Rattle.scriptreader.specs.Meaning.{each, transition_for}
-use Rattle.scriptreader.proofs.Shapes.{with_front}
+use Rattle.typed_values.specs.Shape.{each}
+use Rattle.scriptreader.specs.Meaning.{transition_for}
+use Rattle.typed_values.proofs.Fronts.{with_front}
 use Rattle.scriptreader.proofs.build.transitions.Given as goal
 
 abbrev pub invariant-loop-one : goal.invariant-loop-one

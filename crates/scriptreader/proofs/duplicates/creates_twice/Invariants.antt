@@ -1,6 +1,6 @@
 use Rattle.std.proofs.Common.{◌≡◌, [], drop}
 use Rattle.std.specs.List.{flat_map}
-use Rattle.scriptreader.specs.Names.{repeats_after}
+use Rattle.typed_values.specs.Names.{repeats_after}
 use Rattle.scriptreader.specs.Faults.{created_by}
 use Rattle.scriptreader.proofs.duplicates.creates_twice.Given as goal
 

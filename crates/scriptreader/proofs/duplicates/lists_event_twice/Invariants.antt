@@ -1,6 +1,6 @@
 use Rattle.std.proofs.Common.{◌≡◌, [], map, drop}
 use Rattle.std.specs.List.{list_any}
-use Rattle.scriptreader.specs.Names.{repeats_after}
+use Rattle.typed_values.specs.Names.{repeats_after}
 use Rattle.scriptreader.specs.Faults.{event_text}
 use Rattle.scriptreader.proofs.duplicates.lists_event_twice.Given as goal
 

@@ -1,6 +1,6 @@
 use Rattle.std.proofs.Common.{◌≡◌, [], map, drop}
 use Rattle.std.specs.List.{list_any}
-use Rattle.scriptreader.specs.Names.{repeats_after}
+use Rattle.typed_values.specs.Names.{repeats_after}
 use Rattle.mg_names.specs.Words.{signal_text}
 use Rattle.scriptreader.proofs.duplicates.lists_signal_twice.Given as goal
 

@@ -1,6 +1,6 @@
 use Rattle.std.proofs.Common.{◌≡◌, drop}
 use Rattle.std.specs.List.{flat_map}
-use Rattle.scriptreader.specs.Names.{each_once}
+use Rattle.typed_values.specs.Names.{each_once}
 use Rattle.scriptreader.specs.Faults.{ephemerals_made}
 use Rattle.scriptreader.proofs.faults.add_ephemerals.Given as goal
 

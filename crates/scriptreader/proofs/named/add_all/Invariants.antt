@@ -1,5 +1,5 @@
 use Rattle.std.proofs.Common.{◌≡◌, ◌++◌, map, drop}
-use Rattle.scriptreader.specs.Names.{repeats_after}
+use Rattle.typed_values.specs.Names.{repeats_after}
 use Rattle.scriptreader.proofs.named.add_all.Given as goal
 
 abbrev pub invariant-loop-item : goal.invariant-loop-item

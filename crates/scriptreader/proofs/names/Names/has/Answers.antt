@@ -1,6 +1,6 @@
 use Rattle.std.proofs.Common.{List, ℕ, Bor, sym, ◌∙◌}
 use Rattle.std.specs.Str.{bytes_eq}
-use Rattle.scriptreader.proofs.Places.{list_any-mapped}
+use Rattle.typed_values.proofs.MappedLists.{list_any-mapped}
 use Rattle.scriptreader.proofs.names.Names.has.Goals as goal
 
 pub returns : goal.returns

@@ -1,8 +1,8 @@
 use Rattle.std.proofs.Common.{◌≡◌, map, drop}
 use Rattle.toml.specs.View.{items_view}
-use Rattle.scriptreader.specs.Shape.{items_of}
-use Rattle.scriptreader.proofs.Shapes.{with_front}
-use Rattle.scriptreader.proofs.reads.items.Given as goal
+use Rattle.toml_values.specs.Keys.{items_of}
+use Rattle.typed_values.proofs.Fronts.{with_front}
+use Rattle.toml_values.proofs.reads.items.Given as goal
 
 abbrev pub invariant-loop-item : goal.invariant-loop-item
 invariant-loop-item g l =

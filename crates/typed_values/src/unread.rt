@@ -3,7 +3,7 @@ use std::alloc::{AllocError, AllocFailed};
 
 /// Why a value is not read: the two ways in which reading the shape of a document ends early.
 #[derive(Clone, Copy, Debug, PartialEq, Eq)]
-pub(crate) enum Unread {
+pub enum Unread {
     /// A key or a value is bad.
     BadKey,
     /// Memory ran out.
@@ -12,7 +12,7 @@ pub(crate) enum Unread {
 
 impl From<AllocError> for Unread {
     ghost use Rattle.std.specs.Prelude.{◌≡◌};
-    ghost use Rattle.scriptreader.specs.declared.unread.Unread.TheVariants.{Memory};
+    ghost use Rattle.typed_values.specs.declared.unread.Unread.TheVariants.{Memory};
 
     ghost from_gives = { λ _ e. e ≡ Memory };
 
@@ -23,7 +23,7 @@ impl From<AllocError> for Unread {
 
 impl<T: Drop> From<AllocFailed<T>> for Unread {
     ghost use Rattle.std.specs.Prelude.{◌≡◌};
-    ghost use Rattle.scriptreader.specs.declared.unread.Unread.TheVariants.{Memory};
+    ghost use Rattle.typed_values.specs.declared.unread.Unread.TheVariants.{Memory};
 
     ghost from_gives = { λ _ e. e ≡ Memory };
 

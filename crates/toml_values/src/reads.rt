@@ -1,33 +1,34 @@
-//! Reading typed values from a document's tree. Each type says what of the tree it reads; arrays, options and tables
-//! of it are then read by what stands here. The only fault is a bad key.
+//! Reading typed values from a document's tree. Each type says what of the tree it reads; arrays and options of it are
+//! then read by what stands here. The only fault is a bad key.
 ghost use Rattle.std.specs.Prelude.{◌≡◌, option_map, Option, List, map, IfOk, string_bytes};
-ghost use Rattle.std.specs.List.{list_any, list_all};
-ghost use Rattle.std.specs.Str.{bytes_eq};
+ghost use Rattle.std.specs.List.{list_all};
 ghost use Rattle.std.specs.Map.Iter.{deref_pair};
 ghost use Rattle.toml.specs.View.{view, table_view};
 ghost use Rattle.toml.specs.Data.{Data, get_member, as_str, as_array, as_table, as_bool};
-ghost use Rattle.scriptreader.specs.Shape.{Shapes, list_of, needed, optional, listed, has_only};
+ghost use Rattle.typed_values.specs.Names.{is_among};
+ghost use Rattle.typed_values.specs.Shape.{Shapes};
+ghost use Rattle.toml_values.specs.Keys.{list_of, needed, optional, listed, has_only};
 
-use crate::unread::Unread;
-use crate::word::Word;
 use std::alloc::{AllocError, Global};
 use toml::{Table, Value};
+use typed_values::{Unread, Word, is_among};
 
-/// A type of values that a document holds.
-pub(crate) trait Reads: Drop {
+/// A type of values that a TOML document holds: `meaning` says what of a tree a value of the type is read from, and
+/// `seen` what a value says.
+pub trait Reads: Drop {
     ghost Seen: { Type 0 };
 
     ghost seen: { Self → Seen };
 
     ghost meaning: { Data → Option Seen };
 
-    /// Reads a value.
+    /// Reads a value; `BadKey` where the tree has no meaning, and `Memory` where memory runs out.
     fn read(alloc: Global, value: &Value) -> Result<Self, Unread>
         ensures { Shapes seen result (meaning (view value.now)) };
 }
 
-/// The text of a value.
-pub(crate) fn text(value: &Value) -> Result<&str, Unread>
+/// The text of a value; `BadKey` where it is none.
+pub fn text(value: &Value) -> Result<&str, Unread>
     ensures { Shapes (λ t. t.now) result (as_str (view value.now)) }
 {
     match value.as_str() {
@@ -36,8 +37,8 @@ pub(crate) fn text(value: &Value) -> Result<&str, Unread>
     }
 }
 
-/// The table of a value.
-pub(crate) fn table(value: &Value) -> Result<&Table, Unread>
+/// The table of a value; `BadKey` where it is none.
+pub fn table(value: &Value) -> Result<&Table, Unread>
     ensures { Shapes (λ t. table_view t.now) result (as_table (view value.now)) }
 {
     match value.as_table() {
@@ -46,44 +47,37 @@ pub(crate) fn table(value: &Value) -> Result<&Table, Unread>
     }
 }
 
-/// The value at a key of a table.
-pub(crate) fn member<'a>(table: &'a Table, key: &str) -> Option<&'a Value>
+/// The value at a key of a table, where there is one.
+pub fn member<'a>(table: &'a Table, key: &str) -> Option<&'a Value>
     ensures { option_map (λ v. view v.now) result ≡ get_member key.now (table_view table.now) }
 {
     table.get(key)
 }
 
 /// The keys of a table in their order, each with its value.
-pub(crate) fn entries(alloc: Global, table: &Table) -> Result<Vec<(&String, &Value)>, AllocError>
+pub fn entries(alloc: Global, table: &Table) -> Result<Vec<(&String, &Value)>, AllocError>
     ensures { IfOk result (λ v. map deref_pair v.items ≡ table.now.entries) }
 {
     table.iter().collect(alloc)
 }
 
-/// Whether a text is one of these.
-fn is_among(text: &str, texts: &[&str]) -> bool
-    ensures { result ≡ list_any (λ other. bytes_eq text.now other.now) texts.now }
-{
-    texts.iter().any(|other| text == *other)
-}
-
 /// Whether each of these keys is one of those.
 fn are_among(keys: &[(&String, &Value)], texts: &[&str]) -> bool
-    ensures { result ≡ list_all (λ p. list_any (λ other. bytes_eq (string_bytes p.0.now) other.now) texts.now) keys.now }
+    ensures { result ≡ list_all (λ p. is_among (string_bytes p.0.now) (map (λ t. t.now) texts.now)) keys.now }
 {
     keys.iter().all(|entry| is_among(entry.0.as_str(), texts))
 }
 
 /// Whether a table has no other keys than these.
-pub(crate) fn has_only(alloc: Global, table: &Table, keys: &[&str]) -> Result<bool, AllocError>
+pub fn has_only(alloc: Global, table: &Table, keys: &[&str]) -> Result<bool, AllocError>
     ensures { IfOk result (λ r. r ≡ has_only (map (λ k. k.now) keys.now) (table_view table.now)) }
 {
     let entries = entries(alloc, table)?;
     Ok(are_among(entries.as_slice(), keys))
 }
 
-/// The value at a key that has to be there.
-pub(crate) fn needed<T: Reads>(alloc: Global, table: &Table, key: &str) -> Result<T, Unread>
+/// The value at a key that has to be there; `BadKey` where it is not, or is not of the type.
+pub fn needed<T: Reads>(alloc: Global, table: &Table, key: &str) -> Result<T, Unread>
     ensures { Shapes T.seen result (needed T.meaning key.now (table_view table.now)) }
 {
     match member(table, key) {
@@ -92,12 +86,8 @@ pub(crate) fn needed<T: Reads>(alloc: Global, table: &Table, key: &str) -> Resul
     }
 }
 
-/// The value at a key that may be left out.
-pub(crate) fn optional<T: Reads>(
-    alloc: Global,
-    table: &Table,
-    key: &str,
-) -> Result<Option<T>, Unread>
+/// The value at a key that may be left out; `BadKey` where it is not of the type.
+pub fn optional<T: Reads>(alloc: Global, table: &Table, key: &str) -> Result<Option<T>, Unread>
     ensures { Shapes (option_map T.seen) result (optional T.meaning key.now (table_view table.now)) }
 {
     match member(table, key) {
@@ -120,28 +110,25 @@ fn items<T: Reads>(alloc: Global, value: &Value) -> Result<Vec<T>, Unread>
     Ok(found)
 }
 
-/// The items of the array at a key that has to be there.
-pub(crate) fn needed_list<T: Reads>(
-    alloc: Global,
-    table: &Table,
-    key: &str,
-) -> Result<Vec<T>, Unread>
-    ensures { Shapes (λ v. map T.seen v.items) result (needed (list_of T.meaning) key.now (table_view table.now)) }
-{
-    match member(table, key) {
-        Some(value) => items(alloc, value),
-        None => Err(Unread::BadKey),
-    }
-}
-
-/// The items of the array at a key, none where it is left out.
-pub(crate) fn listed<T: Reads>(alloc: Global, table: &Table, key: &str) -> Result<Vec<T>, Unread>
+/// The items of the array at a key, none where it is left out; `BadKey` where it is no array, or an item is not of the
+/// type.
+pub fn listed<T: Reads>(alloc: Global, table: &Table, key: &str) -> Result<Vec<T>, Unread>
     ensures { Shapes (λ v. map T.seen v.items) result (listed T.meaning key.now (table_view table.now)) }
 {
     match member(table, key) {
         Some(value) => items(alloc, value),
         None => Ok(Vec::new(alloc)),
     }
+}
+
+/// The items of the array at a key that has to be there; `BadKey` where there is none, or an item is not of the type.
+pub fn needed_list<T: Reads>(alloc: Global, table: &Table, key: &str) -> Result<Vec<T>, Unread>
+    ensures { Shapes (λ v. map T.seen v.items) result (needed (list_of T.meaning) key.now (table_view table.now)) }
+{
+    if member(table, key).is_none() {
+        return Err(Unread::BadKey);
+    }
+    listed(alloc, table, key)
 }
 
 impl Reads for Word {

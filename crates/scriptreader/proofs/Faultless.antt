@@ -1,0 +1,69 @@
+-- What holds of a document without a fault, and of one within the limits.
+use Rattle.std.proofs.Common.{◌≡◌, ◌≤◌, ℕ, List, length, Bool, true, false, not, refl, nat_lt, Option, Some, None}
+use Rattle.std.specs.Prelude.{if◌then◌else◌}
+use Rattle.std.specs.List.{list_any}
+use Rattle.std.proofs.lemmas.Bool.{ltb-false}
+use Rattle.scriptreader.specs.declared.fault.ScriptFault.{ScriptFault}
+use Rattle.scriptreader.specs.declared.fault.ScriptFault.TheVariants as fault
+use Rattle.scriptreader.specs.Written.{Document}
+use Rattle.scriptreader.specs.Faults.{fault_of, use_fault_of, state_fault_of, has_bad_name, has_duplicate, has_unknown, has_bad_map, names_state, lacks_fault, has_vain_outcome, is_end_that_goes_on, makes_and_subtracts, is_too_large}
+use Rattle.scriptreader.proofs.BooleanTests.{or_left, or_right, holds}
+
+passed : (b : Bool) (fault : ScriptFault) (rest : Option ScriptFault) → (if b then Some fault else rest) ≡ None → (b ≡ false) × (rest ≡ None)
+passed true fault rest e = absurd cc
+passed false fault rest e = (refl, e)
+
+pub record IsFaultless (d : Document) : Type 0 where
+  pub duplicate : has_duplicate d ≡ false
+  pub unknown : has_unknown d ≡ false
+  pub maps : has_bad_map d ≡ false
+  pub start : names_state d d.start ≡ true
+  pub restart : names_state d d.restart ≡ true
+  pub large : is_too_large d ≡ false
+
+pub faultless : (d : Document) → fault_of d ≡ None → IsFaultless d
+unfolding fault_of use_fault_of state_fault_of
+faultless d e =
+    let e1 = passed (has_bad_name d) fault.BadName _ e in
+    let e2 = passed (has_duplicate d) fault.Duplicate _ e1.1 in
+    let e3 = passed (has_unknown d) fault.Unknown _ e2.1 in
+    let e4 = passed (has_bad_map d) fault.BadMap _ e3.1 in
+    let e5 = passed (not (names_state d d.start)) fault.NoStart _ e4.1 in
+    let e6 = passed (not (names_state d d.restart)) fault.NoRestart _ e5.1 in
+    let e7 = passed (list_any (λ s. lacks_fault s) d.states) fault.NoFault _ e6.1 in
+    let e8 = passed (list_any (λ s. has_vain_outcome s) d.states) fault.OkWithoutActions _ e7.1 in
+    let e9 = passed (list_any (λ s. is_end_that_goes_on s) d.states) fault.EndWithTransitions _ e8.1 in
+    let e10 = passed (list_any (λ s. makes_and_subtracts s) d.states) fault.MadeAndSubtracted _ e9.1 in
+    let e11 = passed (is_too_large d) fault.TooMany _ e10.1 in
+    record { duplicate = e2.0; unknown = e3.0; maps = e4.0; start = holds _ e5.0; restart = holds _ e6.0; large = e11.0 }
+
+at_most : {A : Type 0} (limit : ℕ) (xs : List A) → nat_lt limit (length xs) ≡ false → length xs ≤ limit
+at_most limit xs e = ltb-false limit (length xs) e
+
+-- a document within the limits
+pub record IsSmall (d : Document) : Type 0 where
+  pub lines : length d.lines ≤ 4
+  pub contexts : length d.contexts ≤ 4
+  pub ephemerals : length d.ephemerals ≤ 4
+  pub states : length d.states ≤ 64
+  pub events : length d.events ≤ 16
+  pub signals : length d.signals ≤ 16
+  pub maps : length d.maps ≤ 16
+
+pub small : (d : Document) → is_too_large d ≡ false → IsSmall d
+small d e =
+    let e2 = or_right _ _ e in
+    let e3 = or_right _ _ e2 in
+    let e4 = or_right _ _ e3 in
+    let e5 = or_right _ _ e4 in
+    let e6 = or_right _ _ e5 in
+    let e7 = or_right _ _ e6 in
+    record {
+      lines = at_most 4 d.lines (or_left _ _ e);
+      contexts = at_most 4 d.contexts (or_left _ _ e2);
+      ephemerals = at_most 4 d.ephemerals (or_left _ _ e3);
+      states = at_most 64 d.states (or_left _ _ e4);
+      events = at_most 16 d.events (or_left _ _ e5);
+      signals = at_most 16 d.signals (or_left _ _ e6);
+      maps = at_most 16 d.maps (or_left _ _ e7);
+    }
