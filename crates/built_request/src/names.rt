@@ -111,10 +111,7 @@ impl Names {
                 context,
                 ephemeral,
                 options,
-            } => {
-                self.has_in(context, &Termination::Ephemeral(ephemeral))
-                    && self.has_remote(&options)
-            }
+            } => self.has_at(&Place::Context(context), ephemeral) && self.has_remote(&options),
             Command::Subtract {
                 context,
                 termination,

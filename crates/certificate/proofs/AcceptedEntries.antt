@@ -12,7 +12,7 @@ use Rattle.certificate.specs.Components.{component_meant, keys_of}
 use Rattle.certificate.specs.Document.{document_meant}
 use Rattle.certificate.specs.Laws.{AcceptedCertificates}
 use Rattle.entry_table.specs.Listed.{Listed}
-use Rattle.certificate.specs.Shape.{each, only_if, ◌>>=◌}
+use Rattle.typed_values.specs.Shape.{each, only_if, ◌>>=◌}
 use Rattle.certificate.specs.Written as written
 use Rattle.certificate.specs.declared.fault.CertFault.TheVariants.{EmptySet, TooManyEntries, TooManyPoints}
 use Rattle.certificate.specs.declared.key.Key.{Key}

@@ -1,13 +1,13 @@
 -- A certificate: what a document's entries are, given a script, and its faults in the order of their numbers. A reader
 -- should check the limits, and that each fault is looked for in the whole document before the next.
-use Rattle.std.specs.Prelude.{◌≡◌, ℕ, zero, suc, ◌==◌, ◌+◌, ◌<◌, ◌||◌, ◌&&◌, Bool, false, List, [], ◌∷◌, length, count_by, nat_lt, if◌then◌else◌, Option, Some, None, is_some, Result, Ok, Err}
-use Rattle.std.specs.List.{list_all, list_any, slice_index_or}
+use Rattle.std.specs.Prelude.{◌≡◌, ℕ, zero, suc, ◌==◌, ◌||◌, ◌&&◌, Bool, false, List, length, count_by, nat_lt, if◌then◌else◌, Option, Some, None, is_some, Result, Ok, Err}
+use Rattle.std.specs.List.{list_all, list_any}
 use Rattle.std.specs.Str.{IsUtf8}
 use Rattle.serde_json.specs.Data.{Data}
 use Rattle.serde_json.specs.Read.{read as read_text}
 use Rattle.mg_model.specs.Script.{Script}
 use Rattle.script_table.specs.Table.{place_of, state_named}
-use Rattle.certificate.specs.Shape.{◌>>=◌, each, only_if}
+use Rattle.typed_values.specs.Shape.{◌>>=◌, each, only_if}
 use Rattle.certificate.specs.Naming.{pair_named}
 use Rattle.certificate.specs.Components.{component_meant, keys_of}
 use Rattle.certificate.specs.Document.{document_meant}

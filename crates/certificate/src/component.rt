@@ -15,7 +15,6 @@ use crate::vocabulary::{
     ContextNames, ContextValues, Cuts, EphemeralNames, EphemeralSpots, LineNames, LineSpots, Links,
     Lists, Modes, Plays, Remotes, Vocabulary, read_set,
 };
-use crate::word::Words;
 use crate::written::{WrittenEntry, WrittenEphemeral, WrittenLine};
 use entry_table::Component;
 use mg_model::commands::{EventsName, Termination};
@@ -26,6 +25,7 @@ use mg_names::phases::Link;
 use mg_names::slots::Slot;
 use script_table::Script;
 use std::alloc::Global;
+use typed_values::Words;
 
 /// The set that some words name, or the default alone where nothing is written.
 fn set_or<T: Ranked + Drop, V: Vocabulary<T>>(

@@ -6,7 +6,7 @@ ghost use Rattle.certificate.specs.Certificate.{are_known, has_empty, is_large, 
 ghost use Rattle.certificate.specs.Components.{component_meant, keys_of};
 ghost use Rattle.entry_table.specs.Listed.{choices_of};
 ghost use Rattle.certificate.specs.Naming.{Resolves, pair_named};
-ghost use Rattle.certificate.specs.Shape.{each};
+ghost use Rattle.typed_values.specs.Shape.{each};
 ghost use Rattle.entry_table.specs.Shown.{shown_all};
 
 use crate::component::read_component;

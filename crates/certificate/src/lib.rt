@@ -14,7 +14,6 @@ mod ranked;
 mod reader;
 mod reads;
 mod vocabulary;
-mod word;
 mod written;
 
 pub use fault::CertFault;

@@ -6,11 +6,11 @@ ghost use Rattle.certificate.specs.Naming.{different, pair_named, pair_of, parts
 
 use crate::reads::Row;
 use crate::vocabulary::Vocabulary;
-use crate::word::Words;
 use configuration::spots::is_same;
 use mg_model::commands::Termination;
 use mg_names::slots::Slot;
 use script_table::Script;
+use typed_values::Words;
 
 /// The termination of a name.
 fn termination(script: &Script, name: &str) -> Option<Termination>

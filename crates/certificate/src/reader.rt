@@ -2,7 +2,7 @@
 ghost use Rattle.std.specs.Prelude.{◌≡◌};
 ghost use Rattle.serde_json.specs.View.{view};
 ghost use Rattle.certificate.specs.Certificate.{Gives, Parses, ReadsCertificate, checked_or, document_read, listed_meant};
-ghost use Rattle.certificate.specs.Shape.{each};
+ghost use Rattle.typed_values.specs.Shape.{each};
 
 use crate::document::read_document;
 use crate::draft::{drafts, entries};
@@ -14,6 +14,7 @@ use entry_table::{Cert, Entry};
 use script_table::Script;
 use serde_json::Value;
 use std::alloc::Global;
+use typed_values::Unread;
 
 /// Looks up the names of written entries. The limits are looked at before any entry is kept.
 fn resolve(
@@ -38,8 +39,11 @@ fn resolve(
 fn read_value(alloc: Global, script: &Script, value: &Value) -> Result<Vec<Entry>, CertFault>
     ensures { Gives (λ v. v.items) result (document_read script.now (view value.now)) }
 {
-    let written = read_document(alloc, value)?;
-    resolve(alloc, script, written.as_slice())
+    match read_document(alloc, value) {
+        Ok(written) => resolve(alloc, script, written.as_slice()),
+        Err(Unread::BadKey) => Err(CertFault::BadKey),
+        Err(Unread::Memory) => Err(CertFault::NoMemory),
+    }
 }
 
 /// The document of a text.

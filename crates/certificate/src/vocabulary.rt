@@ -5,7 +5,6 @@ ghost use Rattle.certificate.specs.Ranks.{set_with};
 
 use crate::fault::CertFault;
 use crate::ranked::{Ranked, insert};
-use crate::word::Word;
 use mg_model::commands::EventsName;
 use mg_model::components::{Remote, Spot};
 use mg_names::context_values::ContextValue;
@@ -14,6 +13,7 @@ use mg_names::phases::Link;
 use mg_names::slots::Slot;
 use script_table::Script;
 use std::alloc::Global;
+use typed_values::Word;
 
 /// Words that name values.
 pub(crate) trait Vocabulary<T> {

@@ -1,12 +1,10 @@
 -- What the outlines of the entries say is what the entries say.
-use Rattle.std.proofs.Common.{◌≡◌, ◌∙◌, sym, ap, subst, map, Some, Option, Ok}
-use Rattle.std.specs.Prelude.{option_map}
+use Rattle.std.proofs.Common.{◌∙◌, sym, ap, subst, Ok}
 use Rattle.std.proofs.lemmas.Result.{err_from_is_err_and}
-use Rattle.mg_model.specs.Script.{Script}
 use Rattle.certificate.specs.Certificate.{checked_or, listed_meant}
 use Rattle.certificate.specs.Naming.{Lacks}
-use Rattle.certificate.specs.Outlines.{limit_passed, outline_of}
-use Rattle.certificate.specs.Shape.{each}
+use Rattle.certificate.specs.Outlines.{limit_passed}
+use Rattle.typed_values.specs.Shape.{each}
 use Rattle.certificate.proofs.OutlineLemmas.{each_outlined, refused, unknown, within}
 use Rattle.certificate.proofs.reader.resolve.Goals as goal
 
