@@ -1,3 +1,4 @@
+//! A configuration as data, with a reader and a setter for each component.
 pub mod paths;
 
 use crate::places::{place_of, unused_events, unused_spot};

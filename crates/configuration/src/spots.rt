@@ -1,3 +1,4 @@
+//! Tests of single values of a configuration: where a termination stands, what a name stands for, which way media passes.
 ghost use Rattle.std.specs.Prelude.{◌≡◌, ℕ, ◌<◌, ◌||◌, not, length, slice_index_or};
 ghost use Rattle.std.specs.List.{list_all, list_any};
 ghost use Rattle.mg_names.specs.declared.context_values.ContextValue.TheVariants.{Free};

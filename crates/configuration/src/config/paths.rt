@@ -1,3 +1,4 @@
+//! Paths of media between the lines of a configuration.
 ghost use Rattle.std.specs.Prelude.{◌≡◌, ℕ, ◌<◌, ◌↔◌, ◌||◌, ◌&&◌, ◌⊎◌, false, true, IsTrue, IfSome, IfNone, slice_index_or};
 ghost use Rattle.mg_model.specs.Paths.{hops, crosses, HasPath, AreJoined};
 ghost use Rattle.configuration.specs.Config.{configuration_of};

@@ -1,3 +1,4 @@
+-- Only the entries of the configuration's state can have it.
 use Rattle.std.proofs.Common.{◌≡◌, ◌∙◌, ℕ, ap, sym, subst}
 use Rattle.std.specs.List.{Any}
 use Rattle.configuration.specs.Config.{configuration_of}

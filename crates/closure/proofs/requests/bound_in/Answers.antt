@@ -1,3 +1,4 @@
+-- The two tables of four have the values of the configuration, which binds nothing past the fourth.
 use Rattle.std.proofs.Common.{ℕ, not, refl, ap, ◌∙◌, arith}
 use Rattle.mg_names.specs.declared.context_values.ContextValue.{ContextValue}
 use Rattle.mg_model.specs.declared.commands.Termination.TheVariants.{Ephemeral}

@@ -1,3 +1,4 @@
+-- All pairs, one by one, are the cuts of the termination: nothing else is cut.
 use Rattle.std.proofs.Common.{◌∙◌}
 use Rattle.configuration.specs.Config.{configuration_of}
 use Rattle.configuration.proofs.SlotLemmas.{no_cuts}

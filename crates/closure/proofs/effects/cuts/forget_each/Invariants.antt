@@ -1,3 +1,4 @@
+-- Pair by pair.
 use Rattle.std.proofs.Common.{◌≡◌, drop}
 use Rattle.mg_model.specs.Configuration.{terminations}
 use Rattle.configuration.specs.Config.{configuration_of}

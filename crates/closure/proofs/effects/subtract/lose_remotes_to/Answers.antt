@@ -1,3 +1,4 @@
+-- Four turns are the loss of every Remote: an ephemeral past the fourth has none.
 use Rattle.std.proofs.Common.{◌≡◌, ℕ, slice_index_or, refl, ap, ◌∙◌}
 use Rattle.configuration.specs.Config.{configuration_of}
 use Rattle.closure.specs.Turns.{lost_at}

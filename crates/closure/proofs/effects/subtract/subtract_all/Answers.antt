@@ -1,3 +1,4 @@
+-- One by one, the terminations of a context are subtracted together.
 use Rattle.std.proofs.Common.{◌∙◌}
 use Rattle.configuration.specs.Config.{configuration_of}
 use Rattle.configuration.proofs.SlotLemmas.{absent_past_eight}
