@@ -5,13 +5,14 @@ use Rattle.std.specs.List.{All, list_any}
 use Rattle.std.specs.Result.{is_ok, result_unwrap_or}
 use Rattle.mg_model.specs.Accepted.{IsScript, IsEntryOf, HasOne}
 use Rattle.mg_model.specs.Script.{Script}
-use Rattle.scriptreader.specs.Table.{state_named}
+use Rattle.script_table.specs.Table.{state_named}
 use Rattle.certificate.specs.Certificate.{are_known, listed_meant, checked_or, resolved_or, has_empty, has_crowd, is_large}
-use Rattle.certificate.specs.Components.{Component, component_meant, keys_of}
+use Rattle.mg_model.specs.Entries.{Component}
+use Rattle.certificate.specs.Components.{component_meant, keys_of}
 use Rattle.certificate.specs.Document.{document_meant}
 use Rattle.certificate.specs.Laws.{AcceptedCertificates}
-use Rattle.certificate.specs.Listed.{Listed}
-use Rattle.certificate.specs.Shape.{each, only_if, ◌>>=◌}
+use Rattle.entry_table.specs.Listed.{Listed}
+use Rattle.typed_values.specs.Shape.{each, only_if, ◌>>=◌}
 use Rattle.certificate.specs.Written as written
 use Rattle.certificate.specs.declared.fault.CertFault.TheVariants.{EmptySet, TooManyEntries, TooManyPoints}
 use Rattle.certificate.specs.declared.key.Key.{Key}

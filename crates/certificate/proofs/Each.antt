@@ -1,13 +1,9 @@
 -- A list that is read element by element: what was read so far, followed by the rest, is the whole.
-use Rattle.std.proofs.Common.{◌≡◌, ◌∙◌, ◌+◌, ◌<◌, ◌≤◌, ◌++◌, ℕ, suc, List, [], ◌∷◌, length, drop, Option, Some, None, refl, sym, ap, append_assoc, append-nil, drop-cons, add-one}
+use Rattle.std.proofs.Common.{◌≡◌, ◌∙◌, ◌+◌, ◌<◌, ◌≤◌, ◌++◌, ℕ, List, [], ◌∷◌, length, drop, Option, Some, None, refl, sym, ap, append_assoc, append-nil}
 use Rattle.std.specs.List.{slice_index_or}
 use Rattle.std.proofs.lemmas.List.{drop_all}
-use Rattle.certificate.specs.Shape.{each, ◌>>=◌}
-
--- what is left begins with the element at the place
-pub at : {X : Type 0} (xs : List X) (i : ℕ) (x : X) → i < length xs → x ≡ slice_index_or xs i x → drop i xs ≡ x ∷ drop (i + 1) xs
-at xs i x lt is =
-    drop-cons xs i x lt ∙ ap (λ y. y ∷ drop (suc i) xs) (sym is) ∙ ap (λ k. x ∷ drop k xs) (sym (add-one i))
+use Rattle.entry_table.proofs.Products.{at}
+use Rattle.typed_values.specs.Shape.{each, ◌>>=◌}
 
 module _ {X Y : Type 0} (f : X → Option Y) where
   -- `done` was read of the elements before the place i

@@ -7,6 +7,5 @@ pub mod Members
 pub mod OutlineLemmas
 pub mod Parts
 pub mod Passing
-pub mod Products
 pub mod RowLemmas
 pub mod Trees

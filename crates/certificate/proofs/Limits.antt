@@ -1,11 +1,11 @@
 -- The limits of a certificate.
-use Rattle.std.proofs.Common.{◌≡◌, ◌∙◌, ◌*◌, ◌<◌, ◌≤◌, ℕ, zero, suc, Bool, true, false, List, [], ◌∷◌, length, refl, sym, ap, subst, arith, inl, inr, nat_lt, true≢false, min, ◌^◌, ◌-◌}
+use Rattle.std.proofs.Common.{◌≡◌, ◌∙◌, ◌*◌, ◌<◌, ◌≤◌, ℕ, zero, suc, Bool, true, false, List, [], ◌∷◌, length, refl, sym, ap, subst, arith, inl, inr, nat_lt, true≢false, ◌^◌}
 use Rattle.std.specs.Prelude.{◌==◌, ◌||◌}
 use Rattle.std.specs.List.{list_any}
 use borrow.Author.Tests.{ltb-false}
 use Rattle.std.proofs.lemmas.Bool.{cases_lt}
-use Rattle.certificate.specs.Components.{Component}
-use Rattle.certificate.specs.Listed.{choices_of, size_of}
+use Rattle.mg_model.specs.Entries.{Component}
+use Rattle.entry_table.specs.Listed.{choices_of, size_of}
 use Rattle.certificate.specs.Certificate.{some_below}
 
 or_true : (b : Bool) → true ≡ (b || true)
@@ -39,6 +39,6 @@ some_product (component ∷ components) none = go (length (choices_of component)
     go true e more = absurd (true≢false (rw e at none))
     go false e more = positive (length (choices_of component)) (size_of components) e (more (rw e at none))
 
--- what is within the limit fits
-pub fitting : (n size : ℕ) → nat_lt 65536 n ≡ false → size ≡ min n (2 ^ 64 - 1) → size ≡ n
-fitting n size small is = let within : n ≤ 65536 = ltb-false 65536 n small in omega arith
+-- what is within the limit fits 32 bits
+pub fitting : (n : ℕ) → nat_lt 65536 n ≡ false → n < 2 ^ 32
+fitting n small = let within : n ≤ 65536 = ltb-false 65536 n small in omega arith

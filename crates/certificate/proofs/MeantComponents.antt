@@ -6,7 +6,8 @@ use Rattle.mg_model.specs.declared.commands.Termination.TheVariants.{Line, Ephem
 use Rattle.mg_model.specs.Accepted.{is_links, is_spots, is_modes, is_events, is_plays, is_contexts, is_remotes, is_cuts}
 use Rattle.mg_model.specs.Configuration.{is_same}
 use Rattle.mg_model.specs.Script.{Script}
-use Rattle.certificate.specs.Components.{Component, links, spots, modes, events, plays, contexts, remotes, cuts, component_meant}
+use Rattle.mg_model.specs.Entries.{Component, links, spots, modes, events, plays, contexts, remotes, cuts}
+use Rattle.certificate.specs.Components.{component_meant}
 use Rattle.certificate.specs.Written as written
 use Rattle.certificate.specs.declared.key.Key.{Key}
 use Rattle.certificate.specs.declared.key.Key.TheVariants as key

@@ -4,7 +4,7 @@ use Rattle.std.specs.Prelude.{Contains, is_some, unwrap_or, if◌then◌else◌}
 use Rattle.std.specs.List.{All, flat_map}
 use Rattle.std.proofs.lemmas.List.Concat.{flat_map-cons}
 use Rattle.std.proofs.lemmas.List.Elements.{All-nil, All-cons, Contains-append_cases, Contains-append_left, Contains-append_right}
-use Rattle.certificate.specs.Shape.{each, ◌>>=◌}
+use Rattle.typed_values.specs.Shape.{each, ◌>>=◌}
 
 pub first_in : {A : Type 0} (x : A) (xs : List A) → Contains (x ∷ xs) x
 first_in x xs = (0, omega arith, refl)

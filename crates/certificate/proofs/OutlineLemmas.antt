@@ -1,13 +1,13 @@
 -- The limits of some entries are those of their outlines.
 use Rattle.std.proofs.Common.{◌≡◌, ◌∙◌, ◌+◌, cond, ℕ, zero, suc, Bool, true, false, List, [], ◌∷◌, map, Option, Some, None, refl, sym, ap, length, nat_lt, true≢false, Result, Ok, Err}
-use Rattle.std.specs.Prelude.{◌==◌, ◌||◌, option_map, unwrap_or, is_some, if◌then◌else◌, count_by}
+use Rattle.std.specs.Prelude.{◌==◌, ◌||◌, option_map, unwrap_or, is_some, if◌then◌else◌}
 use Rattle.std.specs.List.{list_any}
 use Rattle.std.proofs.lemmas.List.Sums.{sum_by-cons}
 use Rattle.mg_model.specs.Script.{Script}
-use Rattle.certificate.specs.Listed.{Listed}
+use Rattle.entry_table.specs.Listed.{Listed}
 use Rattle.certificate.specs.Certificate.{listed_meant, checked, checked_or, Faults, has_empty, is_large, has_crowd, entries_for, some_below}
 use Rattle.certificate.specs.Outlines.{outline_of, outline_meant, limit_passed, outlined_for, has_crowd_in}
-use Rattle.certificate.specs.Shape.{each, ◌>>=◌}
+use Rattle.typed_values.specs.Shape.{each, ◌>>=◌}
 use Rattle.certificate.specs.Written as written
 use Rattle.certificate.specs.declared.fault.CertFault.{CertFault}
 use Rattle.certificate.specs.declared.fault.CertFault.TheVariants.{NotJson, BadKey, Unknown, EmptySet, TooManyEntries, TooManyPoints, NoMemory}

@@ -8,7 +8,9 @@ use Rattle.std.specs.Map.Iter.{deref_pair}
 use Rattle.serde_json.specs.Find.{as_array, as_object}
 use Rattle.serde_json.specs.View.{view, items_view, members_view}
 use Rattle.serde_json.specs.declared.value.Value.{Value}
-use Rattle.certificate.specs.Shape.{each, ◌>>=◌, items_of, row_of, rows_of, list_of, table_of, are_keys, is_among}
+use Rattle.typed_values.specs.Names.{is_among}
+use Rattle.typed_values.specs.Shape.{each, ◌>>=◌}
+use Rattle.certificate.specs.Keys.{items_of, row_of, rows_of, list_of, table_of, are_keys}
 
 pub keys_checked : (keys : List (List ℕ)) (es : List (String Global × Value))
     → list_all (λ key. is_among (string_bytes key) keys) (keys_of es) ≡ are_keys keys (members_view es)

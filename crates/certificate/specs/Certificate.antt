@@ -1,17 +1,17 @@
 -- A certificate: what a document's entries are, given a script, and its faults in the order of their numbers. A reader
 -- should check the limits, and that each fault is looked for in the whole document before the next.
-use Rattle.std.specs.Prelude.{◌≡◌, ℕ, zero, suc, ◌==◌, ◌+◌, ◌<◌, ◌||◌, ◌&&◌, Bool, false, List, [], ◌∷◌, length, count_by, nat_lt, if◌then◌else◌, Option, Some, None, is_some, Result, Ok, Err}
-use Rattle.std.specs.List.{list_all, list_any, slice_index_or}
+use Rattle.std.specs.Prelude.{◌≡◌, ℕ, zero, suc, ◌==◌, ◌||◌, ◌&&◌, Bool, false, List, length, count_by, nat_lt, if◌then◌else◌, Option, Some, None, is_some, Result, Ok, Err}
+use Rattle.std.specs.List.{list_all, list_any}
 use Rattle.std.specs.Str.{IsUtf8}
 use Rattle.serde_json.specs.Data.{Data}
 use Rattle.serde_json.specs.Read.{read as read_text}
 use Rattle.mg_model.specs.Script.{Script}
-use Rattle.scriptreader.specs.Table.{place_of, state_named}
-use Rattle.certificate.specs.Shape.{◌>>=◌, each, only_if}
+use Rattle.script_table.specs.Table.{place_of, state_named}
+use Rattle.typed_values.specs.Shape.{◌>>=◌, each, only_if}
 use Rattle.certificate.specs.Naming.{pair_named}
 use Rattle.certificate.specs.Components.{component_meant, keys_of}
 use Rattle.certificate.specs.Document.{document_meant}
-use Rattle.certificate.specs.Listed.{Listed, choices_of, size_of}
+use Rattle.entry_table.specs.Listed.{Listed, choices_of, size_of}
 use Rattle.certificate.specs.Written as written
 use Rattle.certificate.specs.declared.fault.CertFault.{CertFault}
 use Rattle.certificate.specs.declared.fault.CertFault.TheVariants.{NotJson, BadKey, Unknown, EmptySet, TooManyEntries, TooManyPoints, NoMemory}
@@ -100,19 +100,3 @@ Parses view (Ok x) bytes = IsText bytes (view x)
 Parses view (Err NoMemory) bytes = Unit {0}
 Parses view (Err NotJson) bytes = (document : Data) → IsText bytes document → ⊥
 Parses view (Err fault) bytes = ⊥
-
--- ---- where the entries of a state stand
-
--- the places of a state's entries, in their order
-abbrev pub places_from : ℕ → ℕ → List Listed → List ℕ
-places_from place state [] = []
-places_from place state (entry ∷ entries) =
-    if entry.state == state then place ∷ places_from (place + 1) state entries else places_from (place + 1) state entries
-
-abbrev pub places_of : ℕ → List Listed → List ℕ
-places_of state entries = places_from 0 state entries
-
--- for each number of a state of 8 bits, the places of its entries
-abbrev pub IsIndex : List (List ℕ) → List Listed → Type 0
-IsIndex places entries =
-    (length places ≡ 256) × ((state : ℕ) (none : List ℕ) → state < 256 → slice_index_or places state none ≡ places_of state entries)

@@ -11,9 +11,9 @@ use Rattle.mg_model.specs.declared.commands.EventsName.TheVariants.{Armed}
 use Rattle.mg_model.specs.declared.components.Spot.TheVariants.{Absent, Null}
 use Rattle.mg_model.specs.declared.components.Remote.TheVariants.{Unset}
 use Rattle.mg_model.specs.Script.{Script}
-pub use Rattle.mg_model.specs.Entries.{Component, links, spots, modes, events, plays, contexts, remotes, cuts}
+use Rattle.mg_model.specs.Entries.{Component, links, spots, modes, events, plays, contexts, remotes, cuts}
 use Rattle.mg_model.specs.Configuration.{is_same}
-use Rattle.scriptreader.specs.Table.{place_of, list_named}
+use Rattle.script_table.specs.Table.{place_of, list_named}
 use Rattle.certificate.specs.Ranks.{set_with, link_rank, spot_rank, mode_rank, events_rank, switch_rank, context_rank, remote_rank}
 use Rattle.certificate.specs.Naming.{line_spot_named, ephemeral_spot_named, plays_named, remote_named, cut_named, pair_named}
 use Rattle.certificate.specs.Written as written

@@ -3,7 +3,8 @@
 use Rattle.std.specs.Prelude.{ℕ, List, [], ◌∷◌, ◌==◌, Option, Some, codes}
 use Rattle.serde_json.specs.Data.{Data}
 use Rattle.serde_json.specs.Find.{as_str, as_number, as_u64}
-use Rattle.certificate.specs.Shape.{◌>>=◌, only_if, list_of, needed, optional, tabled, has_only}
+use Rattle.typed_values.specs.Shape.{◌>>=◌, only_if}
+use Rattle.certificate.specs.Keys.{list_of, needed, optional, tabled, has_only}
 use Rattle.certificate.specs.Written.{Text, Line, Ephemeral, Entry}
 
 -- a list of words

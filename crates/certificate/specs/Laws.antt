@@ -5,7 +5,7 @@ use Rattle.std.specs.List.{All}
 use Rattle.mg_model.specs.Accepted.{IsScript, IsEntryOf}
 use Rattle.mg_model.specs.Script.{Script}
 use Rattle.certificate.specs.Certificate.{ReadsCertificate}
-use Rattle.certificate.specs.Listed.{Listed}
+use Rattle.entry_table.specs.Listed.{Listed}
 
 -- each entry of a certificate that is read for an accepted script lists the link, and each thing of each name that the script declares
 abbrev pub AcceptedCertificates : Type 0

@@ -2,11 +2,9 @@ pub mod Certificate
 pub mod Components
 pub mod Document
 pub mod FaultNames
+pub mod Keys
 pub mod Laws
-pub mod Listed
 pub mod Naming
 pub mod Outlines
 pub mod Ranks
-pub mod Shape
-pub mod Shown
 pub mod Written

@@ -11,7 +11,7 @@ use Rattle.mg_model.specs.declared.components.Remote.{Remote}
 use Rattle.mg_model.specs.declared.components.Remote.TheVariants.{Unset, Gone, To}
 use Rattle.mg_model.specs.Script.{Script}
 use Rattle.mg_model.specs.Configuration.{is_same}
-use Rattle.scriptreader.specs.Table.{place_of}
+use Rattle.script_table.specs.Table.{place_of}
 use Rattle.certificate.specs.Written.{Text}
 use Rattle.certificate.specs.declared.fault.CertFault.{CertFault}
 use Rattle.certificate.specs.declared.fault.CertFault.TheVariants.{Unknown, NoMemory}

@@ -1,9 +1,9 @@
 -- What the limits look at of an entry, and which limit some entries pass. No public clause speaks of it: what the limits
 -- are stands in the file on certificates.
-use Rattle.std.specs.Prelude.{ℕ, ◌==◌, Bool, List, length, map, count_by, nat_lt, if◌then◌else◌, Option, Some, None, option_map}
+use Rattle.std.specs.Prelude.{ℕ, ◌==◌, Bool, List, length, count_by, nat_lt, if◌then◌else◌, Option, Some, None, option_map}
 use Rattle.std.specs.List.{list_any}
 use Rattle.mg_model.specs.Script.{Script}
-use Rattle.certificate.specs.Listed.{Listed}
+use Rattle.entry_table.specs.Listed.{Listed}
 use Rattle.certificate.specs.Certificate.{listed_meant, has_empty, is_large, some_below}
 use Rattle.certificate.specs.Written as written
 use Rattle.certificate.specs.declared.fault.CertFault.{CertFault}

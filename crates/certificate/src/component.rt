@@ -1,11 +1,11 @@
-//! A component of a configuration with the values that an entry gives it.
+//! The values that a written entry gives each component of a configuration.
 ghost use Rattle.std.specs.Prelude.{◌≡◌, false, option_map};
 ghost use Rattle.mg_names.specs.Words.{context_value_named, link_named, mode_named};
 ghost use Rattle.certificate.specs.Ranks.{context_rank, events_rank, link_rank, mode_rank, remote_rank, spot_rank, switch_rank};
 ghost use Rattle.certificate.specs.Components.{component_meant, cut_at, ephemeral_words, line_words, row_at, set_of, set_or};
 ghost use Rattle.certificate.specs.Naming.{Resolves, cut_named, ephemeral_spot_named, line_spot_named, plays_named, remote_named};
-ghost use Rattle.certificate.specs.Shown.{shown};
-ghost use Rattle.scriptreader.specs.Table.{list_named};
+ghost use Rattle.entry_table.specs.Shown.{shown};
+ghost use Rattle.script_table.specs.Table.{list_named};
 
 use crate::fault::CertFault;
 use crate::key::Key;
@@ -15,37 +15,17 @@ use crate::vocabulary::{
     ContextNames, ContextValues, Cuts, EphemeralNames, EphemeralSpots, LineNames, LineSpots, Links,
     Lists, Modes, Plays, Remotes, Vocabulary, read_set,
 };
-use crate::word::Words;
 use crate::written::{WrittenEntry, WrittenEphemeral, WrittenLine};
+use entry_table::Component;
 use mg_model::commands::{EventsName, Termination};
 use mg_model::components::{Remote, Spot};
 use mg_names::context_values::ContextValue;
 use mg_names::modes::Mode;
 use mg_names::phases::Link;
 use mg_names::slots::Slot;
-use scriptreader::Script;
+use script_table::Script;
 use std::alloc::Global;
-
-/// A component with its values, in their order.
-#[derive(Drop)]
-pub(crate) enum Component {
-    /// How far the state's request has come.
-    Links(Vec<Link>),
-    /// Where a termination stands.
-    Spots(Termination, Vec<Spot>),
-    /// The mode of a termination.
-    Modes(Termination, Vec<Mode>),
-    /// The events list of a line.
-    Events(Slot, Vec<EventsName>),
-    /// Whether a line may play a signal.
-    Plays(Slot, Vec<bool>),
-    /// What a context name stands for.
-    Contexts(Slot, Vec<ContextValue>),
-    /// The Remote of an ephemeral.
-    Remotes(Slot, Vec<Remote>),
-    /// Whether media from one termination to another is cut.
-    Cuts(Termination, Termination, Vec<bool>),
-}
+use typed_values::Words;
 
 /// The set that some words name, or the default alone where nothing is written.
 fn set_or<T: Ranked + Drop, V: Vocabulary<T>>(

@@ -1,25 +1,27 @@
 //! Entries whose names were looked up, before the limits are checked.
 ghost use Rattle.std.specs.Prelude.{◌≡◌, ◌==◌, is_some, length, false, IfOk};
 ghost use Rattle.std.specs.List.{list_all, list_any};
-ghost use Rattle.scriptreader.specs.Table.{place_of};
+ghost use Rattle.script_table.specs.Table.{place_of};
 ghost use Rattle.certificate.specs.Certificate.{are_known, has_empty, is_large, listed_meant};
 ghost use Rattle.certificate.specs.Components.{component_meant, keys_of};
-ghost use Rattle.certificate.specs.Listed.{choices_of};
+ghost use Rattle.entry_table.specs.Listed.{choices_of};
 ghost use Rattle.certificate.specs.Naming.{Resolves, pair_named};
-ghost use Rattle.certificate.specs.Shape.{each};
-ghost use Rattle.certificate.specs.Shown.{shown_all};
+ghost use Rattle.typed_values.specs.Shape.{each};
+ghost use Rattle.entry_table.specs.Shown.{shown_all};
 
-use crate::choices::count;
-use crate::component::{Component, read_component};
-use crate::entry::{Entry, POINTS, product_of};
+use crate::component::read_component;
 use crate::fault::CertFault;
 use crate::key::Key;
 use crate::names::{are_cuts, are_named};
 use crate::vocabulary::{ContextNames, EphemeralNames, LineNames};
 use crate::written::WrittenEntry;
-use scriptreader::Script;
+use entry_table::{Component, Entry, product_of};
+use script_table::Script;
 use std::alloc::{AllocError, Global};
 use std::marker::Model;
+
+/// How many points an entry may have.
+const POINTS: u32 = 65_536;
 
 /// An entry whose names were looked up.
 #[derive(Drop)]
@@ -31,11 +33,11 @@ pub(crate) struct Draft {
 
 impl Model for Draft {
     ghost use Rattle.std.specs.Prelude.{◌≤◌};
-    ghost use Rattle.certificate.specs.Listed.{Listed};
+    ghost use Rattle.entry_table.specs.Listed.{Listed};
 
     ghost Value = { Listed };
 
-    ghost use Rattle.certificate.specs.Shown.{shown_all};
+    ghost use Rattle.entry_table.specs.Shown.{shown_all};
 
     ghost view = { λ d. record { state = d.state; lines = d.lines; components = shown_all d.components.items } };
 
@@ -151,7 +153,7 @@ fn any_empty(components: &[Component]) -> bool
     ensures { result ≡ list_any (λ component. length (choices_of component) == 0) (shown_all components.now) }
 {
     for component in components {
-        if count(component) == 0 {
+        if component.count() == 0 {
             return true;
         }
     }
@@ -171,18 +173,12 @@ fn sized(draft: Draft) -> Entry
     requires within { is_large draft ≡ false }
     ensures { result ≡ draft }
 {
-    let product = product_of(draft.components.as_slice()) as u32;
     let Draft {
         state,
         lines,
         components,
     } = draft;
-    Entry {
-        state,
-        lines,
-        product,
-        components,
-    }
+    Entry::new(state, lines, components)
 }
 
 /// The entries of drafts that are within the limits.

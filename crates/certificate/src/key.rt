@@ -1,12 +1,12 @@
 //! The components of a configuration, in the order in which points are numbered.
 ghost use Rattle.std.specs.Prelude.{◌≡◌, ◌∷◌, [], ◌++◌, map, filter, not, IfOk, OnOk, length};
 ghost use Rattle.std.specs.List.{flat_map};
-ghost use Rattle.mg_model.specs.Configuration.{is_same};
 ghost use Rattle.certificate.specs.Components.{cut_keys, ephemeral_keys, ephemeral_terminations, keys_of, line_keys, line_terminations, terminations_of};
 
+use configuration::spots::is_same;
 use mg_model::commands::Termination;
 use mg_names::slots::Slot;
-use scriptreader::Script;
+use script_table::Script;
 use std::alloc::{AllocError, Global};
 
 /// Which component of a configuration a set of values is for.
@@ -28,41 +28,6 @@ pub(crate) enum Key {
     Remote(Slot),
     /// Whether media from one termination to another is cut.
     Cut(Termination, Termination),
-}
-
-/// Whether two terminations are one.
-pub(crate) fn is_same(first: &Termination, second: &Termination) -> bool
-    ensures { result ≡ is_same first.now second.now }
-{
-    match first {
-        Termination::Line(i) => match second {
-            Termination::Line(j) => i.index() == j.index(),
-            Termination::Ephemeral(_) => false,
-        },
-        Termination::Ephemeral(i) => match second {
-            Termination::Line(_) => false,
-            Termination::Ephemeral(j) => i.index() == j.index(),
-        },
-    }
-}
-
-/// The four slots.
-fn all_slots() -> [Slot; 4]
-    ensures { result ≡ 0 ∷ 1 ∷ 2 ∷ 3 ∷ [] }
-{
-    let Some(first) = Slot::new(0) else {
-        unreachable!()
-    };
-    let Some(second) = Slot::new(1) else {
-        unreachable!()
-    };
-    let Some(third) = Slot::new(2) else {
-        unreachable!()
-    };
-    let Some(fourth) = Slot::new(3) else {
-        unreachable!()
-    };
-    [first, second, third, fourth]
 }
 
 fn add_lines(keys: &mut Vec<Key>, lines: &[Slot]) -> Result<(), AllocError>
@@ -154,7 +119,7 @@ fn ephemerals_as_terminations(
 fn terminations(alloc: Global, script: &Script) -> Result<Vec<Termination>, AllocError>
     ensures { IfOk result (λ all. all.items ≡ terminations_of script.now) }
 {
-    let slots = all_slots();
+    let slots = Slot::all();
     let mut all = Vec::new(alloc);
     lines_as_terminations(&mut all, &slots[..script.lines()])?;
     ephemerals_as_terminations(&mut all, &slots[..script.ephemerals()])?;
@@ -165,7 +130,7 @@ fn terminations(alloc: Global, script: &Script) -> Result<Vec<Termination>, Allo
 pub(crate) fn keys(alloc: Global, script: &Script) -> Result<Vec<Key>, AllocError>
     ensures { IfOk result (λ keys. keys.items ≡ keys_of script.now) }
 {
-    let slots = all_slots();
+    let slots = Slot::all();
     let all = terminations(alloc, script)?;
     let mut keys = Vec::new(alloc);
     keys.push(Key::Link)?;

@@ -4,13 +4,13 @@ ghost use Rattle.std.specs.List.{list_all};
 ghost use Rattle.certificate.specs.Components.{is_slot, is_pair};
 ghost use Rattle.certificate.specs.Naming.{different, pair_named, pair_of, parts_of, termination_named};
 
-use crate::key::is_same;
 use crate::reads::Row;
 use crate::vocabulary::Vocabulary;
-use crate::word::Words;
+use configuration::spots::is_same;
 use mg_model::commands::Termination;
 use mg_names::slots::Slot;
-use scriptreader::Script;
+use script_table::Script;
+use typed_values::Words;
 
 /// The termination of a name.
 fn termination(script: &Script, name: &str) -> Option<Termination>
@@ -30,36 +30,34 @@ fn parts(text: &str) -> Option<(&str, &str)>
     text.split_once('>')
 }
 
+/// The two different terminations that a key of the cuts names.
+fn pair(script: &Script, key: &str) -> Option<(Termination, Termination)>
+    ensures { result ≡ pair_named script.now key.now }
+{
+    let (source, sink) = parts(key)?;
+    let source = termination(script, source)?;
+    let sink = termination(script, sink)?;
+    if is_same(&source, &sink) {
+        return None;
+    }
+    Some((source, sink))
+}
+
 /// Whether a key of the cuts names these two terminations.
 fn is_pair(script: &Script, key: &str, source: &Termination, sink: &Termination) -> bool
     ensures { result ≡ is_pair (pair_named script.now key.now) source.now sink.now }
 {
-    let Some((first, second)) = parts(key) else {
-        return false;
-    };
-    let Some(first) = termination(script, first) else {
-        return false;
-    };
-    let Some(second) = termination(script, second) else {
-        return false;
-    };
-    !is_same(&first, &second) && is_same(&first, source) && is_same(&second, sink)
+    match pair(script, key) {
+        Some((first, second)) => is_same(&first, source) && is_same(&second, sink),
+        None => false,
+    }
 }
 
 /// Whether a key of the cuts names two different terminations.
 fn is_cut(script: &Script, key: &str) -> bool
     ensures { result ≡ is_some (pair_named script.now key.now) }
 {
-    let Some((first, second)) = parts(key) else {
-        return false;
-    };
-    let Some(first) = termination(script, first) else {
-        return false;
-    };
-    let Some(second) = termination(script, second) else {
-        return false;
-    };
-    !is_same(&first, &second)
+    pair(script, key).is_some()
 }
 
 /// Whether each key of the cuts names two different terminations.

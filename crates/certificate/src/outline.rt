@@ -6,13 +6,13 @@ ghost use Rattle.certificate.specs.Certificate.{listed_meant};
 ghost use Rattle.certificate.specs.Components.{keys_of};
 ghost use Rattle.certificate.specs.Naming.{Resolves};
 ghost use Rattle.certificate.specs.Outlines.{has_crowd_in, limit_passed, outline_meant, outline_of, outlined_for};
-ghost use Rattle.certificate.specs.Shape.{each};
+ghost use Rattle.typed_values.specs.Shape.{each};
 
 use crate::draft::{has_empty, is_large, read_draft};
 use crate::fault::CertFault;
 use crate::key::Key;
 use crate::written::WrittenEntry;
-use scriptreader::Script;
+use script_table::Script;
 use std::alloc::Global;
 
 /// How many entries a state may have.

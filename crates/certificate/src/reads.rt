@@ -7,12 +7,13 @@ ghost use Rattle.std.specs.Map.Iter.{deref_pair};
 ghost use Rattle.serde_json.specs.View.{view, members_view};
 ghost use Rattle.serde_json.specs.Data.{Data};
 ghost use Rattle.serde_json.specs.Find.{as_str, as_object};
-ghost use Rattle.certificate.specs.Shape.{Shapes, row_of, table_of, needed, optional, tabled, has_only, is_among, Expects};
+ghost use Rattle.typed_values.specs.Names.{is_among};
+ghost use Rattle.typed_values.specs.Shape.{Shapes};
+ghost use Rattle.certificate.specs.Keys.{row_of, table_of, needed, optional, tabled, has_only, Expects};
 
-use crate::fault::CertFault;
-use crate::word::{Word, Words};
 use serde_json::{Map, Value};
 use std::alloc::{AllocError, Global};
+use typed_values::{Unread, Word, Words, is_among};
 
 /// A type of values that a document holds.
 pub(crate) trait Reads: Drop {
@@ -23,7 +24,7 @@ pub(crate) trait Reads: Drop {
     ghost meaning: { Data → Option Seen };
 
     /// Reads a value.
-    fn read(alloc: Global, value: &Value) -> Result<Self, CertFault>
+    fn read(alloc: Global, value: &Value) -> Result<Self, Unread>
         ensures { Shapes seen result (meaning (view value.now)) };
 }
 
@@ -31,22 +32,22 @@ pub(crate) trait Reads: Drop {
 type Object = Map<String, Value>;
 
 /// The text of a value.
-pub(crate) fn text(value: &Value) -> Result<&str, CertFault>
+pub(crate) fn text(value: &Value) -> Result<&str, Unread>
     ensures { Shapes (λ t. t.now) result (as_str (view value.now)) }
 {
     match value.as_str() {
         Some(text) => Ok(text),
-        None => Err(CertFault::BadKey),
+        None => Err(Unread::BadKey),
     }
 }
 
 /// The members of a value.
-fn object(value: &Value) -> Result<&Object, CertFault>
+fn object(value: &Value) -> Result<&Object, Unread>
     ensures { Shapes (λ o. members_view o.now.entries) result (as_object (view value.now)) }
 {
     match value.as_object() {
         Some(object) => Ok(object),
-        None => Err(CertFault::BadKey),
+        None => Err(Unread::BadKey),
     }
 }
 
@@ -55,18 +56,6 @@ fn entries(alloc: Global, object: &Object) -> Result<Vec<(&String, &Value)>, All
     ensures { IfOk result (λ v. map deref_pair v.items ≡ object.now.entries) }
 {
     object.iter().collect(alloc)
-}
-
-/// Whether a text is one of these.
-fn is_among(text: &str, texts: &[&str]) -> bool
-    ensures { result ≡ is_among text.now (map (λ t. t.now) texts.now) }
-{
-    for other in texts {
-        if *other == text {
-            return true;
-        }
-    }
-    false
 }
 
 /// Whether each key of an object is one of these.
@@ -87,22 +76,22 @@ fn has_only(value: &Value, keys: &[&str]) -> bool
 }
 
 /// That a value is an object that has no other keys than these.
-pub(crate) fn expect_only(value: &Value, keys: &[&str]) -> Result<(), CertFault>
+pub(crate) fn expect_only(value: &Value, keys: &[&str]) -> Result<(), Unread>
     ensures { Expects result (has_only (map (λ k. k.now) keys.now) (view value.now)) }
 {
     if has_only(value, keys) {
         return Ok(());
     }
-    Err(CertFault::BadKey)
+    Err(Unread::BadKey)
 }
 
 /// The value at a key that has to be there.
-pub(crate) fn needed<T: Reads>(alloc: Global, object: &Value, key: &str) -> Result<T, CertFault>
+pub(crate) fn needed<T: Reads>(alloc: Global, object: &Value, key: &str) -> Result<T, Unread>
     ensures { Shapes T.seen result (needed T.meaning key.now (view object.now)) }
 {
     match object.get(key) {
         Some(value) => T::read(alloc, value),
-        None => Err(CertFault::BadKey),
+        None => Err(Unread::BadKey),
     }
 }
 
@@ -111,7 +100,7 @@ pub(crate) fn optional<T: Reads>(
     alloc: Global,
     object: &Value,
     key: &str,
-) -> Result<Option<T>, CertFault>
+) -> Result<Option<T>, Unread>
     ensures { Shapes (option_map T.seen) result (optional T.meaning key.now (view object.now)) }
 {
     match object.get(key) {
@@ -122,7 +111,7 @@ pub(crate) fn optional<T: Reads>(
 
 impl<T: Reads> Reads for Vec<T> {
     ghost use Rattle.std.specs.Prelude.{List, map};
-    ghost use Rattle.certificate.specs.Shape.{list_of};
+    ghost use Rattle.certificate.specs.Keys.{list_of};
 
     ghost Seen = { List T.Seen };
 
@@ -130,9 +119,9 @@ impl<T: Reads> Reads for Vec<T> {
 
     ghost meaning = { list_of T.meaning };
 
-    fn read(alloc: Global, value: &Value) -> Result<Vec<T>, CertFault> {
+    fn read(alloc: Global, value: &Value) -> Result<Vec<T>, Unread> {
         let Some(array) = value.as_array() else {
-            return Err(CertFault::BadKey);
+            return Err(Unread::BadKey);
         };
         let mut found = Vec::new(alloc);
         for item in array {
@@ -154,7 +143,7 @@ pub(crate) fn tabled<T: Reads>(
     alloc: Global,
     object: &Value,
     key: &str,
-) -> Result<Vec<Row<T>>, CertFault>
+) -> Result<Vec<Row<T>>, Unread>
     ensures { Shapes (λ v. map (λ r. (r.name, T.seen r.value)) v.items) result
         (tabled T.meaning key.now (view object.now)) }
 {
@@ -165,7 +154,7 @@ pub(crate) fn tabled<T: Reads>(
 }
 
 /// A member of an object.
-fn read_row<T: Reads>(alloc: Global, name: &str, value: &Value) -> Result<Row<T>, CertFault>
+fn read_row<T: Reads>(alloc: Global, name: &str, value: &Value) -> Result<Row<T>, Unread>
     ensures { Shapes (λ r. (r.name, T.seen r.value)) result (row_of T.meaning (name.now, view value.now)) }
 {
     let value = T::read(alloc, value)?;
@@ -174,7 +163,7 @@ fn read_row<T: Reads>(alloc: Global, name: &str, value: &Value) -> Result<Row<T>
 }
 
 /// The members of an object.
-fn rows<T: Reads>(alloc: Global, value: &Value) -> Result<Vec<Row<T>>, CertFault>
+fn rows<T: Reads>(alloc: Global, value: &Value) -> Result<Vec<Row<T>>, Unread>
     ensures { Shapes (λ v. map (λ r. (r.name, T.seen r.value)) v.items) result (table_of T.meaning (view value.now)) }
 {
     let members = entries(alloc, object(value)?)?;
@@ -195,7 +184,7 @@ impl Reads for Word {
 
     ghost meaning = { as_str };
 
-    fn read(alloc: Global, value: &Value) -> Result<Word, CertFault> {
+    fn read(alloc: Global, value: &Value) -> Result<Word, Unread> {
         let text = text(value)?;
         Ok(Word::copy(alloc, text)?)
     }
@@ -211,9 +200,9 @@ impl Reads for Words {
 
     ghost meaning = { words_meant };
 
-    fn read(alloc: Global, value: &Value) -> Result<Words, CertFault> {
+    fn read(alloc: Global, value: &Value) -> Result<Words, Unread> {
         let words = Vec::<Word>::read(alloc, value)?;
-        Ok(Words { words })
+        Ok(Words::new(words))
     }
 }
 
@@ -227,7 +216,7 @@ impl Reads for u64 {
 
     ghost meaning = { whole_meant };
 
-    fn read(_alloc: Global, value: &Value) -> Result<u64, CertFault> {
-        value.as_u64().ok_or(CertFault::BadKey)
+    fn read(_alloc: Global, value: &Value) -> Result<u64, Unread> {
+        value.as_u64().ok_or(Unread::BadKey)
     }
 }

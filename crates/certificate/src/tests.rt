@@ -1,20 +1,47 @@
 //! A certificate for one script: its entries, their sizes and points, and the limit of points at its edge.
-use crate::{Cert, CertFault, laws, read_cert};
-use scriptreader::{Script, read_script};
-use std::alloc::Global;
+use crate::{CertFault, laws, read_cert};
+use entry_table::Cert;
+use mg_model::transitions::EventItem;
+use mg_names::strictness::Strict;
+use script_table::{EventsList, Script, State, Tables};
+use std::alloc::{AllocError, Global};
 use std::test::Fail;
 
-const SCRIPT: &str = "lines = [\"a\", \"b\"]
-contexts = [\"c\"]
-start = \"done\"
-restart = \"done\"
-[[events]]
-name = \"hang\"
-list = [\"al/on=state\"]
-[[state]]
-name = \"done\"
-end = true
-";
+/// A state in which a call ends, with no commands.
+fn done(alloc: Global) -> Result<State, AllocError> {
+    Ok(State {
+        name: String::from_str(alloc, "done")?,
+        commands: Vec::new(alloc),
+        talk: Vec::new(alloc),
+        is_end: true,
+        ok: None,
+        fault: None,
+        timer: None,
+        on: Vec::new(alloc),
+    })
+}
+
+/// A script of two lines, a context, an events list and a state.
+fn script(alloc: Global) -> Result<Script, AllocError> {
+    let hang = EventsList {
+        name: String::from_str(alloc, "hang")?,
+        items: vec![in alloc; EventItem::OnHook(Strict::State)]?,
+    };
+    Ok(Script::new(Tables {
+        lines: vec![in alloc;
+            String::from_str(alloc, "a")?,
+            String::from_str(alloc, "b")?,
+        ]?,
+        contexts: vec![in alloc; String::from_str(alloc, "c")?]?,
+        ephemerals: Vec::new(alloc),
+        lists: vec![in alloc; hang]?,
+        signals: Vec::new(alloc),
+        maps: Vec::new(alloc),
+        states: vec![in alloc; done(alloc)?]?,
+        start: 0,
+        restart: 0,
+    }))
+}
 
 /// All values of each component but the links.
 const REST: &str =
@@ -34,7 +61,7 @@ fn certificate(alloc: Global, script: &Script, links: &str) -> Result<Cert, Cert
 #[test]
 fn sizes(rt: HostRuntime) -> Result<(), Fail> {
     let alloc = rt.alloc();
-    let script = read_script(alloc, SCRIPT.as_bytes()).map_err(|_| "no script")?;
+    let script = script(alloc)?;
     let two = certificate(alloc, &script, "\"sent\",\"ok\"").map_err(|_| "refused")?;
     let entry = two.entries().first().ok_or("no entry")?;
     assert_eq!(rt; two.of_state(0).len(), 1);

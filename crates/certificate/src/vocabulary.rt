@@ -5,15 +5,15 @@ ghost use Rattle.certificate.specs.Ranks.{set_with};
 
 use crate::fault::CertFault;
 use crate::ranked::{Ranked, insert};
-use crate::word::Word;
 use mg_model::commands::EventsName;
 use mg_model::components::{Remote, Spot};
 use mg_names::context_values::ContextValue;
 use mg_names::modes::Mode;
 use mg_names::phases::Link;
 use mg_names::slots::Slot;
-use scriptreader::Script;
+use script_table::Script;
 use std::alloc::Global;
+use typed_values::Word;
 
 /// Words that name values.
 pub(crate) trait Vocabulary<T> {
@@ -111,7 +111,7 @@ impl Vocabulary<Mode> for Modes {
 pub(crate) struct Lists<'a>(pub(crate) &'a Script);
 
 impl Vocabulary<EventsName> for Lists<'_> {
-    ghost use Rattle.scriptreader.specs.Table.{list_named};
+    ghost use Rattle.script_table.specs.Table.{list_named};
 
     ghost named = { λ v word. list_named word v.0.now.lists };
 
@@ -196,7 +196,7 @@ impl Vocabulary<bool> for Cuts {
 pub(crate) struct LineNames<'a>(pub(crate) &'a Script);
 
 impl Vocabulary<Slot> for LineNames<'_> {
-    ghost use Rattle.scriptreader.specs.Table.{place_of};
+    ghost use Rattle.script_table.specs.Table.{place_of};
 
     ghost named = { λ v name. place_of name v.0.now.lines };
 
@@ -210,7 +210,7 @@ impl Vocabulary<Slot> for LineNames<'_> {
 pub(crate) struct ContextNames<'a>(pub(crate) &'a Script);
 
 impl Vocabulary<Slot> for ContextNames<'_> {
-    ghost use Rattle.scriptreader.specs.Table.{place_of};
+    ghost use Rattle.script_table.specs.Table.{place_of};
 
     ghost named = { λ v name. place_of name v.0.now.contexts };
 
@@ -224,7 +224,7 @@ impl Vocabulary<Slot> for ContextNames<'_> {
 pub(crate) struct EphemeralNames<'a>(pub(crate) &'a Script);
 
 impl Vocabulary<Slot> for EphemeralNames<'_> {
-    ghost use Rattle.scriptreader.specs.Table.{place_of};
+    ghost use Rattle.script_table.specs.Table.{place_of};
 
     ghost named = { λ v name. place_of name v.0.now.ephemerals };
 

@@ -1,10 +1,9 @@
 //! A certificate as it is written: texts, before any name in it is looked up.
-use crate::fault::CertFault;
 use crate::reads::{Reads, Row, expect_only, needed, optional, tabled};
-use crate::word::{Word, Words};
 use serde_json::Value;
 use std::alloc::Global;
 use std::marker::Model;
+use typed_values::{Unread, Word, Words};
 
 /// What is written for a line; what is left out has its default.
 #[derive(Drop)]
@@ -69,7 +68,7 @@ impl Reads for WrittenLine {
 
     ghost meaning = { line_meant };
 
-    fn read(alloc: Global, value: &Value) -> Result<WrittenLine, CertFault> {
+    fn read(alloc: Global, value: &Value) -> Result<WrittenLine, Unread> {
         expect_only(value, &["at", "mode", "events", "plays"])?;
         let at = optional(alloc, value, "at")?;
         let mode = optional(alloc, value, "mode")?;
@@ -94,7 +93,7 @@ impl Reads for WrittenEphemeral {
 
     ghost meaning = { ephemeral_meant };
 
-    fn read(alloc: Global, value: &Value) -> Result<WrittenEphemeral, CertFault> {
+    fn read(alloc: Global, value: &Value) -> Result<WrittenEphemeral, Unread> {
         expect_only(value, &["at", "mode", "remote"])?;
         let at = optional(alloc, value, "at")?;
         let mode = optional(alloc, value, "mode")?;
@@ -116,7 +115,7 @@ impl Reads for WrittenEntry {
 
     ghost meaning = { entry_meant };
 
-    fn read(alloc: Global, value: &Value) -> Result<WrittenEntry, CertFault> {
+    fn read(alloc: Global, value: &Value) -> Result<WrittenEntry, Unread> {
         expect_only(value, &ENTRY_KEYS)?;
         let state = needed(alloc, value, "state")?;
         let link = needed(alloc, value, "link")?;

@@ -4,7 +4,7 @@ use Rattle.std.specs.List.{Any, slice_get}
 use Rattle.std.proofs.lemmas.Option.{same_Some, none-some, slice_get_within, get_or_from_slice_get, slice_get-get_or}
 use Rattle.mg_model.specs.Configuration.{Configuration}
 use Rattle.mg_model.specs.Entries.{Entry, IsCovered}
-use Rattle.certificate.specs.Certificate.{places_from, places_of}
+use Rattle.entry_table.specs.Index.{places_from, places_of}
 use Rattle.closure.specs.Findings.{PlaceIncludes}
 
 any_first : {X : Type 0} (P : X → Type 0) (x : X) (xs : List X) → P x → Any P (x ∷ xs)

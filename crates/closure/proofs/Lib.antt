@@ -1,7 +1,6 @@
 pub mod ClearedLemmas
 pub mod CoverLemmas
 pub mod FindingLemmas
-pub mod GroupLemmas
 pub mod ObligationOrder
 pub mod RequestLemmas
 pub mod SettleLemmas

@@ -2,12 +2,13 @@
 use Rattle.std.proofs.Common.{◌≡◌, ℕ, ◌<◌, ◌≤◌, List, [], ◌∷◌, Option, Some, None, refl, sym, ◌∙◌, ap, ap₂, subst, arith, inl, inr, ◌⊎◌}
 use Rattle.std.specs.List.{slice_get}
 use Rattle.std.proofs.lemmas.Option.{same_Some}
+use Rattle.mg_names.specs.declared.obligations.Obligation.TheVariants as obligation
 use Rattle.mg_model.specs.declared.faults.Fault.{Fault}
 use Rattle.mg_model.specs.Script.{Script}
 use Rattle.mg_model.specs.Configuration.{Configuration}
 use Rattle.mg_model.specs.Steps.{Step, steps_of, opening, reset}
 use Rattle.mg_model.specs.Entries.{Entry, IsPointOf, IsCovered, numbered}
-use Rattle.mg_model.specs.Obligations.{JoinedAreMarked, EndedIsCleared, CreatedAreUnbound, Obligation, OpeningCovered, ResetCovered, Marked, Cleared, Unbound, StepCovered, AtPoint, Holds, KeyBefore, ComesBefore, key_of, NoneBroken, IsFirstFault}
+use Rattle.mg_model.specs.Obligations.{JoinedAreMarked, EndedIsCleared, CreatedAreUnbound, Claim, OpeningCovered, ResetCovered, Marked, Cleared, Unbound, StepCovered, AtPoint, Holds, KeyBefore, ComesBefore, key_of, NoneBroken, IsFirstFault}
 use Rattle.closure.specs.declared.first_fault.Broken.{Broken}
 use Rattle.closure.specs.declared.first_fault.Broken.TheVariants.{JoinedLines, EndedCall, CreatedNames, UncoveredStep}
 use Rattle.closure.specs.Answer.{IsAnswer}
@@ -24,7 +25,7 @@ later_part : {X : Type 0} (x y : ℕ) → y < x → (x < y) ⊎ ((x ≡ y) × X)
 later_part x y more (inl less) = omega (arith, less, more)
 later_part x y more (inr same) = omega (arith, same.0, more)
 
-none_before_opening : (o : Obligation) → ComesBefore o OpeningCovered → ⊥
+none_before_opening : (o : Claim) → ComesBefore o OpeningCovered → ⊥
 none_before_opening OpeningCovered h = not_before_itself (key_of OpeningCovered) h
 none_before_opening ResetCovered h = later_part 1 0 (omega arith) h
 none_before_opening (Marked e p) h = later_part 2 0 (omega arith) h
@@ -33,19 +34,19 @@ none_before_opening (Unbound e p) h = later_part 2 0 (omega arith) h
 none_before_opening (StepCovered e p s) h = later_part 2 0 (omega arith) h
 
 pub opening_broken : (script : Script) (entries : List Entry) → (IsCovered entries (opening script) → ⊥)
-    → IsFirstFault script entries (whole_fault 1)
+    → IsFirstFault script entries (whole_fault obligation.OpeningCovered)
 opening_broken script entries broken = record {
-  obligation = OpeningCovered;
+  claim = OpeningCovered;
   broken = broken;
   before = λ o h. absurd (none_before_opening o h);
-  number = refl;
+  obligation = refl;
   entry = refl;
   point = refl;
   step = refl;
 }
 
 opening_before_reset : (script : Script) (entries : List Entry) → IsCovered entries (opening script)
-    → (o : Obligation) → ComesBefore o ResetCovered → Holds script entries o
+    → (o : Claim) → ComesBefore o ResetCovered → Holds script entries o
 opening_before_reset script entries opened OpeningCovered h = opened
 opening_before_reset script entries opened ResetCovered h = absurd (not_before_itself (key_of ResetCovered) h)
 opening_before_reset script entries opened (Marked e p) h = absurd (later_part 2 1 (omega arith) h)
@@ -54,12 +55,12 @@ opening_before_reset script entries opened (Unbound e p) h = absurd (later_part 
 opening_before_reset script entries opened (StepCovered e p s) h = absurd (later_part 2 1 (omega arith) h)
 
 pub reset_broken : (script : Script) (entries : List Entry) → IsCovered entries (opening script)
-    → (IsCovered entries (reset script) → ⊥) → IsFirstFault script entries (whole_fault 6)
+    → (IsCovered entries (reset script) → ⊥) → IsFirstFault script entries (whole_fault obligation.ResetCovered)
 reset_broken script entries opened broken = record {
-  obligation = ResetCovered;
+  claim = ResetCovered;
   broken = broken;
   before = opening_before_reset script entries opened;
-  number = refl;
+  obligation = refl;
   entry = refl;
   point = refl;
   step = refl;
@@ -136,7 +137,7 @@ module _ (script : Script) (entries : List Entry) (opened : IsCovered entries (o
   earlier_hold : (r s : ℕ) → r ≤ 3 → (r < 3 → s ≡ 0)
       → (0 < r → JoinedAreMarked script c) → (1 < r → EndedIsCleared script c) → (2 < r → CreatedAreUnbound script c)
       → AreCoveredBelow entries (steps_of script c) s
-      → (o : Obligation) → KeyBefore (key_of o) (2 ∷ place ∷ number ∷ r ∷ s ∷ []) → Holds script entries o
+      → (o : Claim) → KeyBefore (key_of o) (2 ∷ place ∷ number ∷ r ∷ s ∷ []) → Holds script entries o
   earlier_hold r s small alone marked cleared unbound covered OpeningCovered h = opened
   earlier_hold r s small alone marked cleared unbound covered ResetCovered h = restarted
   earlier_hold r s small alone marked cleared unbound covered (Marked e p) h =
@@ -164,40 +165,40 @@ module _ (script : Script) (entries : List Entry) (opened : IsCovered entries (o
   point_broken : (broken : Broken) → IsFirstBroken script entries c broken
       → IsFirstFault script entries (fault_at place number broken)
   point_broken JoinedLines h = record {
-    obligation = Marked place number;
+    claim = Marked place number;
     broken = λ holds. h (holds entry at_place c is_point);
     before = earlier_hold 0 0 (omega arith) (λ l. refl) (λ l. absurd (omega arith)) (λ l. absurd (omega arith)) (λ l. absurd (omega arith))
         (λ t l. absurd (omega arith));
-    number = refl;
+    obligation = refl;
     entry = refl;
     point = refl;
     step = refl;
   }
   point_broken EndedCall h = record {
-    obligation = Cleared place number;
+    claim = Cleared place number;
     broken = λ holds. h.1 (holds entry at_place c is_point);
     before = earlier_hold 1 0 (omega arith) (λ l. refl) (λ l. h.0) (λ l. absurd (omega arith)) (λ l. absurd (omega arith))
         (λ t l. absurd (omega arith));
-    number = refl;
+    obligation = refl;
     entry = refl;
     point = refl;
     step = refl;
   }
   point_broken CreatedNames h = record {
-    obligation = Unbound place number;
+    claim = Unbound place number;
     broken = λ holds. h.2 (holds entry at_place c is_point);
     before = earlier_hold 2 0 (omega arith) (λ l. refl) (λ l. h.0) (λ l. h.1) (λ l. absurd (omega arith))
         (λ t l. absurd (omega arith));
-    number = refl;
+    obligation = refl;
     entry = refl;
     point = refl;
     step = refl;
   }
   point_broken (UncoveredStep name) h = record {
-    obligation = StepCovered place number h.3.place;
+    claim = StepCovered place number h.3.place;
     broken = λ holds. h.3.uncovered (holds entry at_place c is_point h.3.step h.3.at_place);
     before = earlier_hold 3 h.3.place (omega arith) (λ l. absurd (omega arith)) (λ l. h.0) (λ l. h.1) (λ l. h.2) h.3.before;
-    number = refl;
+    obligation = refl;
     entry = refl;
     point = refl;
     step = (entry, at_place, (c, is_point, (h.3.step, h.3.at_place, ap (λ n. Some n) h.3.named)));

@@ -1,5 +1,7 @@
 -- What is found at one configuration, at one entry and at the entries together. No public clause speaks of these words.
 use Rattle.std.specs.Prelude.{◌≡◌, ℕ, ◌<◌, List, Option, Some, None, slice_get}
+use Rattle.mg_names.specs.declared.obligations.Obligation.{Obligation}
+use Rattle.mg_names.specs.declared.obligations.Obligation.TheVariants.{JoinedMarked, EndedCleared, CreatedUnbound, StepsCovered}
 use Rattle.mg_model.specs.declared.faults.Fault.{Fault}
 use Rattle.mg_model.specs.declared.steps.StepName.{StepName}
 use Rattle.mg_model.specs.Script.{Script}
@@ -90,16 +92,23 @@ EntryFinding script entries entry None = IsEntryKept script entries entry
 EntryFinding script entries entry (Some found) = IsFirstPoint script entries entry found.0 found.1
 
 -- the fault of an obligation of a point
+abbrev pub obligation_broken : Broken → Obligation
+obligation_broken JoinedLines = JoinedMarked
+obligation_broken EndedCall = EndedCleared
+obligation_broken CreatedNames = CreatedUnbound
+obligation_broken (UncoveredStep name) = StepsCovered
+
+abbrev pub step_broken : Broken → Option StepName
+step_broken (UncoveredStep name) = Some name
+step_broken _ = None
+
 abbrev pub fault_at : ℕ → ℕ → Broken → Fault
-fault_at place number JoinedLines = record { number = 3; entry = Some place; point = Some number; step = None }
-fault_at place number EndedCall = record { number = 4; entry = Some place; point = Some number; step = None }
-fault_at place number CreatedNames = record { number = 5; entry = Some place; point = Some number; step = None }
-fault_at place number (UncoveredStep name) =
-    record { number = 2; entry = Some place; point = Some number; step = Some name }
+fault_at place number broken =
+    record { obligation = obligation_broken broken; entry = Some place; point = Some number; step = step_broken broken }
 
 -- the fault of an obligation of no point
-abbrev pub whole_fault : ℕ → Fault
-whole_fault number = record { number = number; entry = None; point = None; step = None }
+abbrev pub whole_fault : Obligation → Fault
+whole_fault obligation = record { obligation = obligation; entry = None; point = None; step = None }
 
 -- each obligation of each point of each entry below a place holds
 abbrev pub EntriesAreKeptBelow : Script → List Entry → ℕ → Type 0

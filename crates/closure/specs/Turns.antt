@@ -8,7 +8,8 @@ use Rattle.mg_model.specs.declared.components.Spot.TheVariants.{Absent, Null}
 use Rattle.mg_model.specs.declared.commands.EventsName.TheVariants.{Empty}
 use Rattle.mg_model.specs.declared.commands.Termination.TheVariants.{Line, Ephemeral}
 use Rattle.mg_names.specs.declared.modes.Mode.TheVariants.{Inactive}
-use Rattle.mg_model.specs.Configuration.{Configuration, with_at, with_of, value_of, stands_in, is_to, is_in, is_same}
+use Rattle.mg_model.specs.Configuration.{Configuration, with_of, value_of, stands_in, is_to, is_in, is_same}
+use Rattle.mg_model.specs.Updates.{with_at}
 use Rattle.mg_model.specs.Effects.{with_pair, cuts_forward, cuts_backward, without_terminations}
 
 -- one context name says what the places of the terminations make it

@@ -10,12 +10,13 @@ ghost use Rattle.closure.specs.Shown.{shown};
 
 use crate::obligations::{created_are_unbound, ended_is_cleared, joined_are_marked};
 use crate::steps::{opening, reset, steps};
-use certificate::{Cert, Entry};
 use configuration::config::Config;
 use configuration::step::Step;
+use entry_table::{Cert, Entry};
 use mg_model::faults::Fault;
 use mg_model::steps::StepName;
-use scriptreader::Script;
+use mg_names::obligations::Obligation;
+use script_table::Script;
 use std::alloc::{AllocError, Global};
 
 /// The obligation of a configuration that is broken first.
@@ -144,13 +145,13 @@ fn fault_at(place: usize, number: u32, broken: &Broken) -> Fault
     ensures { result ≡ fault_at place number broken.now }
 {
     let (obligation, step) = match *broken {
-        Broken::JoinedLines => (3, None),
-        Broken::EndedCall => (4, None),
-        Broken::CreatedNames => (5, None),
-        Broken::UncoveredStep(step) => (2, Some(step)),
+        Broken::JoinedLines => (Obligation::JoinedMarked, None),
+        Broken::EndedCall => (Obligation::EndedCleared, None),
+        Broken::CreatedNames => (Obligation::CreatedUnbound, None),
+        Broken::UncoveredStep(step) => (Obligation::StepsCovered, Some(step)),
     };
     Fault {
-        number: obligation,
+        obligation,
         entry: Some(place),
         point: Some(number),
         step,
@@ -158,11 +159,11 @@ fn fault_at(place: usize, number: u32, broken: &Broken) -> Fault
 }
 
 /// The fault of an obligation of no point.
-fn whole_fault(number: u8) -> Fault
-    ensures { result ≡ whole_fault number }
+fn whole_fault(obligation: Obligation) -> Fault
+    ensures { result ≡ whole_fault obligation }
 {
     Fault {
-        number,
+        obligation,
         entry: None,
         point: None,
         step: None,
@@ -189,10 +190,10 @@ pub fn first_fault(alloc: Global, script: &Script, cert: &Cert) -> Result<Option
     ensures { IfOk result (IsAnswer script.now cert.now) }
 {
     if !covers(cert, &opening(script)) {
-        return Ok(Some(whole_fault(1)));
+        return Ok(Some(whole_fault(Obligation::OpeningCovered)));
     }
     if !covers(cert, &reset(script)) {
-        return Ok(Some(whole_fault(6)));
+        return Ok(Some(whole_fault(Obligation::ResetCovered)));
     }
     points_fault(alloc, script, cert)
 }

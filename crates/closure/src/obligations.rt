@@ -8,7 +8,6 @@ ghost use Rattle.configuration.specs.Config.{configuration_of};
 ghost use Rattle.closure.specs.Tests.{PairIsMarked, PairBelowIsMarked, line_is_cleared, ephemeral_is_absent};
 
 use crate::requests::are_names_unbound;
-use crate::steps::items_of;
 use configuration::config::Config;
 use configuration::config::paths::are_joined;
 use configuration::spots;
@@ -18,17 +17,7 @@ use mg_model::transitions::{EventItem, Pair};
 use mg_names::phases::Link;
 use mg_names::slots::Slot;
 use mg_names::strictness::Strict;
-use scriptreader::Script;
-
-/// The pairs that a state marks as talking; none where the script has no such state.
-fn talk_of(script: &Script, state: u8) -> &[Pair]
-    ensures { result.now ≡ (state_of script.now state).talk }
-{
-    match script.state(state) {
-        Some(state) => state.talk(),
-        None => &[],
-    }
-}
+use script_table::Script;
 
 /// Whether a state marks two lines, in either order.
 fn is_marked(talk: &[Pair], one: Slot, other: Slot) -> bool
@@ -50,7 +39,7 @@ fn pair_is_marked(script: &Script, config: &Config, one: Slot, other: Slot) -> b
     if !are_joined(config, one, other) {
         return true;
     }
-    is_marked(talk_of(script, config.state()), one, other)
+    is_marked(script.talk_of(config.state()), one, other)
 }
 
 /// Whether two lines are marked if they are two lines of the script that are joined.
@@ -118,7 +107,7 @@ fn line_is_cleared(script: &Script, config: &Config, lines: usize, line: Slot) -
 {
     let in_null = spots::is_null(config.spot(Termination::Line(line)));
     let silent = !config.plays(line);
-    let armed = is_armed_list(items_of(script, config.events(line)));
+    let armed = is_armed_list(script.list(config.events(line)));
     line.index() >= lines || in_null && silent && armed
 }
 
@@ -156,16 +145,6 @@ fn is_cleared(script: &Script, config: &Config) -> bool
     lines && ephemerals
 }
 
-/// Whether a call ends in a state.
-fn is_end_of(script: &Script, state: u8) -> bool
-    ensures { result ≡ (state_of script.now state).is_end }
-{
-    match script.state(state) {
-        Some(state) => state.is_end(),
-        None => false,
-    }
-}
-
 /// Whether a call that rests in an end state has cleared its lines and ephemerals.
 pub fn ended_is_cleared(script: &Script, config: &Config) -> bool
     ensures { IsTrue result ↔ EndedIsCleared script.now (configuration_of config.now) }
@@ -173,7 +152,7 @@ pub fn ended_is_cleared(script: &Script, config: &Config) -> bool
     if !at_rest(config) {
         return true;
     }
-    if !is_end_of(script, config.state()) {
+    if !script.ends_in(config.state()) {
         return true;
     }
     is_cleared(script, config)

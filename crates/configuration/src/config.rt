@@ -1,3 +1,4 @@
+//! A configuration as data, with a reader and a setter for each component.
 pub mod paths;
 
 use crate::places::{place_of, unused_events, unused_spot};
@@ -25,7 +26,8 @@ pub struct Config {
 #[tactic(auto, unfolding(crate::specs::Config::configuration_of))]
 impl Config {
     ghost use Rattle.std.specs.Prelude.{◌≡◌, ℕ, ◌≤◌};
-    ghost use Rattle.mg_model.specs.Configuration.{with_at, with_of};
+    ghost use Rattle.mg_model.specs.Configuration.{with_of};
+    ghost use Rattle.mg_model.specs.Updates.{with_at};
     ghost use Rattle.mg_model.specs.Effects.{with_pair};
     ghost use Rattle.mg_model.specs.declared.commands.Termination.TheVariants.{Ephemeral};
     ghost use Rattle.configuration.specs.Config.{configuration_of};

@@ -1,3 +1,4 @@
+//! Where a termination stands in the tables of a configuration, and what an unused slot has there.
 ghost use Rattle.std.specs.Prelude.{◌≡◌, ◌<◌, nat_lt, if◌then◌else◌};
 ghost use Rattle.configuration.specs.Places.{index_of};
 

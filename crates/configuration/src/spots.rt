@@ -1,3 +1,4 @@
+//! Tests of single values of a configuration: where a termination stands, what a name stands for, which way media passes.
 ghost use Rattle.std.specs.Prelude.{◌≡◌, ℕ, ◌<◌, ◌||◌, not, length, slice_index_or};
 ghost use Rattle.std.specs.List.{list_all, list_any};
 ghost use Rattle.mg_names.specs.declared.context_values.ContextValue.TheVariants.{Free};
@@ -11,8 +12,8 @@ use mg_names::modes::Mode;
 use mg_names::slots::Slot;
 
 /// Whether two terminations are one.
-pub fn is_same(one: Termination, other: Termination) -> bool
-    ensures { result ≡ is_same one other }
+pub fn is_same(one: &Termination, other: &Termination) -> bool
+    ensures { result ≡ is_same one.now other.now }
 {
     match one {
         Termination::Line(i) => match other {

@@ -1,3 +1,4 @@
+//! A step of a configuration as data, and lists of steps.
 ghost use Rattle.std.specs.Prelude.{◌≡◌, ◌∷◌, [], ◌++◌, OnOk, OnErr};
 
 use crate::config::Config;

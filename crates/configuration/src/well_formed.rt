@@ -1,3 +1,4 @@
+//! Whether a configuration is one that a call can have.
 ghost use Rattle.std.specs.Prelude.{◌≡◌, ℕ, ◌≤◌, ◌↔◌, ◌∷◌, [], IsTrue};
 ghost use Rattle.std.specs.List.{list_all};
 ghost use Rattle.mg_model.specs.Configuration.{terminations, stands_in, IsWellFormed};

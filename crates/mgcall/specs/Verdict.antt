@@ -2,6 +2,7 @@
 -- fault of the script where it has one, else that of the certificate, else the first obligation that is broken, and that
 -- it is `yes` where none is, and that a yes says of every run of the script that it is good.
 use Rattle.std.specs.Prelude.{◌≡◌, ◌≢◌, ℕ, List, length, Option, Some, None, option_map, Result, Ok, Err}
+use Rattle.mg_names.specs.Obligations.{obligation_number}
 use Rattle.mg_model.specs.declared.faults.Fault.{Fault}
 use Rattle.mg_model.specs.Script.{Script}
 use Rattle.mg_model.specs.Entries.{Entry, HavePoints}
@@ -75,7 +76,7 @@ pub record IsNo (script certificate : Text) (obligation : ℕ) (entry point : Op
   pub fault : Fault
   pub read : AreRead script certificate table entries
   pub first : IsFirstFault table entries fault
-  pub obligation_is : obligation ≡ fault.number
+  pub obligation_is : obligation ≡ obligation_number fault.obligation
   pub entry_is : entry ≡ fault.entry
   pub point_is : point ≡ fault.point
   pub step_is : step ≡ option_map (words_of table.lines) fault.step

@@ -1,5 +1,6 @@
 -- What the checker returns for the bytes of a script and of a certificate.
 use Rattle.std.specs.Prelude.{◌≡◌, List, option_map, Result, Ok, Err}
+use Rattle.mg_names.specs.Obligations.{obligation_number}
 use Rattle.mg_model.specs.declared.faults.Fault.{Fault}
 use Rattle.mg_model.specs.Script.{Script}
 use Rattle.mg_model.specs.Entries.{Entry}
@@ -26,7 +27,7 @@ IsVerdict script certificate (Err fault.NoMemory) = Unit {0}
 -- the line names a fault, with its step in the words of the script that the bytes are; memory may run out
 abbrev pub NamesFault : Text → Fault → Line → Type 0
 NamesFault script fault (no obligation entry point step) =
-    (obligation ≡ fault.number) × (entry ≡ fault.entry) × (point ≡ fault.point)
+    (obligation ≡ obligation_number fault.obligation) × (entry ≡ fault.entry) × (point ≡ fault.point)
     × (table : Script) × ReadsScript script (Ok table) × (step ≡ option_map (words_of table.lines) fault.step)
 NamesFault script fault no_memory = Unit {0}
 NamesFault script fault _ = ⊥

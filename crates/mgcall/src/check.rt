@@ -36,7 +36,7 @@ fn broken(alloc: Global, bytes: &[u8], fault: &Fault) -> Answer
     };
     match words_of(alloc, &script, &fault.step) {
         Ok(step) => Answer::No(Broken {
-            obligation: fault.number,
+            obligation: fault.obligation.number(),
             entry: fault.entry,
             point: fault.point,
             step,

@@ -3,8 +3,9 @@ ghost use Rattle.std.specs.Prelude.{◌≡◌, length};
 ghost use Rattle.mgcall.specs.Verdicts.{IsVerdict};
 
 use certificate::laws::accepted_certificates;
-use certificate::{Cert, CertFault, read_cert};
+use certificate::{CertFault, read_cert};
 use closure::first_fault::{first_fault, points};
+use entry_table::Cert;
 use mg_model::faults::Fault;
 use mg_safety::runs::every_run_is_good;
 use script_table::Script;

@@ -1,3 +1,4 @@
+//! Paths of media between the lines of a configuration.
 ghost use Rattle.std.specs.Prelude.{◌≡◌, ℕ, ◌<◌, ◌↔◌, ◌||◌, ◌&&◌, ◌⊎◌, false, true, IsTrue, IfSome, IfNone, slice_index_or};
 ghost use Rattle.mg_model.specs.Paths.{hops, crosses, HasPath, AreJoined};
 ghost use Rattle.configuration.specs.Config.{configuration_of};
@@ -14,7 +15,7 @@ use mg_names::slots::Slot;
 fn hops(config: &Config, source: &Termination, sink: &Termination) -> bool
     ensures { result ≡ hops (configuration_of config.now) source.now sink.now }
 {
-    let apart = !spots::is_same(*source, *sink);
+    let apart = !spots::is_same(source, sink);
     let here = config.spot(*source);
     let there = config.spot(*sink);
     let shared = spots::is_shared(here, there);

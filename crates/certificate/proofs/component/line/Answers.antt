@@ -1,7 +1,7 @@
 -- The rows are those of the entry.
 use Rattle.std.proofs.Common.{◌∙◌, ap, option_map}
 use Rattle.std.specs.Prelude.{find}
-use Rattle.scriptreader.specs.Table.{place_of}
+use Rattle.script_table.specs.Table.{place_of}
 use Rattle.certificate.specs.Components.{is_slot, row_at}
 use Rattle.certificate.proofs.RowLemmas.{rows_found}
 use Rattle.certificate.proofs.component.line.Goals as goal

@@ -2,8 +2,8 @@
 use Rattle.std.proofs.Common.{◌≡◌, length, drop}
 use Rattle.std.specs.Prelude.{◌==◌}
 use Rattle.std.specs.List.{list_any}
-use Rattle.certificate.specs.Listed.{choices_of}
-use Rattle.certificate.specs.Shown.{shown_all}
+use Rattle.entry_table.specs.Listed.{choices_of}
+use Rattle.entry_table.specs.Shown.{shown_all}
 use Rattle.certificate.proofs.draft.any_empty.Given as goal
 
 abbrev pub invariant-loop-component : goal.invariant-loop-component

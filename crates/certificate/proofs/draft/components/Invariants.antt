@@ -1,6 +1,6 @@
 -- What was read so far is what the keys so far mean.
 use Rattle.certificate.specs.Components.{component_meant}
-use Rattle.certificate.specs.Shown.{shown_all}
+use Rattle.entry_table.specs.Shown.{shown_all}
 use Rattle.certificate.proofs.Each.{IsReadTo}
 use Rattle.certificate.proofs.draft.components.Given as goal
 

@@ -2,7 +2,7 @@
 use Rattle.std.proofs.Common.{◌∙◌, ap, map}
 use Rattle.std.specs.Prelude.{false}
 use Rattle.std.specs.Option.{option_map_or}
-use Rattle.certificate.specs.Shape.{are_keys}
+use Rattle.certificate.specs.Keys.{are_keys}
 use Rattle.certificate.proofs.Trees.{keys_checked}
 use Rattle.certificate.proofs.reads.has_only.Goals as goal
 

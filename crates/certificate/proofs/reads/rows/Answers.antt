@@ -4,7 +4,7 @@ use Rattle.std.proofs.lemmas.Result.{err_from_is_err_and}
 use Rattle.std.proofs.lemmas.List.{map-append}
 use Rattle.std.specs.Map.Iter.{deref_pair}
 use Rattle.serde_json.specs.View.{view}
-use Rattle.certificate.specs.Shape.{row_of}
+use Rattle.certificate.specs.Keys.{row_of}
 use Rattle.certificate.proofs.Each.{read_next, read_none, read_end}
 use Rattle.certificate.proofs.Passing.{bad_key_passes}
 use Rattle.certificate.proofs.Trees.{member_seen, table_read}

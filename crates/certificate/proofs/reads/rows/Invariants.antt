@@ -1,7 +1,7 @@
 -- What was read so far is the meaning of the members so far.
 use Rattle.std.proofs.Common.{map}
 use Rattle.std.specs.Map.Iter.{deref_pair}
-use Rattle.certificate.specs.Shape.{row_of}
+use Rattle.certificate.specs.Keys.{row_of}
 use Rattle.certificate.proofs.Each.{IsReadTo}
 use Rattle.certificate.proofs.Trees.{member_seen}
 use Rattle.certificate.proofs.reads.rows.Given as goal

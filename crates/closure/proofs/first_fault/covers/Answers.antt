@@ -1,7 +1,8 @@
+-- Only the entries of the configuration's state can have it.
 use Rattle.std.proofs.Common.{◌≡◌, ◌∙◌, ℕ, ap, sym, subst}
 use Rattle.std.specs.List.{Any}
 use Rattle.configuration.specs.Config.{configuration_of}
-use Rattle.certificate.specs.Certificate.{places_of}
+use Rattle.entry_table.specs.Index.{places_of}
 use Rattle.closure.specs.Findings.{PlaceIncludes}
 use Rattle.closure.proofs.CoverLemmas.{covered_by_place, place_covers}
 use Rattle.closure.proofs.first_fault.covers.Goals as goal

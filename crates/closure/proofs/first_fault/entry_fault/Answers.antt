@@ -1,3 +1,4 @@
+-- The first number whose point breaks an obligation is the entry's first.
 use Rattle.std.proofs.Common.{ℕ, below_more}
 use Rattle.mg_model.specs.Configuration.{Configuration}
 use Rattle.mg_model.specs.Entries.{IsPointOf}

@@ -1,3 +1,4 @@
+-- What is found of the opening, the restart and the points, in this order, is the answer.
 use Rattle.std.proofs.Common.{sym, subst}
 use Rattle.std.proofs.lemmas.Result.{IfOk-weaker}
 use Rattle.mg_model.specs.Entries.{IsCovered}

@@ -1,3 +1,4 @@
+-- The results of the steps before are in some entry.
 use Rattle.closure.proofs.FindingLemmas.{refuted, one_more_covered, first_is_uncovered, all_covered}
 use Rattle.closure.proofs.first_fault.first_uncovered.Goals as goal
 

@@ -1,3 +1,4 @@
+-- A number is of one point at most.
 use Rattle.std.proofs.lemmas.Result.{IfOk-weaker}
 use Rattle.configuration.specs.Config.{configuration_of}
 use Rattle.closure.specs.Findings.{ConfigurationFinding, NumberFinding}

@@ -1,3 +1,4 @@
+-- The entries before break nothing.
 use Rattle.closure.proofs.FindingLemmas.{one_more_entry, all_entries}
 use Rattle.closure.proofs.first_fault.points_fault.Goals as goal
 

@@ -1,3 +1,4 @@
+-- One more entry adds its points.
 use Rattle.std.proofs.Common.{◌+◌, subst, sym, arith}
 use Rattle.mg_model.specs.Entries.{HasPoints, HavePoints}
 use Rattle.closure.proofs.FindingLemmas.{points_with, none_left}

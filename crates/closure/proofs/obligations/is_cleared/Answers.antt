@@ -1,3 +1,4 @@
+-- Both tests say together that the configuration is cleared.
 use Rattle.std.proofs.Common.{◌≡◌, ◌≤◌, length, true, sym, ◌∙◌, arith, subst, ℕ}
 use Rattle.std.specs.Prelude.{◌∷◌, []}
 use Rattle.std.specs.List.{list_all}

@@ -1,3 +1,4 @@
+-- The lines of the script are among the four.
 use Rattle.std.proofs.Common.{arith}
 use Rattle.closure.proofs.obligations.joined_are_marked.Goals as goal
 

@@ -1,3 +1,4 @@
+-- A line that is not marked with this one refutes it.
 use Rattle.std.proofs.Common.{◌≡◌, ℕ, ◌<◌, slice_index_or, rules, sym, subst, ◌∙◌}
 use Rattle.configuration.proofs.PathLemmas.{slot_at}
 use Rattle.closure.proofs.obligations.line_is_marked.Goals as goal

@@ -1,3 +1,4 @@
+-- Line by line.
 use Rattle.std.proofs.Common.{◌≡◌, ℕ, ◌<◌, ◌∷◌, []}
 use Rattle.configuration.specs.Config.{configuration_of}
 use Rattle.closure.specs.Tests.{PairBelowIsMarked}

@@ -1,3 +1,4 @@
+-- One more line is marked.
 use Rattle.std.proofs.Common.{◌≡◌, ℕ, ◌<◌, slice_index_or, subst, below_more}
 use Rattle.configuration.specs.Config.{configuration_of}
 use Rattle.configuration.proofs.PathLemmas.{slot_at}

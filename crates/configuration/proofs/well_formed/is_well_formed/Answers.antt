@@ -1,3 +1,4 @@
+-- The tests over the eight terminations are the conditions over all.
 use Rattle.std.proofs.Common.{◌≡◌, sym, ◌∙◌}
 use Rattle.configuration.specs.Config.{configuration_of}
 use Rattle.configuration.proofs.SlotLemmas.{no_cuts}

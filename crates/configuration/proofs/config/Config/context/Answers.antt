@@ -1,3 +1,4 @@
+-- A name past the fourth is free.
 use Rattle.std.proofs.Common.{rules, arith}
 use Rattle.configuration.specs.Config.{configuration_of}
 use Rattle.configuration.proofs.SlotLemmas.{past_end}

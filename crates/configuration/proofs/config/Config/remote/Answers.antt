@@ -1,3 +1,4 @@
+-- An ephemeral past the fourth has no Remote.
 use Rattle.std.proofs.Common.{◌+◌, rules, arith}
 use Rattle.configuration.specs.Config.{configuration_of}
 use Rattle.configuration.proofs.SlotLemmas.{past_end}

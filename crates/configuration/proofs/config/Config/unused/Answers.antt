@@ -1,3 +1,4 @@
+-- Component by component, the tables are those of the unused configuration.
 use Rattle.std.proofs.Common.{◌≡◌, ap, rules, refl, arith, ℕ, slice_index_or}
 use Rattle.std.proofs.lemmas.Grind.{common_steps}
 use Rattle.mg_model.specs.declared.commands.Termination.{Termination}

@@ -1,3 +1,4 @@
+-- Where nothing new is arrived at, what is reached is all that a path reaches.
 use Rattle.std.proofs.Common.{◌≡◌, ◌<◌, true, arith, sym, ◌∙◌, IsTrue, length, length-set, slice_set}
 use Rattle.mg_model.specs.declared.commands.Termination.TheVariants.{Line}
 use Rattle.configuration.specs.Config.{configuration_of}

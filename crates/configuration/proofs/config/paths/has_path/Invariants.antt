@@ -1,3 +1,4 @@
+-- What the search has arrived at, and how much is left.
 use Rattle.std.proofs.Common.{◌≡◌, length}
 use Rattle.configuration.specs.Config.{configuration_of}
 use Rattle.configuration.proofs.PathLemmas.{AllArrived, missing}

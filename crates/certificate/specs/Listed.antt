@@ -1,2 +1,0 @@
--- The entries that a certificate lists are those of the model.
-pub use Rattle.mg_model.specs.Entries.{Entry as Listed, choices_of, size_of, numbered, Allows, Includes, IsPointOf}

@@ -1,0 +1,72 @@
+//! The whole reading of a certificate: bytes, document, entries.
+ghost use Rattle.std.specs.Prelude.{◌≡◌};
+ghost use Rattle.serde_json.specs.View.{view};
+ghost use Rattle.certificate.specs.Certificate.{Gives, Parses, ReadsCertificate, checked_or, document_read, listed_meant};
+ghost use Rattle.typed_values.specs.Shape.{each};
+
+use crate::document::read_document;
+use crate::draft::{drafts, entries};
+use crate::fault::CertFault;
+use crate::key::keys;
+use crate::outline::{limit_passed, outlines};
+use crate::written::WrittenEntry;
+use entry_table::{Cert, Entry};
+use script_table::Script;
+use serde_json::Value;
+use std::alloc::Global;
+use typed_values::Unread;
+
+/// Looks up the names of written entries. The limits are looked at before any entry is kept.
+fn resolve(
+    alloc: Global,
+    script: &Script,
+    written: &[WrittenEntry],
+) -> Result<Vec<Entry>, CertFault>
+    ensures { Gives (λ v. v.items) result (checked_or script.now (each (listed_meant script.now) written.now)) }
+{
+    let keys = keys(alloc, script)?;
+    let outlines = outlines(alloc, script, keys.as_slice(), written)?;
+    match limit_passed(script, outlines.as_slice()) {
+        Some(fault) => Err(fault),
+        None => {
+            let drafts = drafts(alloc, script, keys.as_slice(), written)?;
+            Ok(entries(alloc, drafts)?)
+        }
+    }
+}
+
+/// The entries of a document.
+fn read_value(alloc: Global, script: &Script, value: &Value) -> Result<Vec<Entry>, CertFault>
+    ensures { Gives (λ v. v.items) result (document_read script.now (view value.now)) }
+{
+    match read_document(alloc, value) {
+        Ok(written) => resolve(alloc, script, written.as_slice()),
+        Err(Unread::BadKey) => Err(CertFault::BadKey),
+        Err(Unread::Memory) => Err(CertFault::NoMemory),
+    }
+}
+
+/// The document of a text.
+fn parse(alloc: Global, bytes: &[u8]) -> Result<Value, CertFault>
+    ensures { Parses view result bytes.now }
+{
+    match Value::from_slice(alloc, bytes) {
+        Ok(value) => Ok(value),
+        Err(error) => {
+            if error.is_memory() {
+                return Err(CertFault::NoMemory);
+            }
+            Err(CertFault::NotJson)
+        }
+    }
+}
+
+/// Reads a certificate for a script. The fault is the lowest that applies anywhere in the document; want of memory may
+/// stand in place of any answer.
+pub fn read_cert(alloc: Global, bytes: &[u8], script: &Script) -> Result<Cert, CertFault>
+    ensures { ReadsCertificate script.now bytes.now result }
+{
+    let value = parse(alloc, bytes)?;
+    let entries = read_value(alloc, script, &value)?;
+    Ok(Cert::new(alloc, entries)?)
+}

@@ -1,0 +1,90 @@
+//! A component of a configuration with the values that an entry gives it, as choices that make a configuration.
+ghost use Rattle.std.specs.Prelude.{◌≡◌, ◌↔◌, IsTrue, length, slice_index_or};
+ghost use Rattle.mg_model.specs.Entries.{same_choice};
+ghost use Rattle.configuration.specs.Config.{configuration_of};
+ghost use Rattle.entry_table.specs.Listed.{Allows, choices_of};
+ghost use Rattle.entry_table.specs.Shown.{shown};
+
+use configuration::config::Config;
+use mg_model::commands::{EventsName, Termination};
+use mg_model::components::{Remote, Spot};
+use mg_names::context_values::ContextValue;
+use mg_names::modes::Mode;
+use mg_names::phases::Link;
+use mg_names::slots::Slot;
+
+/// A component of a configuration with its values, in their order. This profile's own.
+#[derive(Drop)]
+pub enum Component {
+    /// How far the state's request has come.
+    Links(Vec<Link>),
+    /// Where a termination stands.
+    Spots(Termination, Vec<Spot>),
+    /// The mode of a termination.
+    Modes(Termination, Vec<Mode>),
+    /// The events list of a line.
+    Events(Slot, Vec<EventsName>),
+    /// Whether a line may play a signal.
+    Plays(Slot, Vec<bool>),
+    /// What a context name stands for.
+    Contexts(Slot, Vec<ContextValue>),
+    /// The Remote of an ephemeral.
+    Remotes(Slot, Vec<Remote>),
+    /// Whether media from one termination to another is cut.
+    Cuts(Termination, Termination, Vec<bool>),
+}
+
+impl Component {
+    /// How many values it has.
+    pub fn count(&self) -> usize
+        ensures { result ≡ length (choices_of (shown self.now)) }
+    {
+        match self {
+            Component::Links(values) => values.len(),
+            Component::Spots(_, values) => values.len(),
+            Component::Modes(_, values) => values.len(),
+            Component::Events(_, values) => values.len(),
+            Component::Plays(_, values) => values.len(),
+            Component::Contexts(_, values) => values.len(),
+            Component::Remotes(_, values) => values.len(),
+            Component::Cuts(_, _, values) => values.len(),
+        }
+    }
+}
+
+/// Whether a component has a configuration's value.
+pub(crate) fn allows(component: &Component, config: &Config) -> bool
+    ensures { IsTrue result ↔ Allows (configuration_of config.now) (shown component.now) }
+{
+    match component {
+        Component::Links(values) => values.contains(&config.link()),
+        Component::Spots(t, values) => values.contains(&config.spot(*t)),
+        Component::Modes(t, values) => values.contains(&config.mode(*t)),
+        Component::Events(line, values) => values.contains(&config.events(*line)),
+        Component::Plays(line, values) => values.contains(&config.plays(*line)),
+        Component::Contexts(name, values) => values.contains(&config.context(*name)),
+        Component::Remotes(name, values) => values.contains(&config.remote(*name)),
+        Component::Cuts(t, u, values) => values.contains(&config.cut(*t, *u)),
+    }
+}
+
+/// Makes the choice at a place; none where there is no such place.
+#[tactic(auto, using(crate::proofs::Products::choice_at, crate::proofs::Products::no_choice))]
+pub(crate) fn choose(component: &Component, place: usize, config: &mut Config)
+    ensures { configuration_of config.new
+        ≡ (slice_index_or (choices_of (shown component.now)) place same_choice) (configuration_of config.old) }
+{
+    if place >= component.count() {
+        return;
+    }
+    match component {
+        Component::Links(values) => config.set_link(values[place]),
+        Component::Spots(t, values) => config.set_spot(*t, values[place]),
+        Component::Modes(t, values) => config.set_mode(*t, values[place]),
+        Component::Events(line, values) => config.set_events(*line, values[place]),
+        Component::Plays(line, values) => config.set_plays(*line, values[place]),
+        Component::Contexts(name, values) => config.set_context(*name, values[place]),
+        Component::Remotes(name, values) => config.set_remote(*name, values[place]),
+        Component::Cuts(t, u, values) => config.set_cut(*t, *u, values[place]),
+    }
+}

@@ -1,0 +1,156 @@
+//! Entries: for a state a set of values for each component of a configuration.
+ghost use Rattle.std.specs.Prelude.{◌≡◌, ◌↔◌, ◌^◌, ◌-◌, ◌*◌, ◌<◌, ◌≤◌, ℕ, IsTrue, IfSome, IfNone, map, min, length, List};
+ghost use Rattle.std.specs.List.{All};
+ghost use Rattle.mg_model.specs.Configuration.{IsWellFormed};
+ghost use Rattle.mg_model.specs.Entries.{chosen, product};
+ghost use Rattle.configuration.specs.Config.{configuration_of};
+ghost use Rattle.entry_table.specs.Listed.{Allows, Includes, IsPointOf, choices_of, numbered, size_of};
+ghost use Rattle.entry_table.specs.Shown.{shown, shown_all};
+
+use crate::component::{Component, allows, choose};
+use configuration::config::Config;
+use configuration::well_formed::is_well_formed;
+use mg_model::commands::EventsName;
+use mg_names::phases::Link;
+use std::marker::Model;
+
+/// An entry of a certificate: a state, and a set of values for each component of a configuration. It denotes the
+/// well-formed configurations of the state that have each component in its set. Its points are the whole product,
+/// numbered from 0, the last component changing fastest. This profile's own.
+#[derive(Drop)]
+pub struct Entry {
+    state: u8,
+    lines: usize,
+    product: u32,
+    components: Vec<Component>,
+}
+
+impl Model for Entry {
+    ghost use Rattle.std.specs.Prelude.{◌≡◌, ◌<◌, ◌≤◌, map};
+    ghost use Rattle.entry_table.specs.Listed.{Listed, size_of};
+
+    ghost Value = { Listed };
+
+    ghost use Rattle.entry_table.specs.Shown.{shown, shown_all};
+
+    ghost view = { λ e. record { state = e.state; lines = e.lines; components = shown_all e.components.items } };
+
+    ghost invariant = { λ e. (e.lines ≤ 4) × (0 < e.product) × (e.product ≡ size_of (shown_all e.components.items)) };
+}
+
+/// How many choices some components have together, or the last number of 64 bits where that is more.
+pub fn product_of(components: &[Component]) -> u64
+    ensures { result ≡ min (size_of (shown_all components.now)) (2 ^ 64 - 1) }
+{
+    let mut size: u64 = 1;
+    for component in components {
+        size = size.saturating_mul(component.count() as u64);
+    }
+    size
+}
+
+fn each_allows(components: &[Component], config: &Config) -> bool
+    ensures { IsTrue result ↔ All (λ component. Allows (configuration_of config.now) (shown component)) components.now }
+{
+    components.iter().all(|component| allows(component, config))
+}
+
+/// Whether each component has a configuration's value.
+fn all_allow(components: &[Component], config: &Config) -> bool
+    ensures { IsTrue result ↔ All (Allows (configuration_of config.now)) (shown_all components.now) }
+{
+    each_allows(components, config)
+}
+
+/// Makes the choices with a number, in order.
+fn choose_all(components: &[Component], size: u64, number: u64, config: &mut Config)
+    requires some { 0 < size }
+    requires size { size ≡ size_of (shown_all components.now) }
+    ensures { configuration_of config.new
+        ≡ chosen (map choices_of (shown_all components.now)) number (configuration_of config.old) }
+{
+    let mut rest = size;
+    let mut left = number;
+    for component in components {
+        rest /= component.count() as u64;
+        choose(component, (left / rest) as usize, config);
+        left %= rest;
+    }
+}
+
+impl Entry {
+    /// The entry of a state, for a script of so many lines, with these components in their order. Its points have to be
+    /// some, and to be fewer than 32 bits count; `product_of` tests both.
+    pub fn new(state: u8, lines: usize, components: Vec<Component>) -> Entry
+        requires lines { lines ≤ 4 }
+        requires some { 0 < size_of (shown_all components.items) }
+        requires within { size_of (shown_all components.items) < 2 ^ 32 }
+        ensures { result ≡ record { state = state; lines = lines; components = shown_all components.items } }
+    {
+        let product = product_of(components.as_slice()) as u32;
+        Entry {
+            state,
+            lines,
+            product,
+            components,
+        }
+    }
+
+    /// The state, by its place in the script.
+    pub fn state(&self) -> u8
+        ensures { result ≡ self.now.state }
+    {
+        self.state
+    }
+
+    /// How many points it has, those that aren't well formed among them: the whole product.
+    pub fn size(&self) -> u32
+        ensures size { result ≡ size_of self.now.components }
+        ensures some { 0 < result }
+    {
+        self.product
+    }
+
+    /// Whether it has a configuration: it is well formed, one of the entry's state, and has each component in its set.
+    pub fn contains(&self, config: &Config) -> bool
+        ensures { IsTrue result ↔ Includes self.now (configuration_of config.now) }
+    {
+        if config.state() != self.state {
+            return false;
+        }
+        if !all_allow(self.components.as_slice(), config) {
+            return false;
+        }
+        is_well_formed(config)
+    }
+
+    /// The configuration with a number, well formed or not.
+    fn numbered(&self, number: u32) -> Config
+        ensures { configuration_of result ≡ numbered self.now number }
+    {
+        let mut config = Config::unused(self.lines, self.state, Link::Resting, EventsName::Empty);
+        let components = self.components.as_slice();
+        choose_all(
+            components,
+            u64::from(self.size()),
+            u64::from(number),
+            &mut config,
+        );
+        config
+    }
+
+    /// The point with a number; `None` where it isn't well formed, and past the end.
+    pub fn point(&self, number: u32) -> Option<Config>
+        ensures point { IfSome result (λ config. IsPointOf self.now number (configuration_of config)) }
+        ensures no_point { IfNone result (number < size_of self.now.components → IsWellFormed (numbered self.now number) → ⊥) }
+    {
+        if number >= self.size() {
+            return None;
+        }
+        let config = self.numbered(number);
+        if !is_well_formed(&config) {
+            return None;
+        }
+        Some(config)
+    }
+}

@@ -1,0 +1,13 @@
+//! Entries and certificates as values: for each state of a script, the configurations that may stand there. An entry is
+//! a set of values for each component of a configuration; its points are the product of the sets, numbered. A
+//! certificate is a list of entries that knows where those of each state stand. No format is known here: whoever
+//! builds them brings the sets. This profile's own.
+#![tactic(auto)]
+
+mod cert;
+mod component;
+mod entry;
+
+pub use cert::Cert;
+pub use component::Component;
+pub use entry::{Entry, product_of};
