@@ -14,6 +14,7 @@ build:
 	cd crates/mgcall && rt run mgcall -- check < ../../examples/watch/input
 
 test:
+	tools/sides
 	rt ci
 	tools/wrong_models
 	tools/cases

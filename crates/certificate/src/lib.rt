@@ -18,6 +18,3 @@ mod written;
 
 pub use fault::CertFault;
 pub use reader::read_cert;
-
-#[cfg(test)]
-mod tests;

@@ -92,7 +92,7 @@ pub fn joined_are_marked(script: &Script, config: &Config) -> bool
 }
 
 /// Whether an events list is exactly `al/of` with `strict=exact`.
-pub fn is_armed_list(items: &[EventItem]) -> bool
+pub fn is_armed_list(items: &[EventItem<u8>]) -> bool
     ensures { result ≡ is_armed_list items.now }
 {
     match items {

@@ -1,14 +1,14 @@
 -- The search for a path: what has been arrived at is reached over some crossings, and a set that nothing new is arrived
 -- from holds every path.
-use Rattle.std.proofs.Common.{◌≡◌, ℕ, ◌+◌, suc, zero, ◌<◌, ◌≤◌, Bool, true, false, ◌&&◌, ◌||◌, not, List, [], ◌∷◌, ◌++◌, slice_index_or, slice_set, length, refl, ap, subst, sym, ◌∙◌, arith, rules, IsTrue, ◌==◌, ◌≢◌, nat_lt, get_or-set_other}
+use Rattle.std.proofs.Common.{◌≡◌, ℕ, ◌+◌, suc, zero, ◌<◌, ◌≤◌, Bool, true, false, ◌&&◌, ◌||◌, not, List, [], ◌∷◌, ◌++◌, slice_index_or, slice_set, length, refl, subst, sym, ◌∙◌, arith, rules, IsTrue, ◌==◌, ◌≢◌, nat_lt, get_or-set_other}
 use Rattle.std.proofs.lemmas.Grind.{common_steps}
-use Rattle.std.specs.Prelude.{Option, Some, None, cond}
+use Rattle.std.specs.Prelude.{Some, None, cond}
 use Rattle.std.specs.List.{find, list_any, list_all}
 use Rattle.mg_model.specs.declared.commands.Termination.{Termination}
 use Rattle.mg_model.specs.declared.commands.Termination.TheVariants.{Line, Ephemeral}
 use Rattle.mg_model.specs.declared.components.Spot.TheVariants.{Absent}
 use Rattle.mg_model.specs.Configuration.{Configuration, is_present}
-use Rattle.mg_model.specs.Paths.{hops, crosses, goes_over, HasPath}
+use Rattle.mg_model.specs.Paths.{hops, crosses, goes_over}
 use Rattle.configuration.specs.Places.{index_of, AbsentPastEight}
 use Rattle.configuration.specs.Search.{hops_from, is_reached, crosses_from, arrives_at, is_new}
 

@@ -1,10 +1,10 @@
 -- What a write at the place of one termination does to what is read at the places of all.
-use Rattle.std.proofs.Common.{◌≡◌, ℕ, ◌+◌, ◌<◌, ◌≢◌, nat_lt, nat_eq, Bool, true, false, List, length, slice_index_or, slice_set, arith, refl, get_or-set_same, get_or-set_other}
+use Rattle.std.proofs.Common.{◌≡◌, ◌<◌, ◌≢◌, Bool, true, false, List, length, slice_index_or, slice_set, arith, refl}
 use Rattle.std.proofs.lemmas.Grind.{common_steps}
 use Rattle.std.specs.Prelude.{if◌then◌else◌}
 use Rattle.mg_model.specs.declared.commands.Termination.{Termination}
 use Rattle.mg_model.specs.declared.commands.Termination.TheVariants.{Line, Ephemeral}
-use Rattle.mg_model.specs.Configuration.{is_same, with_of}
+use Rattle.mg_model.specs.Configuration.{is_same}
 use Rattle.configuration.specs.Places.{index_of}
 
 -- two terminations with places have one place exactly where they are one

@@ -1,5 +1,5 @@
 -- What a setter's write to one field makes of the configuration that is shown.
-use Rattle.std.proofs.Common.{◌≡◌, ℕ, ◌<◌, Bool, true, false, List, [], length, slice_index_or, slice_set, nat_lt, refl, ap, subst, sym, ◌∙◌, arith, length-set}
+use Rattle.std.proofs.Common.{◌≡◌, ℕ, ◌<◌, Bool, true, false, List, [], length, slice_index_or, slice_set, nat_lt, refl, ap, subst, ◌∙◌, arith}
 use Rattle.std.specs.Prelude.{if◌then◌else◌, ◌&&◌}
 use Rattle.std.proofs.lemmas.Grind.{common_steps}
 use Rattle.mg_model.specs.declared.commands.Termination.{Termination}
@@ -8,8 +8,6 @@ use Rattle.mg_model.specs.declared.components.Spot.TheVariants.{Absent}
 use Rattle.mg_model.specs.Configuration.{is_same, with_of}
 use Rattle.mg_model.specs.Effects.{with_pair}
 use Rattle.configuration.specs.Places.{index_of}
-use Rattle.configuration.specs.Config.{configuration_of}
-use Rattle.configuration.specs.declared.config.Config.{Config}
 use Rattle.configuration.proofs.PlaceLemmas.{index_of-same, lookup-set}
 
 pub same_functions : {A B : Type 0} {f g : A → B} → ((x : A) → f x ≡ g x) → f ≡ g

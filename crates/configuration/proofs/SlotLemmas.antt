@@ -1,5 +1,5 @@
 -- Reading past the end of a table.
-use Rattle.std.proofs.Common.{◌≡◌, ℕ, ◌≤◌, ◌<◌, suc, zero, nat_lt, Bool, true, false, ◌&&◌, List, [], ◌∷◌, length, slice_index_or, refl, arith, ap, sym, ◌∙◌, IsTrue}
+use Rattle.std.proofs.Common.{◌≡◌, ℕ, ◌≤◌, ◌<◌, suc, zero, nat_lt, Bool, true, false, List, [], ◌∷◌, length, slice_index_or, refl, arith}
 use Rattle.std.proofs.lemmas.Grind.{common_steps}
 use Rattle.configuration.specs.declared.config.Config.{Config}
 use Rattle.configuration.specs.Places.{index_of, AbsentPastEight, NoCutsPastEight}

@@ -4,7 +4,6 @@ use Rattle.std.specs.Prelude.{if◌then◌else◌}
 use Rattle.std.proofs.lemmas.Grind.{common_steps}
 use Rattle.mg_model.specs.declared.commands.Termination.{Termination}
 use Rattle.mg_model.specs.declared.commands.Termination.TheVariants.{Line, Ephemeral}
-use Rattle.mg_model.specs.declared.components.Spot.{Spot}
 use Rattle.mg_model.specs.declared.components.Spot.TheVariants.{Null, Absent}
 use Rattle.mg_names.specs.declared.phases.Link.TheVariants.{Resting}
 use Rattle.mg_model.specs.declared.commands.EventsName.{EventsName}

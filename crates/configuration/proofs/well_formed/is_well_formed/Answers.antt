@@ -1,5 +1,5 @@
 -- The tests over the eight terminations are the conditions over all.
-use Rattle.std.proofs.Common.{◌≡◌, sym, ◌∙◌}
+use Rattle.std.proofs.Common.{sym, ◌∙◌}
 use Rattle.configuration.specs.Config.{configuration_of}
 use Rattle.configuration.proofs.SlotLemmas.{no_cuts}
 use Rattle.configuration.proofs.WellFormedLemmas.{passes_well_formed, well_formed_passes}

@@ -1,5 +1,5 @@
 -- A name past the fourth is free.
-use Rattle.std.proofs.Common.{rules, arith}
+use Rattle.std.proofs.Common.{arith}
 use Rattle.configuration.specs.Config.{configuration_of}
 use Rattle.configuration.proofs.SlotLemmas.{past_end}
 use Rattle.configuration.proofs.config.Config.context.Goals as goal

@@ -1,5 +1,5 @@
 -- An ephemeral past the fourth is Inactive.
-use Rattle.std.proofs.Common.{◌+◌, rules, arith}
+use Rattle.std.proofs.Common.{◌+◌, arith}
 use Rattle.configuration.specs.Config.{configuration_of}
 use Rattle.configuration.proofs.SlotLemmas.{past_end}
 use Rattle.configuration.proofs.config.Config.mode.Goals as goal

@@ -1,5 +1,5 @@
 -- A write of one pair of the table changes that pair alone.
-use Rattle.std.proofs.Common.{◌≡◌, Bool, ap, rules}
+use Rattle.std.proofs.Common.{Bool, ap, rules}
 use Rattle.mg_model.specs.declared.commands.Termination.{Termination}
 use Rattle.configuration.specs.Config.{configuration_of}
 use Rattle.configuration.proofs.SetLemmas.{cuts-set}

@@ -1,5 +1,5 @@
 -- A write of one place of the table changes that termination alone.
-use Rattle.std.proofs.Common.{◌≡◌, ap, rules}
+use Rattle.std.proofs.Common.{ap, rules}
 use Rattle.mg_model.specs.declared.commands.Termination.{Termination}
 use Rattle.mg_model.specs.declared.components.Spot.{Spot}
 use Rattle.configuration.specs.Config.{configuration_of}

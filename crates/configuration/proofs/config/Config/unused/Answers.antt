@@ -1,9 +1,6 @@
 -- Component by component, the tables are those of the unused configuration.
-use Rattle.std.proofs.Common.{◌≡◌, ap, rules, refl, arith, ℕ, slice_index_or}
-use Rattle.std.proofs.lemmas.Grind.{common_steps}
-use Rattle.mg_model.specs.declared.commands.Termination.{Termination}
+use Rattle.std.proofs.Common.{refl}
 use Rattle.mg_model.specs.declared.commands.EventsName.TheVariants.{Empty}
-use Rattle.mg_model.specs.declared.components.Spot.TheVariants.{Null, Absent}
 use Rattle.mg_model.proofs.ConfigurationLemmas.{same_configurations}
 use Rattle.configuration.specs.Config.{configuration_of}
 use Rattle.configuration.proofs.UnusedLemmas.{events_unused, same_in_all, same_in_eight, spots_unused, cuts_unused}

@@ -1,10 +1,9 @@
 -- Where nothing new is arrived at, what is reached is all that a path reaches.
-use Rattle.std.proofs.Common.{◌≡◌, ◌<◌, true, arith, sym, ◌∙◌, IsTrue, length, length-set, slice_set}
+use Rattle.std.proofs.Common.{◌<◌, arith, sym, ◌∙◌, length, length-set}
 use Rattle.mg_model.specs.declared.commands.Termination.TheVariants.{Line}
 use Rattle.configuration.specs.Config.{configuration_of}
-use Rattle.configuration.specs.Search.{is_reached}
 use Rattle.configuration.proofs.SlotLemmas.{absent_past_eight}
-use Rattle.configuration.proofs.PathLemmas.{found_next, missing, missing-set, arrives_goes, all_arrived-set, reached_goes, closed, closed_reaches, goes_on_line}
+use Rattle.configuration.proofs.PathLemmas.{found_next, missing-set, arrives_goes, all_arrived-set, reached_goes, closed, closed_reaches, goes_on_line}
 use Rattle.configuration.proofs.config.paths.has_path.Goals as goal
 
 pub loop-slot-smaller : goal.loop-slot-smaller

@@ -1,5 +1,5 @@
 //! A certificate for one script: its entries, their sizes and points, and the limit of points at its edge.
-use crate::{CertFault, laws, read_cert};
+use certificate::{CertFault, laws, read_cert};
 use entry_table::Cert;
 use mg_model::transitions::EventItem;
 use mg_names::strictness::Strict;
