@@ -9,7 +9,7 @@ use Rattle.mg_model.specs.declared.items.Added.TheVariants as added
 use Rattle.mg_model.specs.declared.items.Item.TheVariants.{Add}
 use Rattle.mg_model.specs.declared.items.Settings.{Settings}
 use Rattle.mg_model.specs.Board.{Board}
-use Rattle.mg_model.specs.Numbers.{choose}
+use Rattle.mg_model.specs.Numbers.{choose, last_context}
 use Rattle.mg_model.specs.Items.{IsLegal, IsExecuted, is_context_number, given, only_if}
 use Rattle.terminations.specs.Table.{is_given}
 use Rattle.contexts.specs.Steps.{created, CanBeAdded, IsAdded}
@@ -71,5 +71,5 @@ is_choose n e = grind (arith, common_steps)
 pub is_not_choose : (n : ℕ) → n ≢ choose → (n == choose) ≡ false
 is_not_choose n e = grind (arith, common_steps)
 
-pub next_is_new : (last : ℕ) → last < 4294967293 → is_context_number (last + 1) × (is_given last (last + 1) ≡ false)
+pub next_is_new : (last : ℕ) → last < last_context → is_context_number (last + 1) × (is_given last (last + 1) ≡ false)
 next_is_new last h = ((omega arith, omega (arith, h)), grind (arith, common_steps))

@@ -1,6 +1,6 @@
 //! Add on a board on which it is legal.
 ghost use Rattle.std.specs.Prelude.{◌≡◌, ◌≢◌, ◌+◌, ◌<◌, true, OnErr, IfOk};
-ghost use Rattle.mg_model.specs.Numbers.{choose};
+ghost use Rattle.mg_model.specs.Numbers.{choose, last_context};
 ghost use Rattle.mg_model.specs.Items.{IsLegal, IsExecuted, given};
 ghost use Rattle.mg_model.specs.declared.items.Item.TheVariants as item;
 ghost use Rattle.contexts.specs.Sheet.{board_of};
@@ -79,7 +79,7 @@ impl Board {
     ) -> Result<Done, AllocError>
         requires legal { IsLegal (board_of self.old) (item.Add context added.now settings.now) }
         requires chooses { context.0 ≡ choose }
-        requires left { self.old.last < 4294967293 }
+        requires left { self.old.last < last_context }
         ensures ok { IfOk result (IsExecuted (board_of self.old) (item.Add context added.now settings.now) (board_of self.new)) }
         ensures err { OnErr result (board_of self.new ≡ board_of self.old) }
     {
@@ -104,7 +104,7 @@ impl Board {
         ensures ok { IfOk result (IsExecuted (board_of self.old) (item.Add context added.now settings.now) (board_of self.new)) }
         ensures err { OnErr result (board_of self.new ≡ board_of self.old) }
     {
-        if context.0 == 0xFFFF_FFFE {
+        if context == ContextId::CHOOSE {
             return self.exec_add_new(context, added, settings);
         }
         self.exec_add_to(context, added, settings)

@@ -12,7 +12,7 @@ use mg_names::codes::Code;
 use mg_names::identifiers::{ContextId, TermId};
 
 /// The last number that a context may have.
-const LAST_CONTEXT: u32 = 0xFFFF_FFFD;
+const LAST_CONTEXT: u32 = ContextId::CHOOSE.0 - 1;
 
 impl Board {
     /// Whether a context doesn't exist.
@@ -201,7 +201,7 @@ impl Board {
     fn is_add_used_up(&self, context: ContextId, added: &Added) -> bool
         ensures { IsTrue result ↔ NoneLeftFor (board_of self.now) context.0 added.now }
     {
-        if context.0 == 0xFFFF_FFFE && self.has_no_context_left() {
+        if context == ContextId::CHOOSE && self.has_no_context_left() {
             return true;
         }
         self.has_none_left_for(added)

@@ -13,6 +13,10 @@ choose = 4294967294
 abbrev pub all : ℕ
 all = 4294967295
 
+-- the greatest number of a context
+abbrev pub last_context : ℕ
+last_context = 4294967293
+
 -- the number that no ephemeral has
 abbrev pub no_ephemeral : ℕ
 no_ephemeral = 0

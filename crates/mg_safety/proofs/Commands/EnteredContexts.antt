@@ -11,7 +11,7 @@ use Rattle.mg_model.specs.declared.components.Spot.TheVariants.{In}
 use Rattle.mg_model.specs.Board.{Board, exists, place_of}
 use Rattle.mg_model.specs.Configuration.{Configuration, IsWellFormed, is_in, is_live}
 use Rattle.mg_model.specs.Effects.{place_exists, stands_at}
-use Rattle.mg_model.specs.Numbers.{choose}
+use Rattle.mg_model.specs.Numbers.{choose, all}
 use Rattle.mg_model.specs.Items.{is_context_number}
 use Rattle.mg_model.specs.Request.{place_known}
 use Rattle.mg_model.specs.Script.{Script}
@@ -28,7 +28,7 @@ use Rattle.mg_safety.proofs.Invariant.Shown.{Naming, term_of, Shown, IsAccounted
 pub known_context : (m : Naming) (j : ℕ) → is_some (m.contexts j) ≡ true → (x : ℕ) × (m.contexts j ≡ Some x) × (context_for m j ≡ x)
 known_context m j known =
     let x = some_of (m.contexts j) known in
-    (x.0, x.1, ap (λ o. unwrap_or o 4294967295) x.1)
+    (x.0, x.1, ap (λ o. unwrap_or o all) x.1)
 
 pub real_not_null : (x : ℕ) → is_context_number x → x ≡ 0 → ⊥
 real_not_null x real null = let positive : 0 < x = real.0 in omega (arith, positive, null)

@@ -8,6 +8,7 @@ use Rattle.mg_names.specs.declared.context_values.ContextValue.{ContextValue}
 use Rattle.mg_names.specs.declared.context_values.ContextValue.TheVariants.{Free}
 use Rattle.mg_names.specs.declared.identifiers.TermId.{TermId}
 use Rattle.mg_names.specs.declared.identifiers.TermId.TheVariants.{Eph}
+use Rattle.mg_model.specs.Numbers.{all}
 use Rattle.mg_model.specs.declared.commands.Command.{Command}
 use Rattle.mg_model.specs.declared.commands.Command.TheVariants.{Subtract, SubtractAll}
 use Rattle.mg_model.specs.declared.commands.Termination.{Termination}
@@ -85,7 +86,7 @@ pub subtract_carried : (j : ℕ) (t : Termination) → IsCarriedOver (Subtract j
 subtract_carried j t script ok own n m b c after done ready executed =
     let known = and_parts (is_some (m.contexts j)) (termination_known (known_by m) t) ready.known in
     let given = some_of (m.contexts j) known.0 in
-    let is : context_for m j ≡ given.0 = ap (λ o. unwrap_or o 4294967295) given.1 in
+    let is : context_for m j ≡ given.0 = ap (λ o. unwrap_or o all) given.1 in
     let stands : exists b (term_for m t) ≡ true =
     true_from_ne_false (exists b (term_for m t)) (λ e. executed.legal UnknownTermination (ap not e)) in
     let named : term_of n t ≡ Some (term_for m t) = term_in_force n m b ready.built t known.1 stands in
@@ -164,7 +165,7 @@ all_leave script owned n b c shown j x bound numbers lists = record {
 pub subtract_all_carried : (j : ℕ) → IsCarriedOver (SubtractAll j)
 subtract_all_carried j script ok own n m b c after done ready executed =
     let given = some_of (m.contexts j) ready.known in
-    let is : context_for m j ≡ given.0 = ap (λ o. unwrap_or o 4294967295) given.1 in
+    let is : context_for m j ≡ given.0 = ap (λ o. unwrap_or o all) given.1 in
     let made : m.contexts j ≡ Some (context_for m j) = given.1 ∙ ap (λ x. Some x) (sym is) in
     let context : MayExist b (context_for m j) = executed.legal UnknownContext in
     let bound : n.contexts j ≡ Some (context_for m j) = context_in_force n m b ready.built j (context_for m j) made context in

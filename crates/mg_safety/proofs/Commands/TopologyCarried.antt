@@ -6,6 +6,7 @@ use Rattle.mg_names.specs.declared.codes.Code.TheVariants.{UnknownContext, Unkno
 use Rattle.mg_names.specs.declared.identifiers.TermId.{TermId}
 use Rattle.mg_names.specs.declared.identifiers.TermId.TheVariants.{Line, Eph}
 use Rattle.mg_names.specs.declared.topologies.Topology.{Topology}
+use Rattle.mg_model.specs.Numbers.{all}
 use Rattle.mg_model.specs.declared.commands.Command.TheVariants.{SetTopology}
 use Rattle.mg_model.specs.declared.commands.Termination.{Termination}
 use Rattle.mg_model.specs.Board.{Board, exists, place_of, same_term}
@@ -146,7 +147,7 @@ topology_carried j t u topology script ok own n m b c after done ready executed 
     let known = and_parts (is_some (m.contexts j) && termination_known (known_by m) t) (termination_known (known_by m) u) ready.known in
     let both = and_parts (is_some (m.contexts j)) (termination_known (known_by m) t) known.0 in
     let given = some_of (m.contexts j) both.0 in
-    let made : m.contexts j ≡ Some (context_for m j) = given.1 ∙ ap (λ o. Some (unwrap_or o 4294967295)) (sym given.1) in
+    let made : m.contexts j ≡ Some (context_for m j) = given.1 ∙ ap (λ o. Some (unwrap_or o all)) (sym given.1) in
     let v : TermId = term_for m t in
     let w : TermId = term_for m u in
     let stands : exists b v ≡ true = true_from_ne_false (exists b v)

@@ -30,7 +30,7 @@ use Rattle.mg_model.specs.declared.rows.Row.{Row}
 use Rattle.mg_model.specs.Agent.{Agent, Made, list_of, bound_if, is_listed}
 use Rattle.mg_model.specs.Board.{Board, exists, place_of, place_in, mode_in, remote_in, ContextExists}
 use Rattle.mg_model.specs.Updates.{with_at}
-use Rattle.mg_model.specs.Numbers.{choose, null}
+use Rattle.mg_model.specs.Numbers.{choose, null, all}
 use Rattle.mg_model.specs.Configuration.{Configuration, is_present, is_free}
 use Rattle.mg_model.specs.Items.{Done, is_context_number}
 use Rattle.mg_model.specs.declared.transitions.EventItem.TheVariants.{OnHook, OffHook, Flash, Digits}
@@ -176,7 +176,7 @@ known_by m = record { contexts = λ j. is_some (m.contexts j); ephemerals = λ k
 -- ---- a command by names, as an item
 
 abbrev pub context_for : Naming → ℕ → ℕ
-context_for m j = unwrap_or (m.contexts j) 4294967295
+context_for m j = unwrap_or (m.contexts j) all
 
 abbrev pub ephemeral_for : Naming → ℕ → ℕ
 ephemeral_for m k = unwrap_or (m.ephemerals k) 0

@@ -12,6 +12,7 @@ use Rattle.mg_names.specs.declared.identifiers.TermId.{TermId}
 use Rattle.mg_names.specs.declared.identifiers.TermId.TheVariants as term
 use Rattle.mg_names.specs.declared.signals.Signal.{Signal}
 use Rattle.mg_names.specs.declared.signals.Signal.TheVariants.{Ring, DialTone, RingingTone, BusyTone, CongestionTone}
+use Rattle.mg_model.specs.Numbers.{all}
 use Rattle.mg_model.specs.declared.commands.EventsName.{EventsName}
 use Rattle.mg_model.specs.declared.commands.EventsName.TheVariants.{Empty}
 use Rattle.mg_model.specs.declared.commands.SignalsName.{SignalsName}
@@ -212,7 +213,7 @@ module _ (script : Script) (owned : TermId → Bool) (n m : Naming) (b : Board) 
   leaves_test i within =
       let bound = some_of (n.contexts j) (shown.bound j ∙ live_bound (c.context j) live) in
       ap (λ p. p == context_for m j) (shown.place (termination.Line i) within)
-      ∙ ap (λ o. number_at n (c.spot (termination.Line i)) == unwrap_or o 4294967295) (built.context j bound.0 bound.1)
+      ∙ ap (λ o. number_at n (c.spot (termination.Line i)) == unwrap_or o all) (built.context j bound.0 bound.1)
       ∙ in_test bound.0 bound.1 (c.spot (termination.Line i)) (λ k e. shown.in_bound (termination.Line i) k within e)
 
 -- a number is in a list of those that pass a test exactly where it passes

@@ -3,6 +3,7 @@
 use Rattle.std.proofs.Common.{◌≡◌, ◌∙◌, ◌+◌, ◌<◌, ℕ, Bool, true, false, List, [], ◌∷◌, ◌++◌, length, Option, Some, None, is_some, refl, sym, ap, arith, true≢false, zero, suc}
 use Rattle.std.proofs.Math.Path.{fun_ext}
 use Rattle.std.specs.Prelude.{◌==◌, if◌then◌else◌, unwrap_or, slice_get, option_map}
+use Rattle.mg_model.specs.Numbers.{all}
 use Rattle.mg_model.specs.declared.commands.Command.{Command}
 use Rattle.mg_model.specs.declared.commands.Command.TheVariants.{AddLine, AddEphemeral, ModifyLine, ModifyEphemeral, MoveLine, MoveEphemeral, Subtract, SubtractAll, SetTopology}
 use Rattle.mg_model.specs.declared.commands.Place.{Place}
@@ -21,7 +22,7 @@ use Rattle.mg_safety.proofs.Invariant.Shown.{Naming, naming, naming_at, context_
 
 -- ---- a command by the names that it is built with
 
-context_or_is : (results : List Done) (made bound : Option ℕ) → context_at results (context_or made bound) ≡ unwrap_or (context_made results made bound) 4294967295
+context_or_is : (results : List Done) (made bound : Option ℕ) → context_at results (context_or made bound) ≡ unwrap_or (context_made results made bound) all
 context_or_is results (Some place) bound = refl
 context_or_is results None bound = refl
 
