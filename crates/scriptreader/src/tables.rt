@@ -1,9 +1,10 @@
 //! The tables of a document.
-ghost use Rattle.std.specs.Prelude.{◌≡◌, codes};
+ghost use Rattle.std.specs.Prelude.{◌≡◌, codes, IfOk};
 ghost use Rattle.toml.specs.View.{view, table_view};
 ghost use Rattle.toml.specs.Data.{get_member};
 ghost use Rattle.typed_values.specs.Shape.{Shapes};
-ghost use Rattle.scriptreader.specs.Documents.{on_at, lines_of, line_of, kinds_of, transition_of, added_to, document_in};
+ghost use Rattle.toml_values.specs.Keys.{has_only};
+ghost use Rattle.scriptreader.specs.Documents.{on_at, lines_of, line_of, kinds_of, transition_of, added_to, document_keys, document_in};
 
 use crate::syntax::{
     Document, WrittenCommand, WrittenEvents, WrittenItem, WrittenMap, WrittenPair, WrittenSignal,
@@ -12,7 +13,7 @@ use crate::syntax::{
 use crate::{commands, items, texts};
 use mg_names::kinds::Kind;
 use mg_names::signals::Signal;
-use std::alloc::Global;
+use std::alloc::{AllocError, Global};
 use toml::{Table, Value};
 use toml_values::{
     Reads, entries, has_only, listed, member, needed, needed_list, optional, table, text,
@@ -267,12 +268,11 @@ fn transition(
     Ok(WrittenTransition { line, kind, target })
 }
 
-/// The document that a whole tree is.
-#[tactic(auto, unfolding(crate::specs::Documents::document_in))]
-pub(crate) fn document(alloc: Global, table: &Table) -> Result<Document, Unread>
-    ensures { Shapes (λ d. d) result (document_in (table_view table.now)) }
+/// Whether a table has no other keys than those of a document.
+fn has_document_keys(alloc: Global, table: &Table) -> Result<bool, AllocError>
+    ensures { IfOk result (λ r. r ≡ has_only document_keys (table_view table.now)) }
 {
-    if !has_only(
+    has_only(
         alloc,
         table,
         &[
@@ -286,7 +286,15 @@ pub(crate) fn document(alloc: Global, table: &Table) -> Result<Document, Unread>
             "maps",
             "state",
         ],
-    )? {
+    )
+}
+
+/// The document that a whole tree is.
+#[tactic(auto, unfolding(crate::specs::Documents::document_in))]
+pub(crate) fn document(alloc: Global, table: &Table) -> Result<Document, Unread>
+    ensures { Shapes (λ d. d) result (document_in (table_view table.now)) }
+{
+    if !has_document_keys(alloc, table)? {
         return Err(Unread::BadKey);
     }
     let lines: Vec<Word> = needed_list(alloc, table, "lines")?;
