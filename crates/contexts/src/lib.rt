@@ -27,4 +27,3 @@ mod trail;
 pub use board::Board;
 pub use done::Done;
 pub use fault::ExecFault;
-

@@ -16,4 +16,3 @@ pub use dialled::Dialled;
 pub use fault::MapFault;
 pub use map::{DigitMap, LIMIT};
 pub use step::Step;
-

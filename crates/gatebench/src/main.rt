@@ -4,9 +4,9 @@
 #![tactic(auto)]
 
 use gateway::{Answer, Gateway};
+use mg_model::references::ContextRef;
 use mg_names::identifiers::{CallNo, ContextId, LineNo};
 use mg_names::modes::Mode;
-use mg_model::references::ContextRef;
 use requests::{Descriptors, Request, RequestCommand};
 use std::alloc::Global;
 use std::io::Write;

@@ -10,8 +10,8 @@ ghost use Rattle.gateway.specs.Standby.{ShowsSame, ShowsOpened, IsEnd, HasEnd};
 
 use contexts::{Board, Done};
 use line_events::{LineFault, Note};
-use mg_names::identifiers::LineNo;
 use mg_model::line_events::LineEvent;
+use mg_names::identifiers::LineNo;
 use requests::{Connections, Outcome, Refusal, Request};
 use std::alloc::{AllocError, Global};
 use std::marker::Model;

@@ -4,8 +4,8 @@ ghost use Rattle.gateway.specs.Answers.{IsHappened};
 use crate::fault::CannotHappen;
 use crate::gateway::Gateway;
 use crate::{calls, holders};
-use mg_names::identifiers::{CallNo, LAST_NUMBER, LineNo};
 use mg_model::line_events::LineEvent;
+use mg_names::identifiers::{CallNo, LAST_NUMBER, LineNo};
 use requests::SentNote;
 
 impl Gateway {

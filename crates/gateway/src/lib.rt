@@ -19,4 +19,3 @@ mod restart;
 pub use answer::Answer;
 pub use fault::{CannotHappen, OpenFault};
 pub use gateway::Gateway;
-

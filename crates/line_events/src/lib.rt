@@ -20,4 +20,3 @@ pub use lines::LineSet;
 pub use list::EventList;
 pub use note::Note;
 pub use row::LineRow;
-

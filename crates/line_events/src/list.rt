@@ -19,7 +19,7 @@ pub struct EventList {
 impl Model for EventList {
     ghost use Rattle.std.specs.Prelude.{List};
     ghost use Rattle.mg_model.specs.LineEvents.{ListItem};
-    
+
     ghost Value = { List ListItem };
 
     ghost view = { λ l. l.items.items };

@@ -1,5 +1,5 @@
 -- A script has one table, so a fault that is told in the words of one reading is told in those of the other.
-use Rattle.std.proofs.Common.{◌≡◌, ◌∙◌, ℕ, List, Option, Some, Result, Ok, Err, refl, sym, ap, subst}
+use Rattle.std.proofs.Common.{◌≡◌, ◌∙◌, List, Some, Result, Ok, Err, sym, ap}
 use Rattle.std.specs.Prelude.{unwrap_or, option_map}
 use Rattle.mg_model.specs.declared.faults.Fault.{Fault}
 use Rattle.mg_model.specs.Script.{Script}

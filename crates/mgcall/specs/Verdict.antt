@@ -1,7 +1,7 @@
 -- What the program says of a script and a certificate, from their bytes. A reader should check that the line names the
 -- fault of the script where it has one, else that of the certificate, else the first obligation that is broken, and that
 -- it is `yes` where none is, and that a yes says of every run of the script that it is good.
-use Rattle.std.specs.Prelude.{◌≡◌, ◌≢◌, ℕ, List, length, Option, Some, None, option_map, Result, Ok, Err}
+use Rattle.std.specs.Prelude.{◌≡◌, ◌≢◌, ℕ, List, length, Option, option_map, Ok, Err}
 use Rattle.mg_names.specs.Obligations.{obligation_number}
 use Rattle.mg_model.specs.declared.faults.Fault.{Fault}
 use Rattle.mg_model.specs.Script.{Script}
@@ -17,7 +17,7 @@ use Rattle.certificate.specs.declared.fault.CertFault.{CertFault}
 use Rattle.certificate.specs.declared.fault.CertFault.TheVariants as certificates
 use Rattle.certificate.specs.FaultNames as certificate_names
 use Rattle.certificate.specs.Certificate.{ReadsCertificate}
-use Rattle.mgcall.specs.Output.{Text, Line, usage, sections, too_long, script_fault, certificate_fault, yes, no, no_memory}
+use Rattle.mgcall.specs.Output.{Text, Line, script_fault, certificate_fault, yes, no, no_memory}
 
 -- the bytes are a script that has this fault
 pub record HasScriptFault (script : Text) (fault : ScriptFault) : Type 0 where

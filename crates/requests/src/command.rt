@@ -1,7 +1,7 @@
 //! A command of a request.
-use mg_model::references::{ContextRef, RemoteRef, TerminationRef};
 use line_events::EventList;
 use mg_model::line_events::SignalSet;
+use mg_model::references::{ContextRef, RemoteRef, TerminationRef};
 use mg_names::identifiers::LineNo;
 use mg_names::modes::Mode;
 use mg_names::topologies::Topology;

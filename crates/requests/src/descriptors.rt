@@ -8,9 +8,9 @@ ghost use Rattle.requests.specs.Views.{descriptors_of, line_described, command_o
 
 use crate::command::{Descriptors, RequestCommand};
 use crate::outcome::LineNote;
-use mg_model::references::TerminationRef;
 use line_events::{EventList, LineFault, LineSet, Note};
 use mg_model::line_events::SignalSet;
+use mg_model::references::TerminationRef;
 use mg_names::identifiers::LineNo;
 use std::alloc::AllocError;
 

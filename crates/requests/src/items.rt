@@ -5,9 +5,9 @@ ghost use Rattle.mg_model.specs.RequestRun.{context_at, ephemeral_at, terminatio
 ghost use Rattle.requests.specs.Views.{descriptors_of, command_of};
 
 use crate::command::{Descriptors, RequestCommand};
-use mg_model::references::{ContextRef, EphemeralRef, RemoteRef, TerminationRef};
 use contexts::Done;
 use mg_model::items::{Added, Item, RemoteSetting, Settings};
+use mg_model::references::{ContextRef, EphemeralRef, RemoteRef, TerminationRef};
 use mg_names::identifiers::{ContextId, TermId};
 use mg_names::topologies::Topology;
 

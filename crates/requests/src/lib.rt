@@ -24,4 +24,3 @@ pub use outcome::{LineNote, Outcome};
 pub use refusal::Refusal;
 pub use reply::Reply;
 pub use request::Request;
-

@@ -128,7 +128,11 @@ fn item(scope: &Scope, written: &WrittenItem) -> Result<EventItem<u8>, Unbuilt>
     }
 }
 
-fn items(alloc: Global, scope: &Scope, written: &[WrittenItem]) -> Result<Vec<EventItem<u8>>, Unbuilt>
+fn items(
+    alloc: Global,
+    scope: &Scope,
+    written: &[WrittenItem],
+) -> Result<Vec<EventItem<u8>>, Unbuilt>
     ensures { Builds (λ items. items.items) result (each (item_for scope.now) written.now) }
 {
     let mut found = Vec::new(alloc);

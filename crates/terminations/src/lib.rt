@@ -8,4 +8,3 @@ mod terms;
 
 pub use faults::{AddLineFault, CreateFault};
 pub use terms::Terms;
-

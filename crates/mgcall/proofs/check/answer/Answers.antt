@@ -1,5 +1,5 @@
 -- The fault that the checker found is the one that is told.
-use Rattle.std.proofs.Common.{◌≡◌, subst, Ok}
+use Rattle.std.proofs.Common.{subst, Ok}
 use Rattle.mgcall.specs.Replies.{answer_line}
 use Rattle.mgcall.specs.Verdicts.{IsVerdict}
 use Rattle.mgcall.proofs.Verdicts.{told}
