@@ -78,9 +78,9 @@ Faults NoMemory answer = Unit {0}
 Faults fault answer = answer ≡ Err fault
 
 -- what a function returned, seen by view, is the answer of the definition
-abbrev pub Gives : {X : Type 0} → (X → List Listed) → Result X CertFault → Result (List Listed) CertFault → Type 0
-Gives view (Ok x) answer = answer ≡ Ok (view x)
-Gives view (Err fault) answer = Faults fault answer
+abbrev pub Answers : {X : Type 0} → (X → List Listed) → Result X CertFault → Result (List Listed) CertFault → Type 0
+Answers view (Ok x) answer = answer ≡ Ok (view x)
+Answers view (Err fault) answer = Faults fault answer
 
 -- ---- the bytes
 

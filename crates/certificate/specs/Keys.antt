@@ -4,8 +4,8 @@ use Rattle.std.specs.Prelude.{◌≡◌, ℕ, List, [], ◌∷◌, Bool, true, f
 use Rattle.std.specs.Option.{option_map_or}
 use Rattle.serde_json.specs.Data.{Data, Items, no_items, item, Members, no_members, member}
 use Rattle.serde_json.specs.Find.{get, as_array, as_object}
-use Rattle.typed_values.specs.declared.unread.Unread.{Unread}
-use Rattle.typed_values.specs.declared.unread.Unread.TheVariants.{BadKey, Memory}
+use Rattle.typed_values.specs.declared.missing.Missing.{Missing}
+use Rattle.typed_values.specs.declared.missing.Missing.TheVariants.{Nothing, Memory}
 use Rattle.typed_values.specs.Names.{is_among}
 use Rattle.typed_values.specs.Shape.{◌>>=◌, needed_at, optional_at, listed_at}
 
@@ -54,7 +54,7 @@ abbrev pub has_only : List (List ℕ) → Data → Bool
 has_only keys d = option_map_or (are_keys keys) (as_object d) false
 
 -- a bad key where the test does not hold
-abbrev pub Expects : Result (Unit {0}) Unread → Bool → Type 0
+abbrev pub Expects : Result (Unit {0}) Missing → Bool → Type 0
 Expects (Ok x) test = test ≡ true
-Expects (Err BadKey) test = test ≡ false
+Expects (Err Nothing) test = test ≡ false
 Expects (Err Memory) test = ⊥

@@ -1,7 +1,7 @@
 //! The whole reading of a certificate: bytes, document, entries.
 ghost use Rattle.std.specs.Prelude.{◌≡◌};
 ghost use Rattle.serde_json.specs.View.{view};
-ghost use Rattle.certificate.specs.Certificate.{Gives, Parses, ReadsCertificate, checked_or, document_read, listed_meant};
+ghost use Rattle.certificate.specs.Certificate.{Answers, Parses, ReadsCertificate, checked_or, document_read, listed_meant};
 ghost use Rattle.typed_values.specs.Shape.{each};
 
 use crate::document::read_document;
@@ -14,7 +14,7 @@ use entry_table::{Cert, Entry};
 use script_table::Script;
 use serde_json::Value;
 use std::alloc::Global;
-use typed_values::Unread;
+use typed_values::Missing;
 
 /// Looks up the names of written entries. The limits are looked at before any entry is kept.
 fn resolve(
@@ -22,7 +22,7 @@ fn resolve(
     script: &Script,
     written: &[WrittenEntry],
 ) -> Result<Vec<Entry>, CertFault>
-    ensures { Gives (λ v. v.items) result (checked_or script.now (each (listed_meant script.now) written.now)) }
+    ensures { Answers (λ v. v.items) result (checked_or script.now (each (listed_meant script.now) written.now)) }
 {
     let keys = keys(alloc, script)?;
     let outlines = outlines(alloc, script, keys.as_slice(), written)?;
@@ -37,12 +37,12 @@ fn resolve(
 
 /// The entries of a document.
 fn read_value(alloc: Global, script: &Script, value: &Value) -> Result<Vec<Entry>, CertFault>
-    ensures { Gives (λ v. v.items) result (document_read script.now (view value.now)) }
+    ensures { Answers (λ v. v.items) result (document_read script.now (view value.now)) }
 {
     match read_document(alloc, value) {
         Ok(written) => resolve(alloc, script, written.as_slice()),
-        Err(Unread::BadKey) => Err(CertFault::BadKey),
-        Err(Unread::Memory) => Err(CertFault::NoMemory),
+        Err(Missing::Nothing) => Err(CertFault::BadKey),
+        Err(Missing::Memory) => Err(CertFault::NoMemory),
     }
 }
 

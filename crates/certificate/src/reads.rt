@@ -8,12 +8,12 @@ ghost use Rattle.serde_json.specs.View.{view, members_view};
 ghost use Rattle.serde_json.specs.Data.{Data};
 ghost use Rattle.serde_json.specs.Find.{as_str, as_object};
 ghost use Rattle.typed_values.specs.Names.{is_among};
-ghost use Rattle.typed_values.specs.Shape.{Shapes};
+ghost use Rattle.typed_values.specs.Shape.{Gives};
 ghost use Rattle.certificate.specs.Keys.{row_of, table_of, needed, optional, tabled, has_only, Expects};
 
 use serde_json::{Map, Value};
 use std::alloc::{AllocError, Global};
-use typed_values::{Unread, Word, Words, is_among};
+use typed_values::{Missing, Word, Words, is_among};
 
 /// A type of values that a document holds.
 pub(crate) trait Reads: Drop {
@@ -24,30 +24,30 @@ pub(crate) trait Reads: Drop {
     ghost meaning: { Data → Option Seen };
 
     /// Reads a value.
-    fn read(alloc: Global, value: &Value) -> Result<Self, Unread>
-        ensures { Shapes seen result (meaning (view value.now)) };
+    fn read(alloc: Global, value: &Value) -> Result<Self, Missing>
+        ensures { Gives seen result (meaning (view value.now)) };
 }
 
 /// The members of an object.
 type Object = Map<String, Value>;
 
 /// The text of a value.
-pub(crate) fn text(value: &Value) -> Result<&str, Unread>
-    ensures { Shapes (λ t. t.now) result (as_str (view value.now)) }
+pub(crate) fn text(value: &Value) -> Result<&str, Missing>
+    ensures { Gives (λ t. t.now) result (as_str (view value.now)) }
 {
     match value.as_str() {
         Some(text) => Ok(text),
-        None => Err(Unread::BadKey),
+        None => Err(Missing::Nothing),
     }
 }
 
 /// The members of a value.
-fn object(value: &Value) -> Result<&Object, Unread>
-    ensures { Shapes (λ o. members_view o.now.entries) result (as_object (view value.now)) }
+fn object(value: &Value) -> Result<&Object, Missing>
+    ensures { Gives (λ o. members_view o.now.entries) result (as_object (view value.now)) }
 {
     match value.as_object() {
         Some(object) => Ok(object),
-        None => Err(Unread::BadKey),
+        None => Err(Missing::Nothing),
     }
 }
 
@@ -76,22 +76,22 @@ fn has_only(value: &Value, keys: &[&str]) -> bool
 }
 
 /// That a value is an object that has no other keys than these.
-pub(crate) fn expect_only(value: &Value, keys: &[&str]) -> Result<(), Unread>
+pub(crate) fn expect_only(value: &Value, keys: &[&str]) -> Result<(), Missing>
     ensures { Expects result (has_only (map (λ k. k.now) keys.now) (view value.now)) }
 {
     if has_only(value, keys) {
         return Ok(());
     }
-    Err(Unread::BadKey)
+    Err(Missing::Nothing)
 }
 
 /// The value at a key that has to be there.
-pub(crate) fn needed<T: Reads>(alloc: Global, object: &Value, key: &str) -> Result<T, Unread>
-    ensures { Shapes T.seen result (needed T.meaning key.now (view object.now)) }
+pub(crate) fn needed<T: Reads>(alloc: Global, object: &Value, key: &str) -> Result<T, Missing>
+    ensures { Gives T.seen result (needed T.meaning key.now (view object.now)) }
 {
     match object.get(key) {
         Some(value) => T::read(alloc, value),
-        None => Err(Unread::BadKey),
+        None => Err(Missing::Nothing),
     }
 }
 
@@ -100,8 +100,8 @@ pub(crate) fn optional<T: Reads>(
     alloc: Global,
     object: &Value,
     key: &str,
-) -> Result<Option<T>, Unread>
-    ensures { Shapes (option_map T.seen) result (optional T.meaning key.now (view object.now)) }
+) -> Result<Option<T>, Missing>
+    ensures { Gives (option_map T.seen) result (optional T.meaning key.now (view object.now)) }
 {
     match object.get(key) {
         Some(value) => Ok(Some(T::read(alloc, value)?)),
@@ -119,9 +119,9 @@ impl<T: Reads> Reads for Vec<T> {
 
     ghost meaning = { list_of T.meaning };
 
-    fn read(alloc: Global, value: &Value) -> Result<Vec<T>, Unread> {
+    fn read(alloc: Global, value: &Value) -> Result<Vec<T>, Missing> {
         let Some(array) = value.as_array() else {
-            return Err(Unread::BadKey);
+            return Err(Missing::Nothing);
         };
         let mut found = Vec::new(alloc);
         for item in array {
@@ -143,8 +143,8 @@ pub(crate) fn tabled<T: Reads>(
     alloc: Global,
     object: &Value,
     key: &str,
-) -> Result<Vec<Row<T>>, Unread>
-    ensures { Shapes (λ v. map (λ r. (r.name, T.seen r.value)) v.items) result
+) -> Result<Vec<Row<T>>, Missing>
+    ensures { Gives (λ v. map (λ r. (r.name, T.seen r.value)) v.items) result
         (tabled T.meaning key.now (view object.now)) }
 {
     match object.get(key) {
@@ -154,8 +154,8 @@ pub(crate) fn tabled<T: Reads>(
 }
 
 /// A member of an object.
-fn read_row<T: Reads>(alloc: Global, name: &str, value: &Value) -> Result<Row<T>, Unread>
-    ensures { Shapes (λ r. (r.name, T.seen r.value)) result (row_of T.meaning (name.now, view value.now)) }
+fn read_row<T: Reads>(alloc: Global, name: &str, value: &Value) -> Result<Row<T>, Missing>
+    ensures { Gives (λ r. (r.name, T.seen r.value)) result (row_of T.meaning (name.now, view value.now)) }
 {
     let value = T::read(alloc, value)?;
     let name = Word::copy(alloc, name)?;
@@ -163,8 +163,8 @@ fn read_row<T: Reads>(alloc: Global, name: &str, value: &Value) -> Result<Row<T>
 }
 
 /// The members of an object.
-fn rows<T: Reads>(alloc: Global, value: &Value) -> Result<Vec<Row<T>>, Unread>
-    ensures { Shapes (λ v. map (λ r. (r.name, T.seen r.value)) v.items) result (table_of T.meaning (view value.now)) }
+fn rows<T: Reads>(alloc: Global, value: &Value) -> Result<Vec<Row<T>>, Missing>
+    ensures { Gives (λ v. map (λ r. (r.name, T.seen r.value)) v.items) result (table_of T.meaning (view value.now)) }
 {
     let members = entries(alloc, object(value)?)?;
     let mut found = Vec::new(alloc);
@@ -184,7 +184,7 @@ impl Reads for Word {
 
     ghost meaning = { as_str };
 
-    fn read(alloc: Global, value: &Value) -> Result<Word, Unread> {
+    fn read(alloc: Global, value: &Value) -> Result<Word, Missing> {
         let text = text(value)?;
         Ok(Word::copy(alloc, text)?)
     }
@@ -200,7 +200,7 @@ impl Reads for Words {
 
     ghost meaning = { words_meant };
 
-    fn read(alloc: Global, value: &Value) -> Result<Words, Unread> {
+    fn read(alloc: Global, value: &Value) -> Result<Words, Missing> {
         let words = Vec::<Word>::read(alloc, value)?;
         Ok(Words::new(words))
     }
@@ -216,7 +216,7 @@ impl Reads for u64 {
 
     ghost meaning = { whole_meant };
 
-    fn read(_alloc: Global, value: &Value) -> Result<u64, Unread> {
-        value.as_u64().ok_or(Unread::BadKey)
+    fn read(_alloc: Global, value: &Value) -> Result<u64, Missing> {
+        value.as_u64().ok_or(Missing::Nothing)
     }
 }

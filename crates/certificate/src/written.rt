@@ -3,7 +3,7 @@ use crate::reads::{Reads, Row, expect_only, needed, optional, tabled};
 use serde_json::Value;
 use std::alloc::Global;
 use std::marker::Model;
-use typed_values::{Unread, Word, Words};
+use typed_values::{Missing, Word, Words};
 
 /// What is written for a line; what is left out has its default.
 #[derive(Drop)]
@@ -68,7 +68,7 @@ impl Reads for WrittenLine {
 
     ghost meaning = { line_meant };
 
-    fn read(alloc: Global, value: &Value) -> Result<WrittenLine, Unread> {
+    fn read(alloc: Global, value: &Value) -> Result<WrittenLine, Missing> {
         expect_only(value, &["at", "mode", "events", "plays"])?;
         let at = optional(alloc, value, "at")?;
         let mode = optional(alloc, value, "mode")?;
@@ -93,7 +93,7 @@ impl Reads for WrittenEphemeral {
 
     ghost meaning = { ephemeral_meant };
 
-    fn read(alloc: Global, value: &Value) -> Result<WrittenEphemeral, Unread> {
+    fn read(alloc: Global, value: &Value) -> Result<WrittenEphemeral, Missing> {
         expect_only(value, &["at", "mode", "remote"])?;
         let at = optional(alloc, value, "at")?;
         let mode = optional(alloc, value, "mode")?;
@@ -115,7 +115,7 @@ impl Reads for WrittenEntry {
 
     ghost meaning = { entry_meant };
 
-    fn read(alloc: Global, value: &Value) -> Result<WrittenEntry, Unread> {
+    fn read(alloc: Global, value: &Value) -> Result<WrittenEntry, Missing> {
         expect_only(value, &ENTRY_KEYS)?;
         let state = needed(alloc, value, "state")?;
         let link = needed(alloc, value, "link")?;

@@ -14,11 +14,11 @@ use Rattle.scriptreader.specs.declared.syntax.WrittenCommand.{WrittenCommand}
 use Rattle.scriptreader.specs.declared.syntax.WrittenCommand.TheVariants.{Add, Modify, Move, Subtract, SubtractAll, SetTopology}
 use Rattle.scriptreader.specs.Written.{Events, State, Document}
 use Rattle.typed_values.specs.Names.{is_among}
-use Rattle.typed_values.specs.Shape.{◌>>=◌, only_if, each, optional_at}
+use Rattle.typed_values.specs.Shape.{◌>>=◌, only_if, each, optional_at, Misses}
 use Rattle.scriptreader.specs.Faults.{Scope, scope_of, fault_of, has_unknown, has_bad_map, is_bad_map, names_state, is_too_large, is_known, termination_known, command_known, item_known, pair_known, transition_known, state_known}
-use Rattle.scriptreader.specs.declared.unbuilt.Unbuilt.{Unbuilt}
-use Rattle.scriptreader.specs.declared.unbuilt.Unbuilt.TheVariants.{NoMeaning}
-use Rattle.scriptreader.specs.Meaning.{Lacks, if_read, slot_for, number_for, termination_for, place_for, line_options_for, ephemeral_options_for, add_line_for, add_ephemeral_for, modify_line_for, modify_ephemeral_for, move_line_for, move_ephemeral_for, subtract_for, subtract_all_for, topology_for, command_for, pair_for, transition_for, state_for, item_for, events_list_for, named_map_for, state_at, script_in, script_meant}
+use Rattle.typed_values.specs.declared.missing.Missing.{Missing}
+use Rattle.typed_values.specs.declared.missing.Missing.TheVariants.{Nothing}
+use Rattle.scriptreader.specs.Meaning.{if_read, slot_for, number_for, termination_for, place_for, line_options_for, ephemeral_options_for, add_line_for, add_ephemeral_for, modify_line_for, modify_ephemeral_for, move_line_for, move_ephemeral_for, subtract_for, subtract_all_for, topology_for, command_for, pair_for, transition_for, state_for, item_for, events_list_for, named_map_for, state_at, script_in, script_meant}
 use Rattle.scriptreader.proofs.BooleanTests.{or_left, or_right, and_left, and_right, holds}
 use Rattle.scriptreader.proofs.Faultless.{faultless, IsSmall, small}
 use Rattle.scriptreader.proofs.FoundNames.{Fits, number_found, given, first_with, both_ways, each_found, line_found, context_found, ephemeral_found, termination_found, place_found, target_found, line_options_found, ephemeral_options_found}
@@ -174,5 +174,5 @@ each_length f (x ∷ xs) ys e = as_many (f x) (each f xs) (length xs) ys (each_l
 
 -- ---- what an end says
 
-pub lacks_none : {A : Type 0} (e : Unbuilt) (meaning : Option A) → e ≡ NoMeaning → Lacks e meaning → meaning ≡ None
-lacks_none e meaning is h = subst (λ (u : Unbuilt). Lacks u meaning) is h
+pub lacks_none : {A : Type 0} (e : Missing) (meaning : Option A) → e ≡ Nothing → Misses e meaning → meaning ≡ None
+lacks_none e meaning is h = subst (λ (u : Missing). Misses u meaning) is h

@@ -1,7 +1,7 @@
 -- The table that a document means: every mention of a thing is its place, from 0, among those that are declared. Where a
 -- name isn't among those that it is looked up in, or the document is past a limit, there is no table. A reader should
 -- check in which list each name is looked up.
-use Rattle.std.specs.Prelude.{◌≡◌, ℕ, List, map, Bool, not, nat_lt, codes, if◌then◌else◌, Option, Some, None, Result, Ok, Err}
+use Rattle.std.specs.Prelude.{ℕ, List, map, Bool, not, nat_lt, codes, if◌then◌else◌, Option, Some, None, Result, Ok, Err}
 use Rattle.std.specs.Str.{bytes_eq}
 use Rattle.digits.specs.declared.fault.MapFault.{MapFault}
 use Rattle.digits.specs.Reading.{map_of}
@@ -33,22 +33,11 @@ use Rattle.scriptreader.specs.declared.syntax.WrittenItem.TheVariants as item
 use Rattle.scriptreader.specs.declared.syntax.WrittenMap.{WrittenMap}
 use Rattle.scriptreader.specs.declared.syntax.WrittenPair.{WrittenPair}
 use Rattle.scriptreader.specs.declared.syntax.WrittenTransition.{WrittenTransition}
-use Rattle.scriptreader.specs.declared.unbuilt.Unbuilt.{Unbuilt}
-use Rattle.scriptreader.specs.declared.unbuilt.Unbuilt.TheVariants.{NoMeaning, Memory}
 use Rattle.scriptreader.specs.Written as document
 use Rattle.typed_values.specs.Names.{is_among}
 use Rattle.typed_values.specs.Shape.{◌>>=◌, only_if, each, optional_at}
 use Rattle.script_table.specs.Table.{place_of}
 use Rattle.scriptreader.specs.Faults.{Scope, scope_of, is_too_large}
-
--- What a function returned, seen by view, is what is meant: nothing is where it says so, unless memory ran out.
-abbrev pub Lacks : {Y : Type 0} → Unbuilt → Option Y → Type 0
-Lacks Memory meaning = Unit {0}
-Lacks NoMeaning meaning = meaning ≡ None
-
-abbrev pub Builds : {X Y : Type 0} → (X → Y) → Result X Unbuilt → Option Y → Type 0
-Builds view (Ok x) meaning = meaning ≡ Some (view x)
-Builds view (Err e) meaning = Lacks e meaning
 
 -- ---- names
 

@@ -1,8 +1,8 @@
 //! The table that a document means. Where the document has no fault, each look-up here finds what it looks for.
 ghost use Rattle.std.specs.Prelude.{◌≡◌, Some, None, IfOk, map, string_bytes};
 ghost use Rattle.scriptreader.specs.Faults.{fault_of, scope_of};
-ghost use Rattle.typed_values.specs.Shape.{each};
-ghost use Rattle.scriptreader.specs.Meaning.{Builds, pair_for, transition_for, state_for, item_for, events_list_for, signals_list_for, named_map_for, if_read, state_at, script_in, script_meant};
+ghost use Rattle.typed_values.specs.Shape.{each, Gives};
+ghost use Rattle.scriptreader.specs.Meaning.{pair_for, transition_for, state_for, item_for, events_list_for, signals_list_for, named_map_for, if_read, state_at, script_in, script_meant};
 ghost use Rattle.digits.specs.Reading.{map_of};
 
 use crate::faults::is_too_large;
@@ -13,7 +13,7 @@ use crate::syntax::{
     Document, WrittenEvents, WrittenItem, WrittenMap, WrittenPair, WrittenSignal, WrittenSignals,
     WrittenState, WrittenTransition,
 };
-use crate::unbuilt::Unbuilt;
+use typed_values::Missing;
 use digits::{DigitMap, MapFault};
 use mg_model::transitions::{EventItem, Pair, Transition};
 use mg_names::signals::Signal;
@@ -22,16 +22,16 @@ use std::alloc::{AllocError, Global};
 use typed_values::Word;
 
 #[tactic(auto, unfolding(crate::specs::Meaning::pair_for))]
-fn pair(scope: &Scope, written: &WrittenPair) -> Result<Pair, Unbuilt>
-    ensures { Builds (λ pair. pair) result (pair_for scope.now written.now) }
+fn pair(scope: &Scope, written: &WrittenPair) -> Result<Pair, Missing>
+    ensures { Gives (λ pair. pair) result (pair_for scope.now written.now) }
 {
     let first = slot(&scope.lines, &written.first)?;
     let second = slot(&scope.lines, &written.second)?;
     Ok(Pair { first, second })
 }
 
-fn pairs(alloc: Global, scope: &Scope, written: &[WrittenPair]) -> Result<Vec<Pair>, Unbuilt>
-    ensures { Builds (λ pairs. pairs.items) result (each (pair_for scope.now) written.now) }
+fn pairs(alloc: Global, scope: &Scope, written: &[WrittenPair]) -> Result<Vec<Pair>, Missing>
+    ensures { Gives (λ pairs. pairs.items) result (each (pair_for scope.now) written.now) }
 {
     let mut found = Vec::new(alloc);
     for one in written {
@@ -41,8 +41,8 @@ fn pairs(alloc: Global, scope: &Scope, written: &[WrittenPair]) -> Result<Vec<Pa
 }
 
 #[tactic(auto, unfolding(crate::specs::Meaning::transition_for))]
-fn transition(scope: &Scope, written: &WrittenTransition) -> Result<Transition, Unbuilt>
-    ensures { Builds (λ transition. transition) result (transition_for scope.now written.now) }
+fn transition(scope: &Scope, written: &WrittenTransition) -> Result<Transition, Missing>
+    ensures { Gives (λ transition. transition) result (transition_for scope.now written.now) }
 {
     let line = slot(&scope.lines, &written.line)?;
     let target = number(&scope.states, &written.target)?;
@@ -57,8 +57,8 @@ fn transitions(
     alloc: Global,
     scope: &Scope,
     written: &[WrittenTransition],
-) -> Result<Vec<Transition>, Unbuilt>
-    ensures { Builds (λ transitions. transitions.items) result (each (transition_for scope.now) written.now) }
+) -> Result<Vec<Transition>, Missing>
+    ensures { Gives (λ transitions. transitions.items) result (each (transition_for scope.now) written.now) }
 {
     let mut found = Vec::new(alloc);
     for one in written {
@@ -68,8 +68,8 @@ fn transitions(
 }
 
 #[tactic(auto, unfolding(crate::specs::Meaning::state_for))]
-fn state(alloc: Global, scope: &Scope, written: &WrittenState) -> Result<State, Unbuilt>
-    ensures { Builds (λ state. state) result (state_for scope.now written.now) }
+fn state(alloc: Global, scope: &Scope, written: &WrittenState) -> Result<State, Missing>
+    ensures { Gives (λ state. state) result (state_for scope.now written.now) }
 {
     let commands = commands(alloc, scope, written.commands.as_slice())?;
     let talk = pairs(alloc, scope, written.talk.as_slice())?;
@@ -90,8 +90,8 @@ fn state(alloc: Global, scope: &Scope, written: &WrittenState) -> Result<State, 
     })
 }
 
-fn states(alloc: Global, scope: &Scope, written: &[WrittenState]) -> Result<Vec<State>, Unbuilt>
-    ensures { Builds (λ states. states.items) result (each (state_for scope.now) written.now) }
+fn states(alloc: Global, scope: &Scope, written: &[WrittenState]) -> Result<Vec<State>, Missing>
+    ensures { Gives (λ states. states.items) result (each (state_for scope.now) written.now) }
 {
     let mut found = Vec::new(alloc);
     for one in written {
@@ -117,8 +117,8 @@ fn texts(alloc: Global, words: &[Word]) -> Result<Vec<String>, AllocError>
 }
 
 #[tactic(auto, unfolding(crate::specs::Meaning::item_for))]
-fn item(scope: &Scope, written: &WrittenItem) -> Result<EventItem<u8>, Unbuilt>
-    ensures { Builds (λ item. item) result (item_for scope.now written.now) }
+fn item(scope: &Scope, written: &WrittenItem) -> Result<EventItem<u8>, Missing>
+    ensures { Gives (λ item. item) result (item_for scope.now written.now) }
 {
     match written {
         WrittenItem::OnHook(strict) => Ok(EventItem::OnHook(*strict)),
@@ -132,8 +132,8 @@ fn items(
     alloc: Global,
     scope: &Scope,
     written: &[WrittenItem],
-) -> Result<Vec<EventItem<u8>>, Unbuilt>
-    ensures { Builds (λ items. items.items) result (each (item_for scope.now) written.now) }
+) -> Result<Vec<EventItem<u8>>, Missing>
+    ensures { Gives (λ items. items.items) result (each (item_for scope.now) written.now) }
 {
     let mut found = Vec::new(alloc);
     for one in written {
@@ -144,8 +144,8 @@ fn items(
 }
 
 #[tactic(auto, unfolding(crate::specs::Meaning::events_list_for))]
-fn events_list(alloc: Global, scope: &Scope, written: &WrittenEvents) -> Result<EventsList, Unbuilt>
-    ensures { Builds (λ list. list) result (events_list_for scope.now written.now) }
+fn events_list(alloc: Global, scope: &Scope, written: &WrittenEvents) -> Result<EventsList, Missing>
+    ensures { Gives (λ list. list) result (events_list_for scope.now written.now) }
 {
     let items = items(alloc, scope, written.items.as_slice())?;
     let name = text(alloc, &written.name)?;
@@ -156,8 +156,8 @@ fn events_lists(
     alloc: Global,
     scope: &Scope,
     written: &[WrittenEvents],
-) -> Result<Vec<EventsList>, Unbuilt>
-    ensures { Builds (λ lists. lists.items) result (each (events_list_for scope.now) written.now) }
+) -> Result<Vec<EventsList>, Missing>
+    ensures { Gives (λ lists. lists.items) result (each (events_list_for scope.now) written.now) }
 {
     let mut found = Vec::new(alloc);
     for one in written {
@@ -194,27 +194,27 @@ fn signals_lists(alloc: Global, written: &[WrittenSignals]) -> Result<Vec<Signal
     Ok(found)
 }
 
-fn digit_map(alloc: Global, text: &Word) -> Result<DigitMap, Unbuilt>
-    ensures { Builds (λ found. found) result (if_read (map_of text.now)) }
+fn digit_map(alloc: Global, text: &Word) -> Result<DigitMap, Missing>
+    ensures { Gives (λ found. found) result (if_read (map_of text.now)) }
 {
     match DigitMap::parse(alloc, text.as_str()) {
         Ok(map) => Ok(map),
-        Err(MapFault::NoMemory) => Err(Unbuilt::Memory),
-        Err(_) => Err(Unbuilt::NoMeaning),
+        Err(MapFault::NoMemory) => Err(Missing::Memory),
+        Err(_) => Err(Missing::Nothing),
     }
 }
 
 #[tactic(auto, unfolding(crate::specs::Meaning::named_map_for))]
-fn named_map(alloc: Global, written: &WrittenMap) -> Result<NamedMap, Unbuilt>
-    ensures { Builds (λ found. found) result (named_map_for written.now) }
+fn named_map(alloc: Global, written: &WrittenMap) -> Result<NamedMap, Missing>
+    ensures { Gives (λ found. found) result (named_map_for written.now) }
 {
     let map = digit_map(alloc, &written.text)?;
     let name = text(alloc, &written.name)?;
     Ok(NamedMap { name, map })
 }
 
-fn named_maps(alloc: Global, written: &[WrittenMap]) -> Result<Vec<NamedMap>, Unbuilt>
-    ensures { Builds (λ found. found.items) result (each named_map_for written.now) }
+fn named_maps(alloc: Global, written: &[WrittenMap]) -> Result<Vec<NamedMap>, Missing>
+    ensures { Gives (λ found. found.items) result (each named_map_for written.now) }
 {
     let mut found = Vec::new(alloc);
     for one in written {
@@ -224,22 +224,22 @@ fn named_maps(alloc: Global, written: &[WrittenMap]) -> Result<Vec<NamedMap>, Un
 }
 
 /// The state that a document opens or restarts in.
-fn named_state(scope: &Scope, name: &Option<Word>) -> Result<u8, Unbuilt>
-    ensures { Builds (λ number. number) result (state_at scope.now name.now) }
+fn named_state(scope: &Scope, name: &Option<Word>) -> Result<u8, Missing>
+    ensures { Gives (λ number. number) result (state_at scope.now name.now) }
 {
     match name {
         Some(name) => number(&scope.states, name),
-        None => Err(Unbuilt::NoMeaning),
+        None => Err(Missing::Nothing),
     }
 }
 
 /// The table of a document, whose names are these.
 #[tactic(auto, unfolding(crate::specs::Meaning::script_in))]
-fn script_in(alloc: Global, scope: &Scope, document: &Document) -> Result<Script, Unbuilt>
-    ensures { Builds (λ script. script) result (script_in scope.now document.now) }
+fn script_in(alloc: Global, scope: &Scope, document: &Document) -> Result<Script, Missing>
+    ensures { Gives (λ script. script) result (script_in scope.now document.now) }
 {
     if is_too_large(document) {
-        return Err(Unbuilt::NoMeaning);
+        return Err(Missing::Nothing);
     }
     let lists = events_lists(alloc, scope, document.events.as_slice())?;
     let maps = named_maps(alloc, document.maps.as_slice())?;
@@ -271,7 +271,7 @@ pub(crate) fn script(alloc: Global, document: &Document) -> Result<Script, Alloc
     let scope = Scope::new(alloc, document)?;
     match script_in(alloc, &scope, document) {
         Ok(script) => Ok(script),
-        Err(Unbuilt::Memory) => Err(AllocError),
-        Err(Unbuilt::NoMeaning) => unreachable!(),
+        Err(Missing::Memory) => Err(AllocError),
+        Err(Missing::Nothing) => unreachable!(),
     }
 }

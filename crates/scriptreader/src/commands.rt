@@ -1,6 +1,6 @@
 //! The texts of commands.
 ghost use Rattle.std.specs.Prelude.{◌≡◌, map, if◌then◌else◌, ◌||◌};
-ghost use Rattle.typed_values.specs.Shape.{Shapes};
+ghost use Rattle.typed_values.specs.Shape.{Gives};
 ghost use Rattle.scriptreader.specs.Texts.{command_of, add_of, modify_of, move_of, subtract_of, topology_of, options_from, no_options, with_option, with_mode, with_events, with_signals, with_remote, suits_line, suits_ephemeral};
 
 use crate::syntax::{Options, WrittenCommand};
@@ -8,15 +8,15 @@ use crate::texts::{self, marked, name};
 use mg_names::modes::Mode;
 use mg_names::topologies::Topology;
 use std::alloc::Global;
-use typed_values::Unread;
+use typed_values::Missing;
 
 /// The command that these words write.
 #[tactic(auto, unfolding(crate::specs::Texts::command_of))]
-pub(crate) fn command(alloc: Global, words: &[&str]) -> Result<WrittenCommand, Unread>
-    ensures { Shapes (λ c. c) result (command_of (map (λ w. w.now) words.now)) }
+pub(crate) fn command(alloc: Global, words: &[&str]) -> Result<WrittenCommand, Missing>
+    ensures { Gives (λ c. c) result (command_of (map (λ w. w.now) words.now)) }
 {
     let [verb, place, rest @ ..] = words else {
-        return Err(Unread::BadKey);
+        return Err(Missing::Nothing);
     };
     match *verb {
         "add" => add(alloc, place, rest),
@@ -24,16 +24,16 @@ pub(crate) fn command(alloc: Global, words: &[&str]) -> Result<WrittenCommand, U
         "move" => to_move(alloc, place, rest),
         "subtract" => subtract(alloc, place, rest),
         "topology" => topology(alloc, place, rest),
-        _ => Err(Unread::BadKey),
+        _ => Err(Missing::Nothing),
     }
 }
 
 #[tactic(auto, unfolding(crate::specs::Texts::add_of))]
-fn add(alloc: Global, place: &str, rest: &[&str]) -> Result<WrittenCommand, Unread>
-    ensures { Shapes (λ c. c) result (add_of place.now (map (λ w. w.now) rest.now)) }
+fn add(alloc: Global, place: &str, rest: &[&str]) -> Result<WrittenCommand, Missing>
+    ensures { Gives (λ c. c) result (add_of place.now (map (λ w. w.now) rest.now)) }
 {
     let [termination, words @ ..] = rest else {
-        return Err(Unread::BadKey);
+        return Err(Missing::Nothing);
     };
     let (create, context) = marked(place);
     let context = name(alloc, context)?;
@@ -41,7 +41,7 @@ fn add(alloc: Global, place: &str, rest: &[&str]) -> Result<WrittenCommand, Unre
     let termination = name(alloc, termination)?;
     let options = options(alloc, words)?;
     if !options.suits(own) {
-        return Err(Unread::BadKey);
+        return Err(Missing::Nothing);
     }
     Ok(WrittenCommand::Add {
         create,
@@ -53,11 +53,11 @@ fn add(alloc: Global, place: &str, rest: &[&str]) -> Result<WrittenCommand, Unre
 }
 
 #[tactic(auto, unfolding(crate::specs::Texts::modify_of))]
-fn modify(alloc: Global, place: &str, rest: &[&str]) -> Result<WrittenCommand, Unread>
-    ensures { Shapes (λ c. c) result (modify_of place.now (map (λ w. w.now) rest.now)) }
+fn modify(alloc: Global, place: &str, rest: &[&str]) -> Result<WrittenCommand, Missing>
+    ensures { Gives (λ c. c) result (modify_of place.now (map (λ w. w.now) rest.now)) }
 {
     let [termination, words @ ..] = rest else {
-        return Err(Unread::BadKey);
+        return Err(Missing::Nothing);
     };
     let place = if place == "-" {
         None
@@ -67,7 +67,7 @@ fn modify(alloc: Global, place: &str, rest: &[&str]) -> Result<WrittenCommand, U
     let termination = name(alloc, termination)?;
     let options = options(alloc, words)?;
     if !options.suits_one() {
-        return Err(Unread::BadKey);
+        return Err(Missing::Nothing);
     }
     Ok(WrittenCommand::Modify {
         place,
@@ -77,17 +77,17 @@ fn modify(alloc: Global, place: &str, rest: &[&str]) -> Result<WrittenCommand, U
 }
 
 #[tactic(auto, unfolding(crate::specs::Texts::move_of))]
-fn to_move(alloc: Global, place: &str, rest: &[&str]) -> Result<WrittenCommand, Unread>
-    ensures { Shapes (λ c. c) result (move_of place.now (map (λ w. w.now) rest.now)) }
+fn to_move(alloc: Global, place: &str, rest: &[&str]) -> Result<WrittenCommand, Missing>
+    ensures { Gives (λ c. c) result (move_of place.now (map (λ w. w.now) rest.now)) }
 {
     let [termination, words @ ..] = rest else {
-        return Err(Unread::BadKey);
+        return Err(Missing::Nothing);
     };
     let context = name(alloc, place)?;
     let termination = name(alloc, termination)?;
     let options = options(alloc, words)?;
     if !options.suits_one() {
-        return Err(Unread::BadKey);
+        return Err(Missing::Nothing);
     }
     Ok(WrittenCommand::Move {
         context,
@@ -97,11 +97,11 @@ fn to_move(alloc: Global, place: &str, rest: &[&str]) -> Result<WrittenCommand, 
 }
 
 #[tactic(auto, unfolding(crate::specs::Texts::subtract_of))]
-fn subtract(alloc: Global, place: &str, rest: &[&str]) -> Result<WrittenCommand, Unread>
-    ensures { Shapes (λ c. c) result (subtract_of place.now (map (λ w. w.now) rest.now)) }
+fn subtract(alloc: Global, place: &str, rest: &[&str]) -> Result<WrittenCommand, Missing>
+    ensures { Gives (λ c. c) result (subtract_of place.now (map (λ w. w.now) rest.now)) }
 {
     let [termination] = rest else {
-        return Err(Unread::BadKey);
+        return Err(Missing::Nothing);
     };
     let context = name(alloc, place)?;
     if *termination == "*" {
@@ -115,17 +115,17 @@ fn subtract(alloc: Global, place: &str, rest: &[&str]) -> Result<WrittenCommand,
 }
 
 #[tactic(auto, unfolding(crate::specs::Texts::topology_of))]
-fn topology(alloc: Global, place: &str, rest: &[&str]) -> Result<WrittenCommand, Unread>
-    ensures { Shapes (λ c. c) result (topology_of place.now (map (λ w. w.now) rest.now)) }
+fn topology(alloc: Global, place: &str, rest: &[&str]) -> Result<WrittenCommand, Missing>
+    ensures { Gives (λ c. c) result (topology_of place.now (map (λ w. w.now) rest.now)) }
 {
     let [first, second, word] = rest else {
-        return Err(Unread::BadKey);
+        return Err(Missing::Nothing);
     };
     let context = name(alloc, place)?;
     let first = name(alloc, first)?;
     let second = name(alloc, second)?;
     let Some(topology) = Topology::read(word) else {
-        return Err(Unread::BadKey);
+        return Err(Missing::Nothing);
     };
     Ok(WrittenCommand::SetTopology {
         context,
@@ -171,8 +171,8 @@ impl Options {
 
 /// The options that these words write.
 #[tactic(auto, unfolding(crate::specs::Texts::options_from))]
-fn options(alloc: Global, words: &[&str]) -> Result<Options, Unread>
-    ensures { Shapes (λ c. c) result (options_from no_options (map (λ w. w.now) words.now)) }
+fn options(alloc: Global, words: &[&str]) -> Result<Options, Missing>
+    ensures { Gives (λ c. c) result (options_from no_options (map (λ w. w.now) words.now)) }
 {
     let mut options = Options {
         mode: None,
@@ -188,62 +188,62 @@ fn options(alloc: Global, words: &[&str]) -> Result<Options, Unread>
 
 /// The options and one more.
 #[tactic(auto, unfolding(crate::specs::Texts::with_option))]
-fn with_option(alloc: Global, options: Options, word: &str) -> Result<Options, Unread>
-    ensures { Shapes (λ c. c) result (with_option options word.now) }
+fn with_option(alloc: Global, options: Options, word: &str) -> Result<Options, Missing>
+    ensures { Gives (λ c. c) result (with_option options word.now) }
 {
     let Some((key, value)) = texts::split_once(word, '=') else {
-        return Err(Unread::BadKey);
+        return Err(Missing::Nothing);
     };
     match key {
         "mode" => with_mode(options, value),
         "events" => with_events(alloc, options, value),
         "signals" => with_signals(alloc, options, value),
         "remote" => with_remote(alloc, options, value),
-        _ => Err(Unread::BadKey),
+        _ => Err(Missing::Nothing),
     }
 }
 
-fn with_mode(mut options: Options, value: &str) -> Result<Options, Unread>
-    ensures { Shapes (λ c. c) result (with_mode options value.now) }
+fn with_mode(mut options: Options, value: &str) -> Result<Options, Missing>
+    ensures { Gives (λ c. c) result (with_mode options value.now) }
 {
     let Some(mode) = Mode::read(value) else {
-        return Err(Unread::BadKey);
+        return Err(Missing::Nothing);
     };
     if options.mode.is_some() {
-        return Err(Unread::BadKey);
+        return Err(Missing::Nothing);
     }
     options.mode = Some(mode);
     Ok(options)
 }
 
-fn with_events(alloc: Global, mut options: Options, value: &str) -> Result<Options, Unread>
-    ensures { Shapes (λ c. c) result (with_events options value.now) }
+fn with_events(alloc: Global, mut options: Options, value: &str) -> Result<Options, Missing>
+    ensures { Gives (λ c. c) result (with_events options value.now) }
 {
     let value = name(alloc, value)?;
     if options.events.is_some() {
-        return Err(Unread::BadKey);
+        return Err(Missing::Nothing);
     }
     options.events = Some(value);
     Ok(options)
 }
 
-fn with_signals(alloc: Global, mut options: Options, value: &str) -> Result<Options, Unread>
-    ensures { Shapes (λ c. c) result (with_signals options value.now) }
+fn with_signals(alloc: Global, mut options: Options, value: &str) -> Result<Options, Missing>
+    ensures { Gives (λ c. c) result (with_signals options value.now) }
 {
     let value = name(alloc, value)?;
     if options.signals.is_some() {
-        return Err(Unread::BadKey);
+        return Err(Missing::Nothing);
     }
     options.signals = Some(value);
     Ok(options)
 }
 
-fn with_remote(alloc: Global, mut options: Options, value: &str) -> Result<Options, Unread>
-    ensures { Shapes (λ c. c) result (with_remote options value.now) }
+fn with_remote(alloc: Global, mut options: Options, value: &str) -> Result<Options, Missing>
+    ensures { Gives (λ c. c) result (with_remote options value.now) }
 {
     let value = name(alloc, value)?;
     if options.remote.is_some() {
-        return Err(Unread::BadKey);
+        return Err(Missing::Nothing);
     }
     options.remote = Some(value);
     Ok(options)

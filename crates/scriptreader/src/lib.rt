@@ -24,7 +24,6 @@ mod scope;
 mod syntax;
 mod tables;
 mod texts;
-mod unbuilt;
 
 pub use fault::ScriptFault;
 pub use reader::read_script;

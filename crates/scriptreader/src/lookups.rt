@@ -1,12 +1,12 @@
 //! What the names of a document stand for: their places among those that it declares.
 ghost use Rattle.std.specs.Prelude.{◌≡◌};
-ghost use Rattle.typed_values.specs.Shape.{optional_at};
-ghost use Rattle.scriptreader.specs.Meaning.{Builds, slot_for, number_for, events_for, signals_for, remote_for, termination_for, place_for, line_options_for, ephemeral_options_for};
+ghost use Rattle.typed_values.specs.Shape.{optional_at, Gives};
+ghost use Rattle.scriptreader.specs.Meaning.{slot_for, number_for, events_for, signals_for, remote_for, termination_for, place_for, line_options_for, ephemeral_options_for};
 
 use crate::names::Names;
 use crate::scope::Scope;
 use crate::syntax::Options;
-use crate::unbuilt::Unbuilt;
+use typed_values::Missing;
 use mg_model::commands::{
     EphemeralOptions, EventsName, LineOptions, Place, RemoteOption, SignalsName, Termination,
 };
@@ -14,34 +14,34 @@ use mg_names::slots::Slot;
 use typed_values::Word;
 
 /// The slot of a name.
-pub(crate) fn slot(names: &Names, name: &Word) -> Result<Slot, Unbuilt>
-    ensures { Builds (λ slot. slot) result (slot_for names.now name.now) }
+pub(crate) fn slot(names: &Names, name: &Word) -> Result<Slot, Missing>
+    ensures { Gives (λ slot. slot) result (slot_for names.now name.now) }
 {
     let Some(place) = names.place(name.as_str()) else {
-        return Err(Unbuilt::NoMeaning);
+        return Err(Missing::Nothing);
     };
     match Slot::new(place) {
         Some(slot) => Ok(slot),
-        None => Err(Unbuilt::NoMeaning),
+        None => Err(Missing::Nothing),
     }
 }
 
 /// The place of a name, as a small number.
-pub(crate) fn number(names: &Names, name: &Word) -> Result<u8, Unbuilt>
-    ensures { Builds (λ number. number) result (number_for names.now name.now) }
+pub(crate) fn number(names: &Names, name: &Word) -> Result<u8, Missing>
+    ensures { Gives (λ number. number) result (number_for names.now name.now) }
 {
     let Some(place) = names.place(name.as_str()) else {
-        return Err(Unbuilt::NoMeaning);
+        return Err(Missing::Nothing);
     };
     if place > 255 {
-        return Err(Unbuilt::NoMeaning);
+        return Err(Missing::Nothing);
     }
     Ok(place as u8)
 }
 
 /// The place of a name, where there is a name.
-pub(crate) fn number_if_given(names: &Names, name: &Option<Word>) -> Result<Option<u8>, Unbuilt>
-    ensures { Builds (λ number. number) result (optional_at (number_for names.now) name.now) }
+pub(crate) fn number_if_given(names: &Names, name: &Option<Word>) -> Result<Option<u8>, Missing>
+    ensures { Gives (λ number. number) result (optional_at (number_for names.now) name.now) }
 {
     match name {
         Some(name) => Ok(Some(number(names, name)?)),
@@ -49,8 +49,8 @@ pub(crate) fn number_if_given(names: &Names, name: &Option<Word>) -> Result<Opti
     }
 }
 
-fn events_name(scope: &Scope, name: &Word) -> Result<EventsName, Unbuilt>
-    ensures { Builds (λ events. events) result (events_for scope.now name.now) }
+fn events_name(scope: &Scope, name: &Word) -> Result<EventsName, Missing>
+    ensures { Gives (λ events. events) result (events_for scope.now name.now) }
 {
     match name.as_str() {
         "none" => Ok(EventsName::Empty),
@@ -59,8 +59,8 @@ fn events_name(scope: &Scope, name: &Word) -> Result<EventsName, Unbuilt>
     }
 }
 
-fn events_if_given(scope: &Scope, name: &Option<Word>) -> Result<Option<EventsName>, Unbuilt>
-    ensures { Builds (λ events. events) result (optional_at (events_for scope.now) name.now) }
+fn events_if_given(scope: &Scope, name: &Option<Word>) -> Result<Option<EventsName>, Missing>
+    ensures { Gives (λ events. events) result (optional_at (events_for scope.now) name.now) }
 {
     match name {
         Some(name) => Ok(Some(events_name(scope, name)?)),
@@ -68,8 +68,8 @@ fn events_if_given(scope: &Scope, name: &Option<Word>) -> Result<Option<EventsNa
     }
 }
 
-fn signals_name(scope: &Scope, name: &Word) -> Result<SignalsName, Unbuilt>
-    ensures { Builds (λ signals. signals) result (signals_for scope.now name.now) }
+fn signals_name(scope: &Scope, name: &Word) -> Result<SignalsName, Missing>
+    ensures { Gives (λ signals. signals) result (signals_for scope.now name.now) }
 {
     match name.as_str() {
         "none" => Ok(SignalsName::Silent),
@@ -77,8 +77,8 @@ fn signals_name(scope: &Scope, name: &Word) -> Result<SignalsName, Unbuilt>
     }
 }
 
-fn signals_if_given(scope: &Scope, name: &Option<Word>) -> Result<Option<SignalsName>, Unbuilt>
-    ensures { Builds (λ signals. signals) result (optional_at (signals_for scope.now) name.now) }
+fn signals_if_given(scope: &Scope, name: &Option<Word>) -> Result<Option<SignalsName>, Missing>
+    ensures { Gives (λ signals. signals) result (optional_at (signals_for scope.now) name.now) }
 {
     match name {
         Some(name) => Ok(Some(signals_name(scope, name)?)),
@@ -86,8 +86,8 @@ fn signals_if_given(scope: &Scope, name: &Option<Word>) -> Result<Option<Signals
     }
 }
 
-fn remote(scope: &Scope, name: &Word) -> Result<RemoteOption, Unbuilt>
-    ensures { Builds (λ remote. remote) result (remote_for scope.now name.now) }
+fn remote(scope: &Scope, name: &Word) -> Result<RemoteOption, Missing>
+    ensures { Gives (λ remote. remote) result (remote_for scope.now name.now) }
 {
     match name.as_str() {
         "none" => Ok(RemoteOption::NoneGiven),
@@ -95,8 +95,8 @@ fn remote(scope: &Scope, name: &Word) -> Result<RemoteOption, Unbuilt>
     }
 }
 
-fn remote_if_given(scope: &Scope, name: &Option<Word>) -> Result<Option<RemoteOption>, Unbuilt>
-    ensures { Builds (λ remote. remote) result (optional_at (remote_for scope.now) name.now) }
+fn remote_if_given(scope: &Scope, name: &Option<Word>) -> Result<Option<RemoteOption>, Missing>
+    ensures { Gives (λ remote. remote) result (optional_at (remote_for scope.now) name.now) }
 {
     match name {
         Some(name) => Ok(Some(remote(scope, name)?)),
@@ -105,8 +105,8 @@ fn remote_if_given(scope: &Scope, name: &Option<Word>) -> Result<Option<RemoteOp
 }
 
 /// The options of a line.
-pub(crate) fn line_options(scope: &Scope, options: &Options) -> Result<LineOptions, Unbuilt>
-    ensures { Builds (λ options. options) result (line_options_for scope.now options.now) }
+pub(crate) fn line_options(scope: &Scope, options: &Options) -> Result<LineOptions, Missing>
+    ensures { Gives (λ options. options) result (line_options_for scope.now options.now) }
 {
     let events = events_if_given(scope, &options.events)?;
     let signals = signals_if_given(scope, &options.signals)?;
@@ -121,8 +121,8 @@ pub(crate) fn line_options(scope: &Scope, options: &Options) -> Result<LineOptio
 pub(crate) fn ephemeral_options(
     scope: &Scope,
     options: &Options,
-) -> Result<EphemeralOptions, Unbuilt>
-    ensures { Builds (λ options. options) result (ephemeral_options_for scope.now options.now) }
+) -> Result<EphemeralOptions, Missing>
+    ensures { Gives (λ options. options) result (ephemeral_options_for scope.now options.now) }
 {
     let remote = remote_if_given(scope, &options.remote)?;
     Ok(EphemeralOptions {
@@ -132,8 +132,8 @@ pub(crate) fn ephemeral_options(
 }
 
 /// The termination of a name: a line, or else an ephemeral.
-pub(crate) fn termination(scope: &Scope, name: &Word) -> Result<Termination, Unbuilt>
-    ensures { Builds (λ termination. termination) result (termination_for scope.now name.now) }
+pub(crate) fn termination(scope: &Scope, name: &Word) -> Result<Termination, Missing>
+    ensures { Gives (λ termination. termination) result (termination_for scope.now name.now) }
 {
     if scope.lines.has(name.as_str()) {
         return Ok(Termination::Line(slot(&scope.lines, name)?));
@@ -142,8 +142,8 @@ pub(crate) fn termination(scope: &Scope, name: &Word) -> Result<Termination, Unb
 }
 
 /// Where a termination is looked for: the null context where no name is written.
-pub(crate) fn place(scope: &Scope, name: &Option<Word>) -> Result<Place, Unbuilt>
-    ensures { Builds (λ place. place) result (place_for scope.now name.now) }
+pub(crate) fn place(scope: &Scope, name: &Option<Word>) -> Result<Place, Missing>
+    ensures { Gives (λ place. place) result (place_for scope.now name.now) }
 {
     match name {
         Some(name) => Ok(Place::Context(slot(&scope.contexts, name)?)),

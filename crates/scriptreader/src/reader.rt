@@ -10,7 +10,7 @@ use crate::{build, faults, tables};
 use script_table::Script;
 use std::alloc::Global;
 use toml::Table;
-use typed_values::Unread;
+use typed_values::Missing;
 
 /// The script that a document is.
 fn of_document(alloc: Global, document: &Document) -> Result<Script, ScriptFault>
@@ -31,8 +31,8 @@ fn of_tree(alloc: Global, tree: &Table) -> Result<Script, ScriptFault>
 {
     match tables::document(alloc, tree) {
         Ok(document) => of_document(alloc, &document),
-        Err(Unread::BadKey) => Err(ScriptFault::BadKey),
-        Err(Unread::Memory) => Err(ScriptFault::NoMemory),
+        Err(Missing::Nothing) => Err(ScriptFault::BadKey),
+        Err(Missing::Memory) => Err(ScriptFault::NoMemory),
     }
 }
 

@@ -1,13 +1,13 @@
 //! The commands of a state's request, as its table has them.
 ghost use Rattle.std.specs.Prelude.{◌≡◌, if◌then◌else◌};
 ghost use Rattle.typed_values.specs.Names.{is_among};
-ghost use Rattle.typed_values.specs.Shape.{each};
-ghost use Rattle.scriptreader.specs.Meaning.{Builds, command_for, add_line_for, add_ephemeral_for, modify_line_for, modify_ephemeral_for, move_line_for, move_ephemeral_for, subtract_for, subtract_all_for, topology_for};
+ghost use Rattle.typed_values.specs.Shape.{each, Gives};
+ghost use Rattle.scriptreader.specs.Meaning.{command_for, add_line_for, add_ephemeral_for, modify_line_for, modify_ephemeral_for, move_line_for, move_ephemeral_for, subtract_for, subtract_all_for, topology_for};
 
 use crate::lookups::{ephemeral_options, line_options, place, slot, termination};
 use crate::scope::Scope;
 use crate::syntax::{Options, WrittenCommand};
-use crate::unbuilt::Unbuilt;
+use typed_values::Missing;
 use mg_model::commands::Command;
 use mg_names::topologies::Topology;
 use std::alloc::Global;
@@ -20,8 +20,8 @@ fn add_line(
     context: &Word,
     name: &Word,
     options: &Options,
-) -> Result<Command, Unbuilt>
-    ensures { Builds (λ command. command) result (add_line_for scope.now create context.now name.now options.now) }
+) -> Result<Command, Missing>
+    ensures { Gives (λ command. command) result (add_line_for scope.now create context.now name.now options.now) }
 {
     let context = slot(&scope.contexts, context)?;
     let line = slot(&scope.lines, name)?;
@@ -41,8 +41,8 @@ fn add_ephemeral(
     context: &Word,
     name: &Word,
     options: &Options,
-) -> Result<Command, Unbuilt>
-    ensures { Builds (λ command. command) result (add_ephemeral_for scope.now create context.now name.now options.now) }
+) -> Result<Command, Missing>
+    ensures { Gives (λ command. command) result (add_ephemeral_for scope.now create context.now name.now options.now) }
 {
     let context = slot(&scope.contexts, context)?;
     let ephemeral = slot(&scope.ephemerals, name)?;
@@ -61,8 +61,8 @@ fn modify_line(
     context: &Option<Word>,
     name: &Word,
     options: &Options,
-) -> Result<Command, Unbuilt>
-    ensures { Builds (λ command. command) result (modify_line_for scope.now context.now name.now options.now) }
+) -> Result<Command, Missing>
+    ensures { Gives (λ command. command) result (modify_line_for scope.now context.now name.now options.now) }
 {
     let place = place(scope, context)?;
     let line = slot(&scope.lines, name)?;
@@ -80,8 +80,8 @@ fn modify_ephemeral(
     context: &Option<Word>,
     name: &Word,
     options: &Options,
-) -> Result<Command, Unbuilt>
-    ensures { Builds (λ command. command) result (modify_ephemeral_for scope.now context.now name.now options.now) }
+) -> Result<Command, Missing>
+    ensures { Gives (λ command. command) result (modify_ephemeral_for scope.now context.now name.now options.now) }
 {
     let place = place(scope, context)?;
     let ephemeral = slot(&scope.ephemerals, name)?;
@@ -98,8 +98,8 @@ fn modify(
     place: &Option<Word>,
     name: &Word,
     options: &Options,
-) -> Result<Command, Unbuilt>
-    ensures { Builds (λ command. command) result
+) -> Result<Command, Missing>
+    ensures { Gives (λ command. command) result
         (if is_among name.now scope.now.lines then modify_line_for scope.now place.now name.now options.now else modify_ephemeral_for scope.now place.now name.now options.now) }
 {
     if scope.lines.has(name.as_str()) {
@@ -115,8 +115,8 @@ fn move_line(
     context: &Word,
     name: &Word,
     options: &Options,
-) -> Result<Command, Unbuilt>
-    ensures { Builds (λ command. command) result (move_line_for scope.now context.now name.now options.now) }
+) -> Result<Command, Missing>
+    ensures { Gives (λ command. command) result (move_line_for scope.now context.now name.now options.now) }
 {
     let context = slot(&scope.contexts, context)?;
     let line = slot(&scope.lines, name)?;
@@ -134,8 +134,8 @@ fn move_ephemeral(
     context: &Word,
     name: &Word,
     options: &Options,
-) -> Result<Command, Unbuilt>
-    ensures { Builds (λ command. command) result (move_ephemeral_for scope.now context.now name.now options.now) }
+) -> Result<Command, Missing>
+    ensures { Gives (λ command. command) result (move_ephemeral_for scope.now context.now name.now options.now) }
 {
     let context = slot(&scope.contexts, context)?;
     let ephemeral = slot(&scope.ephemerals, name)?;
@@ -152,8 +152,8 @@ fn move_to(
     context: &Word,
     name: &Word,
     options: &Options,
-) -> Result<Command, Unbuilt>
-    ensures { Builds (λ command. command) result
+) -> Result<Command, Missing>
+    ensures { Gives (λ command. command) result
         (if is_among name.now scope.now.lines then move_line_for scope.now context.now name.now options.now else move_ephemeral_for scope.now context.now name.now options.now) }
 {
     if scope.lines.has(name.as_str()) {
@@ -164,8 +164,8 @@ fn move_to(
 }
 
 #[tactic(auto, unfolding(crate::specs::Meaning::subtract_for))]
-fn subtract(scope: &Scope, context: &Word, name: &Word) -> Result<Command, Unbuilt>
-    ensures { Builds (λ command. command) result (subtract_for scope.now context.now name.now) }
+fn subtract(scope: &Scope, context: &Word, name: &Word) -> Result<Command, Missing>
+    ensures { Gives (λ command. command) result (subtract_for scope.now context.now name.now) }
 {
     let context = slot(&scope.contexts, context)?;
     let termination = termination(scope, name)?;
@@ -176,8 +176,8 @@ fn subtract(scope: &Scope, context: &Word, name: &Word) -> Result<Command, Unbui
 }
 
 #[tactic(auto, unfolding(crate::specs::Meaning::subtract_all_for))]
-fn subtract_all(scope: &Scope, context: &Word) -> Result<Command, Unbuilt>
-    ensures { Builds (λ command. command) result (subtract_all_for scope.now context.now) }
+fn subtract_all(scope: &Scope, context: &Word) -> Result<Command, Missing>
+    ensures { Gives (λ command. command) result (subtract_all_for scope.now context.now) }
 {
     let context = slot(&scope.contexts, context)?;
     Ok(Command::SubtractAll { context })
@@ -190,8 +190,8 @@ fn set_topology(
     first: &Word,
     second: &Word,
     topology: Topology,
-) -> Result<Command, Unbuilt>
-    ensures { Builds (λ command. command) result (topology_for scope.now context.now first.now second.now topology) }
+) -> Result<Command, Missing>
+    ensures { Gives (λ command. command) result (topology_for scope.now context.now first.now second.now topology) }
 {
     let context = slot(&scope.contexts, context)?;
     let first = termination(scope, first)?;
@@ -206,8 +206,8 @@ fn set_topology(
 
 /// The command that a written one means.
 #[tactic(auto, unfolding(crate::specs::Meaning::command_for))]
-fn command(scope: &Scope, written: &WrittenCommand) -> Result<Command, Unbuilt>
-    ensures { Builds (λ command. command) result (command_for scope.now written.now) }
+fn command(scope: &Scope, written: &WrittenCommand) -> Result<Command, Missing>
+    ensures { Gives (λ command. command) result (command_for scope.now written.now) }
 {
     match written {
         WrittenCommand::Add {
@@ -249,8 +249,8 @@ pub(crate) fn commands(
     alloc: Global,
     scope: &Scope,
     written: &[WrittenCommand],
-) -> Result<Vec<Command>, Unbuilt>
-    ensures { Builds (λ commands. commands.items) result (each (command_for scope.now) written.now) }
+) -> Result<Vec<Command>, Missing>
+    ensures { Gives (λ commands. commands.items) result (each (command_for scope.now) written.now) }
 {
     let mut found = Vec::new(alloc);
     for one in written {

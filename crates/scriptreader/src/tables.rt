@@ -2,7 +2,7 @@
 ghost use Rattle.std.specs.Prelude.{◌≡◌, codes, IfOk};
 ghost use Rattle.toml.specs.View.{view, table_view};
 ghost use Rattle.toml.specs.Data.{get_member};
-ghost use Rattle.typed_values.specs.Shape.{Shapes};
+ghost use Rattle.typed_values.specs.Shape.{Gives};
 ghost use Rattle.toml_values.specs.Keys.{has_only};
 ghost use Rattle.scriptreader.specs.Documents.{on_at, lines_of, line_of, kinds_of, transition_of, added_to, document_keys, document_in};
 
@@ -18,7 +18,7 @@ use toml::{Table, Value};
 use toml_values::{
     Reads, entries, has_only, listed, member, needed, needed_list, optional, table, text,
 };
-use typed_values::{Unread, Word, is_name};
+use typed_values::{Missing, Word, is_name};
 
 impl Reads for WrittenItem {
     ghost use Rattle.scriptreader.specs.Documents.{item_meant};
@@ -30,7 +30,7 @@ impl Reads for WrittenItem {
 
     ghost meaning = { item_meant };
 
-    fn read(alloc: Global, value: &Value) -> Result<WrittenItem, Unread> {
+    fn read(alloc: Global, value: &Value) -> Result<WrittenItem, Missing> {
         let text = text(value)?;
         items::item(alloc, text)
     }
@@ -46,11 +46,11 @@ impl Reads for WrittenSignal {
 
     ghost meaning = { signal_meant };
 
-    fn read(_alloc: Global, value: &Value) -> Result<WrittenSignal, Unread> {
+    fn read(_alloc: Global, value: &Value) -> Result<WrittenSignal, Missing> {
         let text = text(value)?;
         match Signal::read(text) {
             Some(signal) => Ok(WrittenSignal { signal }),
-            None => Err(Unread::BadKey),
+            None => Err(Missing::Nothing),
         }
     }
 }
@@ -65,7 +65,7 @@ impl Reads for WrittenPair {
 
     ghost meaning = { pair_meant };
 
-    fn read(alloc: Global, value: &Value) -> Result<WrittenPair, Unread> {
+    fn read(alloc: Global, value: &Value) -> Result<WrittenPair, Missing> {
         let text = text(value)?;
         items::pair(alloc, text)
     }
@@ -81,7 +81,7 @@ impl Reads for WrittenCommand {
 
     ghost meaning = { command_meant };
 
-    fn read(alloc: Global, value: &Value) -> Result<WrittenCommand, Unread> {
+    fn read(alloc: Global, value: &Value) -> Result<WrittenCommand, Missing> {
         let text = text(value)?;
         let words = texts::words(alloc, text)?;
         commands::command(alloc, words.as_slice())
@@ -99,10 +99,10 @@ impl Reads for WrittenEvents {
     ghost meaning = { events_meant };
 
     #[tactic(auto, unfolding(crate::specs::Documents::events_in))]
-    fn read(alloc: Global, value: &Value) -> Result<WrittenEvents, Unread> {
+    fn read(alloc: Global, value: &Value) -> Result<WrittenEvents, Missing> {
         let table = table(value)?;
         if !has_only(alloc, table, &["name", "list"])? {
-            return Err(Unread::BadKey);
+            return Err(Missing::Nothing);
         }
         let name = needed(alloc, table, "name")?;
         let items = needed_list(alloc, table, "list")?;
@@ -121,10 +121,10 @@ impl Reads for WrittenSignals {
     ghost meaning = { signals_meant };
 
     #[tactic(auto, unfolding(crate::specs::Documents::signals_in))]
-    fn read(alloc: Global, value: &Value) -> Result<WrittenSignals, Unread> {
+    fn read(alloc: Global, value: &Value) -> Result<WrittenSignals, Missing> {
         let table = table(value)?;
         if !has_only(alloc, table, &["name", "list"])? {
-            return Err(Unread::BadKey);
+            return Err(Missing::Nothing);
         }
         let name = needed(alloc, table, "name")?;
         let items = needed_list(alloc, table, "list")?;
@@ -143,10 +143,10 @@ impl Reads for WrittenMap {
     ghost meaning = { map_meant };
 
     #[tactic(auto, unfolding(crate::specs::Documents::map_in))]
-    fn read(alloc: Global, value: &Value) -> Result<WrittenMap, Unread> {
+    fn read(alloc: Global, value: &Value) -> Result<WrittenMap, Missing> {
         let table = table(value)?;
         if !has_only(alloc, table, &["name", "map"])? {
-            return Err(Unread::BadKey);
+            return Err(Missing::Nothing);
         }
         let name = needed(alloc, table, "name")?;
         let text = needed(alloc, table, "map")?;
@@ -165,14 +165,14 @@ impl Reads for WrittenState {
     ghost meaning = { state_meant };
 
     #[tactic(auto, unfolding(crate::specs::Documents::state_in))]
-    fn read(alloc: Global, value: &Value) -> Result<WrittenState, Unread> {
+    fn read(alloc: Global, value: &Value) -> Result<WrittenState, Missing> {
         let table = table(value)?;
         if !has_only(
             alloc,
             table,
             &["name", "do", "talk", "end", "ok", "fault", "timer", "on"],
         )? {
-            return Err(Unread::BadKey);
+            return Err(Missing::Nothing);
         }
         let name = needed(alloc, table, "name")?;
         let commands = listed(alloc, table, "do")?;
@@ -196,8 +196,8 @@ impl Reads for WrittenState {
 }
 
 /// Where a state's notes lead.
-fn transitions(alloc: Global, state: &Table) -> Result<Vec<WrittenTransition>, Unread>
-    ensures { Shapes (λ v. v.items) result (on_at (get_member (codes "on") (table_view state.now))) }
+fn transitions(alloc: Global, state: &Table) -> Result<Vec<WrittenTransition>, Missing>
+    ensures { Gives (λ v. v.items) result (on_at (get_member (codes "on") (table_view state.now))) }
 {
     match member(state, "on") {
         Some(on) => of_lines(alloc, table(on)?),
@@ -207,8 +207,8 @@ fn transitions(alloc: Global, state: &Table) -> Result<Vec<WrittenTransition>, U
 
 /// Where the notes of these lines lead.
 #[tactic(auto, unfolding(crate::specs::Documents::lines_of))]
-fn of_lines(alloc: Global, on: &Table) -> Result<Vec<WrittenTransition>, Unread>
-    ensures { Shapes (λ v. v.items) result (lines_of (table_view on.now)) }
+fn of_lines(alloc: Global, on: &Table) -> Result<Vec<WrittenTransition>, Missing>
+    ensures { Gives (λ v. v.items) result (lines_of (table_view on.now)) }
 {
     let entries = entries(alloc, on)?;
     let mut found = Vec::new(alloc);
@@ -225,11 +225,11 @@ fn of_line(
     line: &str,
     kinds: &Value,
     found: &mut Vec<WrittenTransition>,
-) -> Result<(), Unread>
-    ensures { Shapes (λ _. found.new.items) result (added_to found.old.items (line_of line.now (view kinds.now))) }
+) -> Result<(), Missing>
+    ensures { Gives (λ _. found.new.items) result (added_to found.old.items (line_of line.now (view kinds.now))) }
 {
     if !is_name(line) {
-        return Err(Unread::BadKey);
+        return Err(Missing::Nothing);
     }
     of_kinds(alloc, line, table(kinds)?, found)
 }
@@ -241,8 +241,8 @@ fn of_kinds(
     line: &str,
     kinds: &Table,
     found: &mut Vec<WrittenTransition>,
-) -> Result<(), Unread>
-    ensures { Shapes (λ _. found.new.items) result (added_to found.old.items (kinds_of line.now (table_view kinds.now))) }
+) -> Result<(), Missing>
+    ensures { Gives (λ _. found.new.items) result (added_to found.old.items (kinds_of line.now (table_view kinds.now))) }
 {
     let entries = entries(alloc, kinds)?;
     for entry in &entries {
@@ -257,11 +257,11 @@ fn transition(
     line: &str,
     kind: &str,
     target: &Value,
-) -> Result<WrittenTransition, Unread>
-    ensures { Shapes (λ t. t) result (transition_of line.now kind.now (view target.now)) }
+) -> Result<WrittenTransition, Missing>
+    ensures { Gives (λ t. t) result (transition_of line.now kind.now (view target.now)) }
 {
     let Some(kind) = Kind::read(kind) else {
-        return Err(Unread::BadKey);
+        return Err(Missing::Nothing);
     };
     let target = Word::read(alloc, target)?;
     let line = Word::copy(alloc, line)?;
@@ -291,11 +291,11 @@ fn has_document_keys(alloc: Global, table: &Table) -> Result<bool, AllocError>
 
 /// The document that a whole tree is.
 #[tactic(auto, unfolding(crate::specs::Documents::document_in))]
-pub(crate) fn document(alloc: Global, table: &Table) -> Result<Document, Unread>
-    ensures { Shapes (λ d. d) result (document_in (table_view table.now)) }
+pub(crate) fn document(alloc: Global, table: &Table) -> Result<Document, Missing>
+    ensures { Gives (λ d. d) result (document_in (table_view table.now)) }
 {
     if !has_document_keys(alloc, table)? {
-        return Err(Unread::BadKey);
+        return Err(Missing::Nothing);
     }
     let lines: Vec<Word> = needed_list(alloc, table, "lines")?;
     let contexts = listed(alloc, table, "contexts")?;
@@ -307,7 +307,7 @@ pub(crate) fn document(alloc: Global, table: &Table) -> Result<Document, Unread>
     let maps = listed(alloc, table, "maps")?;
     let states = listed(alloc, table, "state")?;
     if lines.len() < 2 {
-        return Err(Unread::BadKey);
+        return Err(Missing::Nothing);
     }
     Ok(Document {
         lines,

@@ -1,10 +1,10 @@
 //! The parts of texts: words, names, and what a sign divides.
 ghost use Rattle.std.specs.Prelude.{◌≡◌, ◌<◌, IfOk, map, option_map};
-ghost use Rattle.typed_values.specs.Shape.{Shapes};
+ghost use Rattle.typed_values.specs.Shape.{Gives};
 ghost use Rattle.scriptreader.specs.Texts.{words_of, parts_at, name_of, marked_of};
 
 use std::alloc::{AllocError, Global};
-use typed_values::{Unread, Word, is_name};
+use typed_values::{Missing, Word, is_name};
 
 /// The words of a text, between its spaces.
 pub(crate) fn words(alloc: Global, text: &str) -> Result<Vec<&str>, AllocError>
@@ -22,11 +22,11 @@ pub(crate) fn split_once(text: &str, sign: char) -> Option<(&str, &str)>
 }
 
 /// A word that has the form of a name.
-pub(crate) fn name(alloc: Global, text: &str) -> Result<Word, Unread>
-    ensures { Shapes (λ w. w) result (name_of text.now) }
+pub(crate) fn name(alloc: Global, text: &str) -> Result<Word, Missing>
+    ensures { Gives (λ w. w) result (name_of text.now) }
 {
     if !is_name(text) {
-        return Err(Unread::BadKey);
+        return Err(Missing::Nothing);
     }
     Ok(Word::copy(alloc, text)?)
 }

@@ -7,8 +7,8 @@ use Rattle.std.specs.Map.Iter.{deref_pair}
 use Rattle.toml.specs.Data.{Data, Items, no_items, item}
 use Rattle.toml.specs.declared.value.Value.{Value}
 use Rattle.toml.specs.View.{members_view}
-use Rattle.typed_values.specs.declared.unread.Unread.{Unread}
-use Rattle.typed_values.specs.declared.unread.Unread.TheVariants.{BadKey, Memory}
+use Rattle.typed_values.specs.declared.missing.Missing.{Missing}
+use Rattle.typed_values.specs.declared.missing.Missing.TheVariants.{Nothing, Memory}
 use Rattle.typed_values.specs.Names.{is_among}
 use Rattle.typed_values.specs.Shape.{◌>>=◌, Misses}
 use Rattle.typed_values.proofs.Fronts.{with_front, regroup}
@@ -20,10 +20,10 @@ item_goes_on shape front d ds x total e so_far =
     let one : with_front front (items_of shape (item d ds)) ≡ with_front front (items_of shape ds >>= λ xs. Some (x ∷ xs)) = rw e refl in
     sym (regroup front x (items_of shape ds)) ∙ (sym one ∙ so_far)
 
-pub item_misses : {A : Type 0} (shape : Data → Option A) (e : Unread) (front : List A) (d : Data) (ds : Items) (total : Option (List A))
+pub item_misses : {A : Type 0} (shape : Data → Option A) (e : Missing) (front : List A) (d : Data) (ds : Items) (total : Option (List A))
     → Misses e (shape d) → with_front front (items_of shape (item d ds)) ≡ total → Misses e total
 item_misses shape Memory front d ds total h so_far = tt
-item_misses shape BadKey front d ds total h so_far =
+item_misses shape Nothing front d ds total h so_far =
     let one : with_front front (items_of shape (item d ds)) ≡ None = rw h refl in
     sym so_far ∙ one
 

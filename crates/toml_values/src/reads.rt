@@ -6,12 +6,12 @@ ghost use Rattle.std.specs.Map.Iter.{deref_pair};
 ghost use Rattle.toml.specs.View.{view, table_view};
 ghost use Rattle.toml.specs.Data.{Data, get_member, as_str, as_array, as_table, as_bool};
 ghost use Rattle.typed_values.specs.Names.{is_among};
-ghost use Rattle.typed_values.specs.Shape.{Shapes};
+ghost use Rattle.typed_values.specs.Shape.{Gives};
 ghost use Rattle.toml_values.specs.Keys.{list_of, needed, optional, listed, has_only};
 
 use std::alloc::{AllocError, Global};
 use toml::{Table, Value};
-use typed_values::{Unread, Word, is_among};
+use typed_values::{Missing, Word, is_among};
 
 /// A type of values that a TOML document holds: `meaning` says what of a tree a value of the type is read from, and
 /// `seen` what a value says.
@@ -22,28 +22,28 @@ pub trait Reads: Drop {
 
     ghost meaning: { Data → Option Seen };
 
-    /// Reads a value; `BadKey` where the tree has no meaning, and `Memory` where memory runs out.
-    fn read(alloc: Global, value: &Value) -> Result<Self, Unread>
-        ensures { Shapes seen result (meaning (view value.now)) };
+    /// Reads a value; `Nothing` where the tree has no meaning, and `Memory` where memory runs out.
+    fn read(alloc: Global, value: &Value) -> Result<Self, Missing>
+        ensures { Gives seen result (meaning (view value.now)) };
 }
 
-/// The text of a value; `BadKey` where it is none.
-pub fn text(value: &Value) -> Result<&str, Unread>
-    ensures { Shapes (λ t. t.now) result (as_str (view value.now)) }
+/// The text of a value; `Nothing` where it is none.
+pub fn text(value: &Value) -> Result<&str, Missing>
+    ensures { Gives (λ t. t.now) result (as_str (view value.now)) }
 {
     match value.as_str() {
         Some(text) => Ok(text),
-        None => Err(Unread::BadKey),
+        None => Err(Missing::Nothing),
     }
 }
 
-/// The table of a value; `BadKey` where it is none.
-pub fn table(value: &Value) -> Result<&Table, Unread>
-    ensures { Shapes (λ t. table_view t.now) result (as_table (view value.now)) }
+/// The table of a value; `Nothing` where it is none.
+pub fn table(value: &Value) -> Result<&Table, Missing>
+    ensures { Gives (λ t. table_view t.now) result (as_table (view value.now)) }
 {
     match value.as_table() {
         Some(table) => Ok(table),
-        None => Err(Unread::BadKey),
+        None => Err(Missing::Nothing),
     }
 }
 
@@ -76,19 +76,19 @@ pub fn has_only(alloc: Global, table: &Table, keys: &[&str]) -> Result<bool, All
     Ok(are_among(entries.as_slice(), keys))
 }
 
-/// The value at a key that has to be there; `BadKey` where it is not, or is not of the type.
-pub fn needed<T: Reads>(alloc: Global, table: &Table, key: &str) -> Result<T, Unread>
-    ensures { Shapes T.seen result (needed T.meaning key.now (table_view table.now)) }
+/// The value at a key that has to be there; `Nothing` where it is not, or is not of the type.
+pub fn needed<T: Reads>(alloc: Global, table: &Table, key: &str) -> Result<T, Missing>
+    ensures { Gives T.seen result (needed T.meaning key.now (table_view table.now)) }
 {
     match member(table, key) {
         Some(value) => T::read(alloc, value),
-        None => Err(Unread::BadKey),
+        None => Err(Missing::Nothing),
     }
 }
 
-/// The value at a key that may be left out; `BadKey` where it is not of the type.
-pub fn optional<T: Reads>(alloc: Global, table: &Table, key: &str) -> Result<Option<T>, Unread>
-    ensures { Shapes (option_map T.seen) result (optional T.meaning key.now (table_view table.now)) }
+/// The value at a key that may be left out; `Nothing` where it is not of the type.
+pub fn optional<T: Reads>(alloc: Global, table: &Table, key: &str) -> Result<Option<T>, Missing>
+    ensures { Gives (option_map T.seen) result (optional T.meaning key.now (table_view table.now)) }
 {
     match member(table, key) {
         Some(value) => Ok(Some(T::read(alloc, value)?)),
@@ -97,11 +97,11 @@ pub fn optional<T: Reads>(alloc: Global, table: &Table, key: &str) -> Result<Opt
 }
 
 /// The items of an array.
-fn items<T: Reads>(alloc: Global, value: &Value) -> Result<Vec<T>, Unread>
-    ensures { Shapes (λ v. map T.seen v.items) result (list_of T.meaning (view value.now)) }
+fn items<T: Reads>(alloc: Global, value: &Value) -> Result<Vec<T>, Missing>
+    ensures { Gives (λ v. map T.seen v.items) result (list_of T.meaning (view value.now)) }
 {
     let Some(array) = value.as_array() else {
-        return Err(Unread::BadKey);
+        return Err(Missing::Nothing);
     };
     let mut found = Vec::new(alloc);
     for item in array {
@@ -110,10 +110,10 @@ fn items<T: Reads>(alloc: Global, value: &Value) -> Result<Vec<T>, Unread>
     Ok(found)
 }
 
-/// The items of the array at a key, none where it is left out; `BadKey` where it is no array, or an item is not of the
+/// The items of the array at a key, none where it is left out; `Nothing` where it is no array, or an item is not of the
 /// type.
-pub fn listed<T: Reads>(alloc: Global, table: &Table, key: &str) -> Result<Vec<T>, Unread>
-    ensures { Shapes (λ v. map T.seen v.items) result (listed T.meaning key.now (table_view table.now)) }
+pub fn listed<T: Reads>(alloc: Global, table: &Table, key: &str) -> Result<Vec<T>, Missing>
+    ensures { Gives (λ v. map T.seen v.items) result (listed T.meaning key.now (table_view table.now)) }
 {
     match member(table, key) {
         Some(value) => items(alloc, value),
@@ -121,12 +121,12 @@ pub fn listed<T: Reads>(alloc: Global, table: &Table, key: &str) -> Result<Vec<T
     }
 }
 
-/// The items of the array at a key that has to be there; `BadKey` where there is none, or an item is not of the type.
-pub fn needed_list<T: Reads>(alloc: Global, table: &Table, key: &str) -> Result<Vec<T>, Unread>
-    ensures { Shapes (λ v. map T.seen v.items) result (needed (list_of T.meaning) key.now (table_view table.now)) }
+/// The items of the array at a key that has to be there; `Nothing` where there is none, or an item is not of the type.
+pub fn needed_list<T: Reads>(alloc: Global, table: &Table, key: &str) -> Result<Vec<T>, Missing>
+    ensures { Gives (λ v. map T.seen v.items) result (needed (list_of T.meaning) key.now (table_view table.now)) }
 {
     if member(table, key).is_none() {
-        return Err(Unread::BadKey);
+        return Err(Missing::Nothing);
     }
     listed(alloc, table, key)
 }
@@ -141,7 +141,7 @@ impl Reads for Word {
 
     ghost meaning = { as_str };
 
-    fn read(alloc: Global, value: &Value) -> Result<Word, Unread> {
+    fn read(alloc: Global, value: &Value) -> Result<Word, Missing> {
         let text = text(value)?;
         Ok(Word::copy(alloc, text)?)
     }
@@ -157,10 +157,10 @@ impl Reads for bool {
 
     ghost meaning = { as_bool };
 
-    fn read(_alloc: Global, value: &Value) -> Result<bool, Unread> {
+    fn read(_alloc: Global, value: &Value) -> Result<bool, Missing> {
         match value.as_bool() {
             Some(value) => Ok(value),
-            None => Err(Unread::BadKey),
+            None => Err(Missing::Nothing),
         }
     }
 }

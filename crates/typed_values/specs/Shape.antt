@@ -2,8 +2,8 @@
 -- reading can't matter: a shape is a function from a part of a document's tree to what it says, or nothing. A reader
 -- should check that an answer is what the shape gives, and a bad key only where the shape gives nothing.
 use Rattle.std.specs.Prelude.{◌≡◌, List, [], ◌∷◌, Bool, if◌then◌else◌, Option, Some, None, option_and_then, Result, Ok, Err}
-use Rattle.typed_values.specs.declared.unread.Unread.{Unread}
-use Rattle.typed_values.specs.declared.unread.Unread.TheVariants.{BadKey, Memory}
+use Rattle.typed_values.specs.declared.missing.Missing.{Missing}
+use Rattle.typed_values.specs.declared.missing.Missing.TheVariants.{Nothing, Memory}
 
 infixl 10 ◌>>=◌
 abbrev pub ◌>>=◌ : {A B : Type 0} → Option A → (A → Option B) → Option B
@@ -19,13 +19,13 @@ each f [] = Some []
 each f (x ∷ xs) = f x >>= λ y. each f xs >>= λ ys. Some (y ∷ ys)
 
 -- What a function returned, seen by view, is what a shape gives: a bad key where it gives nothing, unless memory ran out.
-abbrev pub Misses : {Y : Type 0} → Unread → Option Y → Type 0
+abbrev pub Misses : {Y : Type 0} → Missing → Option Y → Type 0
 Misses Memory shape = Unit {0}
-Misses BadKey shape = shape ≡ None
+Misses Nothing shape = shape ≡ None
 
-abbrev pub Shapes : {X Y : Type 0} → (X → Y) → Result X Unread → Option Y → Type 0
-Shapes view (Ok x) shape = shape ≡ Some (view x)
-Shapes view (Err e) shape = Misses e shape
+abbrev pub Gives : {X Y : Type 0} → (X → Y) → Result X Missing → Option Y → Type 0
+Gives view (Ok x) shape = shape ≡ Some (view x)
+Gives view (Err e) shape = Misses e shape
 
 -- ---- what stands at a key, if anything does
 
