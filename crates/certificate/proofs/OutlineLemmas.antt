@@ -5,7 +5,9 @@ use Rattle.std.specs.List.{list_any}
 use Rattle.std.proofs.lemmas.List.Sums.{sum_by-cons}
 use Rattle.mg_model.specs.Script.{Script}
 use Rattle.entry_table.specs.Listed.{Listed}
-use Rattle.certificate.specs.Certificate.{listed_meant, checked, checked_or, Faults, has_empty, is_large, has_crowd, entries_for, some_below}
+use Rattle.mg_model.specs.Memory.{Faults}
+use Rattle.certificate.specs.FaultNames.{is_memory}
+use Rattle.certificate.specs.Certificate.{listed_meant, checked, checked_or, has_empty, is_large, has_crowd, entries_for, some_below}
 use Rattle.certificate.specs.Outlines.{outline_of, outline_meant, limit_passed, outlined_for, has_crowd_in}
 use Rattle.typed_values.specs.Shape.{each, ◌>>=◌}
 use Rattle.certificate.specs.Written as written
@@ -70,7 +72,7 @@ none_passed false true c e = absurd (true≢false (ap is_some e))
 none_passed false false true e = absurd (true≢false (ap is_some e))
 none_passed false false false e = (refl, refl)
 
-itself : (entries : Result (List Listed) CertFault) (fault : CertFault) → entries ≡ Err fault → Faults fault entries
+itself : (entries : Result (List Listed) CertFault) (fault : CertFault) → entries ≡ Err fault → Faults is_memory fault entries
 itself entries NotJson e = e
 itself entries BadKey e = e
 itself entries Unknown e = e
@@ -92,7 +94,7 @@ module _ (script : Script) where
       rw (any_outlined (λ outline. outline.is_empty) entries, crowd_outlined script entries, any_outlined (λ outline. outline.is_large) entries) refl
 
   pub refused : (meant : Option (List Listed)) (outlines : List Outline) (fault : CertFault) → option_map (map outline_of) meant ≡ Some outlines
-      → limit_passed script outlines ≡ Some fault → Faults fault (checked_or script meant)
+      → limit_passed script outlines ≡ Some fault → Faults is_memory fault (checked_or script meant)
   refused None outlines fault e passed = absurd (true≢false (sym (ap is_some e)))
   refused (Some entries) outlines fault e passed =
       let same : map outline_of entries ≡ outlines = ap (λ o. unwrap_or o outlines) e in
@@ -111,7 +113,7 @@ module _ (script : Script) where
       (small.0, small.1, tests_agree (list_any has_empty entries) (has_crowd script entries) (list_any is_large entries) entries ∙ ap (or_fault entries) found)
 
   -- a name of an outline is unknown where it is one of the entry's
-  pub unknown : (meant : Option (List Listed)) (fault : CertFault) → Lacks fault (option_map (map outline_of) meant) → Faults fault (checked_or script meant)
+  pub unknown : (meant : Option (List Listed)) (fault : CertFault) → Lacks fault (option_map (map outline_of) meant) → Faults is_memory fault (checked_or script meant)
   unknown None Unknown e = refl
   unknown (Some entries) Unknown e = absurd (true≢false (ap is_some e))
   unknown meant NoMemory e = tt

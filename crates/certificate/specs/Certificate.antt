@@ -72,16 +72,6 @@ resolved_or script (Some entries) = checked_or script (each (listed_meant script
 abbrev pub document_read : Script → Data → Result (List Listed) CertFault
 document_read script document = resolved_or script (document_meant document)
 
--- a fault of the code is that of the definition; memory may run out
-abbrev pub Faults : CertFault → Result (List Listed) CertFault → Type 0
-Faults NoMemory answer = Unit {0}
-Faults fault answer = answer ≡ Err fault
-
--- what a function returned, seen by view, is the answer of the definition
-abbrev pub Answers : {X : Type 0} → (X → List Listed) → Result X CertFault → Result (List Listed) CertFault → Type 0
-Answers view (Ok x) answer = answer ≡ Ok (view x)
-Answers view (Err fault) answer = Faults fault answer
-
 -- ---- the bytes
 
 -- the bytes are a JSON text of this document

@@ -1,5 +1,5 @@
 -- The faults of a certificate: their numbers, which are their order of precedence, and their names.
-use Rattle.std.specs.Prelude.{ℕ, List, codes}
+use Rattle.std.specs.Prelude.{ℕ, Bool, true, false, List, codes}
 use Rattle.certificate.specs.declared.fault.CertFault.{CertFault}
 use Rattle.certificate.specs.declared.fault.CertFault.TheVariants.{NotJson, BadKey, Unknown, EmptySet, TooManyEntries, TooManyPoints, NoMemory}
 
@@ -20,3 +20,13 @@ name_of Unknown = codes "Unknown"
 name_of EmptySet = codes "EmptySet"
 name_of TooManyEntries = codes "TooManyEntries"
 name_of TooManyPoints = codes "TooManyPoints"
+
+-- the fault says that memory ran out
+abbrev pub is_memory : CertFault → Bool
+is_memory NoMemory = true
+is_memory NotJson = false
+is_memory BadKey = false
+is_memory Unknown = false
+is_memory EmptySet = false
+is_memory TooManyEntries = false
+is_memory TooManyPoints = false

@@ -1,7 +1,9 @@
 //! The whole reading of a certificate: bytes, document, entries.
 ghost use Rattle.std.specs.Prelude.{◌≡◌};
 ghost use Rattle.serde_json.specs.View.{view};
-ghost use Rattle.certificate.specs.Certificate.{Answers, Parses, ReadsCertificate, checked_or, document_read, listed_meant};
+ghost use Rattle.mg_model.specs.Memory.{Answers};
+ghost use Rattle.certificate.specs.FaultNames.{is_memory};
+ghost use Rattle.certificate.specs.Certificate.{Parses, ReadsCertificate, checked_or, document_read, listed_meant};
 ghost use Rattle.typed_values.specs.Shape.{each};
 
 use crate::document::read_document;
@@ -22,7 +24,7 @@ fn resolve(
     script: &Script,
     written: &[WrittenEntry],
 ) -> Result<Vec<Entry>, CertFault>
-    ensures { Answers (λ v. v.items) result (checked_or script.now (each (listed_meant script.now) written.now)) }
+    ensures { Answers is_memory (λ v. v.items) result (checked_or script.now (each (listed_meant script.now) written.now)) }
 {
     let keys = keys(alloc, script)?;
     let outlines = outlines(alloc, script, keys.as_slice(), written)?;
@@ -37,7 +39,7 @@ fn resolve(
 
 /// The entries of a document.
 fn read_value(alloc: Global, script: &Script, value: &Value) -> Result<Vec<Entry>, CertFault>
-    ensures { Answers (λ v. v.items) result (document_read script.now (view value.now)) }
+    ensures { Answers is_memory (λ v. v.items) result (document_read script.now (view value.now)) }
 {
     match read_document(alloc, value) {
         Ok(written) => resolve(alloc, script, written.as_slice()),

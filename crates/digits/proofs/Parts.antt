@@ -4,7 +4,9 @@ use Rattle.std.specs.List.{onto_first}
 use Rattle.std.proofs.lemmas.List.{append-nil, length-drop, length-map, map_push, take_more, get_or-map}
 use Rattle.mg_model.specs.declared.positions.Position.{Position}
 use Rattle.digits.specs.declared.fault.MapFault.{MapFault}
-use Rattle.digits.specs.Reading.{◌>>=◌, Fails, alternative_of, alternatives_of, parts, bytes_of, bar_before}
+use Rattle.mg_model.specs.Memory.{Faults}
+use Rattle.digits.specs.Faults.{is_memory}
+use Rattle.digits.specs.Reading.{◌>>=◌, alternative_of, alternatives_of, parts, bytes_of, bar_before}
 use Rattle.digits.proofs.Values.{with_front, Fails-then, regroup}
 
 pub bar_after : (index : ℕ) → bar_before (index + 1) ≡ 1
@@ -48,7 +50,7 @@ part_goes_on front place text rest first total e so_far =
     sym one ∙ so_far
 
 pub part_ends : (e : MapFault) (front : List (List Position)) (place : ℕ) (text : List ℕ) (rest : List (List ℕ)) (total : Result (List (List Position)) MapFault)
-    → Fails e (alternative_of place text) → with_front front (alternatives_of place (text ∷ rest)) ≡ total → Fails e total
+    → Faults is_memory e (alternative_of place text) → with_front front (alternatives_of place (text ∷ rest)) ≡ total → Faults is_memory e total
 unfolding alternatives_of
 part_ends e front place text rest total h so_far =
     Fails-then e (alternatives_of place (text ∷ rest)) (λ xs. Ok (front ++ xs)) total

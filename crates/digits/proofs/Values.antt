@@ -4,10 +4,12 @@ use Rattle.std.proofs.lemmas.List.{append-nil}
 use Rattle.std.specs.Prelude.{IfOk}
 use Rattle.digits.specs.declared.fault.MapFault.{MapFault}
 use Rattle.digits.specs.declared.fault.MapFault.TheVariants as fault
-use Rattle.digits.specs.Reading.{◌>>=◌, Fails, Step, values, all_of}
+use Rattle.mg_model.specs.Memory.{Faults}
+use Rattle.digits.specs.Faults.{is_memory}
+use Rattle.digits.specs.Reading.{◌>>=◌, Step, values, all_of}
 
 -- what fails first fails the whole
-pub Fails-then : {A B : Type 0} (e : MapFault) (r : Result A MapFault) (f : A → Result B MapFault) (total : Result B MapFault) → Fails e r → (r >>= f) ≡ total → Fails e total
+pub Fails-then : {A B : Type 0} (e : MapFault) (r : Result A MapFault) (f : A → Result B MapFault) (total : Result B MapFault) → Faults is_memory e r → (r >>= f) ≡ total → Faults is_memory e total
 Fails-then fault.NoMemory r f total h so = tt
 Fails-then fault.Empty r f total h so = sym so ∙ ap (λ x. x >>= f) h
 Fails-then (fault.BadSymbol at) r f total h so = sym so ∙ ap (λ x. x >>= f) h
@@ -72,14 +74,14 @@ pub goes_on : {A : Type 0} (step : Step A) → Shrinks step → (front : List A)
 goes_on step shrinks front text x rest total some e so_far =
     sym (regroup front x (all_of step rest)) ∙ (ap (with_front front) (sym (all_of-first step shrinks text x rest some e)) ∙ so_far)
 
-first_fails : {A : Type 0} (step : Step A) (e : MapFault) (text : List ℕ) → 0 < length text → Fails e (step text) → Fails e (all_of step text)
+first_fails : {A : Type 0} (step : Step A) (e : MapFault) (text : List ℕ) → 0 < length text → Faults is_memory e (step text) → Faults is_memory e (all_of step text)
 unfolding values
 first_fails step e [] some h = absurd (omega arith)
 first_fails step e (byte ∷ bytes) some h =
     Fails-then e (step (byte ∷ bytes)) (λ p. values step (length bytes) p.1 >>= λ xs. Ok (p.0 ∷ xs)) (all_of step (byte ∷ bytes)) h refl
 
-pub ends : {A : Type 0} (step : Step A) (e : MapFault) (front : List A) (text : List ℕ) (total : Result (List A) MapFault) → 0 < length text → Fails e (step text)
-    → with_front front (all_of step text) ≡ total → Fails e total
+pub ends : {A : Type 0} (step : Step A) (e : MapFault) (front : List A) (text : List ℕ) (total : Result (List A) MapFault) → 0 < length text → Faults is_memory e (step text)
+    → with_front front (all_of step text) ≡ total → Faults is_memory e total
 ends step e front text total some h so_far = Fails-then e (all_of step text) (λ xs. Ok (front ++ xs)) total (first_fails step e text some h) so_far
 
 pub is_done : {A : Type 0} (step : Step A) (front : List A) (text : List ℕ) (total : Result (List A) MapFault) → length text ≡ 0 → with_front front (all_of step text) ≡ total → total ≡ Ok front

@@ -1,5 +1,5 @@
 -- The faults of a digit map's text: their numbers and names.
-use Rattle.std.specs.Prelude.{ℕ, List, codes}
+use Rattle.std.specs.Prelude.{ℕ, Bool, true, false, List, codes}
 use Rattle.digits.specs.declared.fault.MapFault.{MapFault}
 use Rattle.digits.specs.declared.fault.MapFault.TheVariants.{Empty, BadSymbol, BadRange, TooLong, NoMemory}
 
@@ -16,3 +16,11 @@ name_of Empty = codes "Empty"
 name_of (BadSymbol at) = codes "BadSymbol"
 name_of (BadRange at) = codes "BadRange"
 name_of TooLong = codes "TooLong"
+
+-- the fault says that memory ran out
+abbrev pub is_memory : MapFault → Bool
+is_memory NoMemory = true
+is_memory Empty = false
+is_memory (BadSymbol at) = false
+is_memory (BadRange at) = false
+is_memory TooLong = false

@@ -1,7 +1,7 @@
 -- Reading a digit map from left to right, with the first fault that is met. A reader should check the grammar:
 -- alternatives parted by `|`, each of one position or more; a position is a symbol, `x` for any digit, or a range in
 -- brackets; one pair of parentheses may stand round the whole text.
-use Rattle.std.specs.Prelude.{◌≡◌, ℕ, zero, suc, ◌+◌, ◌-◌, List, [], ◌∷◌, length, take, drop, slice_index, Bool, ◌&&◌, ◌||◌, ◌==◌, nat_lt, nat_le, if◌then◌else◌, Option, Some, None, Result, Ok, Err}
+use Rattle.std.specs.Prelude.{ℕ, zero, suc, ◌+◌, ◌-◌, List, [], ◌∷◌, length, take, drop, slice_index, Bool, ◌&&◌, ◌||◌, ◌==◌, nat_lt, nat_le, if◌then◌else◌, Option, Some, None, Result, Ok, Err}
 use Rattle.std.specs.List.{list_all, slice_split, before_first, after_first}
 use Rattle.digits.specs.declared.fault.MapFault.{MapFault}
 use Rattle.digits.specs.declared.fault.MapFault.TheVariants as fault
@@ -13,18 +13,6 @@ infixl 10 ◌>>=◌
 abbrev pub ◌>>=◌ : {A B : Type 0} → Result A MapFault → (A → Result B MapFault) → Result B MapFault
 (Ok x) >>= f = f x
 (Err e) >>= f = Err e
-
--- What a function returned, seen by view, is what reading gives, unless memory ran out.
-abbrev pub Fails : {Y : Type 0} → MapFault → Result Y MapFault → Type 0
-Fails fault.NoMemory reading = Unit {0}
-Fails fault.Empty reading = reading ≡ Err fault.Empty
-Fails (fault.BadSymbol at) reading = reading ≡ Err (fault.BadSymbol at)
-Fails (fault.BadRange at) reading = reading ≡ Err (fault.BadRange at)
-Fails fault.TooLong reading = reading ≡ Err fault.TooLong
-
-abbrev pub Gives : {X Y : Type 0} → (X → Y) → Result X MapFault → Result Y MapFault → Type 0
-Gives view (Ok x) reading = reading ≡ Ok (view x)
-Gives view (Err e) reading = Fails e reading
 
 -- a value, and the bytes after it
 abbrev pub Step : Type 0 → Type 0

@@ -1,7 +1,9 @@
 //! A digit map.
 ghost use Rattle.std.specs.Prelude.{◌≡◌, IfOk, IsTrue, map, length, nat_le};
 ghost use Rattle.std.specs.List.{list_all};
-ghost use Rattle.digits.specs.Reading.{Gives, fits, map_of, unwrapped};
+ghost use Rattle.mg_model.specs.Memory.{Answers};
+ghost use Rattle.digits.specs.Faults.{is_memory};
+ghost use Rattle.digits.specs.Reading.{fits, map_of, unwrapped};
 
 use crate::fault::MapFault;
 use crate::reading;
@@ -21,6 +23,8 @@ pub struct DigitMap {
 impl Model for DigitMap {
     ghost use Rattle.std.specs.Prelude.{IsTrue, List, map};
     ghost use Rattle.mg_model.specs.declared.positions.Position.{Position};
+    ghost use Rattle.mg_model.specs.Memory.{Answers};
+    ghost use Rattle.digits.specs.Faults.{is_memory};
     ghost use Rattle.digits.specs.Reading.{fits};
 
     ghost Value = { List (List Position) };
@@ -35,7 +39,7 @@ impl DigitMap {
     /// where the text has none of these. `NoMemory` may come in place of any answer.
     #[tactic(auto, unfolding(crate::specs::Reading::map_of))]
     pub fn parse(alloc: Global, text: &str) -> Result<DigitMap, MapFault>
-        ensures { Gives (λ m. m) result (map_of text.now) }
+        ensures { Answers is_memory (λ m. m) result (map_of text.now) }
     {
         let alternatives = read(alloc, text.as_bytes())?;
         if !is_short(alternatives.as_slice()) {
@@ -63,7 +67,7 @@ impl DigitMap {
 
 /// The alternatives, with or without parentheses round the whole text.
 fn read(alloc: Global, text: &[u8]) -> Result<Vec<Vec<Position>>, MapFault>
-    ensures { Gives (λ v. map (λ a. a.items) v.items) result (unwrapped text.now) }
+    ensures { Answers is_memory (λ v. map (λ a. a.items) v.items) result (unwrapped text.now) }
 {
     match text {
         [b'(', inside @ .., b')'] => reading::alternatives(alloc, inside, 1),

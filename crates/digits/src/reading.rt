@@ -1,6 +1,8 @@
 //! Reading a digit map from left to right.
 ghost use Rattle.std.specs.Prelude.{◌≡◌, ◌+◌, ◌≤◌, ◌<◌, ◌^◌, ◌==◌, IfOk, map, length, position};
-ghost use Rattle.digits.specs.Reading.{Gives, all_of, rising, run_at, range_at, position_at, alternative_of, alternatives_of, parts, bytes_of, bar_before};
+ghost use Rattle.mg_model.specs.Memory.{Answers};
+ghost use Rattle.digits.specs.Faults.{is_memory};
+ghost use Rattle.digits.specs.Reading.{all_of, rising, run_at, range_at, position_at, alternative_of, alternatives_of, parts, bytes_of, bar_before};
 
 use crate::fault::MapFault;
 use crate::span::{self, LAST_DIGIT, Span};
@@ -25,7 +27,7 @@ fn rising(low: u8, high: u8) -> Option<Span>
 #[tactic(auto, unfolding(crate::specs::Reading::run_at))]
 fn run_at(text: &[u8], start: usize) -> Result<(Span, &[u8]), MapFault>
     requires { 0 < length text.now }
-    ensures { Gives (λ x. (x.0, x.1.now)) result (run_at start text.now) }
+    ensures { Answers is_memory (λ x. (x.0, x.1.now)) result (run_at start text.now) }
 {
     if text.len() > 2 && text[1] == b'-' {
         let Some(span) = rising(text[0], text[2]) else {
@@ -45,7 +47,7 @@ fn run_at(text: &[u8], start: usize) -> Result<(Span, &[u8]), MapFault>
 
 /// The runs that stand between the brackets of a range.
 fn runs(alloc: Global, content: &[u8], start: usize) -> Result<Vec<Span>, MapFault>
-    ensures { Gives (λ v. v.items) result (all_of (run_at start) content.now) }
+    ensures { Answers is_memory (λ v. v.items) result (all_of (run_at start) content.now) }
 {
     let mut found = Vec::new(alloc);
     let mut rest = content;
@@ -68,7 +70,7 @@ fn end_of(inside: &[u8]) -> Option<usize>
 #[tactic(auto, unfolding(crate::specs::Reading::range_at))]
 fn range_at(alloc: Global, text: &[u8], start: usize) -> Result<(Position, &[u8]), MapFault>
     requires { 0 < length text.now }
-    ensures { Gives (λ x. (x.0, x.1.now)) result (range_at start text.now) }
+    ensures { Answers is_memory (λ x. (x.0, x.1.now)) result (range_at start text.now) }
 {
     let inside = &text[1..];
     let Some(end) = end_of(inside) else {
@@ -86,7 +88,7 @@ fn range_at(alloc: Global, text: &[u8], start: usize) -> Result<(Position, &[u8]
 fn position_at(alloc: Global, text: &[u8], end: usize) -> Result<(Position, &[u8]), MapFault>
     requires some { 0 < length text.now }
     requires within { length text.now ≤ end }
-    ensures { Gives (λ x. (x.0, x.1.now)) result (position_at end text.now) }
+    ensures { Answers is_memory (λ x. (x.0, x.1.now)) result (position_at end text.now) }
 {
     let start = end - text.len();
     let rest = &text[1..];
@@ -106,7 +108,7 @@ fn position_at(alloc: Global, text: &[u8], end: usize) -> Result<(Position, &[u8
 /// The positions of a text that ends at the place `end`.
 fn positions(alloc: Global, text: &[u8], end: usize) -> Result<Vec<Position>, MapFault>
     requires { length text.now ≤ end }
-    ensures { Gives (λ v. v.items) result (all_of (position_at end) text.now) }
+    ensures { Answers is_memory (λ v. v.items) result (all_of (position_at end) text.now) }
 {
     let mut found = Vec::new(alloc);
     let mut rest = text;
@@ -122,7 +124,7 @@ fn positions(alloc: Global, text: &[u8], end: usize) -> Result<Vec<Position>, Ma
 #[tactic(auto, unfolding(crate::specs::Reading::alternative_of))]
 fn alternative(alloc: Global, text: &[u8], start: usize) -> Result<Vec<Position>, MapFault>
     requires { start + length text.now < 2 ^ 64 }
-    ensures { Gives (λ v. v.items) result (alternative_of start text.now) }
+    ensures { Answers is_memory (λ v. v.items) result (alternative_of start text.now) }
 {
     if text.is_empty() {
         return Err(MapFault::Empty);
@@ -147,7 +149,7 @@ fn bars_before(index: usize) -> usize
 /// The alternatives that these parts write, of which the first begins at the place `start`.
 fn each(alloc: Global, parts: &[&[u8]], start: usize) -> Result<Vec<Vec<Position>>, MapFault>
     requires { start + bytes_of (map (λ part. part.now) parts.now) ≤ 2 ^ 64 }
-    ensures { Gives (λ v. map (λ a. a.items) v.items) result (alternatives_of start (map (λ part. part.now) parts.now)) }
+    ensures { Answers is_memory (λ v. map (λ a. a.items) v.items) result (alternatives_of start (map (λ part. part.now) parts.now)) }
 {
     let mut found = Vec::new(alloc);
     let mut place = start;
@@ -168,7 +170,7 @@ pub(crate) fn alternatives(
     start: usize,
 ) -> Result<Vec<Vec<Position>>, MapFault>
     requires { start + length text.now < 2 ^ 64 }
-    ensures { Gives (λ v. map (λ a. a.items) v.items) result (alternatives_of start (parts text.now)) }
+    ensures { Answers is_memory (λ v. map (λ a. a.items) v.items) result (alternatives_of start (parts text.now)) }
 {
     let parts = parts(alloc, text)?;
     each(alloc, parts.as_slice(), start)

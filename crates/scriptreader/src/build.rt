@@ -13,13 +13,12 @@ use crate::syntax::{
     Document, WrittenEvents, WrittenItem, WrittenMap, WrittenPair, WrittenSignal, WrittenSignals,
     WrittenState, WrittenTransition,
 };
-use typed_values::Missing;
 use digits::{DigitMap, MapFault};
 use mg_model::transitions::{EventItem, Pair, Transition};
 use mg_names::signals::Signal;
 use script_table::{EventsList, NamedMap, Script, SignalsList, State, Tables};
 use std::alloc::{AllocError, Global};
-use typed_values::Word;
+use typed_values::{Missing, Word};
 
 #[tactic(auto, unfolding(crate::specs::Meaning::pair_for))]
 fn pair(scope: &Scope, written: &WrittenPair) -> Result<Pair, Missing>

@@ -6,12 +6,11 @@ ghost use Rattle.scriptreader.specs.Meaning.{slot_for, number_for, events_for, s
 use crate::names::Names;
 use crate::scope::Scope;
 use crate::syntax::Options;
-use typed_values::Missing;
 use mg_model::commands::{
     EphemeralOptions, EventsName, LineOptions, Place, RemoteOption, SignalsName, Termination,
 };
 use mg_names::slots::Slot;
-use typed_values::Word;
+use typed_values::{Missing, Word};
 
 /// The slot of a name.
 pub(crate) fn slot(names: &Names, name: &Word) -> Result<Slot, Missing>

@@ -7,11 +7,10 @@ ghost use Rattle.scriptreader.specs.Meaning.{command_for, add_line_for, add_ephe
 use crate::lookups::{ephemeral_options, line_options, place, slot, termination};
 use crate::scope::Scope;
 use crate::syntax::{Options, WrittenCommand};
-use typed_values::Missing;
 use mg_model::commands::Command;
 use mg_names::topologies::Topology;
 use std::alloc::Global;
-use typed_values::Word;
+use typed_values::{Missing, Word};
 
 #[tactic(auto, unfolding(crate::specs::Meaning::add_line_for))]
 fn add_line(
