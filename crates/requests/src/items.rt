@@ -82,6 +82,38 @@ fn added_at(results: &[Done], context: ContextRef, added: Added, descriptors: &D
     }
 }
 
+/// Modify on the connection model.
+fn modified_at(
+    results: &[Done],
+    context: ContextRef,
+    termination: TerminationRef,
+    descriptors: &Descriptors,
+) -> Item
+    ensures { result ≡ item.Modify (record { 0 = context_at results.now context }) (termination_at results.now termination) (settings_at results.now (descriptors_of descriptors.now)) }
+{
+    Item::Modify {
+        context: context_at(results, context),
+        termination: termination_at(results, termination),
+        settings: settings_at(results, descriptors),
+    }
+}
+
+/// Move on the connection model.
+fn moved_at(
+    results: &[Done],
+    context: ContextRef,
+    termination: TerminationRef,
+    descriptors: &Descriptors,
+) -> Item
+    ensures { result ≡ item.Move (record { 0 = context_at results.now context }) (termination_at results.now termination) (settings_at results.now (descriptors_of descriptors.now)) }
+{
+    Item::Move {
+        context: context_at(results, context),
+        termination: termination_at(results, termination),
+        settings: settings_at(results, descriptors),
+    }
+}
+
 /// Topology on the connection model.
 fn topology_at(
     results: &[Done],
@@ -118,20 +150,12 @@ pub(crate) fn item_at(results: &[Done], command: &RequestCommand) -> Item
             context,
             termination,
             descriptors,
-        } => Item::Modify {
-            context: context_at(results, *context),
-            termination: termination_at(results, *termination),
-            settings: settings_at(results, descriptors),
-        },
+        } => modified_at(results, *context, *termination, descriptors),
         RequestCommand::Move {
             context,
             termination,
             descriptors,
-        } => Item::Move {
-            context: context_at(results, *context),
-            termination: termination_at(results, *termination),
-            settings: settings_at(results, descriptors),
-        },
+        } => moved_at(results, *context, *termination, descriptors),
         RequestCommand::Subtract {
             context,
             termination,
