@@ -9,6 +9,7 @@ use Rattle.std.specs.Map.{lookup}
 use Rattle.mg_names.specs.declared.identifiers.LineNo.{LineNo}
 use Rattle.mg_names.specs.declared.identifiers.TermId.{TermId}
 use Rattle.mg_names.specs.declared.identifiers.TermId.TheVariants.{Line, Eph}
+use Rattle.mg_model.specs.Numbers.{null}
 use Rattle.mg_model.specs.declared.rows.Row.{Row}
 use Rattle.mg_model.specs.Board.{Board, place_in}
 use Rattle.mg_model.specs.Items.{IsRising}
@@ -39,7 +40,7 @@ board_of sheet = record {
 
 -- a termination stands in a context other than the null context
 abbrev pub stands_in : (TermId → Option Row) → ℕ → TermId → Bool
-stands_in rows c t = not (c == 0) && place_in (rows t) == c
+stands_in rows c t = not (c == null) && place_in (rows t) == c
 
 -- the members and the cuts of each context are those that the rows tell
 pub record IsTied (rows : TermId → Option Row) (members : ℕ → Option (List TermId)) (cuts : ℕ → Option (List Cut)) : Type 0 where

@@ -7,7 +7,7 @@ use Rattle.mg_model.specs.declared.items.Settings.{Settings}
 use Rattle.mg_model.specs.declared.items.Added.{Added}
 use Rattle.mg_model.specs.declared.items.Added.TheVariants as added
 use Rattle.mg_model.specs.Board.{Board, ContextExists, exists, place_of, same_term}
-use Rattle.mg_model.specs.Numbers.{choose}
+use Rattle.mg_model.specs.Numbers.{null, choose}
 use Rattle.mg_model.specs.Items.{Done, Lists, is_ephemeral_number, with_ephemeral, given, NoContextLeft, NoEphemeralLeft, EphemeralsUsedUp, placed}
 use Rattle.contexts.specs.Rows.{fits}
 use Rattle.contexts.specs.Sheet.{stands_in}
@@ -34,7 +34,7 @@ created context ephemeral = record { context = context; ephemeral = ephemeral; l
 
 -- what is added stands in the null context, or can be created
 abbrev pub CanBeAdded : Board → Added → Settings → Type 0
-CanBeAdded b (added.Line l) settings = (exists b (Line l) ≡ true) × (place_of b (Line l) ≡ 0) × (fits (Line l) settings.remote ≡ true)
+CanBeAdded b (added.Line l) settings = (exists b (Line l) ≡ true) × (place_of b (Line l) ≡ null) × (fits (Line l) settings.remote ≡ true)
 CanBeAdded b added.NewEphemeral settings = NoEphemeralLeft b → ⊥
 
 abbrev pub IsAdded : Board → Board → ℕ → Added → Settings → Option ℕ → Type 0

@@ -1,5 +1,6 @@
 //! Add (H.248.1 section 7.2.1).
 ghost use Rattle.std.specs.Prelude.{◌≡◌, ◌≢◌, true, OnOk, OnErr, IfOk};
+ghost use Rattle.mg_model.specs.Numbers.{null};
 ghost use Rattle.mg_model.specs.Board.{place_of, exists};
 ghost use Rattle.mg_model.specs.Items.{placed, NoEphemeralLeft};
 ghost use Rattle.contexts.specs.Rows.{fits};
@@ -21,7 +22,7 @@ impl Board {
         settings: &Settings,
     ) -> Result<(), AllocError>
         requires exists { exists (board_of self.old) t ≡ true }
-        requires free { place_of (board_of self.old) t ≡ 0 }
+        requires free { place_of (board_of self.old) t ≡ null }
         requires to_context { context.0 ≢ 0 }
         requires fits { fits t settings.now.remote ≡ true }
         ensures ok { OnOk result (board_of self.new ≡ placed (board_of self.old) t context.0 settings.now) }

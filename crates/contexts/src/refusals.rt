@@ -151,7 +151,8 @@ impl Board {
                 context,
                 termination,
                 ..
-            } => self.place_of(termination) == 0 || self.place_of(termination) == context.0,
+            } => self.place_of(termination) == ContextId::NULL.0
+                || self.place_of(termination) == context.0,
             Item::Subtract {
                 context,
                 termination,

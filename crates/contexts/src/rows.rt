@@ -1,5 +1,6 @@
 //! How the rows of terminations change in a command.
 ghost use Rattle.std.specs.Prelude.{◌≡◌, ℕ, ◌<◌, true, false, Some, None, IsTrue, is_some};
+ghost use Rattle.mg_model.specs.Numbers.{null};
 ghost use Rattle.mg_model.specs.Board.{place_in};
 ghost use Rattle.terminations.specs.Table.{row_of, given_of, cleared};
 ghost use Rattle.mg_model.specs.Board.{row_with};
@@ -56,7 +57,7 @@ pub(crate) fn apply(terms: &mut Terms, t: TermId, settings: &Settings)
 /// Puts a termination of the null context into another one, and sets what a command sets on it.
 pub(crate) fn place(terms: &mut Terms, t: TermId, context: ContextId, settings: &Settings)
     requires exists { IsTrue (is_some (row_of terms.old t)) }
-    requires free { place_in (row_of terms.old t) ≡ 0 }
+    requires free { place_in (row_of terms.old t) ≡ null }
     requires fits { fits t settings.now.remote ≡ true }
     ensures rows { row_of terms.new ≡ row_with (row_of terms.old) t (row_in context.0 settings.now (row_of terms.old t)) }
     ensures given { given_of terms.new ≡ given_of terms.old }

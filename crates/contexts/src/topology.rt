@@ -1,5 +1,6 @@
 //! The Topology descriptor (H.248.1 section 7.1.18).
 ghost use Rattle.std.specs.Prelude.{◌≡◌, false, not, OnOk, OnErr};
+ghost use Rattle.mg_model.specs.Numbers.{null};
 ghost use Rattle.mg_model.specs.Board.{same_term, place_of};
 ghost use Rattle.mg_model.specs.Items.{first_receives, second_receives, with_topology};
 ghost use Rattle.contexts.specs.Sheet.{board_of};
@@ -39,7 +40,7 @@ impl Board {
         u: TermId,
         topology: Topology,
     ) -> Result<(), AllocError>
-        requires not_null { context ≡ 0 → ⊥ }
+        requires not_null { context ≡ null → ⊥ }
         requires first { place_of (board_of self.old) t ≡ context }
         requires second { place_of (board_of self.old) u ≡ context }
         requires differ { same_term t u ≡ false }

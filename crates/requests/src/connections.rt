@@ -17,7 +17,7 @@ use contexts::{Board, Done, ExecFault};
 use line_events::{LineFault, LineSet};
 use mg_model::items::Item;
 use mg_names::codes::Code;
-use mg_names::identifiers::{LineNo, TermId};
+use mg_names::identifiers::{ContextId, LineNo, TermId};
 use std::alloc::{AllocError, Global};
 use std::marker::Model;
 
@@ -112,7 +112,7 @@ impl Connections {
         ensures { result ≡ is_idle (board_in self.now) line.0 }
     {
         match self.board.get(TermId::Line(line)) {
-            Some(row) => row.place.0 == 0,
+            Some(row) => row.place == ContextId::NULL,
             None => false,
         }
     }

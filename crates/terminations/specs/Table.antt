@@ -12,7 +12,7 @@ use Rattle.mg_names.specs.declared.identifiers.TermId.{TermId}
 use Rattle.mg_names.specs.declared.identifiers.TermId.TheVariants.{Line, Eph}
 use Rattle.mg_names.specs.declared.modes.Mode.{Mode}
 use Rattle.mg_model.specs.declared.rows.Row.{Row}
-use Rattle.mg_model.specs.Numbers.{last_ephemeral}
+use Rattle.mg_model.specs.Numbers.{null, last_ephemeral}
 use Rattle.mg_model.specs.Board.{row_with, null_row}
 use Rattle.mg_model.specs.Items.{given, is_ephemeral_number}
 
@@ -50,7 +50,7 @@ overwritten row (Some old) = Some row
 
 -- it goes from the null context to another one; from any other it doesn't go
 abbrev pub put_in : ContextId → Row → Row
-put_in context row = if row.place.0 == 0 then record row { place = context } else row
+put_in context row = if row.place.0 == null then record row { place = context } else row
 
 abbrev pub put : ContextId → Option Row → Option Row
 put context None = None
@@ -89,7 +89,7 @@ known (Some row) = Ok tt
 
 abbrev pub unless_taken : Option Row → Result (Unit {0}) Code
 unless_taken None = Err UnknownTermination
-unless_taken (Some row) = if row.place.0 == 0 then Ok tt else Err AlreadyInContext
+unless_taken (Some row) = if row.place.0 == null then Ok tt else Err AlreadyInContext
 
 abbrev pub known_ephemeral : TermId → Option Row → Result (Unit {0}) Code
 known_ephemeral (Line l) row = Err UnknownTermination

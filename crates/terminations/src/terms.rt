@@ -130,7 +130,7 @@ impl Terms {
         let Some(row) = self.get(t) else {
             return Err(Code::UnknownTermination);
         };
-        if row.place.0 != 0 {
+        if row.place != ContextId::NULL {
             return Err(Code::AlreadyInContext);
         }
         self.overwrite(
