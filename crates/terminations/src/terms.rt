@@ -130,7 +130,7 @@ impl Terms {
         let Some(row) = self.get(t) else {
             return Err(Code::UnknownTermination);
         };
-        if row.place != ContextId::NULL {
+        if row.place.0 != ContextId::NULL.0 {
             return Err(Code::AlreadyInContext);
         }
         self.overwrite(

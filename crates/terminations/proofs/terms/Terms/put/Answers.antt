@@ -7,5 +7,5 @@ use Rattle.terminations.proofs.terms.Terms.put.Goals as goal
 pub returns-clause-rows : goal.returns-clause-rows
 returns-clause-rows c =
     let there : row_of c.args.self.now c.args.t ≡ Some c.in-Some.row = sym c.get.ensures.row ∙ c.in-Some.is in
-    let same : overwritten (record c.in-Some.row { place = c.args.context }) (row_of c.args.self.now c.args.t) ≡ put c.args.context (row_of c.args.self.now c.args.t) = rw there (grind (arith, common_steps, c.if-row-ne0.false)) in
+    let same : overwritten (record c.in-Some.row { place = c.args.context }) (row_of c.args.self.now c.args.t) ≡ put c.args.context (row_of c.args.self.now c.args.t) = rw there (grind (arith, common_steps, c.if-row.false)) in
     c.overwrite.ensures.rows ∙ ap (row_with (row_of c.args.self.now) c.args.t) same
