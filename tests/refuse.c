@@ -1,5 +1,5 @@
 /* Preloaded into the program by tools/refusals. What fails is told by the environment:
-     REFUSE_CALL=N   the growth of memory with this number, from 0, is refused
+     REFUSE_CALL=N   the growth of memory with this number, from 0, is refused; each call that gives a program memory is one
      REFUSE_READ=N   reads give N bytes, and then fail
      REFUSE_WRITE=N  writes take N bytes, and then fail
      REFUSE_FULL=N   writes take N bytes, and then none
@@ -7,11 +7,14 @@
 #define _GNU_SOURCE
 #include <errno.h>
 #include <stdlib.h>
+#include <sys/mman.h>
 #include <sys/syscall.h>
 #include <unistd.h>
 
 extern void *__libc_malloc(size_t size);
+extern void *__libc_calloc(size_t count, size_t size);
 extern void *__libc_realloc(void *block, size_t size);
+extern void *__libc_memalign(size_t alignment, size_t size);
 
 static long call = 0, refused_call = -1, tell = -1, read_left = -1, write_left = -1, full_left = -1;
 static int refused = 0;
@@ -55,6 +58,44 @@ void *malloc(size_t size)
 void *realloc(void *block, size_t size)
 {
     return refuses() ? NULL : __libc_realloc(block, size);
+}
+
+void *calloc(size_t count, size_t size)
+{
+    return refuses() ? NULL : __libc_calloc(count, size);
+}
+
+void *memalign(size_t alignment, size_t size)
+{
+    return refuses() ? NULL : __libc_memalign(alignment, size);
+}
+
+void *aligned_alloc(size_t alignment, size_t size)
+{
+    return memalign(alignment, size);
+}
+
+int posix_memalign(void **block, size_t alignment, size_t size)
+{
+    void *found = memalign(alignment, size);
+    if (!found)
+        return ENOMEM;
+    *block = found;
+    return 0;
+}
+
+void *mmap(void *address, size_t size, int protection, int flags, int fd, off_t offset)
+{
+    if (refuses())
+        return MAP_FAILED;
+    return (void *)syscall(SYS_mmap, address, size, protection, flags, fd, offset);
+}
+
+void *mremap(void *address, size_t old_size, size_t size, int flags, ...)
+{
+    if (refuses())
+        return MAP_FAILED;
+    return (void *)syscall(SYS_mremap, address, old_size, size, flags & MREMAP_MAYMOVE);
 }
 
 ssize_t read(int fd, void *buffer, size_t size)
