@@ -1,4 +1,4 @@
-# make demo    checks examples/watch: builds the program without its proofs, or takes the proved one if it is there
+# make demo    checks examples/watch, with the proved program if it is there, else with one that is built without its proofs
 # make build   leaves the proved program in crates/mgcall/out/mgcall
 # make test    the whole gate
 # make bench   how time grows with the size of the input, and what is checked in a second
@@ -8,7 +8,7 @@
 PROGRAM = crates/mgcall/out/mgcall
 
 demo:
-	@tools/demo
+	@tools/check examples/watch/script.toml examples/watch/certificate.json
 
 build:
 	cd crates/mgcall && rt run mgcall -- check < ../../examples/watch/input
@@ -16,7 +16,9 @@ build:
 test:
 	tools/sides
 	rt ci
+	tools/wrong_bodies
 	tools/wrong_models
+	tools/readme
 	tools/cases
 	tools/refusals
 

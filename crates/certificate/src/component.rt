@@ -21,7 +21,7 @@ use mg_model::commands::{EventsName, Termination};
 use mg_model::components::{Remote, Spot};
 use mg_names::context_values::ContextValue;
 use mg_names::modes::Mode;
-use mg_names::phases::Link;
+use mg_names::phases::LinkPhase;
 use mg_names::slots::Slot;
 use script_table::Script;
 use std::alloc::Global;
@@ -87,7 +87,7 @@ fn cut<'a>(
 }
 
 /// The links of an entry.
-fn links(alloc: Global, entry: &WrittenEntry) -> Result<Vec<Link>, CertFault>
+fn links(alloc: Global, entry: &WrittenEntry) -> Result<Vec<LinkPhase>, CertFault>
     ensures { Resolves (λ set. set.items) result (set_of link_rank link_named entry.now.link) }
 {
     read_set(alloc, &Links, entry.link.as_slice())

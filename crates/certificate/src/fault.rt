@@ -32,7 +32,7 @@ pub enum CertFault {
 }
 
 impl CertFault {
-    /// The fault's number in the order of precedence, or 0 for want of memory.
+    /// The fault's number in the order of precedence, or 0 where memory ran out.
     pub fn number(&self) -> u8
         ensures { result ≡ number_of self.now }
     {

@@ -6,7 +6,7 @@ use mg_model::commands::EventsName;
 use mg_model::components::{Remote, Spot};
 use mg_names::context_values::ContextValue;
 use mg_names::modes::Mode;
-use mg_names::phases::Link;
+use mg_names::phases::LinkPhase;
 use std::alloc::AllocError;
 
 /// A type of values that have places in the format's table.
@@ -18,17 +18,17 @@ pub(crate) trait Ranked: Copy {
         ensures { result ≡ place self };
 }
 
-impl Ranked for Link {
+impl Ranked for LinkPhase {
     ghost use Rattle.certificate.specs.Ranks.{link_rank};
 
     ghost place = { link_rank };
 
     fn rank(self) -> u16 {
         match self {
-            Link::Sent => 0,
-            Link::Answered => 1,
-            Link::Failed => 2,
-            Link::Resting => 3,
+            LinkPhase::Sent => 0,
+            LinkPhase::Answered => 1,
+            LinkPhase::Failed => 2,
+            LinkPhase::Resting => 3,
         }
     }
 }

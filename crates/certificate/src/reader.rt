@@ -63,7 +63,7 @@ fn parse(alloc: Global, bytes: &[u8]) -> Result<Value, CertFault>
     }
 }
 
-/// Reads a certificate for a script. The fault is the lowest that applies anywhere in the document; want of memory may
+/// Reads a certificate for a script. The fault is the lowest that applies anywhere in the document; running out of memory may
 /// stand in place of any answer.
 pub fn read_cert(alloc: Global, bytes: &[u8], script: &Script) -> Result<Cert, CertFault>
     ensures { ReadsCertificate script.now bytes.now result }

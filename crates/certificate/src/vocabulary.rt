@@ -9,7 +9,7 @@ use mg_model::commands::EventsName;
 use mg_model::components::{Remote, Spot};
 use mg_names::context_values::ContextValue;
 use mg_names::modes::Mode;
-use mg_names::phases::Link;
+use mg_names::phases::LinkPhase;
 use mg_names::slots::Slot;
 use script_table::Script;
 use std::alloc::Global;
@@ -46,13 +46,13 @@ pub(crate) fn read_set<T: Ranked + Drop, V: Vocabulary<T>>(
 #[derive(Clone, Copy)]
 pub(crate) struct Links;
 
-impl Vocabulary<Link> for Links {
+impl Vocabulary<LinkPhase> for Links {
     ghost use Rattle.mg_names.specs.Words.{link_named};
 
     ghost named = { λ _. link_named };
 
-    fn named(&self, word: &str) -> Option<Link> {
-        Link::read(word)
+    fn named(&self, word: &str) -> Option<LinkPhase> {
+        LinkPhase::read(word)
     }
 }
 

@@ -4,7 +4,7 @@ use Rattle.std.proofs.lemmas.Grind.{common_steps}
 use Rattle.mg_names.specs.declared.context_values.ContextValue.{ContextValue}
 use Rattle.mg_names.specs.declared.context_values.ContextValue.TheVariants.{Free}
 use Rattle.mg_model.specs.Configuration.{Configuration, settled, value_of, stands_in}
-use Rattle.closure.specs.Turns.{settled_at}
+use Rattle.closure.specs.Elementwise.{settled_at}
 
 pub settled_all : (c : Configuration) → ((j : ℕ) → 4 ≤ j → c.context j ≡ Free) →
     settled_at (settled_at (settled_at (settled_at c 0) 1) 2) 3 ≡ settled c

@@ -15,7 +15,7 @@ use Rattle.mg_model.specs.declared.components.Spot.TheVariants.{Absent}
 use Rattle.mg_model.specs.declared.commands.EventsName.TheVariants.{Empty}
 use Rattle.configuration.specs.Places.{index_of, AbsentPastEight, NoCutsPastEight}
 use Rattle.configuration.proofs.WellFormedLemmas.{some_termination}
-use Rattle.closure.specs.Turns.{forget_pair, forget_pairs, lost_at, remote_lost, without_remotes_to, subtracted_from, subtracted_each}
+use Rattle.closure.specs.Elementwise.{forget_pair, forget_pairs, lost_at, remote_lost, without_remotes_to, subtracted_from, subtracted_each}
 
 pub lost_all : (k : ℕ) (c : Configuration) → ((n : ℕ) → 4 ≤ n → c.remote n ≡ Unset) →
     lost_at k (lost_at k (lost_at k (lost_at k c 0) 1) 2) 3 ≡ without_remotes_to k c

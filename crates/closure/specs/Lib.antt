@@ -3,4 +3,4 @@ pub mod Findings
 pub mod Groups
 pub mod Shown
 pub mod Tests
-pub mod Turns
+pub mod Elementwise

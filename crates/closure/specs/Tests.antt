@@ -8,7 +8,7 @@ use Rattle.mg_model.specs.Paths.{AreJoined}
 
 -- two lines that are joined are marked
 abbrev pub PairIsMarked : Script → Configuration → ℕ → ℕ → Type 0
-PairIsMarked script c i j = (i ≡ j → ⊥) → AreJoined c i j → IsTrue (is_marked (state_of script c.state).talk i j)
+PairIsMarked script c i j = AreJoined c i j → IsTrue (is_marked (state_of script c.state).talk i j)
 
 -- the same of two among so many lines
 abbrev pub PairBelowIsMarked : Script → Configuration → ℕ → ℕ → ℕ → Type 0

@@ -14,7 +14,7 @@ use configuration::spots;
 use configuration::well_formed::at_rest;
 use mg_model::commands::Termination;
 use mg_model::transitions::{EventItem, Pair};
-use mg_names::phases::Link;
+use mg_names::phases::LinkPhase;
 use mg_names::slots::Slot;
 use mg_names::strictness::Strict;
 use script_table::Script;
@@ -33,9 +33,6 @@ fn is_marked(talk: &[Pair], one: Slot, other: Slot) -> bool
 fn pair_is_marked(script: &Script, config: &Config, one: Slot, other: Slot) -> bool
     ensures { IsTrue result ↔ PairIsMarked script.now (configuration_of config.now) one other }
 {
-    if one.index() == other.index() {
-        return true;
-    }
     if !are_joined(config, one, other) {
         return true;
     }
@@ -160,10 +157,10 @@ pub fn ended_is_cleared(script: &Script, config: &Config) -> bool
 
 /// Whether the link is `sent`.
 fn is_sent(config: &Config) -> bool
-    ensures { IsTrue result ↔ ((configuration_of config.now).link ≡ Link.Sent) }
+    ensures { IsTrue result ↔ ((configuration_of config.now).link ≡ LinkPhase.Sent) }
 {
     match config.link() {
-        Link::Sent => true,
+        LinkPhase::Sent => true,
         _ => false,
     }
 }

@@ -1,10 +1,14 @@
 -- Words of the search for a path: what it asks in each turn. No public clause speaks of them.
-use Rattle.std.specs.Prelude.{ℕ, Bool, false, not, ◌&&◌, ◌||◌, List, [], ◌∷◌, slice_index_or}
+use Rattle.std.specs.Prelude.{ℕ, Bool, false, not, ◌&&◌, ◌||◌, IsTrue, List, [], ◌∷◌, slice_index_or}
 use Rattle.std.specs.List.{list_any}
 use Rattle.mg_model.specs.declared.commands.Termination.{Termination}
 use Rattle.mg_model.specs.declared.commands.Termination.TheVariants.{Line, Ephemeral}
 use Rattle.mg_model.specs.Configuration.{Configuration}
-use Rattle.mg_model.specs.Paths.{hops, crosses}
+use Rattle.mg_model.specs.Paths.{hops, crosses, goes_over}
+
+-- media goes from line i to line j, which may be the same
+abbrev pub Goes : Configuration → ℕ → ℕ → Type 0
+Goes c i j = (crossings : List (ℕ × ℕ)) × IsTrue (goes_over c (Line i) crossings (Line j))
 
 abbrev pub hops_from : Configuration → List Bool → Termination → ℕ → Bool
 hops_from c arrived sink k = slice_index_or arrived k false && hops c (Ephemeral k) sink

@@ -6,14 +6,14 @@ use mg_model::commands::{EventsName, Termination};
 use mg_model::components::{Remote, Spot};
 use mg_names::context_values::ContextValue;
 use mg_names::modes::Mode;
-use mg_names::phases::Link;
+use mg_names::phases::LinkPhase;
 use mg_names::slots::Slot;
 
 /// A configuration of one call. Slots that the script has no name for are absent, free, and not cut.
 #[derive(Clone, Copy, Debug)]
 pub struct Config {
     state: u8,
-    link: Link,
+    link: LinkPhase,
     spots: [Spot; 8],
     modes: [Mode; 8],
     events: [EventsName; 4],
@@ -40,7 +40,7 @@ impl Config {
     }
 
     /// How far the state's request has come.
-    pub fn link(&self) -> Link
+    pub fn link(&self) -> LinkPhase
         ensures { result ≡ (configuration_of self.now).link }
     {
         self.link
@@ -107,7 +107,7 @@ impl Config {
     }
 
     /// Sets the link.
-    pub fn set_link(&mut self, link: Link)
+    pub fn set_link(&mut self, link: LinkPhase)
         ensures { configuration_of self.new ≡ record (configuration_of self.old) { link = link } }
     {
         self.link = link;
@@ -190,7 +190,7 @@ impl Config {
     ghost use Rattle.configuration.specs.Config.{configuration_of};
 
     /// The configuration in which so many lines stand in the null context, Inactive and silent, and nothing else is.
-    pub fn unused(lines: usize, state: u8, link: Link, events: EventsName) -> Config
+    pub fn unused(lines: usize, state: u8, link: LinkPhase, events: EventsName) -> Config
         requires { lines ≤ 4 }
         ensures { configuration_of result ≡ unused lines state link events }
     {

@@ -11,7 +11,7 @@ use mg_model::commands::Termination;
 use mg_model::components::{Remote, Spot};
 use mg_names::context_values::ContextValue;
 use mg_names::modes::Mode;
-use mg_names::phases::Link;
+use mg_names::phases::LinkPhase;
 use mg_names::slots::Slot;
 
 /// All terminations that a script can name: four lines, then four ephemerals.
@@ -168,10 +168,10 @@ pub fn is_well_formed(config: &Config) -> bool
 
 /// Whether the call rests: its request's reply was taken.
 pub fn at_rest(config: &Config) -> bool
-    ensures { IsTrue result ↔ ((configuration_of config.now).link ≡ Link.Resting) }
+    ensures { IsTrue result ↔ ((configuration_of config.now).link ≡ LinkPhase.Resting) }
 {
     match config.link() {
-        Link::Resting => true,
+        LinkPhase::Resting => true,
         _ => false,
     }
 }

@@ -11,8 +11,9 @@ use Rattle.terminations.specs.Table.{cleared}
 use Rattle.mg_model.specs.Board.{row_with}
 use Rattle.contexts.specs.declared.cuts.Cut.{Cut}
 use Rattle.contexts.specs.Groups.{listed, has_cut}
-use Rattle.contexts.specs.Sheet.{cut_of, stands_in, IsTied}
+use Rattle.contexts.specs.BoardValue.{cut_of, stands_in, IsTied}
 use Rattle.contexts.proofs.TermLemmas.{same_is, by_value, not_both}
+use Rattle.contexts.proofs.OnceLemmas.{once_none}
 use Rattle.contexts.proofs.TieLemmas.{not_cut, stands_splits}
 use Rattle.contexts.proofs.RowLemmas.{cleared_place}
 use Rattle.contexts.proofs.MoveLemmas.{is_number, is_not}
@@ -85,6 +86,7 @@ tied_cleared rows after m n k j c clears tied = record {
   not_empty = λ d h. by_value (d == c)
       (λ e. none (n d) h (clears.members d ∙ rw e refl))
       (λ e. tied.not_empty d (rw e at (sym (clears.members d) ∙ h)));
+  once = λ d. rw (clears.members d) (by_value (d == c) (λ e. rw e once_none) (λ e. rw e (tied.once d)));
   inside = λ d x y h. by_value (d == c)
       (λ e. let at : has_cut None x y ≡ true = rw (clears.cuts d, e) at h in absurd (search rules))
       (λ e. let at : has_cut (k d) x y ≡ true = rw (clears.cuts d, e) at h in

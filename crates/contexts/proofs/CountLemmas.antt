@@ -12,7 +12,7 @@ use Rattle.mg_model.specs.declared.rows.Row.{Row}
 use Rattle.mg_model.specs.Items.{IsRising}
 use Rattle.contexts.specs.declared.cuts.Cut.{Cut}
 use Rattle.contexts.specs.Groups.{group_at, items_in}
-use Rattle.contexts.specs.Sheet.{IsTied, IsCount}
+use Rattle.contexts.specs.BoardValue.{IsTied, IsCount}
 use Rattle.contexts.proofs.TieLemmas.{exists_iff, StandsSome}
 
 pub above_all : (x : ℕ) (xs : List ℕ) → AllByRecursion (λ y. nat_cmp x y ≡ Less) xs → (y : ℕ) → Contains xs y → x < y
@@ -29,14 +29,18 @@ pub kept_iff : {Z : Type 0} (o : Option (Vec TermId Z)) → IsSome o ↔ IsTrue 
 kept_iff None = (λ h. absurd (search rules), λ h. absurd (search rules))
 kept_iff (Some v) = (λ h. search rules, λ h. search rules)
 
+pub among_iff : {Z : Type 0} (rows : TermId → Option Row) (m : BTreeMap ℕ (Vec TermId Z)) (k : ℕ → Option (List Cut)) → IsTied rows (group_at m.entries) k → (c : ℕ) →
+    Contains (keys m) c ↔ StandsSome rows c
+among_iff rows m k tied c =
+    let there = btree_map_contains_key_iff nat_cmp_total exact_unsigned m c in
+    let kept = kept_iff (get nat_cmp m c) in
+    let exists = exists_iff rows (group_at m.entries) k tied c in
+    (λ h. exists.0 (kept.0 (there.1 h)), λ h. there.0 (kept.1 (exists.1 h)))
+
 pub counts : {Z : Type 0} (rows : TermId → Option Row) (m : BTreeMap ℕ (Vec TermId Z)) (k : ℕ → Option (List Cut)) → IsTied rows (group_at m.entries) k → IsOrdered nat_cmp m → IsCount (StandsSome rows) (length (keys m))
 counts rows m k tied ordered = record {
   numbers = keys m;
   rising = rising (keys m) ordered;
-  exactly = λ c.
-      let there = btree_map_contains_key_iff nat_cmp_total exact_unsigned m c in
-      let kept = kept_iff (get nat_cmp m c) in
-      let exists = exists_iff rows (group_at m.entries) k tied c in
-      (λ h. exists.0 (kept.0 (there.1 h)), λ h. there.0 (kept.1 (exists.1 h)));
+  exactly = λ c. among_iff rows m k tied c;
   is = refl;
 }

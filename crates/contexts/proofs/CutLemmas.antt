@@ -10,7 +10,7 @@ use Rattle.mg_model.specs.Board.{same_term, place_in}
 use Rattle.mg_model.specs.Items.{with_cut, without_cuts}
 use Rattle.contexts.specs.declared.cuts.Cut.{Cut}
 use Rattle.contexts.specs.Groups.{listed, has_cut, is_of, is_between, cut_if, set_between}
-use Rattle.contexts.specs.Sheet.{cut_of, stands_in, IsTied}
+use Rattle.contexts.specs.BoardValue.{cut_of, stands_in, IsTied}
 use Rattle.contexts.proofs.TermLemmas.{same_is, same_back, split_and, by_value, not_both}
 use Rattle.contexts.proofs.TieLemmas.{not_cut, stands_not, stands_from}
 
@@ -115,6 +115,7 @@ pub tied_set : (rows : TermId → Option Row) (m : ℕ → Option (List TermId))
 tied_set rows m k j t u forward backward c sets tied = record {
   stands = tied.stands;
   not_empty = tied.not_empty;
+  once = tied.once;
   inside = λ d x y h. inside d x y h;
 }
   where

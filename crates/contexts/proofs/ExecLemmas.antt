@@ -6,7 +6,7 @@ use Rattle.mg_names.specs.declared.identifiers.TermId.TheVariants.{Line, Eph}
 use Rattle.mg_model.specs.declared.items.Item.{Item}
 use Rattle.mg_model.specs.declared.items.RemoteSetting.{RemoteSetting}
 use Rattle.mg_model.specs.Board.{Board, exists, ContextExists}
-use Rattle.mg_model.specs.Items.{Done, Lists, IsLegal, IsExecuted, Chosen, creates_context, creates_ephemeral, leaves, effect, remote_refused}
+use Rattle.mg_model.specs.Items.{Done, Lists, IsLegal, IsExecuted, Chosen, creates_context, creates_ephemeral, subtracts, effect, remote_refused}
 use Rattle.contexts.specs.Rows.{fits}
 use Rattle.contexts.specs.Steps.{created}
 use Rattle.contexts.proofs.TermLemmas.{by_value, not_both}
@@ -21,7 +21,7 @@ no_numbers test none = record {
 }
 
 -- a command that creates nothing and takes nothing out
-pub executed_plain : (b : Board) (item : Item) (after : Board) → creates_context item ≡ false → creates_ephemeral item ≡ false → ((u : TermId) → leaves b item u ≡ false) →
+pub executed_plain : (b : Board) (item : Item) (after : Board) → creates_context item ≡ false → creates_ephemeral item ≡ false → ((u : TermId) → subtracts b item u ≡ false) →
     IsLegal b item → after ≡ effect b item none_chosen → IsExecuted b item after (created None None)
 executed_plain b item after no_context no_ephemeral none legal is = record {
   chosen = none_chosen;
@@ -77,7 +77,7 @@ is_true_from false h = absurd (h (search rules))
 -- a command that creates nothing
 pub executed_out : (b : Board) (item : Item) (after : Board) (done : Done) → creates_context item ≡ false → creates_ephemeral item ≡ false →
     IsLegal b item → after ≡ effect b item none_chosen → done.context ≡ None → done.ephemeral ≡ None →
-    Lists (λ n. leaves b item (Line (record { 0 = n })) && exists b (Line (record { 0 = n }))) done.lines → Lists (λ n. leaves b item (Eph n) && exists b (Eph n)) done.ephemerals →
+    Lists (λ n. subtracts b item (Line (record { 0 = n })) && exists b (Line (record { 0 = n }))) done.lines → Lists (λ n. subtracts b item (Eph n) && exists b (Eph n)) done.ephemerals →
     IsExecuted b item after done
 executed_out b item after done no_context no_ephemeral legal is context ephemeral lines ephemerals = record {
   chosen = none_chosen;

@@ -1,4 +1,5 @@
 pub mod TermLemmas
+pub mod OnceLemmas
 pub mod TieLemmas
 pub mod PathLemmas
 pub mod CountLemmas

@@ -8,7 +8,7 @@ use Rattle.mg_names.specs.declared.identifiers.TermId.{TermId}
 use Rattle.mg_model.specs.declared.rows.Row.{Row}
 use Rattle.mg_model.specs.Board.{Board, same_term, exists, place_of, place_in}
 use Rattle.mg_model.specs.Items.{Lists}
-use Rattle.contexts.specs.Sheet.{stands_in}
+use Rattle.contexts.specs.BoardValue.{stands_in}
 use Rattle.contexts.proofs.TermLemmas.{same_is, by_value}
 use Rattle.contexts.proofs.MoveLemmas.{is_number, is_not}
 use Rattle.contexts.proofs.CountLemmas.{rising}

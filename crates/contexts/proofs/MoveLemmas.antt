@@ -13,7 +13,7 @@ use Rattle.mg_model.specs.Board.{row_with, null_row}
 use Rattle.contexts.specs.declared.cuts.Cut.{Cut}
 use Rattle.contexts.specs.Groups.{kept, has_member, with_member, without_member, without_cuts_of}
 use Rattle.contexts.specs.Rows.{row_in}
-use Rattle.contexts.specs.Sheet.{cut_of, IsTied}
+use Rattle.contexts.specs.BoardValue.{cut_of, IsTied}
 use Rattle.contexts.proofs.TermLemmas.{same_itself, same_back, by_value}
 use Rattle.contexts.proofs.TieLemmas.{Leaves, tied_left, cut_left, Enters, tied_entered, cut_entered}
 use Rattle.contexts.proofs.RowLemmas.{row_with_here, changes_twice}
@@ -127,6 +127,7 @@ pub tied_undone : (rows : TermId → Option Row) (m e n : ℕ → Option (List T
 tied_undone rows m e n k t c absent entered left tied = record {
   stands = λ d u. ap (λ (g : Option (List TermId)). has_member g u) (same d) ∙ tied.stands d u;
   not_empty = λ d h. tied.not_empty d (sym (same d) ∙ h);
+  once = λ d. rw (same d) (tied.once d);
   inside = tied.inside;
 }
   where

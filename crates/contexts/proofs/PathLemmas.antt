@@ -13,7 +13,7 @@ use Rattle.mg_model.specs.declared.rows.Row.{Row}
 use Rattle.mg_model.specs.Board.{Board, same_term, exists, place_of, remote_of}
 use Rattle.mg_model.specs.Media.{share_context, hops, is_number, crosses, goes_over}
 use Rattle.terminations.specs.Table.{row_at}
-use Rattle.contexts.specs.Sheet.{stands_in}
+use Rattle.contexts.specs.BoardValue.{stands_in}
 use Rattle.contexts.specs.Paths.{is_trail, avoids, Leads, crossed, arrival, LeadsBy, LeadsByOne}
 use Rattle.mg_model.specs.Members.{is_among}
 use Rattle.contexts.proofs.TermLemmas.{same_is, split_and, by_value, not_both}

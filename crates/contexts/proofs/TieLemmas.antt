@@ -4,7 +4,7 @@ use Rattle.std.proofs.lemmas.Grind.{common_steps}
 use Rattle.std.proofs.lemmas.List.Folds.{list_any-append}
 use Rattle.std.proofs.lemmas.Map.Views.{any-filter_same}
 use Rattle.std.specs.BTreeMap.{is_at}
-use Rattle.std.specs.List.{list_any}
+use Rattle.std.specs.List.{list_any, IsDistinct}
 use Rattle.std.specs.Map.{lookup}
 use Rattle.mg_names.specs.declared.identifiers.TermId.{TermId}
 use Rattle.mg_model.specs.declared.rows.Row.{Row}
@@ -13,8 +13,9 @@ use Rattle.mg_model.specs.Items.{without_cuts}
 use Rattle.mg_model.specs.Board.{row_with}
 use Rattle.contexts.specs.declared.cuts.Cut.{Cut}
 use Rattle.contexts.specs.Groups.{items_in, group_at, listed, kept, has_member, has_cut, with_member, without_member, without_cuts_of, touches, is_of}
-use Rattle.contexts.specs.Sheet.{cuts_at, cut_of, stands_in, IsTied}
+use Rattle.contexts.specs.BoardValue.{cuts_at, cut_of, stands_in, IsTied}
 use Rattle.contexts.proofs.TermLemmas.{same_itself, same_is, split_and, by_value, not_both}
+use Rattle.contexts.proofs.OnceLemmas.{once_none, once_with, once_without}
 
 -- the cuts that the view lists are those of the fields
 pub cuts_viewed : {Z : Type 0} (es : List (ℕ × Vec Cut Z)) (c : ℕ) → cuts_at (map (λ (e : ℕ × Vec Cut Z). (e.0, e.1.items)) es) c ≡ group_at es c
@@ -84,6 +85,7 @@ pub tied_within : (rows after : TermId → Option Row) (m : ℕ → Option (List
 tied_within rows after m k same tied = record {
   stands = λ c t. tied.stands c t ∙ ap (λ (n : ℕ). not (c == 0) && n == c) (sym (same t));
   not_empty = tied.not_empty;
+  once = tied.once;
   inside = λ c t u h. (ap (λ (n : ℕ). not (c == 0) && n == c) (same t) ∙ (tied.inside c t u h).0, ap (λ (n : ℕ). not (c == 0) && n == c) (same u) ∙ (tied.inside c t u h).1);
 }
 
@@ -122,6 +124,7 @@ pub tied_entered : (rows after : TermId → Option Row) (m n : ℕ → Option (L
 tied_entered rows after m n k t row c enters tied = rw enters.rows_are record {
   stands = λ d u. stands d u;
   not_empty = λ d e. not_empty d e;
+  once = λ d. once d;
   inside = λ d x y h. (more d x (tied.inside d x y h).0, more d y (tied.inside d x y h).1);
 }
   where
@@ -149,6 +152,15 @@ tied_entered rows after m n k t row c enters tied = rw enters.rows_are record {
     stands d u = by_value (d == c)
         (λ e. let same : d ≡ c = grind (arith, common_steps) in rw (enters.members d, entered d u, e, list_any-append (same_term u) (listed (m c)) (t ∷ [])) (or_false (list_any (same_term u) (listed (m c))) (same_term u t) ∙ ap (λ (a : Bool). a || same_term u t) (tied.stands c u ∙ ap (λ (i : ℕ). stands_in rows i u) (sym same))))
         (λ e. rw (enters.members d, entered d u, e) (tied.stands d u ∙ or_none (stands_in rows d u)))
+
+    -- it stood in none
+    apart : has_member (m c) t ≡ false
+    apart = tied.stands c t ∙ stands_not rows c t enters.was
+
+    once : (d : ℕ) → IsDistinct same_term (listed (n d))
+    once d = rw (enters.members d) (by_value (d == c)
+        (λ e. rw e (once_with t (m c) apart (tied.once c)))
+        (λ e. rw e (tied.once d)))
 
     not_empty : (d : ℕ) → n d ≡ Some [] → ⊥
     not_empty d h = by_value (d == c)
@@ -226,6 +238,7 @@ pub tied_left : (rows after : TermId → Option Row) (m n : ℕ → Option (List
 tied_left rows after m n k j t row c leaves tied = rw leaves.rows_are record {
   stands = λ d u. stands d u;
   not_empty = λ d e. not_empty d e;
+  once = λ d. once d;
   inside = λ d x y h. inside d x y h;
 }
   where
@@ -241,6 +254,11 @@ tied_left rows after m n k j t row c leaves tied = rw leaves.rows_are record {
     stands d u = by_value (d == c)
         (λ e. let same : d ≡ c = grind (arith, common_steps) in rw (leaves.members d, stands_left rows t row d u leaves.place, e, member_without t u (m c)) (ap (λ (a : Bool). not (same_term u t) && a) (tied.stands c u ∙ ap (λ (i : ℕ). stands_in rows i u) (sym same))))
         (λ e. rw (leaves.members d, stands_left rows t row d u leaves.place, e) (tied.stands d u ∙ elsewhere d u e))
+
+    once : (d : ℕ) → IsDistinct same_term (listed (n d))
+    once d = rw (leaves.members d) (by_value (d == c)
+        (λ e. rw e (once_without t (m c) (tied.once c)))
+        (λ e. rw e (tied.once d)))
 
     not_empty : (d : ℕ) → n d ≡ Some [] → ⊥
     not_empty d h = by_value (d == c)
@@ -321,6 +339,7 @@ pub tied_none : (rows : TermId → Option Row) (m : ℕ → Option (List TermId)
 tied_none rows m k null no_members no_cuts = record {
   stands = λ c t. rw (no_members c) (sym (stands_not rows c t (null t)));
   not_empty = λ c h. none (m c) h (no_members c);
+  once = λ c. rw (no_members c) once_none;
   inside = λ c t u h. let at : has_cut None t u ≡ true = rw (no_cuts c) at h in absurd (search rules);
 }
   where

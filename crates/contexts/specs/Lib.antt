@@ -1,5 +1,5 @@
 pub mod Groups
-pub mod Sheet
+pub mod BoardValue
 pub mod Rows
 pub mod Steps
 pub mod Faults

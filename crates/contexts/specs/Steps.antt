@@ -10,7 +10,7 @@ use Rattle.mg_model.specs.Board.{Board, ContextExists, exists, place_of, same_te
 use Rattle.mg_model.specs.Numbers.{null, choose}
 use Rattle.mg_model.specs.Items.{Done, Lists, is_ephemeral_number, with_ephemeral, given, NoContextLeft, NoEphemeralLeft, EphemeralsUsedUp, placed}
 use Rattle.contexts.specs.Rows.{fits}
-use Rattle.contexts.specs.Sheet.{stands_in}
+use Rattle.contexts.specs.BoardValue.{stands_in}
 
 -- a new ephemeral stands in a context, and its number was not given
 pub record IsEntered (old new : Board) (context : ℕ) (settings : Settings) (number : ℕ) : Type 0 where

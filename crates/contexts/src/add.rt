@@ -4,7 +4,7 @@ ghost use Rattle.mg_model.specs.Numbers.{null};
 ghost use Rattle.mg_model.specs.Board.{place_of, exists};
 ghost use Rattle.mg_model.specs.Items.{placed, NoEphemeralLeft};
 ghost use Rattle.contexts.specs.Rows.{fits};
-ghost use Rattle.contexts.specs.Sheet.{board_of};
+ghost use Rattle.contexts.specs.BoardValue.{board_of};
 ghost use Rattle.contexts.specs.Steps.{IsEntered};
 
 use crate::board::Board;

@@ -1,12 +1,12 @@
 //! The board.
-ghost use Rattle.std.specs.Prelude.{◌≡◌, ℕ, Bool, true, false, Some, None, IsTrue, ◌↔◌, IfOk, OnErr};
-ghost use Rattle.contexts.specs.Sheet.{opened, started};
+ghost use Rattle.std.specs.Prelude.{◌≡◌, ℕ, Bool, true, false, Some, None, IsTrue, ◌↔◌, IfOk, OnErr, Contains, map};
+ghost use Rattle.contexts.specs.BoardValue.{opened, started};
 
-use crate::cuts::Cuts;
+use crate::cuts::{self, Cuts};
 use crate::members::{self, Members};
 use mg_model::rows::Row;
-use mg_names::identifiers::TermId;
-use std::alloc::Global;
+use mg_names::identifiers::{ContextId, TermId};
+use std::alloc::{AllocError, Global};
 use std::marker::Model;
 use terminations::Terms;
 
@@ -24,9 +24,9 @@ impl Model for Board {
     ghost use Rattle.std.specs.Prelude.{map};
     ghost use Rattle.terminations.specs.Table.{row_of};
     ghost use Rattle.contexts.specs.Groups.{group_at};
-    ghost use Rattle.contexts.specs.Sheet.{Sheet, IsTied};
+    ghost use Rattle.contexts.specs.BoardValue.{BoardValue, IsTied};
 
-    ghost Value = { Sheet };
+    ghost Value = { BoardValue };
 
     ghost view = { λ b. record { table = b.terms; cuts = map (λ e. (e.0, e.1.items)) b.cuts.entries; last = b.last } };
 
@@ -34,12 +34,15 @@ impl Model for Board {
 }
 
 impl Board {
-    ghost use Rattle.mg_model.specs.Board.{ContextExists};
+    ghost use Rattle.mg_names.specs.declared.identifiers.TermId.{TermId};
+    ghost use Rattle.std.specs.List.{list_any, IsDistinct};
+    ghost use Rattle.mg_model.specs.Board.{ContextExists, same_term};
+    ghost use Rattle.mg_model.specs.Items.{IsRising};
     ghost use Rattle.terminations.specs.Table.{cleared};
-    ghost use Rattle.contexts.specs.Sheet.{board_of, IsCount};
+    ghost use Rattle.contexts.specs.BoardValue.{board_of, stands_in, IsCount};
 
     /// The row of a termination; `None` where it doesn't exist.
-    #[tactic(auto, unfolding(crate::specs::Sheet::board_of))]
+    #[tactic(auto, unfolding(crate::specs::BoardValue::board_of))]
     pub fn get(&self, t: TermId) -> Option<Row>
         ensures { result ≡ (board_of self.now).row t }
     {
@@ -53,11 +56,36 @@ impl Board {
         members::has_any(&self.members, context)
     }
 
+    /// The terminations that stand in a context, each once; none of the null context, which is no context. The order has no meaning.
+    pub fn members(&self, context: ContextId) -> &[TermId]
+        ensures exactly { (t : TermId) → list_any (same_term t) result.now ≡ stands_in (board_of self.now).row context.0 t }
+        ensures once { IsDistinct same_term result.now }
+    {
+        members::of_context(&self.members, context.0)
+    }
+
+    /// Whether media from the one termination to the other is cut.
+    pub fn is_cut(&self, from: TermId, to: TermId) -> bool
+        ensures { result ≡ (board_of self.now).cut from to }
+    {
+        cuts::is_cut(&self.cuts, self.place_of(from), &from, &to)
+    }
+
     /// How many contexts exist.
     pub fn contexts(&self) -> usize
         ensures { IsCount (ContextExists (board_of self.now)) result }
     {
         self.members.len()
+    }
+
+    /// The contexts that exist, in rising order.
+    pub fn context_numbers(&self) -> Result<Vec<ContextId>, AllocError>
+        ensures rising { IfOk result (λ found. IsRising (map (λ c. c.0) found.items)) }
+        ensures exactly { IfOk result (λ found. (n : ℕ) → Contains (map (λ c. c.0) found.items) n ↔ ContextExists (board_of self.now) n) }
+    {
+        let numbers = members::numbers(self.alloc, &self.members)?;
+        let found = members::contexts(self.alloc, numbers.as_slice())?;
+        Ok(found)
     }
 
     /// Every line goes to the null context and is Inactive; no context, no ephemeral and no cut is left, and numbers may be given

@@ -5,7 +5,7 @@ use std::alloc::AllocError;
 use std::marker::Model;
 
 /// What a command created, and what it took out of its context.
-#[derive(Drop)]
+#[derive(Debug, Drop)]
 pub struct Done {
     pub(crate) context: Option<u32>,
     pub(crate) ephemeral: Option<u32>,
@@ -21,16 +21,6 @@ impl Model for Done {
     ghost view = { λ d. record { context = d.context; ephemeral = d.ephemeral; lines = d.lines.items; ephemerals = d.ephemerals.items } };
 }
 
-impl Clone for Done {
-    ghost use Rattle.std.specs.Prelude.{◌≡◌};
-
-    ghost is_clone = { λ done copied. copied ≡ done };
-
-    fn clone(&self) -> Result<Done, AllocError> {
-        self.copy()
-    }
-}
-
 /// The same numbers again.
 fn copied(numbers: &Vec<u32>) -> Result<Vec<u32>, AllocError>
     ensures { IfOk result (λ found. found.items ≡ numbers.now.items) }
@@ -38,11 +28,12 @@ fn copied(numbers: &Vec<u32>) -> Result<Vec<u32>, AllocError>
     numbers.clone()
 }
 
-impl Done {
-    /// An equal value.
-    pub(crate) fn copy(&self) -> Result<Done, AllocError>
-        ensures { IfOk result (λ found. found ≡ self.now) }
-    {
+impl Clone for Done {
+    ghost use Rattle.std.specs.Prelude.{◌≡◌};
+
+    ghost is_clone = { λ done copied. copied ≡ done };
+
+    fn clone(&self) -> Result<Done, AllocError> {
         Ok(Done {
             context: self.context,
             ephemeral: self.ephemeral,
@@ -50,7 +41,9 @@ impl Done {
             ephemerals: copied(&self.ephemerals)?,
         })
     }
+}
 
+impl Done {
     /// The number of the context that the command created.
     pub fn context(&self) -> Option<u32>
         ensures { result ≡ self.now.context }

@@ -2,7 +2,7 @@
 ghost use Rattle.std.specs.Prelude.{◌≡◌, OnErr, IfOk, IfErr};
 ghost use Rattle.mg_model.specs.Items.{IsLegal, IsExecuted};
 ghost use Rattle.mg_model.specs.declared.items.Item.TheVariants as item;
-ghost use Rattle.contexts.specs.Sheet.{board_of};
+ghost use Rattle.contexts.specs.BoardValue.{board_of};
 ghost use Rattle.contexts.specs.Faults.{IsFault};
 ghost use Rattle.contexts.specs.Steps.{created};
 

@@ -3,7 +3,7 @@ ghost use Rattle.std.specs.Prelude.{◌≡◌, ◌≢◌, ◌+◌, ◌<◌, true
 ghost use Rattle.mg_model.specs.Numbers.{choose, last_context};
 ghost use Rattle.mg_model.specs.Items.{IsLegal, IsExecuted, given};
 ghost use Rattle.mg_model.specs.declared.items.Item.TheVariants as item;
-ghost use Rattle.contexts.specs.Sheet.{board_of};
+ghost use Rattle.contexts.specs.BoardValue.{board_of};
 ghost use Rattle.contexts.specs.Steps.{IsAdded, CanBeAdded};
 
 use crate::board::Board;
@@ -44,7 +44,7 @@ impl Board {
     }
 
     /// Gives the next number to a context.
-    #[tactic(auto, unfolding(crate::specs::Sheet::board_of), using(crate::proofs::NumberLemmas::next_given))]
+    #[tactic(auto, unfolding(crate::specs::BoardValue::board_of), using(crate::proofs::NumberLemmas::next_given))]
     fn give(&mut self, number: u32)
         requires { number ≡ self.old.last + 1 }
         ensures { board_of self.new ≡ record (board_of self.old) { given_context = given true number (board_of self.old).given_context } }

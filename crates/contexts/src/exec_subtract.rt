@@ -7,7 +7,7 @@ ghost use Rattle.mg_names.specs.declared.identifiers.TermId.TheVariants.{Line, E
 ghost use Rattle.mg_model.specs.Board.{same_term};
 ghost use Rattle.mg_model.specs.Items.{IsLegal, IsExecuted, Lists};
 ghost use Rattle.mg_model.specs.declared.items.Item.TheVariants as item;
-ghost use Rattle.contexts.specs.Sheet.{board_of};
+ghost use Rattle.contexts.specs.BoardValue.{board_of};
 ghost use Rattle.contexts.specs.Steps.{IsTakenOut, IsEmptied};
 
 use crate::board::Board;

@@ -3,10 +3,9 @@ ghost use Rattle.std.specs.Prelude.{◌≡◌};
 ghost use Rattle.mg_names.specs.declared.identifiers.TermId.TheVariants.{Eph};
 ghost use Rattle.mg_model.specs.Board.{mode_of, remote_of};
 ghost use Rattle.mg_model.specs.Media.{receives, sends, share_context, hops, is_number, crosses};
-ghost use Rattle.contexts.specs.Sheet.{board_of};
+ghost use Rattle.contexts.specs.BoardValue.{board_of};
 
 use crate::board::Board;
-use crate::cuts;
 use crate::same::is_same;
 use mg_names::identifiers::TermId;
 use mg_names::modes::Mode;
@@ -33,7 +32,7 @@ fn sends(mode: Mode) -> bool
 
 impl Board {
     /// The mode of a termination; Inactive where it doesn't exist.
-    #[tactic(auto, unfolding(crate::specs::Sheet::board_of))]
+    #[tactic(auto, unfolding(crate::specs::BoardValue::board_of))]
     fn mode_of(&self, t: TermId) -> Mode
         ensures { result ≡ mode_of (board_of self.now) t }
     {
@@ -44,7 +43,7 @@ impl Board {
     }
 
     /// The number of the ephemeral that the Remote of a termination names.
-    #[tactic(auto, unfolding(crate::specs::Sheet::board_of))]
+    #[tactic(auto, unfolding(crate::specs::BoardValue::board_of))]
     pub(crate) fn remote_of(&self, t: TermId) -> Option<u32>
         ensures { result ≡ remote_of (board_of self.now) t }
     {
@@ -52,13 +51,6 @@ impl Board {
             Some(row) => row.remote,
             None => None,
         }
-    }
-
-    /// Whether media from the one termination to the other is cut.
-    fn is_cut(&self, t: &TermId, u: &TermId) -> bool
-        ensures { result ≡ (board_of self.now).cut t.now u.now }
-    {
-        cuts::is_cut(&self.cuts, self.place_of(*t), t, u)
     }
 
     /// Whether two terminations stand in one context that isn't the null context.
@@ -78,7 +70,7 @@ impl Board {
         let shared = self.share_context(source, sink);
         let inward = receives(self.mode_of(*source));
         let outward = sends(self.mode_of(*sink));
-        let open = !self.is_cut(source, sink);
+        let open = !self.is_cut(*source, *sink);
         apart && shared && inward && outward && open
     }
 

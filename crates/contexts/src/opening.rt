@@ -4,7 +4,7 @@ ghost use Rattle.mg_names.specs.declared.identifiers.TermId.{TermId};
 ghost use Rattle.mg_names.specs.declared.identifiers.TermId.TheVariants.{Line};
 ghost use Rattle.terminations.specs.Table.{row_of, given_of};
 ghost use Rattle.mg_model.specs.Board.{row_with};
-ghost use Rattle.contexts.specs.Sheet.{board_of, opened, started, or_idle, filled};
+ghost use Rattle.contexts.specs.BoardValue.{board_of, opened, started, or_idle, filled};
 
 use crate::board::Board;
 use crate::{cuts, members};

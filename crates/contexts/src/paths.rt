@@ -5,7 +5,7 @@ ghost use Rattle.mg_names.specs.declared.identifiers.TermId.TheVariants.{Eph};
 ghost use Rattle.mg_model.specs.Board.{remote_of};
 ghost use Rattle.mg_model.specs.Media.{HasPath, AreJoined};
 ghost use Rattle.contexts.specs.Paths.{arrived, is_trail, arrival, crossed, Leads};
-ghost use Rattle.contexts.specs.Sheet.{board_of};
+ghost use Rattle.contexts.specs.BoardValue.{board_of};
 
 use crate::board::Board;
 use crate::members;
@@ -56,14 +56,17 @@ impl Board {
         false
     }
 
-    /// Whether there is a path of media from the one line to the other.
+    /// Whether there is a path of media from the one line to another line.
     pub fn path(&self, from: LineNo, to: LineNo) -> bool
         ensures { IsTrue result ↔ HasPath (board_of self.now) from.0 to.0 }
     {
+        if from.0 == to.0 {
+            return false;
+        }
         self.leads(&TermId::Line(from), &TermId::Line(to), &Trail::Start)
     }
 
-    /// Whether two lines are joined: there is a path of media from one to the other, either way.
+    /// Whether two different lines are joined: there is a path of media from one to the other, either way.
     pub fn joined(&self, one: LineNo, other: LineNo) -> bool
         ensures { IsTrue result ↔ AreJoined (board_of self.now) one.0 other.0 }
     {

@@ -2,7 +2,7 @@
 ghost use Rattle.std.specs.Prelude.{◌≡◌, not, ◌||◌, IsTrue, ◌↔◌, MatchOption};
 ghost use Rattle.mg_model.specs.Board.{exists, place_of, ContextExists};
 ghost use Rattle.mg_model.specs.Items.{LacksContext, names_nothing, remote_refused, lacks_termination, is_taken, is_misplaced, NoContextLeft, NoEphemeralLeft, EphemeralsUsedUp, IsUsedUp, IsLegal, IsRefused};
-ghost use Rattle.contexts.specs.Sheet.{board_of};
+ghost use Rattle.contexts.specs.BoardValue.{board_of};
 ghost use Rattle.contexts.specs.Steps.{IsUnknown, IsUnknownBut, NoneLeftFor};
 
 use crate::board::Board;
@@ -47,7 +47,7 @@ impl Board {
     }
 
     /// Whether a termination exists.
-    #[tactic(auto, unfolding(crate::specs::Sheet::board_of))]
+    #[tactic(auto, unfolding(crate::specs::BoardValue::board_of))]
     pub(crate) fn exists(&self, t: TermId) -> bool
         ensures { result ≡ exists (board_of self.now) t }
     {
@@ -55,7 +55,7 @@ impl Board {
     }
 
     /// The number of the context of a termination; 0 where it doesn't exist.
-    #[tactic(auto, unfolding(crate::specs::Sheet::board_of))]
+    #[tactic(auto, unfolding(crate::specs::BoardValue::board_of))]
     pub(crate) fn place_of(&self, t: TermId) -> u32
         ensures { result ≡ place_of (board_of self.now) t }
     {
@@ -178,7 +178,7 @@ impl Board {
     }
 
     /// Whether each number of an ephemeral was given.
-    #[tactic(auto, unfolding(crate::specs::Sheet::board_of))]
+    #[tactic(auto, unfolding(crate::specs::BoardValue::board_of))]
     fn has_no_ephemeral_left(&self) -> bool
         ensures { IsTrue result ↔ NoEphemeralLeft (board_of self.now) }
     {

@@ -2,7 +2,7 @@
 ghost use Rattle.std.specs.Prelude.{◌≡◌, ℕ, true, IsTrue, is_some};
 ghost use Rattle.mg_model.specs.Board.{same_term, place_of, exists};
 ghost use Rattle.mg_model.specs.Items.{without};
-ghost use Rattle.contexts.specs.Sheet.{board_of};
+ghost use Rattle.contexts.specs.BoardValue.{board_of};
 
 use crate::board::Board;
 use crate::{cuts, members, rows};

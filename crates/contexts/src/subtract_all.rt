@@ -5,7 +5,7 @@ ghost use Rattle.mg_names.specs.declared.identifiers.TermId.{TermId};
 ghost use Rattle.mg_model.specs.Board.{same_term, place_of};
 ghost use Rattle.mg_model.specs.Items.{without};
 ghost use Rattle.terminations.specs.Table.{row_of, given_of, cleared};
-ghost use Rattle.contexts.specs.Sheet.{board_of};
+ghost use Rattle.contexts.specs.BoardValue.{board_of};
 
 use crate::board::Board;
 use crate::{cuts, members, rows};

@@ -3,7 +3,7 @@ ghost use Rattle.std.specs.Prelude.{◌≡◌, false, not, OnOk, OnErr};
 ghost use Rattle.mg_model.specs.Numbers.{null};
 ghost use Rattle.mg_model.specs.Board.{same_term, place_of};
 ghost use Rattle.mg_model.specs.Items.{first_receives, second_receives, with_topology};
-ghost use Rattle.contexts.specs.Sheet.{board_of};
+ghost use Rattle.contexts.specs.BoardValue.{board_of};
 
 use crate::board::Board;
 use crate::cuts;

@@ -39,23 +39,30 @@ impl Inbox {
 
     /// The inbox of a new association: no note was accepted.
     #[tactic(auto, unfolding(crate::specs::Inboxes::is_among))]
-    pub fn new(alloc: Global, assoc: Assoc) -> Inbox
-        ensures { inbox_of result ≡ new_inbox assoc.0 }
+    pub fn new(alloc: Global, association: Assoc) -> Inbox
+        ensures { inbox_of result ≡ new_inbox association.0 }
     {
         Inbox {
-            association: assoc,
+            association,
             accepted: BTreeSet::new(alloc),
         }
     }
 
-    /// A note of this association and number arrives. On want of memory nothing changes, and only a new number needs memory.
-    pub fn accept(&mut self, assoc: Assoc, note: u32) -> Result<Arrival, AllocError>
-        ensures answer { IfOk result (λ found. arrived found ≡ arrival (inbox_of self.old) assoc.0 note) }
-        ensures accepted { OnOk result (inbox_of self.new ≡ after_arrival (inbox_of self.old) assoc.0 note) }
-        ensures unchanged { OnErr result (self.new ≡ self.old) }
-        ensures only_new { OnErr result (arrival (inbox_of self.old) assoc.0 note ≡ arrives_new) }
+    /// The association.
+    pub fn association(&self) -> Assoc
+        ensures { result.0 ≡ (inbox_of self.now).association }
     {
-        if assoc != self.association {
+        self.association
+    }
+
+    /// A note of this association and number arrives. Where memory runs out nothing changes, and only a new number needs memory.
+    pub fn accept(&mut self, association: Assoc, note: u32) -> Result<Arrival, AllocError>
+        ensures answer { IfOk result (λ found. arrived found ≡ arrival (inbox_of self.old) association.0 note) }
+        ensures accepted { OnOk result (inbox_of self.new ≡ after_arrival (inbox_of self.old) association.0 note) }
+        ensures unchanged { OnErr result (self.new ≡ self.old) }
+        ensures only_new { OnErr result (arrival (inbox_of self.old) association.0 note ≡ arrives_new) }
+    {
+        if association != self.association {
             return Ok(Arrival::Old);
         }
         if numbers::add(&mut self.accepted, note)? {
@@ -67,10 +74,10 @@ impl Inbox {
 
     /// A new association begins: no note was accepted.
     #[tactic(auto, unfolding(crate::specs::Inboxes::is_among))]
-    pub fn restart(&mut self, assoc: Assoc)
-        ensures { inbox_of self.new ≡ new_inbox assoc.0 }
+    pub fn restart(&mut self, association: Assoc)
+        ensures { inbox_of self.new ≡ new_inbox association.0 }
     {
-        self.association = assoc;
+        self.association = association;
         self.accepted.clear();
     }
 }

@@ -7,7 +7,7 @@ pub fn fresh_exactly_above<R: Drop>()
 {}
 
 /// Once a request was executed, neither its number nor a lower one is new again in the association, whatever requests are
-/// executed later (H.248.1 section 8.1; that lower numbers are never new again is this profile's own).
+/// executed later (H.248.1 Annex D.1.1; that lower numbers are never new again is this profile's own).
 pub fn fresh_at_most_once<R: Drop>()
     ensures { FreshAtMostOnce R }
 {}

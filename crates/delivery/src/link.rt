@@ -12,7 +12,7 @@ pub enum Offer<'a, R> {
     Fresh,
     /// The last number again: what was kept of it is to be sent once more.
     Kept(&'a R),
-    /// A lower number, or another association.
+    /// A lower number, another association, or the number 0, which no request has.
     Discard,
 }
 
@@ -35,20 +35,20 @@ impl<R: Drop> Link<R> {
     ghost use Rattle.delivery.specs.Offers.{offered};
 
     /// The link of a new association: no request was executed.
-    pub fn new(assoc: Assoc) -> Link<R>
-        ensures { result ≡ new_link assoc.0 }
+    pub fn new(association: Assoc) -> Link<R>
+        ensures { result ≡ new_link association.0 }
     {
         Link {
-            association: assoc,
+            association,
             last: None,
         }
     }
 
     /// What is to be done with a request of this association and number.
-    pub fn offer(&self, assoc: Assoc, id: u32) -> Offer<'_, R>
-        ensures { offered result ≡ offer self.now assoc.0 id }
+    pub fn offer(&self, association: Assoc, id: u32) -> Offer<'_, R>
+        ensures { offered result ≡ offer self.now association.0 id }
     {
-        if assoc != self.association {
+        if association != self.association {
             return Offer::Discard;
         }
         let Some((last, kept)) = &self.last else {
@@ -76,15 +76,15 @@ impl<R: Drop> Link<R> {
     }
 
     /// A new association begins: nothing is kept.
-    pub fn restart(&mut self, assoc: Assoc)
-        ensures { self.new ≡ new_link assoc.0 }
+    pub fn restart(&mut self, association: Assoc)
+        ensures { self.new ≡ new_link association.0 }
     {
-        self.association = assoc;
+        self.association = association;
         self.last = None;
     }
 
     /// The association.
-    pub fn assoc(&self) -> Assoc
+    pub fn association(&self) -> Assoc
         ensures { result.0 ≡ self.now.association }
     {
         self.association

@@ -1,6 +1,11 @@
 pub mod Faults
+pub mod Marks
 pub mod Symbols
+pub mod Grammar
 pub mod Reading
+pub mod Refusals
+pub mod Laws
 pub mod Progress
 pub mod Steps
 pub mod Alternatives
+pub mod Equality

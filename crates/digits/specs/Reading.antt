@@ -1,13 +1,13 @@
--- Reading a digit map from left to right, with the first fault that is met. A reader should check the grammar:
--- alternatives parted by `|`, each of one position or more; a position is a symbol, `x` for any digit, or a range in
--- brackets; one pair of parentheses may stand round the whole text.
+-- Reading a digit map from left to right: which fault is met first, and at which byte. What a map is stands in Grammar, and
+-- what is read here is proved to be exactly that. A reader should check the places of the faults.
 use Rattle.std.specs.Prelude.{ℕ, zero, suc, ◌+◌, ◌-◌, List, [], ◌∷◌, length, take, drop, slice_index, Bool, ◌&&◌, ◌||◌, ◌==◌, nat_lt, nat_le, if◌then◌else◌, Option, Some, None, Result, Ok, Err}
 use Rattle.std.specs.List.{list_all, slice_split, before_first, after_first}
 use Rattle.digits.specs.declared.fault.MapFault.{MapFault}
 use Rattle.digits.specs.declared.fault.MapFault.TheVariants as fault
 use Rattle.digits.specs.declared.span.Span.{Span}
 use Rattle.mg_model.specs.declared.positions.Position.{Position}
-use Rattle.digits.specs.Symbols.{is_digit, symbol_of, position_of}
+use Rattle.digits.specs.Marks.{bar, dash, opening_bracket, closing_bracket, opening_parenthesis, closing_parenthesis, is_x}
+use Rattle.digits.specs.Symbols.{is_digit, symbol_of, run, position_of}
 
 infixl 10 ◌>>=◌
 abbrev pub ◌>>=◌ : {A B : Type 0} → Result A MapFault → (A → Result B MapFault) → Result B MapFault
@@ -31,9 +31,6 @@ values step (suc n) (byte ∷ bytes) = do
 abbrev pub all_of : {A : Type 0} → Step A → List ℕ → Result (List A) MapFault
 all_of step text = values step (length text) text
 
-abbrev pub run : ℕ → ℕ → Span
-run low high = record { low = low; high = high }
-
 -- the run of two digits, the second not lower
 unfoldable pub rising : ℕ → ℕ → Option Span
 rising low high = if is_digit low && is_digit high && nat_le low high then Some (run (low - 48) (high - 48)) else None
@@ -45,12 +42,12 @@ or_fault fault (Some x) = Ok x
 -- in a range: a digit, `-` and a digit that isn't lower; or one symbol. start is the place of the range.
 unfoldable pub run_at : ℕ → Step Span
 run_at start text =
-    if nat_lt 2 (length text) && slice_index text 1 == 45
+    if nat_lt 2 (length text) && slice_index text 1 == dash
     then (or_fault (fault.BadRange start) (rising (slice_index text 0) (slice_index text 2)) >>= λ found. Ok (found, drop 3 text))
     else or_fault (fault.BadRange start) (symbol_of (slice_index text 0)) >>= λ symbol. Ok (run symbol symbol, drop 1 text)
 
 abbrev pub is_end : ℕ → Bool
-is_end byte = byte == 93
+is_end byte = byte == closing_bracket
 
 -- from `[` to the first `]`, with something between them
 unfoldable pub range_at : ℕ → Step Position
@@ -65,8 +62,8 @@ unfoldable pub position_at : ℕ → Step Position
 position_at end text =
     let start = end - length text in
     let byte = slice_index text 0 in
-    if byte == 91 then range_at start text
-    else if byte == 120 || byte == 88 then Ok (position_of (run 0 9 ∷ []), drop 1 text)
+    if byte == opening_bracket then range_at start text
+    else if is_x byte then Ok (position_of (run 0 9 ∷ []), drop 1 text)
     else or_fault (fault.BadSymbol start) (symbol_of byte) >>= λ symbol. Ok (position_of (run symbol symbol ∷ []), drop 1 text)
 
 -- an alternative that begins at the place `start`
@@ -83,10 +80,10 @@ alternatives_of start (text ∷ texts) = do
 
 -- one pair of parentheses stands round the whole text
 abbrev pub is_wrapped : List ℕ → Bool
-is_wrapped text = nat_le 2 (length text) && slice_index text 0 == 40 && slice_index text (length text - 1) == 41
+is_wrapped text = nat_le 2 (length text) && slice_index text 0 == opening_parenthesis && slice_index text (length text - 1) == closing_parenthesis
 
 abbrev pub parts : List ℕ → List (List ℕ)
-parts text = slice_split (λ byte. byte == 124) text
+parts text = slice_split (λ byte. byte == bar) text
 
 -- how many bytes parts take, each with a bar after it
 abbrev pub bytes_of : List (List ℕ) → ℕ

@@ -16,6 +16,10 @@ symbol_of byte =
     else if byte == 70 || byte == 102 then Some 11
     else None
 
+-- the symbols from the low to the high one
+abbrev pub run : ℕ → ℕ → Span
+run low high = record { low = low; high = high }
+
 -- a run has the symbol
 abbrev pub reaches : Span → ℕ → Bool
 reaches span symbol = nat_le span.low symbol && nat_le symbol span.high

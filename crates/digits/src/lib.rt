@@ -6,6 +6,7 @@ mod alternatives;
 mod collector;
 mod dialled;
 mod fault;
+pub mod laws;
 mod map;
 mod reading;
 mod span;

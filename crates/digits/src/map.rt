@@ -1,9 +1,11 @@
 //! A digit map.
-ghost use Rattle.std.specs.Prelude.{◌≡◌, IfOk, IsTrue, map, length, nat_le};
+ghost use Rattle.std.specs.Prelude.{◌≡◌, IfOk, IfErr, IsTrue, map, length, nat_le};
 ghost use Rattle.std.specs.List.{list_all};
 ghost use Rattle.mg_model.specs.Memory.{Answers};
 ghost use Rattle.digits.specs.Faults.{is_memory};
+ghost use Rattle.digits.specs.Grammar.{IsMap};
 ghost use Rattle.digits.specs.Reading.{fits, map_of, unwrapped};
+ghost use Rattle.digits.specs.Refusals.{IsRefused};
 
 use crate::fault::MapFault;
 use crate::reading;
@@ -15,7 +17,7 @@ use std::marker::Model;
 pub const LIMIT: usize = 16;
 
 /// A digit map (ITU-T H.248.1 v1 / RFC 3525, 7.1.14): its alternatives, of which each is a list of positions.
-#[derive(Drop)]
+#[derive(Debug, Drop)]
 pub struct DigitMap {
     alternatives: Vec<Vec<Position>>,
 }
@@ -35,17 +37,15 @@ impl Model for DigitMap {
 }
 
 impl DigitMap {
-    /// Reads a map. Of the faults `Empty`, `BadSymbol` and `BadRange` the first from the left is given; `TooLong` only
-    /// where the text has none of these. `NoMemory` may come in place of any answer.
-    #[tactic(auto, unfolding(crate::specs::Reading::map_of))]
+    /// Reads a map. What is read is of the grammar and within the limits; a text of the grammar is refused only as `TooLong`,
+    /// and any other text only by another fault: of `Empty`, `BadSymbol` and `BadRange` the first from the left.
+    /// `NoMemory` may come in place of any answer.
     pub fn parse(alloc: Global, text: &str) -> Result<DigitMap, MapFault>
-        ensures { Answers is_memory (λ m. m) result (map_of text.now) }
+        ensures first_fault { Answers is_memory (λ m. m) result (map_of text.now) }
+        ensures in_grammar { IfOk result (λ m. IsMap text.now m × IsTrue (fits m)) }
+        ensures refused { IfErr result (IsRefused text.now) }
     {
-        let alternatives = read(alloc, text.as_bytes())?;
-        if !is_short(alternatives.as_slice()) {
-            return Err(MapFault::TooLong);
-        }
-        Ok(DigitMap { alternatives })
+        parsed(alloc, text)
     }
 
     /// An equal map.
@@ -57,12 +57,53 @@ impl DigitMap {
     }
 
     /// The alternatives, each a list of positions: 16 at most, with 16 positions at most.
-    pub(crate) fn alternatives(&self) -> &[Vec<Position>]
+    pub fn alternatives(&self) -> &[Vec<Position>]
         ensures value { map (λ a. a.items) result.now ≡ self.now }
         ensures short { IsTrue (fits self.now) }
     {
         self.alternatives.as_slice()
     }
+}
+
+impl PartialEq for DigitMap {
+    ghost use Rattle.std.specs.Prelude.{◌≡◌};
+    ghost use Rattle.std.specs.Bool.{Decides};
+    ghost use Rattle.std.specs.Cmp.{on_per, partial_equiv_from_equiv, bool_eq_equiv};
+    ghost use Rattle.std.specs.Cmp.Lexicographic.{lists_per};
+    ghost use Rattle.mg_model.specs.declared.positions.Position.{Position};
+    ghost use Rattle.digits.specs.Equality.{same_alternatives};
+
+    ghost eq = { same_alternatives };
+
+    ghost laws = { lists_per (lists_per (on_per (λ (p : Position). p.accepts) (lists_per (partial_equiv_from_equiv bool_eq_equiv)))) };
+
+    /// Whether both have the same positions in the same alternatives.
+    fn eq(&self, other: &DigitMap) -> bool
+        ensures value { result ≡ same_alternatives self.now other.now }
+        ensures same { Decides result (self.now ≡ other.now) }
+    {
+        self.alternatives() == other.alternatives()
+    }
+}
+
+impl Eq for DigitMap {
+    ghost use Rattle.std.specs.Cmp.{on_equiv, bool_eq_equiv};
+    ghost use Rattle.std.specs.Cmp.Lexicographic.{lists_equiv};
+    ghost use Rattle.mg_model.specs.declared.positions.Position.{Position};
+
+    ghost laws = { lists_equiv (lists_equiv (on_equiv (λ (p : Position). p.accepts) (lists_equiv bool_eq_equiv))) };
+}
+
+/// The map that a text is read as.
+#[tactic(auto, unfolding(crate::specs::Reading::map_of))]
+fn parsed(alloc: Global, text: &str) -> Result<DigitMap, MapFault>
+    ensures { Answers is_memory (λ m. m) result (map_of text.now) }
+{
+    let alternatives = read(alloc, text.as_bytes())?;
+    if !is_short(alternatives.as_slice()) {
+        return Err(MapFault::TooLong);
+    }
+    Ok(DigitMap { alternatives })
 }
 
 /// The alternatives, with or without parentheses round the whole text.

@@ -26,7 +26,7 @@ impl Model for Cert {
 }
 
 impl Cert {
-    /// The certificate with some entries. The only error is want of memory.
+    /// The certificate with some entries. The only error is running out of memory.
     pub fn new(alloc: Global, entries: Vec<Entry>) -> Result<Cert, AllocError>
         ensures { IfOk result (λ cert. cert ≡ entries.items) }
     {

@@ -10,14 +10,14 @@ use mg_model::commands::{EventsName, Termination};
 use mg_model::components::{Remote, Spot};
 use mg_names::context_values::ContextValue;
 use mg_names::modes::Mode;
-use mg_names::phases::Link;
+use mg_names::phases::LinkPhase;
 use mg_names::slots::Slot;
 
 /// A component of a configuration with its values, in their order. This profile's own.
 #[derive(Drop)]
 pub enum Component {
     /// How far the state's request has come.
-    Links(Vec<Link>),
+    Links(Vec<LinkPhase>),
     /// Where a termination stands.
     Spots(Termination, Vec<Spot>),
     /// The mode of a termination.

@@ -11,7 +11,7 @@ use crate::component::{Component, allows, choose};
 use configuration::config::Config;
 use configuration::well_formed::is_well_formed;
 use mg_model::commands::EventsName;
-use mg_names::phases::Link;
+use mg_names::phases::LinkPhase;
 use std::marker::Model;
 
 /// An entry of a certificate: a state, and a set of values for each component of a configuration. It denotes the
@@ -128,7 +128,12 @@ impl Entry {
     fn numbered(&self, number: u32) -> Config
         ensures { configuration_of result ≡ numbered self.now number }
     {
-        let mut config = Config::unused(self.lines, self.state, Link::Resting, EventsName::Empty);
+        let mut config = Config::unused(
+            self.lines,
+            self.state,
+            LinkPhase::Resting,
+            EventsName::Empty,
+        );
         let components = self.components.as_slice();
         choose_all(
             components,

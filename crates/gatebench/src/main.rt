@@ -65,7 +65,7 @@ fn request(alloc: Global, gateway: &Gateway, call: u32, number: u32) -> Result<R
     let Ok(commands) = Vec::from_array(alloc, [add(line), subtract]) else {
         return Err(Failure::Memory);
     };
-    Ok(Request::new(CallNo(call), gateway.assoc(), number, commands))
+    Ok(Request::new(CallNo(call), gateway.association(), number, commands))
 }
 
 /// One request.

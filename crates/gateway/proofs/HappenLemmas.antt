@@ -11,7 +11,7 @@ use Rattle.line_events.specs.Raising.{is_raised}
 use Rattle.requests.specs.Connected.{Connected, board_in, line_in, has_line, answer_where, lines_after}
 use Rattle.gateway.specs.Answers.{CannotOccur, IsSame, SameOpen}
 use Rattle.gateway.specs.Calls.{OpenCall, call_in, line_entry, link_of, holder_of, with_call, counting}
-use Rattle.gateway.specs.Whole.{Whole, AreTied, gateway_of, holder_in, is_open}
+use Rattle.gateway.specs.GatewayValue.{GatewayValue, AreTied, gateway_of, holder_in, is_open}
 
 some_is : {X : Type 0} (a b : X) → Some a ≡ Some b → a ≡ b
 some_is a b e = cc
@@ -20,20 +20,20 @@ held_entry : (o : Option (Option ℕ)) (call : ℕ) → Some call ≡ holder_of 
 held_entry None call e = cc
 held_entry (Some holder) call e = ap Some (sym e)
 
-pub there_held : (w : Whole) → AreTied w → (l call : ℕ) → Some call ≡ holder_in w l → has_line (board_in w.connected) l ≡ true
+pub there_held : (w : GatewayValue) → AreTied w → (l call : ℕ) → Some call ≡ holder_in w l → has_line (board_in w.connected) l ≡ true
 there_held w tied l call e = tied.lines l ∙ ap is_some (held_entry (line_entry w.holders l) call e)
 
-pub open_held : (w : Whole) → AreTied w → (l call : ℕ) → Some call ≡ holder_in w l → call_in w.calls call ≡ None → ⊥
+pub open_held : (w : GatewayValue) → AreTied w → (l call : ℕ) → Some call ≡ holder_in w l → call_in w.calls call ≡ None → ⊥
 open_held w tied l call e closed =
     true≢false (sym (tied.holders l call (held_entry (line_entry w.holders l) call e)) ∙ ap is_some closed)
 
 -- ---- what can't happen
 
-pub cannot_unheld : (w : Whole) (l : ℕ) (event : LineEvent) → None ≡ holder_in w l → CannotOccur w l event
+pub cannot_unheld : (w : GatewayValue) (l : ℕ) (event : LineEvent) → None ≡ holder_in w l → CannotOccur w l event
 unfolding gateway_of
 cannot_unheld w l event e creator after notes h = let k : None ≡ Some h.call = e ∙ h.held in cc
 
-pub cannot_none : (w : Whole) (l : ℕ) (event : LineEvent) → outcome_of (line_in w.connected l) event ≡ None → CannotOccur w l event
+pub cannot_none : (w : GatewayValue) (l : ℕ) (event : LineEvent) → outcome_of (line_in w.connected l) event ≡ None → CannotOccur w l event
 unfolding gateway_of
 cannot_none w l event e creator after notes h = let k : None ≡ Some h.outcome = sym e ∙ h.happens in cc
 
@@ -41,7 +41,7 @@ one_note : (g : Gateway) (call l : ℕ) (note : Option Note) → is_some note �
 one_note g call l None e = absurd (search rules)
 one_note g call l (Some note) e = refl
 
-pub cannot_full : (w : Whole) (l : ℕ) (event : LineEvent) (call : ℕ) → Some call ≡ holder_in w l → last_number ≤ (link_of (call_in w.calls call)).notes
+pub cannot_full : (w : GatewayValue) (l : ℕ) (event : LineEvent) (call : ℕ) → Some call ≡ holder_in w l → last_number ≤ (link_of (call_in w.calls call)).notes
     → is_raised (outcome_of (line_in w.connected l) event) ≡ true → CannotOccur w l event
 unfolding gateway_of
 cannot_full w l event call e full raised creator after notes h =
@@ -65,10 +65,10 @@ none_after rows l true other = by_test (other == l) refl
     by_test true e = ap rows (sym (eqb-true other l e))
     by_test false e = refl
 
-abbrev connected_to : Whole → Connected → Whole
+abbrev connected_to : GatewayValue → Connected → GatewayValue
 connected_to w c = record { association = w.association; connected = c; holders = w.holders; calls = w.calls }
 
-pub cannot_answered : (w : Whole) (new : Connected) (l : ℕ) (event : LineEvent) (call : ℕ) (fault : LineFault) → AreTied w → Some call ≡ holder_in w l
+pub cannot_answered : (w : GatewayValue) (new : Connected) (l : ℕ) (event : LineEvent) (call : ℕ) (fault : LineFault) → AreTied w → Some call ≡ holder_in w l
     → Err fault ≡ answer_where (has_line (board_in w.connected) l) (outcome_of (line_in w.connected l) event)
     → board_in new ≡ board_in w.connected
     → line_in new ≡ lines_after (has_line (board_in w.connected) l) (line_in w.connected) l (outcome_of (line_in w.connected l) event)
@@ -99,10 +99,10 @@ raised_answered there o found note e h =
     ap is_raised told.1.1.0 ∙ ap is_some told.1.1.1 ∙ ap is_some e
 
 -- the gateway after: the row of the line and the link of the call changed
-abbrev with_both : Whole → Connected → List (ℕ × OpenCall) → Whole
+abbrev with_both : GatewayValue → Connected → List (ℕ × OpenCall) → GatewayValue
 with_both w c calls = record { association = w.association; connected = c; holders = w.holders; calls = calls }
 
-happens_is : (w : Whole) (new : Connected) (calls : List (ℕ × OpenCall)) (l : ℕ) (event : LineEvent) (call : ℕ) (note : Option Note) (sent : List SentNote)
+happens_is : (w : GatewayValue) (new : Connected) (calls : List (ℕ × OpenCall)) (l : ℕ) (event : LineEvent) (call : ℕ) (note : Option Note) (sent : List SentNote)
     → Some call ≡ holder_in w l
     → Ok note ≡ answer_where (has_line (board_in w.connected) l) (outcome_of (line_in w.connected l) event)
     → board_in new ≡ board_in w.connected
@@ -133,7 +133,7 @@ links_same calls call n true e = ap (λ (m : ℕ). link_of (calls m)) (eqb-true 
     ∙ ap (λ (m : ℕ). record { last = (link_of (calls call)).last; notes = m }) (omega arith)
 links_same calls call n false e = refl
 
-pub silent_event : (w : Whole) (new : Connected) (l : ℕ) (event : LineEvent) (call : ℕ) (found : Option Note) → found ≡ None → Some call ≡ holder_in w l
+pub silent_event : (w : GatewayValue) (new : Connected) (l : ℕ) (event : LineEvent) (call : ℕ) (found : Option Note) → found ≡ None → Some call ≡ holder_in w l
     → Ok found ≡ answer_where (has_line (board_in w.connected) l) (outcome_of (line_in w.connected l) event)
     → board_in new ≡ board_in w.connected
     → line_in new ≡ lines_after (has_line (board_in w.connected) l) (line_in w.connected) l (outcome_of (line_in w.connected l) event)
@@ -157,7 +157,7 @@ links_counted calls call state last n true e k = by_state (calls call) e
         ap (λ (m : ℕ). record { last = c.last; notes = m + 1 }) (k ∙ ap (λ (x : OpenCall). x.notes) (sym same))
 links_counted calls call state last n false e k = refl
 
-pub noted_event : (w : Whole) (new : Connected) (calls : List (ℕ × OpenCall)) (l : ℕ) (event : LineEvent) (call : ℕ) (state : OpenCall) (last : ℕ) (found : Option Note) (note : Note) (sent : SentNote)
+pub noted_event : (w : GatewayValue) (new : Connected) (calls : List (ℕ × OpenCall)) (l : ℕ) (event : LineEvent) (call : ℕ) (state : OpenCall) (last : ℕ) (found : Option Note) (note : Note) (sent : SentNote)
     → found ≡ Some note → Some call ≡ holder_in w l → Ok found ≡ answer_where (has_line (board_in w.connected) l) (outcome_of (line_in w.connected l) event)
     → board_in new ≡ board_in w.connected
     → line_in new ≡ lines_after (has_line (board_in w.connected) l) (line_in w.connected) l (outcome_of (line_in w.connected l) event)

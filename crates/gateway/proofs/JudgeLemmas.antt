@@ -1,13 +1,14 @@
 -- What is found of a request before it runs, and what its run leaves.
 use Rattle.std.proofs.Common.{◌≡◌, ◌∙◌, ℕ, ◌+◌, ◌<◌, ◌≤◌, List, length, Option, Some, None, is_some, refl, sym, ap, subst, arith, true≢false}
 use Rattle.std.proofs.lemmas.List.{length-map}
+use Rattle.mg_model.specs.RequestRun.{RaisedNote}
+use Rattle.mg_model.specs.declared.failures.ChosenRefusal.{ChosenRefusal}
+use Rattle.mg_model.specs.declared.failures.Failure.{Failure}
 use Rattle.mg_model.specs.Delivery.{offer, kept as kept_again, discard, fresh}
 use Rattle.mg_model.specs.Numbers.{last_number}
 use Rattle.mg_model.specs.Gateway.{IsKept, IsDiscarded, offer_to, sent_notes}
-use Rattle.mg_model.specs.LineEvents.{Note}
-use Rattle.mg_model.specs.Messages.{Request, Reply, SentNote, Failure}
+use Rattle.mg_model.specs.Messages.{Request, Reply, SentNote}
 use Rattle.mg_model.specs.Items.{Done}
-use Rattle.mg_model.specs.RequestRun.{Refusal}
 use Rattle.requests.specs.declared.outcome.LineNote.{LineNote}
 use Rattle.requests.specs.Connected.{Connected, start_in, end_in}
 use Rattle.requests.specs.Views.{line_notes}
@@ -15,15 +16,15 @@ use Rattle.gateway.specs.Answers.{IsAddressed, HasNoRoom}
 use Rattle.gateway.specs.Calls.{OpenCall, call_in, delivery_link, link_of}
 use Rattle.gateway.specs.Execution.{IsNew, IsRun}
 use Rattle.gateway.specs.Standby.{IsEnd}
-use Rattle.gateway.specs.Whole.{Whole, gateway_of, is_open}
+use Rattle.gateway.specs.GatewayValue.{GatewayValue, gateway_of, is_open}
 use Rattle.gateway.proofs.NoteLemmas.{notes_at_most}
 use Rattle.gateway.proofs.OfferLemmas.{offer_is}
 
-pub nobody : (w : Whole) (call : ℕ) (request : Request) → call_in w.calls call ≡ None → IsAddressed w call request → ⊥
+pub nobody : (w : GatewayValue) (call : ℕ) (request : Request) → call_in w.calls call ≡ None → IsAddressed w call request → ⊥
 unfolding is_open
 nobody w call request e addressed = true≢false (sym addressed.0 ∙ ap is_some e)
 
-module _ (w : Whole) (call : ℕ) (request : Request) (state : OpenCall) (found : call_in w.calls call ≡ Some state)
+module _ (w : GatewayValue) (call : ℕ) (request : Request) (state : OpenCall) (found : call_in w.calls call ≡ Some state)
     (of_association : state.association ≡ w.association) (ours : request.call ≡ call) where
   pub addressed : IsAddressed w call request
   unfolding is_open
@@ -57,7 +58,7 @@ module _ (w : Whole) (call : ℕ) (request : Request) (state : OpenCall) (found 
 -- ---- the run
 
 -- there is room for the notes that it raises
-pub room_for : (w : Whole) (request : Request) (last : ℕ) (start ended : Connected) (refusal : Refusal) (results : List Done) (notes : List LineNote)
+pub room_for : (w : GatewayValue) (request : Request) (last : ℕ) (start ended : Connected) (refusal : Option ChosenRefusal) (results : List Done) (notes : List LineNote)
     (failure : Option Failure) → IsNew w request last → IsEnd start request refusal ended results (line_notes notes) failure → last + length notes ≤ last_number
 room_for w request last start ended refusal results notes failure new runs =
     let most : length (line_notes notes) ≤ 0 + length request.commands =
@@ -66,7 +67,7 @@ room_for w request last start ended refusal results notes failure new runs =
     let room : last + length request.commands ≤ last_number = new.room in
     omega arith
 
-pub run_made : (start : Connected) (request : Request) (refusal : Refusal) (last : ℕ) (ended : Connected) (results : List Done) (raised : List (ℕ × Note))
+pub run_made : (start : Connected) (request : Request) (refusal : Option ChosenRefusal) (last : ℕ) (ended : Connected) (results : List Done) (raised : List RaisedNote)
     (failure : Option Failure) (reply kept : Reply) (notes : List SentNote) (last_after : ℕ) → IsEnd start request refusal ended results raised failure
     → reply ≡ record { call = request.call; association = request.association; number = request.number; results = results; failure = failure }
     → kept ≡ reply → notes ≡ sent_notes request.call request.association last raised → last_after ≡ last + length raised

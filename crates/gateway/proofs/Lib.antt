@@ -1,3 +1,4 @@
+pub mod NumberLemmas
 pub mod StandbyLemmas
 pub mod OpeningLemmas
 pub mod NoteLemmas

@@ -2,10 +2,12 @@
 use Rattle.std.proofs.Common.{◌≡◌, ◌∙◌, ℕ, ◌+◌, ◌≤◌, List, [], ◌∷◌, ◌++◌, length, Option, Some, None, inl, inr, refl, sym, ap, arith, length-append}
 use Rattle.std.proofs.lemmas.List.{map-append, length-map}
 use Rattle.std.proofs.lemmas.List.Sums.{length-filter, count_by-le-length}
+use Rattle.mg_model.specs.declared.failures.ChosenRefusal.{ChosenRefusal}
+use Rattle.mg_model.specs.declared.failures.Failure.{Failure}
 use Rattle.mg_model.specs.Gateway.{sent_notes}
 use Rattle.mg_model.specs.LineEvents.{Note}
-use Rattle.mg_model.specs.Messages.{Descriptors, RequestCommand, Failure, SentNote}
-use Rattle.mg_model.specs.RequestRun.{Running, Refusal, RunsFrom, Executes, described, raised, standing, note_from, item_at}
+use Rattle.mg_model.specs.Messages.{RequestCommand, SentNote}
+use Rattle.mg_model.specs.RequestRun.{LineDescriptors, RaisedNote, Running, RunsFrom, Succeeds, described, raised, standing, note_from, item_at}
 use Rattle.mg_model.specs.declared.items.Item.{Item}
 use Rattle.requests.specs.declared.outcome.LineNote.{LineNote}
 use Rattle.requests.specs.Connected.{has_line}
@@ -13,13 +15,13 @@ use Rattle.requests.specs.Views.{line_note, line_notes}
 use Rattle.requests.proofs.CommandLemmas.{lines_stay}
 
 -- one more note
-pub sent_more : (call association last : ℕ) (notes : List (ℕ × Note)) (n : ℕ × Note) → sent_notes call association last (notes ++ n ∷ [])
-    ≡ sent_notes call association last notes ++ record { call = call; association = association; number = last + length notes + 1; line = n.0; note = n.1 } ∷ []
-sent_more call association last [] n = ap (λ (m : ℕ). record { call = call; association = association; number = m + 1; line = n.0; note = n.1 } ∷ []) (omega arith)
+pub sent_more : (call association last : ℕ) (notes : List RaisedNote) (n : RaisedNote) → sent_notes call association last (notes ++ n ∷ [])
+    ≡ sent_notes call association last notes ++ record { call = call; association = association; number = last + length notes + 1; line = n.line; note = n.note } ∷ []
+sent_more call association last [] n = ap (λ (m : ℕ). record { call = call; association = association; number = m + 1; line = n.line; note = n.note } ∷ []) (omega arith)
 sent_more call association last (first ∷ more) n =
-    ap (λ (sent : List SentNote). record { call = call; association = association; number = last + 1; line = first.0; note = first.1 } ∷ sent)
+    ap (λ (sent : List SentNote). record { call = call; association = association; number = last + 1; line = first.line; note = first.note } ∷ sent)
     (sent_more call association (last + 1) more n
-    ∙ ap (λ (m : ℕ). sent_notes call association (last + 1) more ++ record { call = call; association = association; number = m + 1; line = n.0; note = n.1 } ∷ []) (omega arith))
+    ∙ ap (λ (m : ℕ). sent_notes call association (last + 1) more ++ record { call = call; association = association; number = m + 1; line = n.line; note = n.note } ∷ []) (omega arith))
 
 -- one more of those that were raised
 pub sent_step : (call association last number : ℕ) (yielded : List LineNote) (n : LineNote) (sent after : List SentNote) (note : SentNote)
@@ -40,12 +42,12 @@ one_at_most : (l : ℕ) (note : Option Note) → length (note_from l note) ≤ 1
 one_at_most l None = omega arith
 one_at_most l (Some note) = omega arith
 
-raised_at_most : (r : Running) (d : Option (ℕ × Descriptors)) (number : ℕ) → length (raised r d number) ≤ 1
+raised_at_most : (r : Running) (d : Option LineDescriptors) (number : ℕ) → length (raised r d number) ≤ 1
 raised_at_most r None number = omega arith
-raised_at_most r (Some (l, d)) number = one_at_most l _
+raised_at_most r (Some on) number = one_at_most on.line _
 
-notes_after : (number : ℕ) (refusal : Refusal) (r : Running) (place : ℕ) (command : RequestCommand) (next : Running)
-    → Executes r command place refusal number next → length next.notes ≤ length r.notes + 1
+notes_after : (number : ℕ) (refusal : Option ChosenRefusal) (r : Running) (place : ℕ) (command : RequestCommand) (next : Running)
+    → Succeeds r command place refusal number next → length next.notes ≤ length r.notes + 1
 notes_after number refusal r place command next e =
     let item : Item = item_at r.results command in
     let one : length (raised r (described command) number) ≤ 1 = raised_at_most r (described command) number in
@@ -54,7 +56,7 @@ notes_after number refusal r place command next e =
     ap (λ (x : Running). length x.notes) e.next_is ∙ length-append (standing r command item) (raised r (described command) number) in
     omega arith
 
-pub notes_at_most : (number : ℕ) (refusal : Refusal) (r : Running) (place : ℕ) (commands : List RequestCommand) (end : Running) (failure : Option Failure)
+pub notes_at_most : (number : ℕ) (refusal : Option ChosenRefusal) (r : Running) (place : ℕ) (commands : List RequestCommand) (end : Running) (failure : Option Failure)
     → RunsFrom number refusal r place commands end failure → length end.notes ≤ length r.notes + length commands
 unfolding RunsFrom
 notes_at_most number refusal r place [] end failure h = rw h.0 (omega arith)
@@ -66,7 +68,7 @@ notes_at_most number refusal r place (command ∷ more) end failure (inr h) = rw
 
 -- ---- lines
 
-pub lines_stay_through : (number : ℕ) (refusal : Refusal) (r : Running) (place : ℕ) (commands : List RequestCommand) (end : Running) (failure : Option Failure)
+pub lines_stay_through : (number : ℕ) (refusal : Option ChosenRefusal) (r : Running) (place : ℕ) (commands : List RequestCommand) (end : Running) (failure : Option Failure)
     → RunsFrom number refusal r place commands end failure → (l : ℕ) → has_line end.board l ≡ has_line r.board l
 unfolding RunsFrom
 lines_stay_through number refusal r place [] end failure h l = rw h.0 refl

@@ -9,7 +9,7 @@ use Rattle.mg_names.specs.declared.modes.Mode.TheVariants.{Inactive}
 use Rattle.mg_model.specs.declared.rows.Row.{Row}
 use Rattle.mg_model.specs.Board.{Board}
 use Rattle.mg_model.specs.LineEvents.{LineRow}
-use Rattle.contexts.specs.Sheet.{names_line}
+use Rattle.contexts.specs.BoardValue.{names_line}
 use Rattle.requests.specs.Connected.{has_line, opened_line, lines_opened}
 use Rattle.requests.specs.Idle.{idle_row, deactivated}
 use Rattle.gateway.specs.Standby.{rows_idled, lines_armed}

@@ -10,8 +10,8 @@ use Rattle.mg_model.specs.Board.{Board, place_in}
 use Rattle.mg_model.specs.Gateway.{CallLink}
 use Rattle.mg_model.specs.Memory.{IsOrNoMemory}
 use Rattle.mg_model.specs.LineEvents.{LineRow, new_line}
-use Rattle.contexts.specs.Sheet.{names_line, started}
-use Rattle.contexts.specs.Sheet as sheet
+use Rattle.contexts.specs.BoardValue.{names_line, started}
+use Rattle.contexts.specs.BoardValue as board_value
 use Rattle.requests.specs.Connected.{board_in, line_in, has_line, is_idle, opened_line}
 use Rattle.requests.specs.Idle.{idle_row}
 use Rattle.gateway.specs.declared.fault.OpenFault.{OpenFault}
@@ -19,7 +19,7 @@ use Rattle.gateway.specs.declared.fault.OpenFault.TheVariants.{NoMemory, Unknown
 use Rattle.gateway.specs.Calls.{OpenCall, call_in, line_entry, link_of, holder_of, new_call}
 use Rattle.gateway.specs.Openings.{first_gateway, inactive_row, rows_opened, board_opened, lines_opened, opened, is_free, are_there, has_twice, opening_on, is_memory}
 use Rattle.gateway.specs.Standby.{rows_idled, board_idled, lines_armed, ShowsOpened}
-use Rattle.gateway.specs.Whole.{Whole, AreTied, gateway_of, holder_in, is_open}
+use Rattle.gateway.specs.GatewayValue.{GatewayValue, AreTied, gateway_of, holder_in, is_open}
 
 -- ---- a gateway that starts
 
@@ -33,7 +33,7 @@ no_call_in calls e n = ap (λ (cs : List (ℕ × OpenCall)). call_in cs n) e ∙
 abbrev free_entry : Bool → Option (Option ℕ)
 free_entry among = if among then Some None else None
 
-started_there : (lines : List LineNo) (l : ℕ) (among : Bool) → names_line lines l ≡ among → has_line (sheet.opened (started lines)) l ≡ is_some (free_entry among)
+started_there : (lines : List LineNo) (l : ℕ) (among : Bool) → names_line lines l ≡ among → has_line (board_value.opened (started lines)) l ≡ is_some (free_entry among)
 started_there lines l true e = rw e refl
 started_there lines l false e = rw e refl
 
@@ -45,7 +45,7 @@ not_held : (among : Bool) (call : ℕ) → free_entry among ≡ Some (Some call)
 not_held true call e = cc
 not_held false call e = cc
 
-pub starts_tied : (w : Whole) (lines : List LineNo) → board_in w.connected ≡ sheet.opened (started lines) → w.calls ≡ []
+pub starts_tied : (w : GatewayValue) (lines : List LineNo) → board_in w.connected ≡ board_value.opened (started lines) → w.calls ≡ []
     → ((l : ℕ) → line_entry w.holders l ≡ (if names_line lines l then Some None else None)) → AreTied w
 starts_tied w lines board calls entries = record {
   links = λ n c e. let k : None ≡ Some c = sym (no_call_in w.calls calls n) ∙ e in cc;
@@ -53,7 +53,7 @@ starts_tied w lines board calls entries = record {
   holders = λ l call e. absurd (not_held (names_line lines l) call (sym (entries l) ∙ e));
 }
 
-pub first_is : (w : Whole) (lines : List LineNo) → w.association ≡ 1 → board_in w.connected ≡ sheet.opened (started lines) → line_in w.connected ≡ (λ l. new_line)
+pub first_is : (w : GatewayValue) (lines : List LineNo) → w.association ≡ 1 → board_in w.connected ≡ board_value.opened (started lines) → line_in w.connected ≡ (λ l. new_line)
     → w.calls ≡ [] → ((l : ℕ) → line_entry w.holders l ≡ (if names_line lines l then Some None else None))
     → (creator : ℕ → Option ℕ) → gateway_of creator w ≡ first_gateway lines creator
 unfolding gateway_of
@@ -66,7 +66,7 @@ first_is w lines association board rows calls entries creator = λ i. record {
   link = λ call. ap link_of (no_call_in w.calls calls call) i;
 }
 
-pub none_open : (w : Whole) → w.calls ≡ [] → (call : ℕ) → is_open w call ≡ false
+pub none_open : (w : GatewayValue) → w.calls ≡ [] → (call : ℕ) → is_open w call ≡ false
 unfolding is_open
 none_open w calls call = ap is_some (no_call_in w.calls calls call)
 
@@ -142,7 +142,7 @@ armed_is b lines there rows n = by_test (names_line lines n) refl (has_line b n)
     by_test false e true h = refl
     by_test false e false h = refl
 
-held_is : (w : Whole) → AreTied w → (lines : List LineNo) → are_there (board_in w.connected) lines ≡ true → (call n : ℕ)
+held_is : (w : GatewayValue) → AreTied w → (lines : List LineNo) → are_there (board_in w.connected) lines ≡ true → (call n : ℕ)
     → holder_of (if names_line lines n && is_some (line_entry w.holders n) then Some (Some call) else line_entry w.holders n)
     ≡ (if names_line lines n then Some call else holder_in w n)
 held_is w tied lines there call n = by_test (names_line lines n) refl (is_some (line_entry w.holders n)) refl
@@ -161,7 +161,7 @@ link_opened : (association : ℕ) (o : Option OpenCall) (new : Bool) → link_of
 link_opened association o true = refl
 link_opened association o false = refl
 
-pub opened_is : (w new : Whole) (call : ℕ) (lines : List LineNo) → AreTied w
+pub opened_is : (w new : GatewayValue) (call : ℕ) (lines : List LineNo) → AreTied w
     → opening_on (board_in w.connected) (holder_in w) (is_open w call) lines ≡ Ok tt → new.association ≡ w.association
     → ShowsOpened w.connected lines new.connected
     → ((l : ℕ) → line_entry new.holders l ≡ (if names_line lines l && is_some (line_entry w.holders l) then Some (Some call) else line_entry w.holders l))
@@ -189,7 +189,7 @@ some_opened : (association : ℕ) (o : Option OpenCall) (new : Bool) → is_some
 some_opened association o true = refl
 some_opened association o false = refl
 
-pub open_after : (w new : Whole) (call : ℕ) → ((n : ℕ) → call_in new.calls n ≡ (if n == call then Some (new_call w.association) else call_in w.calls n))
+pub open_after : (w new : GatewayValue) (call : ℕ) → ((n : ℕ) → call_in new.calls n ≡ (if n == call then Some (new_call w.association) else call_in w.calls n))
     → (other : ℕ) → is_open new other ≡ ((other == call) || is_open w other)
 unfolding is_open
 open_after w new call calls other = ap is_some (calls other) ∙ some_opened w.association (call_in w.calls other) (other == call)

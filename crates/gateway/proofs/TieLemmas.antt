@@ -1,16 +1,17 @@
 -- A call that changes: what stays tied, which calls stay open, and that a request whose end is put in place was executed.
 use Rattle.std.proofs.Common.{◌≡◌, ◌∙◌, ℕ, ◌==◌, ◌+◌, ◌<◌, ◌≤◌, Bool, true, false, if◌then◌else◌, List, length, Option, Some, None, is_some, option_map, refl, sym, ap, subst, arith}
 use Rattle.std.proofs.lemmas.Bool.{eqb-true}
+use Rattle.mg_model.specs.declared.failures.ChosenRefusal.{ChosenRefusal}
 use Rattle.mg_model.specs.Numbers.{last_number, last_association}
 use Rattle.mg_model.specs.Gateway.{Gateway, CallLink, after_request, reply_of, sent_notes, restarted, link_restarted, board_restarted}
 use Rattle.mg_model.specs.LineEvents.{cleared}
 use Rattle.mg_model.specs.Messages.{Request, Reply, SentNote}
-use Rattle.mg_model.specs.RequestRun.{Running, Refusal}
+use Rattle.mg_model.specs.RequestRun.{Running}
 use Rattle.requests.specs.Connected.{Connected, board_in, line_in, has_line, end_in}
 use Rattle.gateway.specs.Answers.{IsAddressed, IsExecution, IsNext, SameOpen}
 use Rattle.gateway.specs.Calls.{OpenCall, call_in, line_entry, link_of, holder_of, with_call, keeping, restarting}
 use Rattle.gateway.specs.Execution.{IsNew, IsRun}
-use Rattle.gateway.specs.Whole.{Whole, AreTied, gateway_of, is_open}
+use Rattle.gateway.specs.GatewayValue.{GatewayValue, AreTied, gateway_of, is_open}
 use Rattle.gateway.proofs.OfferLemmas.{offer_is}
 
 -- by a look-up, with its value
@@ -46,7 +47,7 @@ module _ (old new : ℕ → Option OpenCall) (call : ℕ) (change : OpenCall →
       by_test false h = links n c h
 
 -- the connections have the same lines, and one call changed
-pub tied_still : (old new : Whole) (call : ℕ) (change : OpenCall → OpenCall) → new.association ≡ old.association → new.holders ≡ old.holders
+pub tied_still : (old new : GatewayValue) (call : ℕ) (change : OpenCall → OpenCall) → new.association ≡ old.association → new.holders ≡ old.holders
     → ((c : OpenCall) → (change c).association ≡ c.association)
     → ((l : ℕ) → has_line (board_in new.connected) l ≡ has_line (board_in old.connected) l)
     → ((n : ℕ) → call_in new.calls n ≡ with_call (call_in old.calls) call change n) → AreTied old → AreTied new
@@ -57,7 +58,7 @@ tied_still old new call change association holders keeps there changed tied = re
       ∙ tied.holders l n (ap (λ (hs : List (ℕ × Option ℕ)). line_entry hs l) (sym holders) ∙ e);
 }
 
-pub open_still : (old new : Whole) (call : ℕ) (change : OpenCall → OpenCall)
+pub open_still : (old new : GatewayValue) (call : ℕ) (change : OpenCall → OpenCall)
     → ((n : ℕ) → call_in new.calls n ≡ with_call (call_in old.calls) call change n) → SameOpen old new
 unfolding is_open
 open_still old new call change changed n = same_open (call_in old.calls) (call_in new.calls) call change changed n
@@ -76,7 +77,7 @@ links_put : (calls : ℕ → Option OpenCall) (call : ℕ) (state : OpenCall) (k
 links_put calls call state kept reply last count e k n c true = link_put (calls call) state kept reply last count e k n
 links_put calls call state kept reply last count e k n c false = refl
 
-pub executed_put : (old : Whole) (request : Request) (refusal : Refusal) (last : ℕ) (ended : Connected) (reply kept : Reply) (notes : List SentNote)
+pub executed_put : (old : GatewayValue) (request : Request) (refusal : Option ChosenRefusal) (last : ℕ) (ended : Connected) (reply kept : Reply) (notes : List SentNote)
     (last_after : ℕ) (calls : List (ℕ × OpenCall)) → IsNew old request last → IsRun old.connected request refusal last ended reply kept notes last_after
     → ((n : ℕ) → call_in calls n ≡ with_call (call_in old.calls) request.call (keeping kept last_after) n)
     → IsExecution old request refusal (record { association = old.association; connected = ended; holders = old.holders; calls = calls }) reply notes
@@ -109,11 +110,11 @@ executed_put old request refusal last ended reply kept notes last_after calls ne
       ),
     )
 
-abbrev placed_in : Whole → Connected → List (ℕ × OpenCall) → Whole
+abbrev placed_in : GatewayValue → Connected → List (ℕ × OpenCall) → GatewayValue
 placed_in w connected calls = record { association = w.association; connected = connected; holders = w.holders; calls = calls }
 
 -- `v` is the gateway as the code has it, part by part
-pub put_is : (v now : Whole) → v ≡ now → (request : Request) (refusal : Refusal) (last : ℕ) (connected ended : Connected) → connected ≡ ended
+pub put_is : (v now : GatewayValue) → v ≡ now → (request : Request) (refusal : Option ChosenRefusal) (last : ℕ) (connected ended : Connected) → connected ≡ ended
     → (reply kept : Reply) (notes : List SentNote) (last_after : ℕ) (calls : List (ℕ × OpenCall)) → IsNew now request last
     → IsRun now.connected request refusal last ended reply kept notes last_after
     → ((n : ℕ) → call_in calls n ≡ with_call (call_in v.calls) request.call (keeping kept last_after) n)
@@ -122,13 +123,13 @@ pub put_is : (v now : Whole) → v ≡ now → (request : Request) (refusal : Re
 unfolding is_open
 put_is v now e request refusal last connected ended placed reply kept notes last_after calls new run changed =
     let executed : IsExecution v request refusal (placed_in v ended calls) reply notes =
-    executed_put v request refusal last ended reply kept notes last_after calls (subst (λ (w : Whole). IsNew w request last) (sym e) new)
-    (subst (λ (w : Whole). IsRun w.connected request refusal last ended reply kept notes last_after) (sym e) run) changed in (
+    executed_put v request refusal last ended reply kept notes last_after calls (subst (λ (w : GatewayValue). IsNew w request last) (sym e) new)
+    (subst (λ (w : GatewayValue). IsRun w.connected request refusal last ended reply kept notes last_after) (sym e) run) changed in (
       (ap is_some new.is_state, refl),
       (
-        subst (λ (w : Whole). IsExecution w request refusal (placed_in v connected calls) reply notes) e
+        subst (λ (w : GatewayValue). IsExecution w request refusal (placed_in v connected calls) reply notes) e
             (subst (λ (x : Connected). IsExecution v request refusal (placed_in v x calls) reply notes) (sym placed) executed),
-        subst (λ (w : Whole). SameOpen w (placed_in v connected calls)) e
+        subst (λ (w : GatewayValue). SameOpen w (placed_in v connected calls)) e
             (open_still v (placed_in v connected calls) request.call (keeping kept last_after) changed),
       ),
     )
@@ -139,7 +140,7 @@ link_restarted_is : (association : ℕ) (o : Option OpenCall) → link_of (optio
 link_restarted_is association None = refl
 link_restarted_is association (Some c) = refl
 
-pub restarted_is : (old new : Whole) → new.association ≡ old.association + 1 → board_in new.connected ≡ board_restarted (board_in old.connected)
+pub restarted_is : (old new : GatewayValue) → new.association ≡ old.association + 1 → board_in new.connected ≡ board_restarted (board_in old.connected)
     → line_in new.connected ≡ (λ l. cleared (line_in old.connected l)) → new.holders ≡ old.holders
     → ((n : ℕ) → call_in new.calls n ≡ option_map (restarting new.association) (call_in old.calls n))
     → (creator : ℕ → Option ℕ) → gateway_of (λ k. None) new ≡ restarted (gateway_of creator old)
@@ -157,14 +158,14 @@ some_restarted : (association : ℕ) (o : Option OpenCall) → is_some (option_m
 some_restarted association None = refl
 some_restarted association (Some c) = refl
 
-pub open_restarted : (old new : Whole) → ((n : ℕ) → call_in new.calls n ≡ option_map (restarting new.association) (call_in old.calls n)) → SameOpen old new
+pub open_restarted : (old new : GatewayValue) → ((n : ℕ) → call_in new.calls n ≡ option_map (restarting new.association) (call_in old.calls n)) → SameOpen old new
 unfolding is_open
 open_restarted old new calls n = ap is_some (calls n) ∙ some_restarted new.association (call_in old.calls n)
 
-pub next_is : (v now new : Whole) → v ≡ now → v.association + 1 < last_association + 1 → new.association ≡ v.association + 1
+pub next_is : (v now new : GatewayValue) → v ≡ now → v.association + 1 < last_association + 1 → new.association ≡ v.association + 1
     → board_in new.connected ≡ board_restarted (board_in v.connected) → line_in new.connected ≡ (λ l. cleared (line_in v.connected l)) → new.holders ≡ v.holders
     → ((n : ℕ) → call_in new.calls n ≡ option_map (restarting new.association) (call_in v.calls n)) → IsNext now new new.association
-next_is v now new e room association board lines holders calls = subst (λ (w : Whole). IsNext w new new.association) e (record {
+next_is v now new e room association board lines holders calls = subst (λ (w : GatewayValue). IsNext w new new.association) e (record {
   restarts = restarted_is v new association board lines holders calls;
   answered = refl;
   room = omega arith;

@@ -1,34 +1,34 @@
 -- What a gateway answers to a request, an event and a restart, and what becomes of it. A reader should check that each answer but
 -- that of an execution leaves the gateway as it was, and when each one comes.
 use Rattle.std.specs.Prelude.{◌≡◌, ℕ, ◌+◌, ◌<◌, true, List, [], ◌∷◌, length, Option, Some, None, Result, Ok, Err, ◌⊎◌}
+use Rattle.mg_model.specs.declared.failures.ChosenRefusal.{ChosenRefusal}
 use Rattle.mg_names.specs.declared.identifiers.Assoc.{Assoc}
 use Rattle.mg_model.specs.Numbers.{last_number, last_association}
 use Rattle.mg_model.specs.declared.line_events.LineEvent.{LineEvent}
 use Rattle.mg_model.specs.Gateway.{Gateway, offer_to, IsExecutedBy, IsKept, IsDiscarded, Happens, restarted}
 use Rattle.mg_model.specs.Delivery.{fresh}
 use Rattle.mg_model.specs.Messages.{Request, Reply, SentNote}
-use Rattle.mg_model.specs.RequestRun.{Refusal}
 use Rattle.gateway.specs.declared.answer.Answer.{Answer}
 use Rattle.gateway.specs.declared.answer.Answer.TheVariants.{Executed, Kept, Discarded, CannotHappen, NoMemory}
 use Rattle.gateway.specs.declared.fault.CannotHappen as fault
-use Rattle.gateway.specs.Whole.{Whole, gateway_of, is_open}
+use Rattle.gateway.specs.GatewayValue.{GatewayValue, gateway_of, is_open}
 
 -- the same calls are open
-abbrev pub SameOpen : Whole → Whole → Type 0
+abbrev pub SameOpen : GatewayValue → GatewayValue → Type 0
 SameOpen old new = (call : ℕ) → is_open new call ≡ is_open old call
 
 -- the gateway of the model is the same, whoever created the ephemerals, and the same calls are open
-abbrev pub IsSame : Whole → Whole → Type 0
+abbrev pub IsSame : GatewayValue → GatewayValue → Type 0
 IsSame old new = ((creator : ℕ → Option ℕ) → gateway_of creator new ≡ gateway_of creator old) × SameOpen old new
 
 -- ---- a request
 
 -- the call is open, and it is the request's
-abbrev pub IsAddressed : Whole → ℕ → Request → Type 0
+abbrev pub IsAddressed : GatewayValue → ℕ → Request → Type 0
 IsAddressed old call request = (is_open old call ≡ true) × (request.call ≡ call)
 
 -- whoever created the ephemerals, the request is executed
-abbrev pub IsExecution : Whole → Request → Refusal → Whole → Reply → List SentNote → Type 0
+abbrev pub IsExecution : GatewayValue → Request → Option ChosenRefusal → GatewayValue → Reply → List SentNote → Type 0
 IsExecution old request refusal new reply notes =
     (creator : ℕ → Option ℕ)
     → (after : Gateway) × (IsExecutedBy (gateway_of creator old) request refusal after reply notes × (after ≡ gateway_of after.creator new))
@@ -38,7 +38,7 @@ pub record HasNoRoom (g : Gateway) (request : Request) : Type 0 where
   pub is_fresh : offer_to g request ≡ fresh
   pub full : last_number < (g.link request.call).notes + length request.commands
 
-abbrev pub IsAnswered : Whole → ℕ → Request → Refusal → Whole → Answer → Type 0
+abbrev pub IsAnswered : GatewayValue → ℕ → Request → Option ChosenRefusal → GatewayValue → Answer → Type 0
 IsAnswered old call request refusal new (Executed reply notes) =
     IsAddressed old call request × (IsExecution old request refusal new reply notes.items × SameOpen old new)
 IsAnswered old call request refusal new (Kept reply) =
@@ -55,12 +55,12 @@ abbrev pub note_listed : Option SentNote → List SentNote
 note_listed None = []
 note_listed (Some note) = note ∷ []
 
-abbrev pub CannotOccur : Whole → ℕ → LineEvent → Type 0
+abbrev pub CannotOccur : GatewayValue → ℕ → LineEvent → Type 0
 CannotOccur old line event =
     (creator : ℕ → Option ℕ) (after : Gateway) (notes : List SentNote) → Happens (gateway_of creator old) line event after notes → ⊥
 
 -- it happens, or it can't
-abbrev pub IsHappened : Whole → ℕ → LineEvent → Whole → Result (Option SentNote) fault.CannotHappen → Type 0
+abbrev pub IsHappened : GatewayValue → ℕ → LineEvent → GatewayValue → Result (Option SentNote) fault.CannotHappen → Type 0
 IsHappened old line event new (Ok note) =
     ((creator : ℕ → Option ℕ) → Happens (gateway_of creator old) line event (gateway_of creator new) (note_listed note)) × SameOpen old new
 IsHappened old line event new (Err _) = CannotOccur old line event × IsSame old new
@@ -68,12 +68,12 @@ IsHappened old line event new (Err _) = CannotOccur old line event × IsSame old
 -- ---- a restart
 
 -- the next association begins; only after the last one none can
-pub record IsNext (old new : Whole) (association : ℕ) : Type 0 where
+pub record IsNext (old new : GatewayValue) (association : ℕ) : Type 0 where
   pub restarts : (creator : ℕ → Option ℕ) → gateway_of (λ k. None) new ≡ restarted (gateway_of creator old)
   pub answered : association ≡ new.association
   pub room : old.association < last_association
   pub open_calls : SameOpen old new
 
-abbrev pub IsRestarted : Whole → Whole → Result Assoc fault.CannotHappen → Type 0
+abbrev pub IsRestarted : GatewayValue → GatewayValue → Result Assoc fault.CannotHappen → Type 0
 IsRestarted old new (Ok association) = IsNext old new association.0
 IsRestarted old new (Err _) = (old.association ≡ last_association) × (new ≡ old)

@@ -1,22 +1,23 @@
 -- What is found of a request before it runs, and what its run leaves to be put in place. A reader should check each variant against
 -- the answer that it leads to.
 use Rattle.std.specs.Prelude.{◌≡◌, ℕ, ◌+◌, ◌≤◌, List, length, Option, Some, ◌⊎◌}
+use Rattle.mg_model.specs.RequestRun.{RaisedNote}
+use Rattle.mg_model.specs.declared.failures.ChosenRefusal.{ChosenRefusal}
+use Rattle.mg_model.specs.declared.failures.Failure.{Failure}
 use Rattle.mg_model.specs.Delivery.{offer, fresh}
 use Rattle.mg_model.specs.Numbers.{last_number}
 use Rattle.mg_model.specs.Gateway.{IsKept, IsDiscarded, reply_of, sent_notes}
-use Rattle.mg_model.specs.LineEvents.{Note}
-use Rattle.mg_model.specs.Messages.{Request, Reply, SentNote, Failure}
-use Rattle.mg_model.specs.RequestRun.{Refusal}
+use Rattle.mg_model.specs.Messages.{Request, Reply, SentNote}
 use Rattle.requests.specs.Connected.{Connected, end_in}
 use Rattle.gateway.specs.declared.execute.Judged.{Judged}
 use Rattle.gateway.specs.declared.execute.Judged.TheVariants.{New, Again, Nothing, Full, NoMemory}
 use Rattle.gateway.specs.Answers.{IsAddressed, HasNoRoom}
 use Rattle.gateway.specs.Calls.{OpenCall, call_in, delivery_link}
 use Rattle.gateway.specs.Standby.{IsEnd}
-use Rattle.gateway.specs.Whole.{Whole, gateway_of}
+use Rattle.gateway.specs.GatewayValue.{GatewayValue, gateway_of}
 
 -- the request is new to its call, whose last note has this number, and there is room for its notes
-pub record IsNew (w : Whole) (request : Request) (last : ℕ) : Type 0 where
+pub record IsNew (w : GatewayValue) (request : Request) (last : ℕ) : Type 0 where
   pub state : OpenCall
   pub is_state : call_in w.calls request.call ≡ Some state
   pub of_association : state.association ≡ w.association
@@ -24,7 +25,7 @@ pub record IsNew (w : Whole) (request : Request) (last : ℕ) : Type 0 where
   pub last_is : last ≡ state.notes
   pub room : last + length request.commands ≤ last_number
 
-abbrev pub IsJudged : Whole → ℕ → Request → Judged → Type 0
+abbrev pub IsJudged : GatewayValue → ℕ → Request → Judged → Type 0
 IsJudged w call request (New last) = IsNew w request last × (request.call ≡ call)
 IsJudged w call request (Again reply) = IsAddressed w call request × ((creator : ℕ → Option ℕ) → IsKept (gateway_of creator w) request reply)
 IsJudged w call request Nothing =
@@ -33,9 +34,9 @@ IsJudged w call request Full = IsAddressed w call request × ((creator : ℕ →
 IsJudged w call request NoMemory = Unit {0}
 
 -- where a request ended that ran from a start, with its reply twice, its notes and the number of the last one
-pub record IsRun (start : Connected) (request : Request) (refusal : Refusal) (last : ℕ) (ended : Connected) (reply kept : Reply)
+pub record IsRun (start : Connected) (request : Request) (refusal : Option ChosenRefusal) (last : ℕ) (ended : Connected) (reply kept : Reply)
     (notes : List SentNote) (last_after : ℕ) : Type 0 where
-  pub raised : List (ℕ × Note)
+  pub raised : List RaisedNote
   pub failure : Option Failure
   pub is_end : IsEnd start request refusal ended reply.results raised failure
   pub reply_is : reply ≡ reply_of request (end_in ended reply.results raised) failure

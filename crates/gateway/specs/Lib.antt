@@ -1,5 +1,5 @@
 pub mod Calls
-pub mod Whole
+pub mod GatewayValue
 pub mod Standby
 pub mod Openings
 pub mod Faults

@@ -11,8 +11,8 @@ use Rattle.mg_model.specs.Board.{Board}
 use Rattle.mg_model.specs.Gateway.{Gateway}
 use Rattle.mg_model.specs.Numbers.{first_association}
 use Rattle.mg_model.specs.LineEvents.{LineRow, new_line}
-use Rattle.contexts.specs.Sheet.{names_line, started}
-use Rattle.contexts.specs.Sheet as sheet
+use Rattle.contexts.specs.BoardValue.{names_line, started}
+use Rattle.contexts.specs.BoardValue as board_value
 use Rattle.requests.specs.Connected.{has_line, is_idle, opened_line}
 use Rattle.gateway.specs.declared.fault.OpenFault.{OpenFault}
 use Rattle.gateway.specs.declared.fault.OpenFault.TheVariants.{NoMemory, UnknownLine, Taken}
@@ -22,7 +22,7 @@ use Rattle.gateway.specs.declared.fault.OpenFault.TheVariants.{NoMemory, Unknown
 abbrev pub first_gateway : List LineNo → (ℕ → Option ℕ) → Gateway
 first_gateway lines creator = record {
   association = first_association;
-  board = sheet.opened (started lines);
+  board = board_value.opened (started lines);
   line = λ l. new_line;
   holder = λ l. None;
   creator = creator;

@@ -1,16 +1,18 @@
 -- The standby beside the connections that are active, and where a request or an opening ends that runs from one of them. A reader
 -- should check that the standby shows the same board and the same lines.
 use Rattle.std.specs.Prelude.{◌≡◌, ℕ, ◌&&◌, if◌then◌else◌, List, Option, Some, None}
+use Rattle.mg_model.specs.declared.failures.ChosenRefusal.{ChosenRefusal}
+use Rattle.mg_model.specs.declared.failures.Failure.{Failure}
 use Rattle.mg_names.specs.declared.identifiers.LineNo.{LineNo}
 use Rattle.mg_names.specs.declared.identifiers.TermId.{TermId}
 use Rattle.mg_names.specs.declared.identifiers.TermId.TheVariants.{Line, Eph}
 use Rattle.mg_model.specs.declared.rows.Row.{Row}
 use Rattle.mg_model.specs.Board.{Board}
 use Rattle.mg_model.specs.Items.{Done}
-use Rattle.mg_model.specs.LineEvents.{LineRow, Note}
-use Rattle.mg_model.specs.Messages.{Request, Failure}
-use Rattle.mg_model.specs.RequestRun.{Refusal, RunsFrom}
-use Rattle.contexts.specs.Sheet.{names_line}
+use Rattle.mg_model.specs.LineEvents.{LineRow}
+use Rattle.mg_model.specs.Messages.{Request}
+use Rattle.mg_model.specs.RequestRun.{RaisedNote, RunsFrom}
+use Rattle.contexts.specs.BoardValue.{names_line}
 use Rattle.requests.specs.Connected.{Connected, board_in, line_in, has_line, start_in, end_in, opened_line}
 use Rattle.requests.specs.Idle.{idle_row}
 
@@ -24,13 +26,13 @@ IsStandby (Some standby) active = ShowsSame standby active
 
 -- ---- where a request ends that runs from a start
 
-abbrev pub IsEnd : Connected → Request → Refusal → Connected → List Done → List (ℕ × Note) → Option Failure → Type 0
+abbrev pub IsEnd : Connected → Request → Option ChosenRefusal → Connected → List Done → List RaisedNote → Option Failure → Type 0
 IsEnd start request refusal ended results notes failure =
     RunsFrom request.number refusal (start_in start) 0 request.commands (end_in ended results notes) failure
 
 -- it ends there with these results
-pub record HasEnd (start : Connected) (request : Request) (refusal : Refusal) (ended : Connected) (results : List Done) : Type 0 where
-  pub notes : List (ℕ × Note)
+pub record HasEnd (start : Connected) (request : Request) (refusal : Option ChosenRefusal) (ended : Connected) (results : List Done) : Type 0 where
+  pub notes : List RaisedNote
   pub failure : Option Failure
   pub is_end : IsEnd start request refusal ended results notes failure
 

@@ -1,8 +1,8 @@
 //! What a gateway answers to a request.
 use requests::{Reply, SentNote};
 
-/// What a gateway answers to a request that reaches it (H.248.1 section 8.1).
-#[derive(Drop)]
+/// What a gateway answers to a request that reaches it (H.248.1 Annex D.1.1).
+#[derive(Debug, Drop)]
 pub enum Answer {
     /// The request was executed: its reply, and the notes that it raised.
     Executed {

@@ -1,6 +1,5 @@
 //! A request reaches the gateway.
 ghost use Rattle.std.specs.Prelude.{◌≡◌, IfOk, OnOk, OnErr};
-ghost use Rattle.requests.specs.Views.{chosen_of};
 ghost use Rattle.gateway.specs.Answers.{IsAnswered, IsExecution, SameOpen};
 ghost use Rattle.gateway.specs.Execution.{IsJudged, IsNew, IsRun};
 
@@ -8,8 +7,9 @@ use crate::answer::Answer;
 use crate::gateway::Gateway;
 use crate::{calls, numbering};
 use delivery::Offer;
+use mg_model::failures::ChosenRefusal;
 use mg_names::identifiers::{CallNo, LAST_NUMBER};
-use requests::{Connections, Outcome, Refusal, Reply, Request, SentNote};
+use requests::{Connections, Outcome, Reply, Request, SentNote};
 use std::alloc::AllocError;
 
 /// What is to be done with a request.
@@ -69,14 +69,14 @@ impl Gateway {
     fn run(
         &mut self,
         request: &Request,
-        refusal: Option<(usize, Refusal)>,
+        chosen: Option<ChosenRefusal>,
         last: u32,
     ) -> Result<Ended, AllocError>
         requires { IsNew self.old request.now last }
-        ensures runs { IfOk result (λ e. IsRun self.old.connected request.now (chosen_of refusal) last e.connections e.reply e.kept e.notes.items e.last) }
+        ensures runs { IfOk result (λ e. IsRun self.old.connected request.now chosen last e.connections e.reply e.kept e.notes.items e.last) }
         ensures unchanged { self.new ≡ self.old }
     {
-        let (connections, outcome) = self.connections.run(request, refusal)?;
+        let (connections, outcome) = self.connections.run(request, chosen)?;
         let Outcome {
             results,
             failure,
@@ -101,13 +101,13 @@ impl Gateway {
     fn put(
         &mut self,
         request: &Request,
-        refusal: Option<(usize, Refusal)>,
+        chosen: Option<ChosenRefusal>,
         last: u32,
         ended: Ended,
     ) -> Answer
         requires new { IsNew self.old request.now last }
-        requires runs { IsRun self.old.connected request.now (chosen_of refusal) last ended.connections ended.reply ended.kept ended.notes.items ended.last }
-        ensures { IsAnswered self.old request.now.call request.now (chosen_of refusal) self.new result }
+        requires runs { IsRun self.old.connected request.now chosen last ended.connections ended.reply ended.kept ended.notes.items ended.last }
+        ensures { IsAnswered self.old request.now.call request.now chosen self.new result }
     {
         let Ended {
             connections,
@@ -117,19 +117,19 @@ impl Gateway {
             last,
         } = ended;
         self.connections
-            .change_places(connections, request, refusal, reply.results());
+            .change_places(connections, request, chosen, reply.results());
         calls::keep(&mut self.calls, request.call().0, kept, last);
         Answer::Executed { reply, notes }
     }
 
-    /// A request reaches the gateway for a call (H.248.1 section 8.1). `refuse_at` chooses a refusal for the command at a place, from 0.
+    /// A request reaches the gateway for a call (H.248.1 Annex D.1.1). `chosen` is a refusal for one of its commands, if there is one.
     pub fn execute(
         &mut self,
         call: CallNo,
         request: &Request,
-        refuse_at: Option<(usize, Refusal)>,
+        chosen: Option<ChosenRefusal>,
     ) -> Answer
-        ensures { IsAnswered self.old call.0 request.now (chosen_of refuse_at) self.new result }
+        ensures { IsAnswered self.old call.0 request.now chosen self.new result }
     {
         match self.judge(call, request) {
             Judged::Again(reply) => Answer::Kept(reply),
@@ -137,10 +137,10 @@ impl Gateway {
             Judged::Full => Answer::CannotHappen,
             Judged::NoMemory => Answer::NoMemory,
             Judged::New(last) => {
-                let Ok(ended) = self.run(request, refuse_at, last) else {
+                let Ok(ended) = self.run(request, chosen, last) else {
                     return Answer::NoMemory;
                 };
-                self.put(request, refuse_at, last, ended)
+                self.put(request, chosen, last, ended)
             }
         }
     }

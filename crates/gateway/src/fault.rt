@@ -19,7 +19,7 @@ pub enum OpenFault {
 }
 
 impl OpenFault {
-    /// The fault's number, or 0 for want of memory.
+    /// The fault's number, or 0 where memory ran out.
     pub fn number(&self) -> u8
         ensures { result ≡ number_of self.now }
     {

@@ -1,10 +1,10 @@
 //! The gateway.
 ghost use Rattle.std.specs.Prelude.{◌≡◌, ℕ, Option, None, false, IfOk};
 ghost use Rattle.gateway.specs.Openings.{first_gateway};
-ghost use Rattle.gateway.specs.Whole.{gateway_of, is_open};
+ghost use Rattle.gateway.specs.GatewayValue.{gateway_of, is_open};
 
+use crate::active_and_standby::ActiveAndStandby;
 use crate::calls::Calls;
-use crate::duplicated::Duplicated;
 use crate::holders::{self, Holders};
 use contexts::Board;
 use mg_names::identifiers::{Assoc, LineNo};
@@ -14,20 +14,20 @@ use std::marker::Model;
 
 /// A media gateway: its association, its connections, an entry for each line with the call that holds it, and the open calls. A line
 /// has its entry from the start, so that opening a call needs none. A request and an opening run on a standby of the connections, which
-/// then changes places with them, so that want of memory changes nothing and many open calls cost a request no copy.
+/// then changes places with them, so that running out of memory changes nothing and many open calls cost a request no copy.
 #[derive(Drop)]
 pub struct Gateway {
     pub(crate) alloc: Global,
     pub(crate) association: Assoc,
-    pub(crate) connections: Duplicated,
+    pub(crate) connections: ActiveAndStandby,
     pub(crate) holders: Holders,
     pub(crate) calls: Calls,
 }
 
 impl Model for Gateway {
-    ghost use Rattle.gateway.specs.Whole.{Whole, AreTied};
+    ghost use Rattle.gateway.specs.GatewayValue.{GatewayValue, AreTied};
 
-    ghost Value = { Whole };
+    ghost Value = { GatewayValue };
 
     ghost view = { λ g. record { association = g.association.0; connected = g.connections; holders = g.holders.entries; calls = g.calls.entries } };
 
@@ -41,7 +41,7 @@ impl Gateway {
         ensures gateway { IfOk result (λ g. (creator : ℕ → Option ℕ) → gateway_of creator g ≡ first_gateway lines.now creator) }
         ensures no_call { IfOk result (λ g. (call : ℕ) → is_open g call ≡ false) }
     {
-        let connections = Duplicated::new(alloc, lines)?;
+        let connections = ActiveAndStandby::new(alloc, lines)?;
         let holders = holders::new(alloc, lines)?;
         Ok(Gateway {
             alloc,
@@ -54,13 +54,13 @@ impl Gateway {
 
     /// The connection model.
     pub fn board(&self) -> &Board
-        ensures { result.now ≡ self.now.connected.sheet }
+        ensures { result.now ≡ self.now.connected.board_value }
     {
         self.connections.board()
     }
 
     /// The association.
-    pub fn assoc(&self) -> Assoc
+    pub fn association(&self) -> Assoc
         ensures { result.0 ≡ self.now.association }
     {
         self.association

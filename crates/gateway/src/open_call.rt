@@ -1,11 +1,11 @@
 //! The opening of a call.
 ghost use Rattle.std.specs.Prelude.{◌≡◌, ℕ, ◌==◌, ◌||◌, Option, Ok, OnOk, OnErr};
 ghost use Rattle.std.specs.List.{list_all};
-ghost use Rattle.contexts.specs.Sheet.{names_line};
+ghost use Rattle.contexts.specs.BoardValue.{names_line};
 ghost use Rattle.requests.specs.Connected.{board_in};
 ghost use Rattle.gateway.specs.Openings.{opened, opening, opening_on, has_twice, are_there, are_free, is_free, is_memory};
 ghost use Rattle.mg_model.specs.Memory.{IsOrNoMemory};
-ghost use Rattle.gateway.specs.Whole.{gateway_of, holder_in, is_open};
+ghost use Rattle.gateway.specs.GatewayValue.{gateway_of, holder_in, is_open};
 
 use crate::fault::OpenFault;
 use crate::gateway::Gateway;
@@ -69,7 +69,7 @@ impl Gateway {
     }
 
     /// Whether a call can be opened on lines.
-    #[tactic(auto, unfolding(crate::specs::Whole::is_open))]
+    #[tactic(auto, unfolding(crate::specs::GatewayValue::is_open))]
     fn can_open(&self, call: CallNo, lines: &[LineNo]) -> Result<(), OpenFault>
         ensures { result ≡ opening_on (board_in self.now.connected) (holder_in self.now) (is_open self.now call.0) lines.now }
     {
@@ -85,7 +85,7 @@ impl Gateway {
         Ok(())
     }
 
-    /// Opens a call on lines that are free; only want of memory keeps it from that.
+    /// Opens a call on lines that are free; only running out of memory keeps it from that.
     fn open_free(&mut self, call: CallNo, lines: &[LineNo]) -> Result<(), AllocError>
         requires { opening_on (board_in self.old.connected) (holder_in self.old) (is_open self.old call.0) lines.now ≡ Ok tt }
         ensures opened { OnOk result ((creator : ℕ → Option ℕ) → gateway_of creator self.new ≡ opened (gateway_of creator self.old) call.0 lines.now) }

@@ -1,5 +1,7 @@
+use crate::request_runs::failed;
 use gateway::{Answer, CannotHappen, Gateway, OpenFault};
 use line_events::{EventList, ListItem};
+use mg_model::failures::{ChosenRefusal, Refusal};
 use mg_model::line_events::{Hook, LineEvent};
 use mg_model::references::{ContextRef, TerminationRef};
 use mg_model::transitions::EventItem;
@@ -8,7 +10,7 @@ use mg_names::identifiers::{Assoc, CallNo, ContextId, LineNo, TermId};
 use mg_names::kinds::Kind;
 use mg_names::modes::Mode;
 use mg_names::strictness::Strict;
-use requests::{Descriptors, Refusal, Reply, Request, RequestCommand, SentNote};
+use requests::{Descriptors, Reply, Request, RequestCommand, SentNote};
 use std::alloc::{AllocError, Global};
 use std::test::Fail;
 
@@ -101,12 +103,12 @@ fn told(note: &SentNote) -> (u32, Kind, u32) {
 fn a_restart_discards_older_requests(rt: HostRuntime) -> Result<(), Fail> {
     let alloc = rt.alloc();
     let mut gateway = gateway(alloc)?;
-    assert_eq!(rt; gateway.assoc(), Assoc(1));
+    assert_eq!(rt; gateway.association(), Assoc(1));
     let first = request(alloc, 1, add(1))?;
     assert!(rt; executed(gateway.execute(CALL, &first, None)).is_some());
     assert_eq!(rt; gateway.board().contexts(), 1);
     assert!(rt; matches!(gateway.restart(), Ok(Assoc(2))));
-    assert_eq!(rt; gateway.assoc(), Assoc(2));
+    assert_eq!(rt; gateway.association(), Assoc(2));
     assert!(rt; matches!(gateway.execute(CALL, &first, None), Answer::Discarded));
     assert_eq!(rt; gateway.board().contexts(), 0);
     Ok(())
@@ -139,17 +141,20 @@ fn a_repeated_request_has_its_reply_again(rt: HostRuntime) -> Result<(), Fail> {
 fn the_reply_to_a_failed_request_is_kept(rt: HostRuntime) -> Result<(), Fail> {
     let alloc = rt.alloc();
     let mut gateway = gateway(alloc)?;
-    let refused = Some((0, Refusal::InternalFailure));
+    let refused = Some(ChosenRefusal {
+        place: 0,
+        refusal: Refusal::InternalFailure,
+    });
     let first = request(alloc, 1, add(1))?;
     let Some((reply, _)) = executed(gateway.execute(CALL, &first, refused)) else {
         panic!(rt; "executed");
     };
-    assert!(rt; reply.failure() == Some((0, Code::InternalFailure)));
+    assert!(rt; reply.failure() == failed(0, Code::InternalFailure));
     assert_eq!(rt; gateway.board().contexts(), 0);
     let Some(again) = kept(gateway.execute(CALL, &first, None)) else {
         panic!(rt; "kept");
     };
-    assert!(rt; again.failure() == Some((0, Code::InternalFailure)));
+    assert!(rt; again.failure() == failed(0, Code::InternalFailure));
     assert_eq!(rt; gateway.board().contexts(), 0);
     Ok(())
 }

@@ -32,7 +32,7 @@ fn requests(rt: HostRuntime) {
     assert_eq!(rt; repeated(link.offer(Assoc(1), 2)), Some(22));
     assert!(rt; is_discarded(link.offer(Assoc(0), 3)));
     link.restart(Assoc(2));
-    assert_eq!(rt; link.assoc(), Assoc(2));
+    assert_eq!(rt; link.association(), Assoc(2));
     assert_eq!(rt; link.last(), None);
     assert!(rt; is_discarded(link.offer(Assoc(1), 3)));
     assert!(rt; is_fresh(link.offer(Assoc(2), 3)));
@@ -59,7 +59,9 @@ fn notes(rt: HostRuntime) -> Result<(), Fail> {
     assert_eq!(rt; inbox.accept(Assoc(1), 1)?, Arrival::Seen);
     assert_eq!(rt; inbox.accept(Assoc(2), 1)?, Arrival::Old);
     assert_eq!(rt; inbox.accept(Assoc(1), 0)?, Arrival::New);
+    assert_eq!(rt; inbox.association(), Assoc(1));
     inbox.restart(Assoc(2));
+    assert_eq!(rt; inbox.association(), Assoc(2));
     assert_eq!(rt; inbox.accept(Assoc(1), 2)?, Arrival::Old);
     assert_eq!(rt; inbox.accept(Assoc(2), 1)?, Arrival::New);
     Ok(())

@@ -1,4 +1,5 @@
 use line_events::{EventList, LineFault, ListItem};
+use mg_model::failures::{ChosenRefusal, Failure, Refusal};
 use mg_model::line_events::{Hook, LineEvent, SignalSet};
 use mg_model::references::{ContextRef, EphemeralRef, RemoteRef, TerminationRef};
 use mg_model::transitions::EventItem;
@@ -8,15 +9,18 @@ use mg_names::kinds::Kind;
 use mg_names::modes::Mode;
 use mg_names::signals::Signal;
 use mg_names::strictness::Strict;
-use requests::{
-    Connections, Descriptors, Outcome, Refusal, Reply, Request, RequestCommand, SentNote,
-};
+use requests::{Connections, Descriptors, Outcome, Reply, Request, RequestCommand, SentNote};
 use std::alloc::{AllocError, Global};
 use std::test::Fail;
 
 const LINES: [LineNo; 3] = [LineNo(1), LineNo(2), LineNo(3)];
 
 const CHOOSE: ContextRef = ContextRef::Number(ContextId::CHOOSE);
+
+/// That the command at a place failed with a code.
+pub(crate) fn failed(place: usize, code: Code) -> Option<Failure> {
+    Some(Failure { place, code })
+}
 
 /// Nothing is set.
 fn nothing() -> Descriptors {
@@ -86,7 +90,7 @@ fn what_was_done_before_a_failure_stays(rt: HostRuntime) -> Result<(), Fail> {
     let connections = Connections::new(alloc, &LINES)?;
     let first = request(alloc, 1, add(CHOOSE, 1), add(ContextRef::MadeAt(0), 1))?;
     let (connections, outcome) = connections.run(&first, None)?;
-    assert!(rt; outcome.failure == Some((1, Code::AlreadyInContext)));
+    assert!(rt; outcome.failure == failed(1, Code::AlreadyInContext));
     assert_eq!(rt; outcome.results.len(), 1);
     let Some(context) = context_of(&outcome, 0) else {
         panic!(rt; "a context");
@@ -100,7 +104,7 @@ fn what_was_done_before_a_failure_stays(rt: HostRuntime) -> Result<(), Fail> {
         modify(named, 1, nothing()),
     )?;
     let (connections, outcome) = connections.run(&second, None)?;
-    assert!(rt; outcome.failure == Some((1, Code::UnknownContext)));
+    assert!(rt; outcome.failure == failed(1, Code::UnknownContext));
     assert_eq!(rt; connections.board().contexts(), 0);
     assert!(rt; connections.is_idle(LineNo(1)));
     let third = request(
@@ -113,7 +117,7 @@ fn what_was_done_before_a_failure_stays(rt: HostRuntime) -> Result<(), Fail> {
         },
     )?;
     let (connections, outcome) = connections.run(&third, None)?;
-    assert!(rt; outcome.failure == Some((1, Code::NotInContext)));
+    assert!(rt; outcome.failure == failed(1, Code::NotInContext));
     assert!(rt; !connections.is_idle(LineNo(1)));
     assert!(rt; connections.is_idle(LineNo(2)));
     Ok(())
@@ -130,7 +134,7 @@ fn a_line_that_is_not_there_is_unknown(rt: HostRuntime) -> Result<(), Fail> {
     let null = ContextRef::Number(ContextId::NULL);
     let fourth = request(alloc, 4, modify(null, 9, nothing()), add(CHOOSE, 1))?;
     let (connections, outcome) = connections.run(&fourth, None)?;
-    assert!(rt; outcome.failure == Some((0, Code::UnknownTermination)));
+    assert!(rt; outcome.failure == failed(0, Code::UnknownTermination));
     assert_eq!(rt; outcome.results.len(), 0);
     assert!(rt; connections.is_idle(LineNo(1)));
     Ok(())
@@ -141,11 +145,13 @@ fn a_chosen_refusal_ends_the_request(rt: HostRuntime) -> Result<(), Fail> {
     let alloc = rt.alloc();
     let connections = Connections::new(alloc, &LINES)?;
     let fifth = request(alloc, 5, add(CHOOSE, 1), add(ContextRef::MadeAt(0), 2))?;
-    let refusal = Some((1, Refusal::InternalFailure));
+    let refusal = Some(ChosenRefusal {
+        place: 1,
+        refusal: Refusal::InternalFailure,
+    });
     let again = connections.copy()?;
     let (connections, outcome) = connections.run(&fifth, refusal)?;
-    assert!(rt; outcome.failure == Some((1, Refusal::InternalFailure.code())));
-    assert!(rt; outcome.failure == Some((1, Code::InternalFailure)));
+    assert!(rt; outcome.failure == failed(1, Code::InternalFailure));
     assert_eq!(rt; outcome.results.len(), 1);
     assert!(rt; !connections.is_idle(LineNo(1)));
     assert!(rt; connections.is_idle(LineNo(2)));
@@ -272,7 +278,7 @@ fn a_reply_is_copied(rt: HostRuntime) -> Result<(), Fail> {
     assert!(rt; copied.call() == CallNo(1));
     assert!(rt; copied.association() == Assoc(1));
     assert_eq!(rt; copied.number(), 9);
-    assert!(rt; copied.failure() == Some((1, Code::AlreadyInContext)));
+    assert!(rt; copied.failure() == failed(1, Code::AlreadyInContext));
     let Some(done) = copied.results().get(0) else {
         panic!(rt; "a result");
     };

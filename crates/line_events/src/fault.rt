@@ -20,7 +20,7 @@ pub enum LineFault {
 }
 
 impl LineFault {
-    /// The fault's number, or 0 for want of memory.
+    /// The fault's number, or 0 where memory ran out.
     pub fn number(&self) -> u8
         ensures { result ≡ number_of self.now }
     {

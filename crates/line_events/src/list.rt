@@ -11,7 +11,7 @@ use std::alloc::{AllocError, Global};
 use std::marker::Model;
 
 /// The list of an Events descriptor (ITU-T H.248.1 v1 / RFC 3525, 7.1.9).
-#[derive(Drop)]
+#[derive(Debug, Drop)]
 pub struct EventList {
     items: Vec<ListItem>,
 }
@@ -48,6 +48,13 @@ impl EventList {
     {
         let items = copied(alloc, self.items.as_slice())?;
         Ok(EventList { items })
+    }
+
+    /// The items, in their order.
+    pub fn items(&self) -> &[ListItem]
+        ensures { result.now ≡ self.now }
+    {
+        self.items.as_slice()
     }
 
     /// The allocator of its items.

@@ -18,7 +18,7 @@ use std::marker::Model;
 
 /// The row of a line: its hook state, its Events descriptor with the RequestID, what is collected for the digit map, and
 /// the signals that play.
-#[derive(Drop)]
+#[derive(Debug, Drop)]
 pub struct LineRow {
     hook: Hook,
     list: EventList,
@@ -45,7 +45,14 @@ impl Clone for LineRow {
     ghost is_clone = { λ row copied. copied ≡ row };
 
     fn clone(&self) -> Result<LineRow, AllocError> {
-        self.copy(self.list.allocator())
+        let list = self.list.copy(self.list.allocator())?;
+        Ok(LineRow {
+            hook: self.hook,
+            list,
+            request: self.request,
+            collector: collecting::copy(&self.collector),
+            playing: self.playing,
+        })
     }
 }
 
@@ -81,20 +88,6 @@ impl LineRow {
             collector: None,
             playing: SignalSet::SILENT,
         }
-    }
-
-    /// An equal row.
-    pub(crate) fn copy(&self, alloc: Global) -> Result<LineRow, AllocError>
-        ensures { IfOk result (λ copied. copied ≡ self.now) }
-    {
-        let list = self.list.copy(alloc)?;
-        Ok(LineRow {
-            hook: self.hook,
-            list,
-            request: self.request,
-            collector: collecting::copy(&self.collector),
-            playing: self.playing,
-        })
     }
 
     /// The hook state.

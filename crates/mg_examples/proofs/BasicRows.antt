@@ -4,8 +4,8 @@ use Rattle.std.specs.Prelude.{◌≡◌, ℕ, List, [], ◌∷◌, map, refl}
 use Rattle.mg_names.specs.declared.kinds.Kind.TheVariants.{Of}
 use Rattle.mg_names.specs.declared.modes.Mode.{Mode}
 use Rattle.mg_names.specs.declared.modes.Mode.TheVariants.{Inactive, SendReceive}
-use Rattle.mg_names.specs.declared.phases.Link.{Link}
-use Rattle.mg_names.specs.declared.phases.Link.TheVariants.{Answered, Failed}
+use Rattle.mg_names.specs.declared.phases.LinkPhase.{LinkPhase}
+use Rattle.mg_names.specs.declared.phases.LinkPhase.TheVariants.{Answered, Failed}
 use Rattle.mg_names.specs.declared.context_values.ContextValue.{ContextValue}
 use Rattle.mg_names.specs.declared.context_values.ContextValue.TheVariants.{Free, Live}
 use Rattle.mg_model.specs.declared.commands.EventsName.{EventsName}
@@ -18,7 +18,7 @@ use Rattle.mg_model.specs.declared.steps.StepName.TheVariants.{Refuse, Execute, 
 use Rattle.mg_model.specs.Script.{Script}
 use Rattle.mg_model.specs.Configuration.{Configuration}
 use Rattle.mg_examples.specs.Basic.{basic}
-use Rattle.mg_model.specs.Steps.{Step, steps_of, opening, reset, entered}
+use Rattle.mg_model.specs.Steps.{Step, steps_of, opening, reset, with_state}
 
 abbrev script : Script
 script = basic (record { first = 0; second = 1 } ∷ [])
@@ -27,11 +27,11 @@ abbrev pub names : List Step → List StepName
 names steps = map (λ (step : Step). step.0) steps
 
 -- what a configuration says of both lines and of the context
-abbrev pub shown : Configuration → (ℕ × Link) × (Spot × Mode × EventsName) × (Spot × Mode × EventsName) × ContextValue
+abbrev pub shown : Configuration → (ℕ × LinkPhase) × (Spot × Mode × EventsName) × (Spot × Mode × EventsName) × ContextValue
 shown c =
     ((c.state, c.link), (c.spot (Line 0), c.mode (Line 0), c.events 0), (c.spot (Line 1), c.mode (Line 1), c.events 1), c.context 0)
 
-abbrev pub results : List Step → List ((ℕ × Link) × (Spot × Mode × EventsName) × (Spot × Mode × EventsName) × ContextValue)
+abbrev pub results : List Step → List ((ℕ × LinkPhase) × (Spot × Mode × EventsName) × (Spot × Mode × EventsName) × ContextValue)
 results steps = map (λ (step : Step). shown step.1) steps
 
 -- the start state has one step, the off-hook note of line a
@@ -39,7 +39,7 @@ opening_steps : names (steps_of script (opening script)) ≡ Observe 0 Of ∷ []
 opening_steps = refl
 
 abbrev pub talking : Configuration
-talking = entered script (opening script) 1
+talking = with_state script (opening script) 1
 
 -- the request of `talk` may be refused at either place, or executed
 talk_steps : names (steps_of script talking) ≡ Refuse 0 ∷ Refuse 1 ∷ Execute ∷ []

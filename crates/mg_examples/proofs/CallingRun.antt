@@ -2,9 +2,7 @@
 -- executed. Then the lines 1 and 2 are joined.
 use Rattle.std.proofs.Common.{List, [], ◌∷◌, None, refl, arith, inl}
 use Rattle.std.specs.Prelude.{unwrap_or}
-use Rattle.mg_names.specs.declared.kinds.Kind.TheVariants.{Of}
 use Rattle.mg_model.specs.declared.line_events.Hook.TheVariants as hooks
-use Rattle.mg_model.specs.declared.transitions.Transition.{Transition}
 use Rattle.mg_model.specs.Agent.{Agent, noted}
 use Rattle.mg_model.specs.declared.line_events.LineEvent.TheVariants as event
 use Rattle.mg_model.specs.Script.{Script}
@@ -12,55 +10,54 @@ use Rattle.mg_model.specs.Tables.{line_places}
 use Rattle.mg_model.specs.World.{World, Event, on_a_line, note, execute, AgentSteps, agent_steps, Runs}
 use Rattle.mg_examples.specs.Needed.{EndsBadly}
 use Rattle.mg_examples.specs.Talk.{call, off_hook}
-use Rattle.mg_safety.proofs.Shared.Single.{first_in}
-use Rattle.mg_examples.proofs.TwoLines.{two_lines, none_marked}
-use Rattle.mg_examples.proofs.TwoLinesOpening.{agent, opened_world, opens, off_hook_world, goes_off}
-use Rattle.mg_examples.proofs.TwoLinesJoined.{IsReady, to_talk, talking_world, executes, joined, not_good}
+use Rattle.mg_model.proofs.Single.{first_in}
+use Rattle.mg_examples.specs.TwoLines.{to_talk_off_hook, calling}
+use Rattle.mg_examples.proofs.TwoLines.{none_marked}
+use Rattle.mg_examples.proofs.TwoLinesOpening.{agent, opened_world, opens, one_call, off_hook_world, goes_off}
+use Rattle.mg_examples.proofs.TalkExecuted.{executes}
+use Rattle.mg_examples.proofs.TwoLinesJoined.{IsReady, to_talk, talking_world, joined, not_good}
 
-abbrev pub to_talk_off_hook : List Transition
-to_talk_off_hook = record { line = 0; kind = Of; target = 1 } ∷ []
-
-abbrev pub calling : Script
-calling = two_lines to_talk_off_hook 0
+abbrev silent : Script
+silent = calling []
 
 abbrev w0 : World
-w0 = opened_world calling
+w0 = opened_world silent (call ∷ [])
 
 abbrev w1 : World
-w1 = off_hook_world calling
+w1 = off_hook_world w0 call
 
 abbrev before : Agent
-before = agent calling
+before = agent silent call
 
 abbrev talking : Agent
-talking = unwrap_or (noted calling before (line_places calling) off_hook) before
+talking = unwrap_or (noted silent before (line_places silent) (off_hook call)) before
 
 abbrev w2 : World
 w2 = agent_steps w1 7 talking
 
-enters : AgentSteps w1 7 (λ a. noted calling a (line_places calling) off_hook) w2
+enters : AgentSteps w1 7 (λ a. noted silent a (line_places silent) (off_hook call)) w2
 enters = record { before = before; agent = talking; open_call = refl; steps = refl; after_is = refl }
 
-ready : IsReady w2.gateway.board
-ready = record { first_row = refl; second_row = refl; uncut = refl; not_given = refl }
+ready : IsReady w2.gateway.board call 1
+ready = record { differ = λ e. omega (arith, e); first_row = refl; second_row = refl; uncut = refl; is_number = (omega (arith), omega (arith)); not_given = refl }
 
 abbrev w3 : World
-w3 = talking_world w2 ready
+w3 = talking_world w2 call 1 ready
 
 abbrev events : List Event
-events = on_a_line 1 (event.Hook hooks.Off) ∷ note off_hook ∷ execute (to_talk 1) None ∷ []
+events = on_a_line 1 (event.Hook hooks.Off) ∷ note (off_hook call) ∷ execute (to_talk call 1) None ∷ []
 
-run : Runs calling events w0 w3
+run : Runs silent events w0 w3
 unfolding Runs
-run = (w1, (goes_off calling, (w2, ((first_in off_hook [], enters), (w3, (((0, omega (arith), refl), inl (executes w2 ready refl (omega (arith)))), refl))))))
+run = (w1, (goes_off w0 call (record { association = refl; held = refl; is_armed = refl; none_sent = refl }), (w2, ((first_in (off_hook call) [], enters), (w3, (((0, omega (arith), refl), inl (executes w2 call 1 ready refl (omega (arith)))), refl))))))
 
-pub calling_ends_badly : EndsBadly calling
+pub calling_ends_badly : EndsBadly (calling [])
 calling_ends_badly = record {
   calls = call ∷ [];
   events = events;
   opening = w0;
   end = w3;
-  opens = opens calling refl;
+  opens = opens silent refl (call ∷ []) (one_call silent refl);
   runs = run;
-  bad = not_good calling w3 (none_marked to_talk_off_hook 0) (joined w2.gateway.board ready);
+  bad = not_good silent w3 1 2 (none_marked to_talk_off_hook 0) (joined w2.gateway.board call 1 ready);
 }

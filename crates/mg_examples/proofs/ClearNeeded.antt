@@ -5,7 +5,7 @@ use Rattle.std.proofs.Common.{◌≡◌, List, [], ◌∷◌, refl, sym, ap, ari
 use Rattle.std.proofs.lemmas.List.Elements.{All-from_recursion}
 use Rattle.std.specs.Prelude.{codes, unwrap_or}
 use Rattle.std.specs.List.{All}
-use Rattle.mg_names.specs.declared.phases.Link.TheVariants.{Answered, Resting}
+use Rattle.mg_names.specs.declared.phases.LinkPhase.TheVariants.{Answered, Resting}
 use Rattle.mg_model.specs.declared.commands.EventsName.TheVariants.{Empty, Armed}
 use Rattle.mg_model.specs.Agent.{Agent, heard, passed}
 use Rattle.mg_model.specs.Entries.{Entry, numbered, IsCovered}
@@ -21,9 +21,10 @@ use Rattle.mg_examples.specs.Needed.{IsNeeded}
 use Rattle.mg_model.specs.Accepted.{IsScript, IsStateOf, IsEntryOf}
 use Rattle.mg_examples.proofs.PointFacts.{Below, EachPoint, at_points, EachCovered, steps_covered, none_joined}
 use Rattle.mg_examples.proofs.EntriesOfTwo.{null, entry_of, HasTwoLines, is_entry, none_below, point_formed, point_covered, unused_covered}
-use Rattle.mg_examples.proofs.QuietStates.{idle, done, no_command}
+use Rattle.mg_examples.specs.TwoLines.{idle}
+use Rattle.mg_examples.proofs.QuietStates.{done, no_command}
 use Rattle.mg_examples.specs.Talk.{call}
-use Rattle.mg_examples.proofs.TwoLinesOpening.{gateway, agent, opened_world, opens}
+use Rattle.mg_examples.proofs.TwoLinesOpening.{gateway, agent, opened_world, opens, one_call}
 
 -- ---- the script
 
@@ -123,13 +124,13 @@ broken holds =
 -- ---- the run
 
 abbrev w0 : World
-w0 = opened_world unarmed
+w0 = opened_world unarmed (call ∷ [])
 
 abbrev w1 : World
-w1 = with_gateway w0 (restarted gateway)
+w1 = with_gateway w0 (restarted (gateway (call ∷ [])))
 
 abbrev told : Agent
-told = unwrap_or (heard unarmed (agent unarmed) 2) (agent unarmed)
+told = unwrap_or (heard unarmed (agent unarmed call) 2) (agent unarmed call)
 
 abbrev w2 : World
 w2 = agent_steps w1 7 told
@@ -152,7 +153,7 @@ run = (
     (
       w2,
       (
-        (omega (arith), record { before = agent unarmed; agent = told; open_call = refl; steps = refl; after_is = refl }),
+        (omega (arith), record { before = agent unarmed call; agent = told; open_call = refl; steps = refl; after_is = refl }),
         (w3, (record { before = told; agent = at_rest; open_call = refl; steps = refl; after_is = refl }, refl)),
       ),
     ),
@@ -172,5 +173,5 @@ clear_needed = record {
   accepted = accepted;
   listed = listed;
   breaks = record { claim = Cleared 1 1; is_of = refl; broken = broken; others = others };
-  ends = record { calls = call ∷ []; events = events; opening = w0; end = w3; opens = opens unarmed refl; runs = run; bad = bad };
+  ends = record { calls = call ∷ []; events = events; opening = w0; end = w3; opens = opens unarmed refl (call ∷ []) (one_call unarmed refl); runs = run; bad = bad };
 }

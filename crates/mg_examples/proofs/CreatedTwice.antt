@@ -7,8 +7,8 @@ use Rattle.std.proofs.lemmas.List.Elements.{All-from_recursion}
 use Rattle.std.specs.Prelude.{◌==◌, Contains, codes}
 use Rattle.std.specs.List.{All}
 use Rattle.mg_names.specs.declared.context_values.ContextValue.TheVariants.{Free, Live}
-use Rattle.mg_names.specs.declared.phases.Link.{Link}
-use Rattle.mg_names.specs.declared.phases.Link.TheVariants.{Sent, Answered, Failed, Resting}
+use Rattle.mg_names.specs.declared.phases.LinkPhase.{LinkPhase}
+use Rattle.mg_names.specs.declared.phases.LinkPhase.TheVariants.{Sent, Answered, Failed, Resting}
 use Rattle.mg_model.specs.declared.commands.Command.{Command}
 use Rattle.mg_model.specs.declared.commands.Command.TheVariants.{AddLine}
 use Rattle.mg_model.specs.declared.commands.EventsName.TheVariants.{Empty, Armed}
@@ -22,7 +22,8 @@ use Rattle.mg_model.specs.Steps.{opening, reset, with_link, steps_of}
 use Rattle.mg_examples.specs.Needed.{BreaksOnly}
 use Rattle.mg_model.specs.Accepted.{IsScript, IsStateOf, IsCommandOf, IsEntryOf}
 use Rattle.mg_examples.proofs.PointFacts.{Below, EachPoint, at_points, EachCovered, steps_covered, plain_formed, none_joined}
-use Rattle.mg_examples.proofs.QuietStates.{idle, done, no_command}
+use Rattle.mg_examples.specs.TwoLines.{idle}
+use Rattle.mg_examples.proofs.QuietStates.{done, no_command}
 use Rattle.mg_examples.proofs.EntriesOfTwo.{null, alone, entry_of, HasTwoLines, is_entry, of_context, is_covered, pairs_uncut, point_of, is_free_live, is_first_live, is_first_settled, point_formed, point_covered, unused_covered}
 
 -- ---- the script
@@ -148,11 +149,11 @@ added_covered =
     (record { first_line = refl; second_line = refl; context = refl; cut_to = refl; cut_from = refl })
 
 -- where no line stands in the context it is free
-idle_covered : (linked : Link) → Contains (Answered ∷ Resting ∷ []) linked → IsCovered entries (point_of 0 linked Armed null null (Some Free))
+idle_covered : (linked : LinkPhase) → Contains (Answered ∷ Resting ∷ []) linked → IsCovered entries (point_of 0 linked Armed null null (Some Free))
 idle_covered linked among =
     point_covered entries 0 (Answered ∷ Resting ∷ []) linked Armed null null (Some Free) (0, omega (arith), refl) among (λ j. is_free_live (j == 0))
 
-first_covered : (linked : Link) → Contains (Sent ∷ Failed ∷ []) linked → IsCovered entries (point_of 1 linked Armed null null (Some Free))
+first_covered : (linked : LinkPhase) → Contains (Sent ∷ Failed ∷ []) linked → IsCovered entries (point_of 1 linked Armed null null (Some Free))
 first_covered linked among =
     point_covered entries 1 (Sent ∷ Failed ∷ []) linked Armed null null (Some Free) (1, omega (arith), refl) among (λ j. is_free_live (j == 0))
 

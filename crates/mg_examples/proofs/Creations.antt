@@ -14,8 +14,8 @@ use Rattle.mg_model.specs.declared.references.ContextRef.TheVariants.{Number}
 use Rattle.mg_model.specs.Messages.{RequestCommand, add_line}
 use Rattle.mg_model.specs.RequestRun.{item_at}
 use Rattle.mg_model.specs.Board.{null_row}
-use Rattle.mg_safety.proofs.Shared.Cases.{false_not_true}
-use Rattle.mg_safety.proofs.Shared.Single.{none_in}
+use Rattle.mg_model.proofs.Cases.{false_not_true}
+use Rattle.mg_model.proofs.Single.{none_in}
 
 -- a line is added to a new context, with this mode and these events where they are set
 abbrev pub creates : ℕ → Option Mode → Option (List ListItem) → RequestCommand

@@ -9,7 +9,7 @@ use Rattle.mg_names.specs.declared.context_values.ContextValue.{ContextValue}
 use Rattle.mg_names.specs.declared.context_values.ContextValue.TheVariants.{Free, Live}
 use Rattle.mg_names.specs.declared.modes.Mode.{Mode}
 use Rattle.mg_names.specs.declared.modes.Mode.TheVariants.{Inactive, SendReceive}
-use Rattle.mg_names.specs.declared.phases.Link.{Link}
+use Rattle.mg_names.specs.declared.phases.LinkPhase.{LinkPhase}
 use Rattle.mg_model.specs.declared.commands.EventsName.{EventsName}
 use Rattle.mg_model.specs.declared.commands.Termination.{Termination}
 use Rattle.mg_model.specs.declared.commands.Termination.TheVariants.{Line, Ephemeral}
@@ -21,7 +21,7 @@ use Rattle.mg_model.specs.Entries.{Entry, Component, Allows, IsCovered, numbered
 use Rattle.mg_model.specs.Script.{Script}
 use Rattle.mg_model.specs.Steps.{unused}
 use Rattle.mg_model.specs.Accepted.{IsEntryOf, HasOne, IsSlot, IsContext, is_spots, is_modes, is_events, is_plays, is_contexts, is_cuts}
-use Rattle.mg_safety.proofs.Shared.Cases.{same_turned}
+use Rattle.mg_model.proofs.Cases.{same_turned}
 use Rattle.mg_examples.proofs.PointFacts.{below_one, below_two, plain_formed, pair_uncut}
 
 -- where the script has a context, its value
@@ -52,7 +52,7 @@ line_of i list place =
 abbrev pub no_cuts : List Component
 no_cuts = cuts (Line 0) (Line 1) (false ∷ []) ∷ cuts (Line 1) (Line 0) (false ∷ []) ∷ []
 
-abbrev pub entry_of : ℕ → List Link → EventsName → Place → Place → Option ContextValue → Entry
+abbrev pub entry_of : ℕ → List LinkPhase → EventsName → Place → Place → Option ContextValue → Entry
 entry_of state link list first second value = record {
   state = state;
   lines = 2;
@@ -64,7 +64,7 @@ entry_of state link list first second value = record {
 pub none_below : (k : ℕ) → k < 0 → ⊥
 none_below k within = omega (arith, within)
 
-module _ (state : ℕ) (link : List Link) (list : EventsName) (first second : Place) (value : Option ContextValue) where
+module _ (state : ℕ) (link : List LinkPhase) (list : EventsName) (first second : Place) (value : Option ContextValue) where
   abbrev entry : Entry
   entry = entry_of state link list first second value
 
@@ -85,17 +85,17 @@ module _ (state : ℕ) (link : List Link) (list : EventsName) (first second : Pl
       (plays 1 (false ∷ []), (8, omega (arith), refl), refl)
 
 -- the cut from the first line to the second, and the one back
-cut_to : (state : ℕ) (link : List Link) (list : EventsName) (first second : Place) (value : Option ContextValue)
+cut_to : (state : ℕ) (link : List LinkPhase) (list : EventsName) (first second : Place) (value : Option ContextValue)
     → HasOne (entry_of state link list first second value) (is_cuts (Line 0) (Line 1))
 cut_to state link list first second None = (cuts (Line 0) (Line 1) (false ∷ []), (9, omega (arith), refl), refl)
 cut_to state link list first second (Some value) = (cuts (Line 0) (Line 1) (false ∷ []), (10, omega (arith), refl), refl)
 
-cut_from : (state : ℕ) (link : List Link) (list : EventsName) (first second : Place) (value : Option ContextValue)
+cut_from : (state : ℕ) (link : List LinkPhase) (list : EventsName) (first second : Place) (value : Option ContextValue)
     → HasOne (entry_of state link list first second value) (is_cuts (Line 1) (Line 0))
 cut_from state link list first second None = (cuts (Line 1) (Line 0) (false ∷ []), (10, omega (arith), refl), refl)
 cut_from state link list first second (Some value) = (cuts (Line 1) (Line 0) (false ∷ []), (11, omega (arith), refl), refl)
 
-line_cut : (state : ℕ) (link : List Link) (list : EventsName) (first second : Place) (value : Option ContextValue) (i j : ℕ) → i < 2 → j < 2
+line_cut : (state : ℕ) (link : List LinkPhase) (list : EventsName) (first second : Place) (value : Option ContextValue) (i j : ℕ) → i < 2 → j < 2
     → (i == j) ≡ false → HasOne (entry_of state link list first second value) (is_cuts (Line i) (Line j))
 line_cut state link list first second value zero zero left right differ = absurd (true≢false differ)
 line_cut state link list first second value zero (suc zero) left right differ = cut_to state link list first second value
@@ -105,7 +105,7 @@ line_cut state link list first second value (suc (suc i)) j left right differ = 
 line_cut state link list first second value i (suc (suc j)) left right differ = absurd (let out : suc (suc j) < 2 = right in omega (arith, out))
 
 -- where the script has one context
-pub of_context : (state : ℕ) (link : List Link) (list : EventsName) (first second : Place) (value : ContextValue) (j : ℕ) → j < 1
+pub of_context : (state : ℕ) (link : List LinkPhase) (list : EventsName) (first second : Place) (value : ContextValue) (j : ℕ) → j < 1
     → HasOne (entry_of state link list first second (Some value)) (is_contexts j)
 of_context state link list first second value =
     below_one (λ j. HasOne (entry_of state link list first second (Some value)) (is_contexts j)) (contexts 0 (value ∷ []), (9, omega (arith), refl), refl)
@@ -135,7 +135,7 @@ module _ (script : Script) (two : HasTwoLines script) where
   slot_cut one of_lines (Line i) (Ephemeral k) left right differ = absurd (no_ephemeral k right)
   slot_cut one of_lines (Ephemeral k) u left right differ = absurd (no_ephemeral k left)
 
-  pub is_entry : (state : ℕ) (link : List Link) (list : EventsName) (first second : Place) (value : Option ContextValue)
+  pub is_entry : (state : ℕ) (link : List LinkPhase) (list : EventsName) (first second : Place) (value : Option ContextValue)
       → ((j : ℕ) → IsContext script j → HasOne (entry_of state link list first second value) (is_contexts j))
       → IsEntryOf script (entry_of state link list first second value)
   is_entry state link list first second value context = record {
@@ -197,7 +197,7 @@ cuts_allowed : (c : Configuration) → c.cut (Line 0) (Line 1) ≡ false → c.c
 cuts_allowed c to from =
     All-from_recursion (Allows c) no_cuts (is_alone false (c.cut (Line 0) (Line 1)) to, (is_alone false (c.cut (Line 1) (Line 0)) from, tt))
 
-module _ (state : ℕ) (link : List Link) (list : EventsName) (first second : Place) (value : Option ContextValue) (c : Configuration) where
+module _ (state : ℕ) (link : List LinkPhase) (list : EventsName) (first second : Place) (value : Option ContextValue) (c : Configuration) where
   allowed : Contains link c.link → ReadsSo list first second value c → All (Allows c) (entry_of state link list first second value).components
   allowed in_link reads =
       let both = All-append (Allows c) (contexts_of value) no_cuts (context_allowed value c reads.context) (cuts_allowed c reads.cut_to reads.cut_from) in
@@ -221,7 +221,7 @@ pairs_uncut =
     pair_uncut (with_pair nothing_cut (Line 0) (Line 1) false) (pair_uncut nothing_cut (λ t u. refl) (Line 0) (Line 1)) (Line 1) (Line 0)
 
 -- the one number of an entry that lists one link
-abbrev pub point_of : ℕ → Link → EventsName → Place → Place → Option ContextValue → Configuration
+abbrev pub point_of : ℕ → LinkPhase → EventsName → Place → Place → Option ContextValue → Configuration
 point_of state link list first second value = numbered (entry_of state (link ∷ []) list first second value) 0
 
 -- each context is live exactly where a line stands in it
@@ -261,14 +261,14 @@ is_both_live j = at_once (j == 0) (0 == j) (same_turned 0 j)
     at_once true turned same = sym (ap (λ x. x || (x || false)) same)
     at_once false turned same = sym (ap (λ x. x || (x || false)) same)
 
-pub point_formed : (state : ℕ) (link : Link) (list : EventsName) (first second : Place) (value : Option ContextValue)
+pub point_formed : (state : ℕ) (link : LinkPhase) (list : EventsName) (first second : Place) (value : Option ContextValue)
     → IsLive (point_of state link list first second value) → IsWellFormed (point_of state link list first second value)
 point_formed state link list first second None live =
     plain_formed (point_of state link list first second None) live (record { mode = λ k. refl; remote = λ k. refl; uncut = pairs_uncut })
 point_formed state link list first second (Some value) live =
     plain_formed (point_of state link list first second (Some value)) live (record { mode = λ k. refl; remote = λ k. refl; uncut = pairs_uncut })
 
-point_reads : (state : ℕ) (link : Link) (list : EventsName) (first second : Place) (value : Option ContextValue)
+point_reads : (state : ℕ) (link : LinkPhase) (list : EventsName) (first second : Place) (value : Option ContextValue)
     → ReadsSo list first second value (point_of state link list first second value)
 point_reads state link list first second None = record {
   first_line = refl;
@@ -285,13 +285,13 @@ point_reads state link list first second (Some value) = record {
   cut_from = refl;
 }
 
-point_at : (state : ℕ) (link : Link) (list : EventsName) (first second : Place) (value : Option ContextValue)
+point_at : (state : ℕ) (link : LinkPhase) (list : EventsName) (first second : Place) (value : Option ContextValue)
     → ((point_of state link list first second value).state ≡ state) × ((point_of state link list first second value).link ≡ link)
 point_at state link list first second None = (refl, refl)
 point_at state link list first second (Some value) = (refl, refl)
 
 -- it is covered by an entry that has its link among others
-pub point_covered : (entries : List Entry) (state : ℕ) (linked : List Link) (link : Link) (list : EventsName) (first second : Place) (value : Option ContextValue)
+pub point_covered : (entries : List Entry) (state : ℕ) (linked : List LinkPhase) (link : LinkPhase) (list : EventsName) (first second : Place) (value : Option ContextValue)
     → Contains entries (entry_of state linked list first second value) → Contains linked link → IsLive (point_of state link list first second value)
     → IsCovered entries (point_of state link list first second value)
 point_covered entries state linked link list first second value among in_them live =
@@ -300,7 +300,7 @@ point_covered entries state linked link list first second value among in_them li
     (subst (Contains linked) (sym at.1) in_them) (point_formed state link list first second value live) (point_reads state link list first second value)
 
 -- so is what a call opens in, and what it is in after a restart: no name is in use
-pub unused_covered : (entries : List Entry) (state : ℕ) (linked : List Link) (link : Link) (list : EventsName) (value : Option ContextValue)
+pub unused_covered : (entries : List Entry) (state : ℕ) (linked : List LinkPhase) (link : LinkPhase) (list : EventsName) (value : Option ContextValue)
     → HasValue value (unused 2 state link list) → Contains entries (entry_of state linked list null null value) → Contains linked link
     → IsCovered entries (unused 2 state link list)
 unused_covered entries state linked link list value has among in_them =

@@ -4,18 +4,19 @@
 use Rattle.std.proofs.Common.{ℕ, List, [], ◌∷◌, Some, refl, sym, subst, arith}
 use Rattle.std.specs.Prelude.{◌==◌, Contains}
 use Rattle.mg_names.specs.declared.context_values.ContextValue.TheVariants.{Free}
-use Rattle.mg_names.specs.declared.phases.Link.TheVariants.{Answered, Resting}
+use Rattle.mg_names.specs.declared.phases.LinkPhase.TheVariants.{Answered, Resting}
 use Rattle.mg_model.specs.declared.commands.EventsName.TheVariants.{Empty, Armed}
+use Rattle.mg_model.specs.declared.transitions.Pair.{Pair}
 use Rattle.mg_model.specs.declared.transitions.Transition.{Transition}
 use Rattle.mg_model.specs.Configuration.{Configuration, IsWellFormed}
 use Rattle.mg_model.specs.Entries.{Entry, Includes, IsCovered, numbered}
 use Rattle.mg_model.specs.Obligations.{JoinedAreMarked, CreatedAreUnbound}
 use Rattle.mg_model.specs.Script.{Script}
 use Rattle.mg_model.specs.Steps.{steps_of, opening, reset}
-use Rattle.mg_safety.proofs.Shared.Single.{only_one}
+use Rattle.mg_model.proofs.Single.{only_one}
 use Rattle.mg_examples.proofs.EntriesOfTwo.{null, entry_of, is_free_live, point_formed, point_covered, unused_covered}
 use Rattle.mg_examples.proofs.PointFacts.{Below, EachCovered, none_joined}
-use Rattle.mg_examples.proofs.TwoLines.{two_lines}
+use Rattle.mg_examples.specs.TwoLines.{two_lines}
 
 -- at rest in `idle`, armed: what a call opens in
 abbrev pub idle_armed : Entry
@@ -25,12 +26,12 @@ idle_armed = entry_of 0 (Resting ∷ []) Armed null null (Some Free)
 abbrev pub idle_unarmed : Entry
 idle_unarmed = entry_of 0 (Answered ∷ Resting ∷ []) Empty null null (Some Free)
 
-pub opening_covered : (on : List Transition) (again : ℕ) (entries : List Entry) → Contains entries idle_armed
-    → IsCovered entries (opening (two_lines on again))
-opening_covered on again entries among = unused_covered entries 0 (Resting ∷ []) Resting Armed (Some Free) refl among (0, omega (arith), refl)
+pub opening_covered : (marks : List Pair) (on : List Transition) (again : ℕ) (entries : List Entry) → Contains entries idle_armed
+    → IsCovered entries (opening (two_lines marks on again))
+opening_covered marks on again entries among = unused_covered entries 0 (Resting ∷ []) Resting Armed (Some Free) refl among (0, omega (arith), refl)
 
-pub reset_covered : (on : List Transition) (entries : List Entry) → Contains entries idle_unarmed → IsCovered entries (reset (two_lines on 0))
-reset_covered on entries among =
+pub reset_covered : (marks : List Pair) (on : List Transition) (entries : List Entry) → Contains entries idle_unarmed → IsCovered entries (reset (two_lines marks on 0))
+reset_covered marks on entries among =
     unused_covered entries 0 (Answered ∷ Resting ∷ []) Answered Empty (Some Free) refl among (0, omega (arith), refl)
 
 pub sole_included : (entry : Entry) (c : Configuration) → IsCovered (entry ∷ []) c → Includes entry c
@@ -38,9 +39,9 @@ sole_included entry c covered = subst (λ (x : Entry). Includes x c) (sym (only_
 
 -- ---- the entry with empty events lists
 
-module _ (on : List Transition) (again : ℕ) where
+module _ (marks : List Pair) (on : List Transition) (again : ℕ) where
   abbrev script : Script
-  script = two_lines on again
+  script = two_lines marks on again
 
   pub unarmed_marked : Below (JoinedAreMarked script) idle_unarmed 2
   unfolding Below
@@ -81,6 +82,6 @@ pub armed_formed : IsWellFormed (numbered idle_armed 0)
 armed_formed = point_formed 0 Resting Armed null null (Some Free) (λ j. is_free_live (j == 0))
 
 -- with no transition the entry with armed lines has no step
-pub armed_stays : (again : ℕ) (entries : List Entry) → Below (λ c. EachCovered entries (steps_of (two_lines [] again) c)) idle_armed 1
+pub armed_stays : (marks : List Pair) (again : ℕ) (entries : List Entry) → Below (λ c. EachCovered entries (steps_of (two_lines marks [] again) c)) idle_armed 1
 unfolding Below EachCovered
-armed_stays again entries = ((λ formed. tt), tt)
+armed_stays marks again entries = ((λ formed. tt), tt)

@@ -3,6 +3,7 @@ pub mod BasicRows
 pub mod BoardRows
 pub mod LineRows
 -- runs, and certificates that break one obligation
+pub mod Finding
 pub mod QuietStates
 pub mod PointFacts
 pub mod EntriesOfTwo
@@ -10,11 +11,14 @@ pub mod TwoLines
 pub mod TwoLinesOpening
 pub mod Creations
 pub mod TwoLinesJoined
+pub mod TalkExecuted
 pub mod TalkRun
 pub mod CallingRun
 pub mod RecoveringRun
 pub mod IdleEntries
 pub mod TalkEntries
+pub mod TalkUnbroken
+pub mod TwoTalksRun
 pub mod OpeningNeeded
 pub mod ResetNeeded
 pub mod StepNeeded

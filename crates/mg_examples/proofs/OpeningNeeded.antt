@@ -3,7 +3,7 @@
 -- leaves out the configuration that a call opens in. In the run line 1 goes off hook.
 use Rattle.std.proofs.Common.{◌≡◌, List, [], ◌∷◌, Bool, true, false, refl, ap, arith, true≢false}
 use Rattle.std.proofs.lemmas.List.Elements.{All-from_recursion}
-use Rattle.mg_names.specs.declared.phases.Link.TheVariants.{Answered, Resting}
+use Rattle.mg_names.specs.declared.phases.LinkPhase.TheVariants.{Answered, Resting}
 use Rattle.mg_model.specs.declared.commands.EventsName.{EventsName}
 use Rattle.mg_model.specs.declared.commands.EventsName.TheVariants.{Empty, Armed, Own}
 use Rattle.mg_model.specs.Entries.{Entry, links, IsCovered}
@@ -12,8 +12,9 @@ use Rattle.mg_model.specs.Obligations.{Claim, OpeningCovered, ResetCovered, Mark
 use Rattle.mg_model.specs.Steps.{opening}
 use Rattle.mg_examples.specs.Needed.{IsNeeded}
 use Rattle.mg_model.specs.Accepted.{IsEntryOf}
-use Rattle.mg_safety.proofs.Shared.Single.{only_one}
-use Rattle.mg_examples.proofs.CallingRun.{to_talk_off_hook, calling, calling_ends_badly}
+use Rattle.mg_model.proofs.Single.{only_one}
+use Rattle.mg_examples.specs.TwoLines.{to_talk_off_hook, calling}
+use Rattle.mg_examples.proofs.CallingRun.{calling_ends_badly}
 use Rattle.mg_examples.proofs.IdleEntries.{idle_unarmed, reset_covered, sole_included, unarmed_marked, unarmed_unbound, unarmed_steps}
 use Rattle.mg_examples.proofs.PointFacts.{EachPoint, at_points, steps_covered, nothing_ends}
 use Rattle.mg_examples.proofs.EntriesOfTwo.{null}
@@ -29,27 +30,27 @@ is_empty_list Armed = false
 is_empty_list (Own k) = false
 
 -- line a is armed in the opening, and not in the entry
-not_opened : IsCovered after_a_restart (opening calling) → ⊥
+not_opened : IsCovered after_a_restart (opening (calling [])) → ⊥
 not_opened covered =
-    let armed = (sole_included idle_unarmed (opening calling) covered).2 3 (links []) (omega (arith)) in
+    let armed = (sole_included idle_unarmed (opening (calling [])) covered).2 3 (links []) (omega (arith)) in
     true≢false (ap is_empty_list (only_one Empty Armed armed))
 
-others_hold : (other : Claim) → (obligation_of other ≡ obligation.OpeningCovered → ⊥) → Holds calling after_a_restart other
+others_hold : (other : Claim) → (obligation_of other ≡ obligation.OpeningCovered → ⊥) → Holds (calling []) after_a_restart other
 unfolding EachPoint
 others_hold OpeningCovered differ = absurd (differ refl)
-others_hold ResetCovered differ = reset_covered to_talk_off_hook after_a_restart (0, omega (arith), refl)
-others_hold (Marked e p) differ = at_points (JoinedAreMarked calling) after_a_restart (unarmed_marked to_talk_off_hook 0, tt) e p
-others_hold (Cleared e p) differ = nothing_ends calling after_a_restart (none_ends to_talk_off_hook 0) e p
-others_hold (Unbound e p) differ = at_points (CreatedAreUnbound calling) after_a_restart (unarmed_unbound to_talk_off_hook 0, tt) e p
+others_hold ResetCovered differ = reset_covered [] to_talk_off_hook after_a_restart (0, omega (arith), refl)
+others_hold (Marked e p) differ = at_points (JoinedAreMarked (calling [])) after_a_restart (unarmed_marked [] to_talk_off_hook 0, tt) e p
+others_hold (Cleared e p) differ = nothing_ends (calling []) after_a_restart (none_ends [] to_talk_off_hook 0) e p
+others_hold (Unbound e p) differ = at_points (CreatedAreUnbound (calling [])) after_a_restart (unarmed_unbound [] to_talk_off_hook 0, tt) e p
 others_hold (StepCovered e p s) differ =
-    steps_covered calling after_a_restart (unarmed_steps to_talk_off_hook 0 after_a_restart (0, omega (arith), refl), tt) e p s
+    steps_covered (calling []) after_a_restart (unarmed_steps [] to_talk_off_hook 0 after_a_restart (0, omega (arith), refl), tt) e p s
 
 pub opening_needed : IsNeeded obligation.OpeningCovered
 opening_needed = record {
-  script = calling;
+  script = calling [];
   entries = after_a_restart;
-  accepted = is_script to_talk_off_hook 0;
-  listed = All-from_recursion (IsEntryOf calling) after_a_restart (is_entry to_talk_off_hook 0 0 (Answered ∷ Resting ∷ []) Empty null null Free, tt);
+  accepted = is_script [] to_talk_off_hook 0;
+  listed = All-from_recursion (IsEntryOf (calling [])) after_a_restart (is_entry [] to_talk_off_hook 0 0 (Answered ∷ Resting ∷ []) Empty null null Free, tt);
   breaks = record { claim = OpeningCovered; is_of = refl; broken = not_opened; others = others_hold };
   ends = calling_ends_badly;
 }

@@ -4,7 +4,7 @@ use Rattle.std.proofs.Common.{eqb-true, ◌≡◌, ◌∙◌, ◌<◌, ◌==◌,
 use Rattle.std.proofs.lemmas.Grind.{common_steps}
 use Rattle.std.specs.Prelude.{◌⊎◌, slice_get, not, ◌&&◌, IsTrue, unwrap_or}
 use Rattle.mg_names.specs.declared.modes.Mode.TheVariants.{Inactive}
-use Rattle.mg_names.specs.declared.phases.Link.{Link}
+use Rattle.mg_names.specs.declared.phases.LinkPhase.{LinkPhase}
 use Rattle.mg_model.specs.declared.commands.Termination.{Termination}
 use Rattle.mg_model.specs.declared.commands.Termination.TheVariants.{Line, Ephemeral}
 use Rattle.mg_model.specs.declared.components.Remote.{Remote}
@@ -19,7 +19,7 @@ use Rattle.mg_model.specs.Steps.{Step, steps_of}
 use Rattle.mg_model.specs.Tables.{state_of}
 use Rattle.mg_model.specs.Paths.{hops, goes_over, is_shared, passes_in, passes_out, crosses, HasPath}
 use Rattle.mg_model.specs.Script.{Script}
-use Rattle.mg_safety.proofs.Shared.Cases.{three_parts}
+use Rattle.mg_model.proofs.Cases.{three_parts}
 
 -- ---- points
 
@@ -133,13 +133,17 @@ one_is_second P i (suc (suc j)) first second differ at = absurd (let out : suc (
 
 -- where the second of two lines stands in the null context, no two are joined
 pub none_joined : (script : Script) (c : Configuration) → length script.lines ≡ 2 → c.spot (Line 1) ≡ Null → JoinedAreMarked script c
-none_joined script c two null i j first second differ joined =
-    absurd (either joined (one_is_second (λ n. c.spot (Line n) ≡ Null) i j (subst (λ n. i < n) two first) (subst (λ n. j < n) two second) differ null))
+none_joined script c two null i j first second joined =
+    absurd (either joined (one_is_second (λ n. c.spot (Line n) ≡ Null) i j (subst (λ n. i < n) two first) (subst (λ n. j < n) two second) (differ joined) null))
   where
+    differ : HasPath c i j ⊎ HasPath c j i → i ≡ j → ⊥
+    differ (inl path) e = path.another e
+    differ (inr path) e = path.another (sym e)
+
     either : HasPath c i j ⊎ HasPath c j i → (c.spot (Line i) ≡ Null) ⊎ (c.spot (Line j) ≡ Null) → ⊥
-    either (inl path) one = no_path c (Line i) (Line j) path.0 one path.1
-    either (inr path) (inl e) = no_path c (Line j) (Line i) path.0 (inr e) path.1
-    either (inr path) (inr e) = no_path c (Line j) (Line i) path.0 (inl e) path.1
+    either (inl path) one = no_path c (Line i) (Line j) path.crossings one path.goes
+    either (inr path) (inl e) = no_path c (Line j) (Line i) path.crossings (inr e) path.goes
+    either (inr path) (inr e) = no_path c (Line j) (Line i) path.crossings (inl e) path.goes
 
 -- ---- steps
 
@@ -167,7 +171,7 @@ pub nothing_ends : (script : Script) (entries : List Entry) → ((n : ℕ) → (
 nothing_ends script entries none e p entry there c point resting ends = absurd (true≢false (sym ends ∙ none c.state))
 
 -- the state and the link have no part in it
-pub still_formed : (c : Configuration) (state : ℕ) (link : Link) → IsWellFormed c → IsWellFormed (record c { state = state; link = link })
+pub still_formed : (c : Configuration) (state : ℕ) (link : LinkPhase) → IsWellFormed c → IsWellFormed (record c { state = state; link = link })
 still_formed c state link formed = record {
   live = formed.live;
   absent_mode = formed.absent_mode;

@@ -8,21 +8,23 @@ use Rattle.mg_model.specs.Script.{Script}
 use Rattle.mg_model.specs.World.{World, Event, execute, restart, hear, AgentSteps, agent_steps, Runs, with_gateway}
 use Rattle.mg_examples.specs.Needed.{EndsBadly}
 use Rattle.mg_examples.specs.Talk.{call}
-use Rattle.mg_examples.proofs.TwoLines.{two_lines, none_marked}
-use Rattle.mg_examples.proofs.TwoLinesOpening.{gateway, agent, opened_world, opens}
-use Rattle.mg_examples.proofs.TwoLinesJoined.{IsReady, to_talk, talking_world, executes, joined, not_good}
+use Rattle.mg_examples.specs.TwoLines.{two_lines}
+use Rattle.mg_examples.proofs.TwoLines.{none_marked}
+use Rattle.mg_examples.proofs.TwoLinesOpening.{gateway, agent, opened_world, opens, one_call}
+use Rattle.mg_examples.proofs.TalkExecuted.{executes}
+use Rattle.mg_examples.proofs.TwoLinesJoined.{IsReady, to_talk, talking_world, joined, not_good}
 
 abbrev pub recovering : Script
-recovering = two_lines [] 1
+recovering = two_lines [] [] 1
 
 abbrev w0 : World
-w0 = opened_world recovering
+w0 = opened_world recovering (call ∷ [])
 
 abbrev w1 : World
-w1 = with_gateway w0 (restarted gateway)
+w1 = with_gateway w0 (restarted (gateway (call ∷ [])))
 
 abbrev before : Agent
-before = agent recovering
+before = agent recovering call
 
 abbrev talking : Agent
 talking = unwrap_or (heard recovering before 2) before
@@ -33,18 +35,18 @@ w2 = agent_steps w1 7 talking
 enters : AgentSteps w1 7 (λ a. heard recovering a 2) w2
 enters = record { before = before; agent = talking; open_call = refl; steps = refl; after_is = refl }
 
-ready : IsReady w2.gateway.board
-ready = record { first_row = refl; second_row = refl; uncut = refl; not_given = refl }
+ready : IsReady w2.gateway.board call 1
+ready = record { differ = λ e. omega (arith, e); first_row = refl; second_row = refl; uncut = refl; is_number = (omega (arith), omega (arith)); not_given = refl }
 
 abbrev w3 : World
-w3 = talking_world w2 ready
+w3 = talking_world w2 call 1 ready
 
 abbrev events : List Event
-events = restart ∷ hear 7 2 ∷ execute (to_talk 2) None ∷ []
+events = restart ∷ hear 7 2 ∷ execute (to_talk call 2) None ∷ []
 
 run : Runs recovering events w0 w3
 unfolding Runs
-run = (w1, ((omega (arith), refl), (w2, ((omega (arith), enters), (w3, (((0, omega (arith), refl), inl (executes w2 ready refl (omega (arith)))), refl))))))
+run = (w1, ((omega (arith), refl), (w2, ((omega (arith), enters), (w3, (((0, omega (arith), refl), inl (executes w2 call 1 ready refl (omega (arith)))), refl))))))
 
 pub recovering_ends_badly : EndsBadly recovering
 recovering_ends_badly = record {
@@ -52,7 +54,7 @@ recovering_ends_badly = record {
   events = events;
   opening = w0;
   end = w3;
-  opens = opens recovering refl;
+  opens = opens recovering refl (call ∷ []) (one_call recovering refl);
   runs = run;
-  bad = not_good recovering w3 (none_marked [] 1) (joined w2.gateway.board ready);
+  bad = not_good recovering w3 1 2 (none_marked [] 1) (joined w2.gateway.board call 1 ready);
 }

@@ -4,7 +4,7 @@
 use Rattle.std.proofs.Common.{◌≡◌, List, [], ◌∷◌, refl, ap, arith, true≢false}
 use Rattle.std.proofs.lemmas.List.Elements.{All-from_recursion}
 use Rattle.std.specs.Prelude.{◌==◌}
-use Rattle.mg_names.specs.declared.phases.Link.TheVariants.{Resting}
+use Rattle.mg_names.specs.declared.phases.LinkPhase.TheVariants.{Resting}
 use Rattle.mg_model.specs.declared.commands.EventsName.TheVariants.{Armed}
 use Rattle.mg_model.specs.Entries.{Entry, IsCovered}
 use Rattle.mg_names.specs.declared.obligations.Obligation.TheVariants as obligation
@@ -28,19 +28,19 @@ not_reset covered = true≢false (ap (λ state. state == 1) (sole_included idle_
 
 others_hold : (other : Claim) → (obligation_of other ≡ obligation.ResetCovered → ⊥) → Holds recovering at_rest other
 unfolding EachPoint
-others_hold OpeningCovered differ = opening_covered [] 1 at_rest (0, omega (arith), refl)
+others_hold OpeningCovered differ = opening_covered [] [] 1 at_rest (0, omega (arith), refl)
 others_hold ResetCovered differ = absurd (differ refl)
-others_hold (Marked e p) differ = at_points (JoinedAreMarked recovering) at_rest (armed_marked [] 1, tt) e p
-others_hold (Cleared e p) differ = nothing_ends recovering at_rest (none_ends [] 1) e p
-others_hold (Unbound e p) differ = at_points (CreatedAreUnbound recovering) at_rest (armed_unbound [] 1, tt) e p
-others_hold (StepCovered e p s) differ = steps_covered recovering at_rest (armed_stays 1 at_rest, tt) e p s
+others_hold (Marked e p) differ = at_points (JoinedAreMarked recovering) at_rest (armed_marked [] [] 1, tt) e p
+others_hold (Cleared e p) differ = nothing_ends recovering at_rest (none_ends [] [] 1) e p
+others_hold (Unbound e p) differ = at_points (CreatedAreUnbound recovering) at_rest (armed_unbound [] [] 1, tt) e p
+others_hold (StepCovered e p s) differ = steps_covered recovering at_rest (armed_stays [] 1 at_rest, tt) e p s
 
 pub reset_needed : IsNeeded obligation.ResetCovered
 reset_needed = record {
   script = recovering;
   entries = at_rest;
-  accepted = is_script [] 1;
-  listed = All-from_recursion (IsEntryOf recovering) at_rest (is_entry [] 1 0 (Resting ∷ []) Armed null null Free, tt);
+  accepted = is_script [] [] 1;
+  listed = All-from_recursion (IsEntryOf recovering) at_rest (is_entry [] [] 1 0 (Resting ∷ []) Armed null null Free, tt);
   breaks = record { claim = ResetCovered; is_of = refl; broken = not_reset; others = others_hold };
   ends = recovering_ends_badly;
 }

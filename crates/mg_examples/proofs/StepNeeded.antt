@@ -5,16 +5,17 @@ use Rattle.std.proofs.Common.{◌≡◌, ◌∙◌, List, [], ◌∷◌, refl, a
 use Rattle.std.proofs.lemmas.List.Elements.{All-from_recursion, All-contains}
 use Rattle.std.specs.Prelude.{Contains, ◌==◌}
 use Rattle.mg_names.specs.declared.kinds.Kind.TheVariants.{Of}
-use Rattle.mg_names.specs.declared.phases.Link.TheVariants.{Answered, Resting}
+use Rattle.mg_names.specs.declared.phases.LinkPhase.TheVariants.{Answered, Resting}
 use Rattle.mg_model.specs.declared.commands.EventsName.TheVariants.{Empty, Armed}
 use Rattle.mg_model.specs.declared.steps.StepName.TheVariants.{Observe}
 use Rattle.mg_model.specs.Entries.{Entry, numbered}
 use Rattle.mg_names.specs.declared.obligations.Obligation.TheVariants as obligation
 use Rattle.mg_model.specs.Obligations.{Claim, OpeningCovered, ResetCovered, Marked, Cleared, Unbound, StepCovered, Holds, obligation_of, JoinedAreMarked, CreatedAreUnbound}
-use Rattle.mg_model.specs.Steps.{entered}
+use Rattle.mg_model.specs.Steps.{with_state}
 use Rattle.mg_examples.specs.Needed.{IsNeeded}
 use Rattle.mg_model.specs.Accepted.{IsEntryOf}
-use Rattle.mg_examples.proofs.CallingRun.{to_talk_off_hook, calling, calling_ends_badly}
+use Rattle.mg_examples.specs.TwoLines.{to_talk_off_hook, calling}
+use Rattle.mg_examples.proofs.CallingRun.{calling_ends_badly}
 use Rattle.mg_examples.proofs.IdleEntries.{idle_armed, idle_unarmed, opening_covered, reset_covered, unarmed_marked, unarmed_unbound, armed_marked, armed_unbound, armed_formed}
 use Rattle.mg_examples.proofs.PointFacts.{EachPoint, at_points, nothing_ends}
 use Rattle.mg_examples.proofs.EntriesOfTwo.{null}
@@ -30,30 +31,30 @@ all_idle entry among =
     All-contains (λ (x : Entry). x.state ≡ 0) in_idle entry (All-from_recursion (λ (x : Entry). x.state ≡ 0) in_idle (refl, (refl, tt))) among
 
 -- the step of the note that line a went off hook leads to the state `talk`
-not_covered : Holds calling in_idle (StepCovered 1 0 0) → ⊥
+not_covered : Holds (calling []) in_idle (StepCovered 1 0 0) → ⊥
 not_covered h =
     let covered =
-    h idle_armed refl (numbered idle_armed 0) (omega (arith), refl, armed_formed) (Observe 0 Of, entered calling (numbered idle_armed 0) 1) refl in
+    h idle_armed refl (numbered idle_armed 0) (omega (arith), refl, armed_formed) (Observe 0 Of, with_state (calling []) (numbered idle_armed 0) 1) refl in
     true≢false (ap (λ state. state == 1) (covered.1.1.0 ∙ all_idle covered.0 covered.1.0))
 
-others_hold : (other : Claim) → (obligation_of other ≡ obligation.StepsCovered → ⊥) → Holds calling in_idle other
+others_hold : (other : Claim) → (obligation_of other ≡ obligation.StepsCovered → ⊥) → Holds (calling []) in_idle other
 unfolding EachPoint
-others_hold OpeningCovered differ = opening_covered to_talk_off_hook 0 in_idle (1, omega (arith), refl)
-others_hold ResetCovered differ = reset_covered to_talk_off_hook in_idle (0, omega (arith), refl)
+others_hold OpeningCovered differ = opening_covered [] to_talk_off_hook 0 in_idle (1, omega (arith), refl)
+others_hold ResetCovered differ = reset_covered [] to_talk_off_hook in_idle (0, omega (arith), refl)
 others_hold (Marked e p) differ =
-    at_points (JoinedAreMarked calling) in_idle (unarmed_marked to_talk_off_hook 0, (armed_marked to_talk_off_hook 0, tt)) e p
-others_hold (Cleared e p) differ = nothing_ends calling in_idle (none_ends to_talk_off_hook 0) e p
+    at_points (JoinedAreMarked (calling [])) in_idle (unarmed_marked [] to_talk_off_hook 0, (armed_marked [] to_talk_off_hook 0, tt)) e p
+others_hold (Cleared e p) differ = nothing_ends (calling []) in_idle (none_ends [] to_talk_off_hook 0) e p
 others_hold (Unbound e p) differ =
-    at_points (CreatedAreUnbound calling) in_idle (unarmed_unbound to_talk_off_hook 0, (armed_unbound to_talk_off_hook 0, tt)) e p
+    at_points (CreatedAreUnbound (calling [])) in_idle (unarmed_unbound [] to_talk_off_hook 0, (armed_unbound [] to_talk_off_hook 0, tt)) e p
 others_hold (StepCovered e p s) differ = absurd (differ refl)
 
 pub step_needed : IsNeeded obligation.StepsCovered
 step_needed = record {
-  script = calling;
+  script = calling [];
   entries = in_idle;
-  accepted = is_script to_talk_off_hook 0;
-  listed = All-from_recursion (IsEntryOf calling) in_idle
-      (is_entry to_talk_off_hook 0 0 (Answered ∷ Resting ∷ []) Empty null null Free, (is_entry to_talk_off_hook 0 0 (Resting ∷ []) Armed null null Free, tt));
+  accepted = is_script [] to_talk_off_hook 0;
+  listed = All-from_recursion (IsEntryOf (calling [])) in_idle
+      (is_entry [] to_talk_off_hook 0 0 (Answered ∷ Resting ∷ []) Empty null null Free, (is_entry [] to_talk_off_hook 0 0 (Resting ∷ []) Armed null null Free, tt));
   breaks = record { claim = StepCovered 1 0 0; is_of = refl; broken = not_covered; others = others_hold };
   ends = calling_ends_badly;
 }

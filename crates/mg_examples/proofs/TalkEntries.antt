@@ -1,24 +1,32 @@
 -- The entries of `talk` where line a goes off hook in `idle`: while its request is sent or was refused at once, after a refusal of its second
 -- command, and after both commands. And that the steps of the entries that hold all that is reachable lead to such entries.
 use Rattle.std.proofs.Common.{◌≡◌, ◌∙◌, ℕ, List, [], ◌∷◌, Some, None, Bool, true, false, refl, sym, ap, arith, true≢false}
+use Rattle.std.proofs.lemmas.List.Elements.{All-from_recursion}
+use Rattle.std.specs.List.{All}
 use Rattle.std.specs.Prelude.{Contains, ◌==◌, ◌||◌, if◌then◌else◌}
+use Rattle.mg_names.specs.declared.context_values.ContextValue.{ContextValue}
 use Rattle.mg_names.specs.declared.context_values.ContextValue.TheVariants.{Free, Live}
 use Rattle.mg_names.specs.declared.modes.Mode.TheVariants.{SendReceive}
-use Rattle.mg_names.specs.declared.phases.Link.{Link}
-use Rattle.mg_names.specs.declared.phases.Link.TheVariants.{Sent, Answered, Failed, Resting}
+use Rattle.mg_names.specs.declared.phases.LinkPhase.{LinkPhase}
+use Rattle.mg_names.specs.declared.phases.LinkPhase.TheVariants.{Sent, Answered, Failed, Resting}
 use Rattle.mg_model.specs.declared.commands.Command.{Command}
 use Rattle.mg_model.specs.declared.commands.Command.TheVariants.{AddLine}
-use Rattle.mg_model.specs.declared.commands.EventsName.TheVariants.{Armed}
+use Rattle.mg_model.specs.declared.commands.EventsName.{EventsName}
+use Rattle.mg_model.specs.declared.commands.EventsName.TheVariants.{Empty, Armed}
+use Rattle.mg_model.specs.Accepted.{IsEntryOf}
 use Rattle.mg_model.specs.Configuration.{Configuration, IsWellFormed, is_live, value_of}
 use Rattle.mg_model.specs.Effects.{effect}
 use Rattle.mg_model.specs.Entries.{Entry, IsCovered, numbered}
 use Rattle.mg_model.specs.Obligations.{CreatedAreUnbound}
+use Rattle.mg_model.specs.Script.{Script}
 use Rattle.mg_model.specs.Steps.{steps_of, with_link}
-use Rattle.mg_examples.proofs.CallingRun.{to_talk_off_hook, calling}
+use Rattle.mg_model.specs.declared.transitions.Pair.{Pair}
+use Rattle.mg_examples.specs.TwoLines.{to_talk_off_hook, calling}
 use Rattle.mg_examples.proofs.IdleEntries.{idle_armed, idle_unarmed, unarmed_unbound, unarmed_steps, armed_unbound}
-use Rattle.mg_safety.proofs.Shared.Cases.{same_turned}
-use Rattle.mg_examples.proofs.EntriesOfTwo.{null, talking, entry_of, is_covered, pairs_uncut, point_of, is_free_live, is_first_settled, is_both_live, point_formed, point_covered}
+use Rattle.mg_model.proofs.Cases.{same_turned}
+use Rattle.mg_examples.proofs.EntriesOfTwo.{Place, null, talking, entry_of, is_covered, pairs_uncut, point_of, is_free_live, is_first_settled, is_both_live, point_formed, point_covered}
 use Rattle.mg_examples.proofs.PointFacts.{plain_formed, Below, EachPoint, EachCovered, still_formed}
+use Rattle.mg_examples.proofs.TwoLines.{is_entry}
 
 -- ---- entries
 
@@ -36,6 +44,23 @@ both = entry_of 1 (Answered ∷ Resting ∷ []) Armed talking talking (Some Live
 abbrev pub reachable : List Entry
 reachable = idle_unarmed ∷ idle_armed ∷ sent ∷ half ∷ both ∷ []
 
+-- they are entries of the script, whatever it marks
+pub all_listed : (marks : List Pair) → All (IsEntryOf (calling marks)) reachable
+all_listed marks = All-from_recursion (IsEntryOf (calling marks)) reachable (
+  its 0 (Answered ∷ Resting ∷ []) Empty null null Free,
+  (
+    its 0 (Resting ∷ []) Armed null null Free,
+    (
+      its 1 (Sent ∷ Failed ∷ []) Armed null null Free,
+      (its 1 (Failed ∷ []) Armed talking null Live, (its 1 (Answered ∷ Resting ∷ []) Armed talking talking Live, tt)),
+    ),
+  ),
+)
+  where
+    its : (state : ℕ) (link : List LinkPhase) (list : EventsName) (one other : Place) (value : ContextValue)
+        → IsEntryOf (calling marks) (entry_of state link list one other (Some value))
+    its = is_entry marks to_talk_off_hook 0
+
 -- ---- the commands
 
 abbrev first : Command
@@ -44,14 +69,14 @@ first = AddLine true 0 0 record { mode = Some SendReceive; events = None; signal
 abbrev second : Command
 second = AddLine false 0 1 record { mode = Some SendReceive; events = None; signals = None }
 
-abbrev asked : Configuration
+abbrev pub asked : Configuration
 asked = numbered sent 0
 
-abbrev after_first : Configuration
-after_first = effect calling asked first
+abbrev pub after_first : Configuration
+after_first = effect (calling []) asked first
 
-abbrev after_second : Configuration
-after_second = effect calling after_first second
+abbrev pub after_second : Configuration
+after_second = effect (calling []) after_first second
 
 -- each context is live exactly where a line stands in it
 is_second_settled : (j : ℕ)
@@ -69,10 +94,10 @@ is_second_settled j = at_once (j == 0) (0 == j) (same_turned 0 j)
     at_once true false same = absurd (true≢false (sym same))
     at_once false true same = absurd (true≢false same)
 
-first_formed : IsWellFormed after_first
+pub first_formed : IsWellFormed after_first
 first_formed = plain_formed after_first is_first_settled (record { mode = λ k. refl; remote = λ k. refl; uncut = pairs_uncut })
 
-second_formed : IsWellFormed after_second
+pub second_formed : IsWellFormed after_second
 second_formed = plain_formed after_second is_second_settled (record { mode = λ k. refl; remote = λ k. refl; uncut = pairs_uncut })
 
 pub both_formed : IsWellFormed (numbered both 0)
@@ -81,7 +106,7 @@ both_formed = point_formed 1 Answered Armed talking talking (Some Live) is_both_
 -- ---- steps
 
 -- the note that line a went off hook, and a refusal of the first command
-sent_covered : (linked : Link) → Contains (Sent ∷ Failed ∷ []) linked → IsCovered reachable (point_of 1 linked Armed null null (Some Free))
+sent_covered : (linked : LinkPhase) → Contains (Sent ∷ Failed ∷ []) linked → IsCovered reachable (point_of 1 linked Armed null null (Some Free))
 sent_covered linked among =
     point_covered reachable 1 (Sent ∷ Failed ∷ []) linked Armed null null (Some Free) (2, omega (arith), refl) among (λ j. is_free_live (j == 0))
 
@@ -102,58 +127,60 @@ rests =
     point_covered reachable 1 (Answered ∷ Resting ∷ []) Resting Armed talking talking (Some Live) (4, omega (arith), refl) (1, omega (arith), refl)
     is_both_live
 
-abbrev Stepped : Configuration → Type 0
-Stepped c = EachCovered reachable (steps_of calling c)
-
-armed_steps : Below Stepped idle_armed 1
-unfolding Below EachCovered
-armed_steps = ((λ formed. (sent_covered Sent (0, omega (arith), refl), tt)), tt)
-
-sent_steps : Below Stepped sent 2
-unfolding Below EachCovered
-sent_steps = ((λ formed. tt), ((λ formed. (sent_covered Failed (1, omega (arith), refl), (refused_second, (executed_both, tt)))), tt))
-
-half_steps : Below Stepped half 1
-unfolding Below EachCovered
-half_steps = ((λ formed. tt), tt)
-
-both_steps : Below Stepped both 2
-unfolding Below EachCovered
-both_steps = ((λ formed. tt), ((λ formed. (rests, tt)), tt))
-
-pub all_stepped : EachPoint Stepped reachable
-unfolding EachPoint
-all_stepped = (
-  unarmed_steps to_talk_off_hook 0 reachable (0, omega (arith), refl),
-  (armed_steps, (sent_steps, (half_steps, (both_steps, tt)))),
-)
-
--- ---- created names
-
-abbrev is_sent : Link → Bool
+-- where no request is sent, no created name is asked about
+abbrev is_sent : LinkPhase → Bool
 is_sent Sent = true
 is_sent Answered = false
 is_sent Failed = false
 is_sent Resting = false
 
-not_sent : (c : Configuration) → is_sent c.link ≡ false → CreatedAreUnbound calling c
-not_sent c other sent = absurd (true≢false (sym (ap is_sent sent) ∙ other))
+pub not_sent : (script : Script) (c : Configuration) → is_sent c.link ≡ false → CreatedAreUnbound script c
+not_sent script c other sent = absurd (true≢false (sym (ap is_sent sent) ∙ other))
 
-sent_unbound : Below (CreatedAreUnbound calling) sent 2
-unfolding Below
-sent_unbound = ((λ formed asks. refl), ((λ formed asks. refl), tt))
+module _ (marks : List Pair) where
+  abbrev Stepped : Configuration → Type 0
+  Stepped c = EachCovered reachable (steps_of (calling marks) c)
 
-half_unbound : Below (CreatedAreUnbound calling) half 1
-unfolding Below
-half_unbound = ((λ formed. not_sent (numbered half 0) refl), tt)
+  armed_steps : Below Stepped idle_armed 1
+  unfolding Below EachCovered
+  armed_steps = ((λ formed. (sent_covered Sent (0, omega (arith), refl), tt)), tt)
 
-both_unbound : Below (CreatedAreUnbound calling) both 2
-unfolding Below
-both_unbound = ((λ formed. not_sent (numbered both 1) refl), ((λ formed. not_sent (numbered both 0) refl), tt))
+  sent_steps : Below Stepped sent 2
+  unfolding Below EachCovered
+  sent_steps = ((λ formed. tt), ((λ formed. (sent_covered Failed (1, omega (arith), refl), (refused_second, (executed_both, tt)))), tt))
 
-pub all_unbound : EachPoint (CreatedAreUnbound calling) reachable
-unfolding EachPoint
-all_unbound = (
-  unarmed_unbound to_talk_off_hook 0,
-  (armed_unbound to_talk_off_hook 0, (sent_unbound, (half_unbound, (both_unbound, tt)))),
-)
+  half_steps : Below Stepped half 1
+  unfolding Below EachCovered
+  half_steps = ((λ formed. tt), tt)
+
+  both_steps : Below Stepped both 2
+  unfolding Below EachCovered
+  both_steps = ((λ formed. tt), ((λ formed. (rests, tt)), tt))
+
+  pub all_stepped : EachPoint Stepped reachable
+  unfolding EachPoint
+  all_stepped = (
+    unarmed_steps marks to_talk_off_hook 0 reachable (0, omega (arith), refl),
+    (armed_steps, (sent_steps, (half_steps, (both_steps, tt)))),
+  )
+
+  -- ---- created names
+
+  sent_unbound : Below (CreatedAreUnbound (calling marks)) sent 2
+  unfolding Below
+  sent_unbound = ((λ formed asks. refl), ((λ formed asks. refl), tt))
+
+  half_unbound : Below (CreatedAreUnbound (calling marks)) half 1
+  unfolding Below
+  half_unbound = ((λ formed. not_sent (calling marks) (numbered half 0) refl), tt)
+
+  both_unbound : Below (CreatedAreUnbound (calling marks)) both 2
+  unfolding Below
+  both_unbound = ((λ formed. not_sent (calling marks) (numbered both 1) refl), ((λ formed. not_sent (calling marks) (numbered both 0) refl), tt))
+
+  pub all_unbound : EachPoint (CreatedAreUnbound (calling marks)) reachable
+  unfolding EachPoint
+  all_unbound = (
+    unarmed_unbound marks to_talk_off_hook 0,
+    (armed_unbound marks to_talk_off_hook 0, (sent_unbound, (half_unbound, (both_unbound, tt)))),
+  )

@@ -1,73 +1,67 @@
 -- The run that leads to a talk, world by world: line 1 goes off hook, the call enters the state `talk`, its request is executed, and the
 -- reply is taken.
-use Rattle.std.proofs.Common.{◌≡◌, List, [], ◌∷◌, Option, Some, None, refl, arith, inl}
+use Rattle.std.proofs.Common.{◌≡◌, List, [], ◌∷◌, None, refl, arith, inl}
 use Rattle.std.specs.Prelude.{unwrap_or}
-use Rattle.mg_names.specs.declared.strictness.Strict.TheVariants.{State as StateOfHook}
 use Rattle.mg_model.specs.declared.transitions.Pair.{Pair}
 use Rattle.mg_model.specs.Agent.{Agent, noted, replied}
 use Rattle.mg_model.specs.Gateway.{Gateway, after_request}
-use Rattle.mg_model.specs.declared.transitions.EventItem.TheVariants.{OnHook}
-use Rattle.mg_model.specs.LineEvents.{ListItem}
 use Rattle.mg_model.specs.RequestRun.{Running}
 use Rattle.mg_model.specs.Tables.{line_places}
 use Rattle.mg_model.specs.World.{World, AgentSteps, agent_steps, IsFirst, Runs, with_gateway}
 use Rattle.mg_examples.specs.Basic.{basic}
-use Rattle.mg_examples.specs.Talk.{off_hook, to_talk, all_done, to_a_talk, LeadsToATalk}
-use Rattle.mg_safety.proofs.Shared.Single.{first_in}
+use Rattle.mg_examples.specs.Talk.{call, off_hook, to_talk, all_done, hang, to_a_talk, LeadsToATalk}
+use Rattle.mg_model.proofs.Single.{first_in}
 use Rattle.mg_examples.proofs.TwoLinesJoined.{IsReady, r2, runs_through, joined}
-use Rattle.mg_examples.proofs.TwoLinesOpening.{agent, opened_world, opens, off_hook_world, goes_off}
+use Rattle.mg_examples.proofs.TwoLinesOpening.{agent, opened_world, opens, one_call, off_hook_world, goes_off}
 
 abbrev w0 : World
-w0 = opened_world (basic [])
+w0 = opened_world (basic []) (call ∷ [])
 
 abbrev w1 : World
-w1 = off_hook_world (basic [])
+w1 = off_hook_world w0 call
 
 -- ---- the call enters the state talk
 
 abbrev before : Agent
-before = agent (basic [])
+before = agent (basic []) call
 
 abbrev talking : Agent
-talking = unwrap_or (noted (basic []) before (line_places (basic [])) off_hook) before
+talking = unwrap_or (noted (basic []) before (line_places (basic [])) (off_hook call)) before
 
 abbrev w2 : World
 w2 = agent_steps w1 7 talking
 
-enters : (marks : List Pair) → AgentSteps w1 7 (λ a. noted (basic marks) a (line_places (basic marks)) off_hook) w2
+enters : (marks : List Pair) → AgentSteps w1 7 (λ a. noted (basic marks) a (line_places (basic marks)) (off_hook call)) w2
 enters marks = record { before = before; agent = talking; open_call = refl; steps = refl; after_is = refl }
 
-sends : w2.requests ≡ to_talk ∷ []
+sends : w2.requests ≡ to_talk call hang ∷ []
 sends = refl
 
 -- ---- the request is executed
 
-ready : IsReady w2.gateway.board
-ready = record { first_row = refl; second_row = refl; uncut = refl; not_given = refl }
-
-abbrev hang : Option (List ListItem)
-hang = Some (OnHook StateOfHook ∷ [])
+ready : IsReady w2.gateway.board call 1
+ready = record { differ = λ e. omega (arith, e); first_row = refl; second_row = refl; uncut = refl; is_number = (omega (arith), omega (arith)); not_given = refl }
 
 abbrev end : Running
-end = r2 w2 ready hang
+end = r2 w2 call 1 ready hang
 
 abbrev g3 : Gateway
-g3 = after_request w2.gateway to_talk end None
+g3 = after_request w2.gateway (to_talk call hang) end None
 
 abbrev w3 : World
-w3 = record (with_gateway w2 g3) { replies = all_done ∷ [] }
+w3 = record (with_gateway w2 g3) { replies = all_done call 1 ∷ [] }
 
-is_executed : IsFirst w2 to_talk None w3
+is_executed : IsFirst w2 (to_talk call hang) None w3
 is_executed = record {
   gateway = g3;
-  answer = all_done;
+  answer = all_done call 1;
   sent = [];
   executed = record {
     end = end;
     failure = None;
     is_fresh = refl;
     room = omega (arith);
-    runs = runs_through w2 ready hang;
+    runs = runs_through w2 call 1 ready hang;
     after_is = refl;
     reply_is = refl;
     notes_are = refl;
@@ -78,19 +72,19 @@ is_executed = record {
 -- ---- the reply is taken, and the call rests in the state talk
 
 abbrev resting_there : Agent
-resting_there = unwrap_or (replied (basic []) talking all_done) talking
+resting_there = unwrap_or (replied (basic []) talking (all_done call 1)) talking
 
 abbrev w4 : World
 w4 = agent_steps w3 7 resting_there
 
-takes : (marks : List Pair) → AgentSteps w3 7 (λ a. replied (basic marks) a all_done) w4
+takes : (marks : List Pair) → AgentSteps w3 7 (λ a. replied (basic marks) a (all_done call 1)) w4
 takes marks = record { before = talking; agent = resting_there; open_call = refl; steps = refl; after_is = refl }
 
 -- ---- the run
 
 run : (marks : List Pair) → Runs (basic marks) to_a_talk w0 w4
 unfolding Runs
-run marks = (w1, (goes_off (basic []), (w2, ((first_in off_hook [], enters marks), (w3, ((first_in to_talk [], inl is_executed), (w4, ((first_in all_done [], takes marks), refl))))))))
+run marks = (w1, (goes_off w0 call (record { association = refl; held = refl; is_armed = refl; none_sent = refl }), (w2, ((first_in (off_hook call) [], enters marks), (w3, ((first_in (to_talk call hang) [], inl is_executed), (w4, ((first_in (all_done call 1) [], takes marks), refl))))))))
 
 pub leads : (marks : List Pair) → LeadsToATalk marks
-leads marks = record { opening = w0; end = w4; opens = opens (basic marks) refl; runs = run marks; joined = joined w2.gateway.board ready }
+leads marks = record { opening = w0; end = w4; opens = opens (basic marks) refl (call ∷ []) (one_call (basic marks) refl); runs = run marks; joined = joined w2.gateway.board call 1 ready }

@@ -1,145 +1,212 @@
--- The request of the state `talk` joins lines 1 and 2 on any gateway where both are in the null context and no context was created yet;
--- and a world where two lines are joined isn't good if the script marks no pair.
-use Rattle.std.proofs.Common.{◌≡◌, ◌∙◌, ◌≤◌, ◌==◌, ℕ, false, List, [], ◌∷◌, Option, Some, None, refl, sym, ap, arith, true≢false, inl, inr}
-use Rattle.std.specs.Prelude.{not}
+-- The request of the state `talk` joins the two lines of a call on any gateway where both are in the null context and the number of the
+-- context that it creates wasn't given yet; and a world where two lines are joined isn't good if the script marks no pair.
+use Rattle.std.proofs.Common.{eqb-true, eq-eqb, ◌≡◌, ◌∙◌, ◌<◌, ◌==◌, ℕ, Bool, true, false, if◌then◌else◌, List, [], ◌∷◌, Option, Some, None, refl, sym, ap, arith, true≢false, inl, inr}
+use Rattle.std.specs.Prelude.{not, ◌&&◌, IsTrue}
 use Rattle.mg_names.specs.declared.codes.Code.TheVariants.{UnknownContext, UnknownTermination, AlreadyInContext, NotInContext, InternalFailure, InsufficientResources}
+use Rattle.mg_names.specs.declared.identifiers.TermId.{TermId}
 use Rattle.mg_names.specs.declared.identifiers.TermId.TheVariants.{Line}
 use Rattle.mg_names.specs.declared.modes.Mode.TheVariants.{SendReceive}
+use Rattle.mg_model.specs.declared.rows.Row.{Row}
 use Rattle.mg_model.specs.declared.transitions.Pair.{Pair}
-use Rattle.mg_model.specs.Board.{Board}
-use Rattle.mg_model.specs.Gateway.{Gateway, number_of, after_request, start_of}
-use Rattle.mg_model.specs.Numbers.{choose}
-use Rattle.mg_model.specs.Items.{Done, IsExecuted, IsLegal, effect}
+use Rattle.mg_model.specs.Board.{Board, null_row, mode_in, place_in, remote_of}
+use Rattle.mg_model.specs.Gateway.{Gateway, after_request, start_of}
+use Rattle.mg_model.specs.Numbers.{choose, null}
+use Rattle.mg_model.specs.Items.{Done, IsExecuted, IsLegal, effect, is_context_number}
 use Rattle.mg_model.specs.LineEvents.{ListItem}
-use Rattle.mg_model.specs.Media.{AreJoined}
+use Rattle.mg_model.specs.Media.{AreJoined, receives, sends}
 use Rattle.mg_model.specs.declared.references.ContextRef.TheVariants.{MadeAt}
-use Rattle.mg_safety.proofs.Shared.Offered.{is_fresh_at}
+use Rattle.mg_model.proofs.Cases.{different, where_true, where_false}
 use Rattle.mg_model.specs.Messages.{Descriptors, RequestCommand, add_line, Request, Reply}
 use Rattle.mg_model.specs.RequestRun.{Running, after_command, item_at, RunsFrom}
 use Rattle.mg_model.specs.Script.{Script}
 use Rattle.mg_model.specs.Tables.{state_of, is_marked}
 use Rattle.mg_examples.proofs.Creations.{creates, picks, made, created, none_listed, is_unknown, is_taken, creation_executed}
-use Rattle.mg_model.specs.World.{World, IsFirst, IsGood, with_gateway}
-use Rattle.mg_model.specs.Board.{null_row}
+use Rattle.mg_model.specs.World.{World, IsGood, Opened, with_gateway}
 
 -- ---- the request
 
 abbrev pub receiving : Descriptors
 receiving = record { mode = Some SendReceive; remote = None; events = None; signals = None }
 
--- the first one may ask for events
-abbrev pub first : Option (List ListItem) → RequestCommand
-first = creates 1 (Some SendReceive)
+-- the first command may ask for events
+abbrev pub first : Opened → Option (List ListItem) → RequestCommand
+first one = creates (one.lines 0) (Some SendReceive)
 
-abbrev pub second : RequestCommand
-second = add_line (MadeAt 0) 2 receiving
+abbrev pub second : Opened → RequestCommand
+second one = add_line (MadeAt 0) (one.lines 1) receiving
 
-abbrev pub to_talk : ℕ → Request
-to_talk association = record { call = 7; association = association; number = 1; commands = first None ∷ second ∷ [] }
+abbrev pub to_talk : Opened → ℕ → Request
+to_talk one association = record { call = one.call; association = association; number = 1; commands = first one None ∷ second one ∷ [] }
 
 -- ---- its commands
 
 abbrev nothing : Done
 nothing = record { context = None; ephemeral = None; lines = []; ephemerals = [] }
 
--- the lines 1 and 2 are in the null context, nothing between them is cut, and no context 1 was created
-pub record IsReady (b : Board) : Type 0 where
-  pub first_row : b.row (Line (record { 0 = 1 })) ≡ Some null_row
-  pub second_row : b.row (Line (record { 0 = 2 })) ≡ Some null_row
-  pub uncut : b.cut (Line (record { 0 = 1 })) (Line (record { 0 = 2 })) ≡ false
-  pub not_given : b.given_context 1 ≡ false
+abbrev line_at : Opened → ℕ → TermId
+line_at one i = Line (record { 0 = one.lines i })
 
-abbrev pub with_first : Board → Board
-with_first b = created b 1 (Some SendReceive) None 1
+-- the two lines of a call differ and are in the null context, nothing from the first to the second is cut, and no context has this number
+pub record IsReady (b : Board) (one : Opened) (context : ℕ) : Type 0 where
+  pub differ : one.lines 0 ≡ one.lines 1 → ⊥
+  pub first_row : b.row (line_at one 0) ≡ Some null_row
+  pub second_row : b.row (line_at one 1) ≡ Some null_row
+  pub uncut : b.cut (line_at one 0) (line_at one 1) ≡ false
+  pub is_number : is_context_number context
+  pub not_given : b.given_context context ≡ false
 
-abbrev pub with_both : Board → Board
-with_both b = effect (with_first b) (item_at (made 1 ∷ []) second) (picks 1)
+abbrev pub with_first : Board → Opened → ℕ → Board
+with_first b one context = created b (one.lines 0) (Some SendReceive) None context
 
-module _ (b : Board) (ready : IsReady b) where
-  second_legal : IsLegal (with_first b) (item_at (made 1 ∷ []) second)
-  second_legal UnknownContext h = h.1 ((λ e. true≢false (ap (λ n. n == 1) e)), (Line (record { 0 = 1 }), refl))
-  second_legal UnknownTermination h = true≢false (sym h ∙ ap is_unknown ready.second_row)
-  second_legal AlreadyInContext h = true≢false (sym h ∙ ap is_taken ready.second_row)
+abbrev pub with_both : Board → Opened → ℕ → Board
+with_both b one context = effect (with_first b one context) (item_at (made context ∷ []) (second one)) (picks context)
+
+abbrev talking_row : ℕ → Option ℕ → Row
+talking_row context remote = record { place = record { 0 = context }; mode = SendReceive; remote = remote }
+
+-- there is a hop between two rows of one context that talk
+hop_made : (same cut : Bool) (from to : Option Row) (context : ℕ) (remote far : Option ℕ) → same ≡ false → cut ≡ false → from ≡ Some (talking_row context remote)
+    → to ≡ Some (talking_row context far) → (context == null) ≡ false
+    → IsTrue (not same && (not (place_in from == null) && place_in from == place_in to) && receives (mode_in from) && sends (mode_in to) && not cut)
+hop_made same cut from to context remote far differ uncut at_from at_to real = rw (differ, uncut, at_from, at_to, real, eq-eqb context context refl) refl
+
+module _ (b : Board) (one : Opened) (context : ℕ) (ready : IsReady b one context) where
+  is_itself : (i : ℕ) → (one.lines i == one.lines i) ≡ true
+  is_itself i = eq-eqb (one.lines i) (one.lines i) refl
+
+  differ : (one.lines 0 == one.lines 1) ≡ false
+  differ = different (one.lines 0) (one.lines 1) ready.differ
+
+  differ_back : (one.lines 1 == one.lines 0) ≡ false
+  differ_back = different (one.lines 1) (one.lines 0) (λ e. ready.differ (sym e))
+
+  not_choose : context ≡ choose → ⊥
+  not_choose e = let below : context < choose = ready.is_number.1 in omega (arith, below, e)
+
+  not_null : context ≡ null → ⊥
+  not_null e = let above : 0 < context = ready.is_number.0 in omega (arith, above, e)
+
+  -- the first line stands in the context, and the second is where it was
+  first_added : (with_first b one context).row (line_at one 0) ≡ Some (talking_row context (remote_of b (line_at one 0)))
+  first_added = where_true (one.lines 0 == one.lines 0) (Some (talking_row context (remote_of b (line_at one 0)))) (b.row (line_at one 0)) (is_itself 0)
+
+  second_waits : (with_first b one context).row (line_at one 1) ≡ Some null_row
+  second_waits =
+      where_false (one.lines 1 == one.lines 0) (Some (talking_row context (remote_of b (line_at one 0)))) (b.row (line_at one 1)) differ_back ∙ ready.second_row
+
+  second_legal : IsLegal (with_first b one context) (item_at (made context ∷ []) (second one))
+  second_legal UnknownContext h = h.1 (not_null, (line_at one 0, ap place_in first_added))
+  second_legal UnknownTermination h = true≢false (sym h ∙ ap is_unknown second_waits)
+  second_legal AlreadyInContext h = true≢false (sym h ∙ ap is_taken second_waits)
   second_legal NotInContext h = true≢false (sym h)
   second_legal InternalFailure h = h
-  second_legal InsufficientResources (inl used) = true≢false (sym (ap (λ n. n == choose) used.0))
+  second_legal InsufficientResources (inl used) = not_choose used.0
   second_legal InsufficientResources (inr used) = used
 
-  first_executed : IsExecuted b (item_at [] (first None)) (with_first b) (made 1)
+  first_executed : IsExecuted b (item_at [] (first one None)) (with_first b one context) (made context)
   first_executed =
-      creation_executed b 1 (Some SendReceive) None 1
-      (record { row = ready.first_row; is_number = (omega (arith), omega (arith)); not_given = ready.not_given })
+      creation_executed b (one.lines 0) (Some SendReceive) None context
+      (record { row = ready.first_row; is_number = ready.is_number; not_given = ready.not_given })
 
-  second_executed : IsExecuted (with_first b) (item_at (made 1 ∷ []) second) (with_both b) nothing
+  second_executed : IsExecuted (with_first b one context) (item_at (made context ∷ []) (second one)) (with_both b one context) nothing
   second_executed = record {
-    chosen = picks 1;
-    fresh = record { context = λ h. absurd (true≢false (sym h)); ephemeral = λ h. absurd (true≢false (sym h)) };
+    chosen = picks context;
+    fresh = record { context = λ h. absurd (not_choose (eqb-true context choose h)); ephemeral = λ h. absurd (true≢false (sym h)) };
     legal = second_legal;
     effect_is = refl;
-    result = record { context = refl; ephemeral = refl; lines = none_listed; ephemerals = none_listed };
+    result = record {
+      context = sym (where_false (context == choose) (Some context) None (different context choose not_choose));
+      ephemeral = refl;
+      lines = none_listed;
+      ephemerals = none_listed;
+    };
   }
 
-  pub joined : AreJoined (with_both b) 1 2
-  joined = inl ([], ap (λ cut. not cut) ready.uncut)
+  -- the context that the second command names is that one
+  abbrev named : ℕ
+  named = if context == choose then context else context
+
+  named_is : named ≡ context
+  named_is = where_false (context == choose) context context (different context choose not_choose)
+
+  abbrev second_row : ℕ → Row
+  second_row at = talking_row at (remote_of (with_first b one context) (line_at one 1))
+
+  first_stays : (with_both b one context).row (line_at one 0) ≡ Some (talking_row context (remote_of b (line_at one 0)))
+  first_stays =
+      where_false (one.lines 0 == one.lines 1) (Some (second_row named)) ((with_first b one context).row (line_at one 0)) differ ∙ first_added
+
+  second_added : (with_both b one context).row (line_at one 1) ≡ Some (second_row context)
+  second_added =
+      where_true (one.lines 1 == one.lines 1) (Some (second_row named)) ((with_first b one context).row (line_at one 1)) (is_itself 1)
+      ∙ ap (λ (n : ℕ). Some (second_row n)) named_is
+
+  pub joined : AreJoined (with_both b one context) (one.lines 0) (one.lines 1)
+  joined = inl (record {
+    another = ready.differ;
+    crossings = [];
+    goes = hop_made (one.lines 0 == one.lines 1) (b.cut (line_at one 0) (line_at one 1)) ((with_both b one context).row (line_at one 0))
+        ((with_both b one context).row (line_at one 1)) context (remote_of b (line_at one 0)) (remote_of (with_first b one context) (line_at one 1)) differ
+        ready.uncut first_stays second_added (different context null not_null);
+  })
 
 -- ---- its execution
 
-module _ (w : World) (ready : IsReady w.gateway.board) (events : Option (List ListItem)) where
+module _ (w : World) (one : Opened) (context : ℕ) (ready : IsReady w.gateway.board one context) (events : Option (List ListItem)) where
   abbrev r0 : Running
   r0 = start_of w.gateway
 
   abbrev r1 : Running
-  r1 = after_command r0 (first events) (item_at [] (first events)) (with_first w.gateway.board) (made 1) 1
+  r1 = after_command r0 (first one events) (item_at [] (first one events)) (with_first w.gateway.board one context) (made context) 1
 
   abbrev pub r2 : Running
-  r2 = after_command r1 second (item_at (made 1 ∷ []) second) (with_both w.gateway.board) nothing 1
+  r2 = after_command r1 (second one) (item_at (made context ∷ []) (second one)) (with_both w.gateway.board one context) nothing 1
 
   at_end : RunsFrom 1 None r2 2 [] r2 None
   unfolding RunsFrom
   at_end = (refl, refl)
 
-  at_second : RunsFrom 1 None r1 1 (second ∷ []) r2 None
+  at_second : RunsFrom 1 None r1 1 (second one ∷ []) r2 None
   unfolding RunsFrom
-  at_second =
-      inl (r2, record { board = with_both w.gateway.board; done = nothing; not_chosen = refl; executed = second_executed w.gateway.board ready; next_is = refl }, at_end)
+  at_second = inl (
+    r2,
+    record {
+      board = with_both w.gateway.board one context;
+      done = nothing;
+      not_chosen = refl;
+      executed = second_executed w.gateway.board one context ready;
+      next_is = refl;
+    },
+    at_end,
+  )
 
-  pub runs_through : RunsFrom 1 None r0 0 (first events ∷ second ∷ []) r2 None
+  pub runs_through : RunsFrom 1 None r0 0 (first one events ∷ second one ∷ []) r2 None
   unfolding RunsFrom
-  runs_through =
-      inl (r1, record { board = with_first w.gateway.board; done = made 1; not_chosen = refl; executed = first_executed w.gateway.board ready; next_is = refl }, at_second)
+  runs_through = inl (
+    r1,
+    record {
+      board = with_first w.gateway.board one context;
+      done = made context;
+      not_chosen = refl;
+      executed = first_executed w.gateway.board one context ready;
+      next_is = refl;
+    },
+    at_second,
+  )
 
-module _ (w : World) (ready : IsReady w.gateway.board) where
+module _ (w : World) (one : Opened) (context : ℕ) (ready : IsReady w.gateway.board one context) where
   abbrev pub talking_gateway : Gateway
-  talking_gateway = after_request w.gateway (to_talk w.gateway.association) (r2 w ready None) None
+  talking_gateway = after_request w.gateway (to_talk one w.gateway.association) (r2 w one context ready None) None
 
   abbrev pub all_done : Reply
-  all_done = record { call = 7; association = w.gateway.association; number = 1; results = made 1 ∷ nothing ∷ []; failure = None }
+  all_done = record { call = one.call; association = w.gateway.association; number = 1; results = made context ∷ nothing ∷ []; failure = None }
 
   abbrev pub talking_world : World
   talking_world = record (with_gateway w talking_gateway) { replies = all_done ∷ w.replies }
 
-  pub executes : (w.gateway.link 7).last ≡ None → (w.gateway.link 7).notes ≤ 1 → IsFirst w (to_talk w.gateway.association) None talking_world
-  executes none few = record {
-    gateway = talking_gateway;
-    answer = all_done;
-    sent = [];
-    executed = record {
-      end = r2 w ready None;
-      failure = None;
-      is_fresh = is_fresh_at w.gateway (to_talk w.gateway.association) refl
-          (let last : number_of (w.gateway.link 7).last ≡ 0 = ap number_of none in omega (arith, last));
-      room = omega (arith, few);
-      runs = runs_through w ready None;
-      after_is = refl;
-      reply_is = refl;
-      notes_are = refl;
-    };
-    after_is = refl;
-  }
-
 -- ---- a world that isn't good
 
-pub not_good : (script : Script) (w : World) → ((n : ℕ) → (state_of script n).talk ≡ []) → AreJoined w.gateway.board 1 2 → IsGood script w → ⊥
-not_good script w none joined good =
-    let pair = good.joined 1 2 (λ e. true≢false (ap (λ n. n == 1) e)) joined in
+pub not_good : (script : Script) (w : World) (l m : ℕ) → ((n : ℕ) → (state_of script n).talk ≡ []) → AreJoined w.gateway.board l m → IsGood script w → ⊥
+not_good script w l m none joined good =
+    let pair = good.joined l m joined in
     true≢false (sym pair.marked ∙ ap (λ (talk : List Pair). is_marked talk pair.i pair.j) (none pair.agent.state))

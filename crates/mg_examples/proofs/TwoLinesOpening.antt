@@ -1,64 +1,71 @@
--- The world that opens with one call of a script of two lines, line a on line 1 and line b on line 2; and that world after line 1 went off
+-- The world that opens with these calls of a script of two lines, on lines that differ; and a world after the first line of a call went off
 -- hook.
-use Rattle.std.proofs.Common.{eqb-true, ◌≡◌, ◌∙◌, ◌+◌, ◌<◌, ◌==◌, ℕ, Bool, true, false, if◌then◌else◌, [], ◌∷◌, length, Option, Some, None, refl, sym, ap, subst, arith, inl, inr}
+use Rattle.std.proofs.Common.{eqb-true, eq-eqb, ◌≡◌, ◌∙◌, ◌+◌, ◌<◌, ◌==◌, ℕ, Bool, true, false, List, [], ◌∷◌, length, Option, Some, None, option_map, refl, sym, ap, arith, inl, inr}
+use Rattle.std.proofs.lemmas.Bool.{or_left, or_right}
 use Rattle.std.proofs.lemmas.Grind.{common_steps}
-use Rattle.std.specs.Prelude.{◌⊎◌, ◌||◌, Contains}
+use Rattle.std.specs.Prelude.{◌⊎◌, ◌||◌, Contains, find}
 use Rattle.mg_names.specs.declared.identifiers.TermId.{TermId}
 use Rattle.mg_names.specs.declared.identifiers.TermId.TheVariants.{Line, Eph}
 use Rattle.mg_model.specs.declared.rows.Row.{Row}
 use Rattle.mg_model.specs.declared.line_events.Hook.TheVariants as hooks
 use Rattle.mg_model.specs.Agent.{Agent, opened}
-use Rattle.mg_model.specs.Board.{Board}
+use Rattle.mg_model.specs.Board.{Board, null_row}
 use Rattle.mg_model.specs.declared.line_events.LineEvent.TheVariants as event
-use Rattle.mg_model.specs.Gateway.{Gateway, with_line, with_notes}
+use Rattle.mg_model.specs.Gateway.{Gateway, with_line, with_notes, outcome_of}
 use Rattle.mg_model.specs.LineEvents.{LineRow, new_line}
 use Rattle.mg_model.specs.Script.{Script}
-use Rattle.mg_model.specs.World.{World, LineOccurs, Opened, IsOpening, armed_line, with_gateway}
-use Rattle.mg_model.specs.Board.{null_row}
+use Rattle.mg_model.specs.World.{World, LineOccurs, Opened, IsOpening, AreDistinct, armed_line, with_gateway}
 use Rattle.mg_examples.specs.Talk.{call, off_hook}
-use Rattle.mg_safety.proofs.Shared.Cases.{none_is_some, the_some}
+use Rattle.mg_model.proofs.Cases.{none_is_some, the_some}
+use Rattle.mg_model.proofs.Single.{only_one}
+use Rattle.mg_examples.proofs.Finding.{found_in, finds_only}
 use Rattle.mg_examples.proofs.PointFacts.{below_two}
-use Rattle.mg_safety.proofs.Shared.Single.{only_one, only_here}
 
-abbrev is_its : ℕ → Bool
-is_its l = (l == 1) || (l == 2)
+-- ---- the world
 
-abbrev row_if : Bool → Option Row
-row_if true = Some null_row
-row_if false = None
+-- a line is one of the two of a call
+abbrev is_its : ℕ → Opened → Bool
+is_its l one = (l == one.lines 0) || (l == one.lines 1)
 
-abbrev rows : TermId → Option Row
-rows (Line l) = row_if (is_its l.0)
-rows (Eph k) = None
+abbrev is_call : ℕ → Opened → Bool
+is_call number one = number == one.call
 
-abbrev line_if : Bool → LineRow
-line_if true = armed_line
-line_if false = new_line
+-- the call that has a line
+abbrev user_of : List Opened → ℕ → Option Opened
+user_of calls l = find (is_its l) calls
 
-abbrev holder_if : Bool → Option ℕ
-holder_if true = Some 7
-holder_if false = None
+abbrev row_if : Option Opened → Option Row
+row_if None = None
+row_if (Some one) = Some null_row
 
-abbrev pub board : Board
-board = record { row = rows; cut = λ t u. false; given_context = λ n. false; given_ephemeral = λ n. false }
+abbrev line_if : Option Opened → LineRow
+line_if None = new_line
+line_if (Some one) = armed_line
 
-abbrev pub gateway : Gateway
-gateway = record {
+abbrev rows : List Opened → TermId → Option Row
+rows calls (Line l) = row_if (user_of calls l.0)
+rows calls (Eph k) = None
+
+abbrev pub board : List Opened → Board
+board calls = record { row = rows calls; cut = λ t u. false; given_context = λ n. false; given_ephemeral = λ n. false }
+
+abbrev pub gateway : List Opened → Gateway
+gateway calls = record {
   association = 1;
-  board = board;
-  line = λ l. line_if (is_its l);
-  holder = λ l. holder_if (is_its l);
+  board = board calls;
+  line = λ l. line_if (user_of calls l);
+  holder = λ l. option_map (λ (one : Opened). one.call) (user_of calls l);
   creator = λ k. None;
   link = λ c. record { last = None; notes = 0 };
 }
 
-abbrev pub agent : Script → Agent
-agent script = opened script 7 (λ i. i + 1)
+abbrev pub agent : Script → Opened → Agent
+agent script one = opened script one.call one.lines
 
-abbrev pub opened_world : Script → World
-opened_world script = record {
-  gateway = gateway;
-  agent = λ c. if c == 7 then Some (agent script) else None;
+abbrev pub opened_world : Script → List Opened → World
+opened_world script calls = record {
+  gateway = gateway calls;
+  agent = λ number. option_map (agent script) (find (is_call number) calls);
   requests = [];
   replies = [];
   notes = [];
@@ -66,98 +73,131 @@ opened_world script = record {
 
 -- ---- it is an opening
 
-is_its_line : (i : ℕ) → i < 2 → is_its (i + 1) ≡ true
-is_its_line = below_two (λ i. is_its (i + 1) ≡ true) refl refl
+has_its_lines : (one : Opened) (i : ℕ) → i < 2 → is_its (one.lines i) one ≡ true
+has_its_lines one =
+    below_two (λ i. is_its (one.lines i) one ≡ true) (or_left (one.lines 0 == one.lines 0) (one.lines 0 == one.lines 1) (eq-eqb (one.lines 0) (one.lines 0) refl))
+    (or_right (one.lines 1 == one.lines 0) (one.lines 1 == one.lines 1) (eq-eqb (one.lines 1) (one.lines 1) refl))
 
-line_of_it : (l : ℕ) → is_its l ≡ true → (i : ℕ) × (i < 2) × (i + 1 ≡ l)
-line_of_it l h = elim (either l h) [
+place_of_its : (one : Opened) (l : ℕ) → is_its l one ≡ true → (i : ℕ) × (i < 2) × (one.lines i ≡ l)
+place_of_its one l is = elim (either l (one.lines 0) (one.lines 1) is) [
   | inl first ↦ (0, omega (arith), sym first)
   | inr second ↦ (1, omega (arith), sym second)
 ]
   where
-    either : (l : ℕ) → is_its l ≡ true → (l ≡ 1) ⊎ (l ≡ 2)
-    either l h = grind (arith, common_steps)
+    either : (l a b : ℕ) → ((l == a) || (l == b)) ≡ true → (l ≡ a) ⊎ (l ≡ b)
+    either l a b is = grind (arith, common_steps)
 
-abbrev IsHeld : Script → ℕ → ℕ → Type 0
-IsHeld script l number = (who : Opened) × (i : ℕ) × Contains (call ∷ []) who × (who.call ≡ number) × (i < length script.lines) × (who.lines i ≡ l)
+null_or_none : (user : Option Opened) (row : Row) → row_if user ≡ Some row → row ≡ null_row
+null_or_none None row e = absurd (none_is_some row e)
+null_or_none (Some one) row e = the_some row null_row (sym e)
 
-held_by : (script : Script) → length script.lines ≡ 2 → (l number : ℕ) (b : Bool) → is_its l ≡ b → holder_if b ≡ Some number → IsHeld script l number
-held_by script two l number false is h = absurd (none_is_some number h)
-held_by script two l number true is h =
-    let place = line_of_it l is in
-    let below : place.0 < 2 = place.1 in
-    (call, place.0, only_here call, the_some 7 number h, omega (arith, below, two), place.2)
+-- what is read of an option is read of what it has
+read_of : {A : Type 0} (f : Opened → A) (o : Option Opened) (x : A) → option_map f o ≡ Some x → (one : Opened) × (o ≡ Some one) × (f one ≡ x)
+read_of f None x e = absurd (none_is_some x e)
+read_of f (Some one) x e = (one, refl, the_some (f one) x e)
 
-null_or_none : (b : Bool) (row : Row) → row_if b ≡ Some row → row ≡ null_row
-null_or_none true row h = the_some row null_row (sym h)
-null_or_none false row h = absurd (none_is_some row h)
+module _ (script : Script) (two : length script.lines ≡ 2) (calls : List Opened) (distinct : AreDistinct script calls) where
+  below : (i : ℕ) → i < length script.lines → i < 2
+  below i within = omega (arith, within, two)
 
-abbrev IsOpen : ℕ → Type 0
-IsOpen number = (who : Opened) × Contains (call ∷ []) who × (who.call ≡ number)
+  -- a call is found by its lines and by its number
+  by_line : (one : Opened) → Contains calls one → (i : ℕ) → i < length script.lines → user_of calls (one.lines i) ≡ Some one
+  by_line one there i within = finds_only (is_its (one.lines i)) one (has_its_lines one i (below i within)) calls there only
+    where
+      only : (other : Opened) → Contains calls other → is_its (one.lines i) other ≡ true → other ≡ one
+      only other too is =
+          let at = place_of_its other (one.lines i) is in
+          let inside : at.0 < 2 = at.1 in
+          (distinct.lines_differ other one too there at.0 i (omega (arith, inside, two)) within at.2).0
 
-open_if : (number : ℕ) (b : Bool) → (number == 7) ≡ b → (one a : Agent) → (if b then Some one else None) ≡ Some a → IsOpen number
-open_if number true is one a h = (call, only_here call, sym (eqb-true number 7 is))
-open_if number false is one a h = absurd (none_is_some a h)
+  by_number : (one : Opened) → Contains calls one → find (is_call one.call) calls ≡ Some one
+  by_number one there = finds_only (is_call one.call) one (eq-eqb one.call one.call refl) calls there
+      (λ other too is. distinct.calls_differ other one too there (sym (eqb-true one.call other.call is)))
 
-pub opens : (script : Script) → length script.lines ≡ 2 → IsOpening script (call ∷ []) (opened_world script)
-opens script two = record {
-  distinct = record {
-    calls_differ = λ who other there too same. sym (only_one call who there) ∙ only_one call other too;
-    lines_differ = λ who other there too i j within inside same. (
-      sym (only_one call who there) ∙ only_one call other too,
-      same_place i j (ap (λ (x : Opened). x.lines i) (only_one call who there) ∙ same ∙ sym (ap (λ (x : Opened). x.lines j) (only_one call other too))),
-    );
-  };
-  association = refl;
-  lines_stand = λ who there i within. ap (λ (x : Opened). rows (Line (record { 0 = x.lines i }))) (sym (only_one call who there)) ∙ ap row_if (its_line i within);
-  lines_armed = λ who there i within. ap (λ (x : Opened). line_if (is_its (x.lines i))) (sym (only_one call who there)) ∙ ap line_if (its_line i within);
-  lines_held = λ who there i within.
-      ap (λ (x : Opened). holder_if (is_its (x.lines i))) (sym (only_one call who there)) ∙ ap holder_if (its_line i within)
-      ∙ ap (λ (x : Opened). Some x.call) (only_one call who there);
-  others_null = λ l row h. null_or_none (is_its l) row h;
-  held_alone = λ l number h. held_by script two l number (is_its l) refl h;
-  no_ephemeral = λ k. refl;
-  nothing_cut = refl;
-  no_context_given = refl;
-  no_ephemeral_given = refl;
-  no_creator = refl;
-  no_reply_kept = refl;
-  agents = λ who there.
-      subst (λ (x : Opened). (opened_world script).agent x.call ≡ Some (opened script x.call x.lines)) (only_one call who there) refl;
-  no_other_agent = λ number a h. open_if number (number == 7) refl (agent script) a h;
-  no_request = refl;
-  no_answer = refl;
-  no_note = refl;
+  abbrev IsHeld : ℕ → ℕ → Type 0
+  IsHeld l number = (who : Opened) × (i : ℕ) × Contains calls who × (who.call ≡ number) × (i < length script.lines) × (who.lines i ≡ l)
+
+  held_by : (l number : ℕ) → (gateway calls).holder l ≡ Some number → IsHeld l number
+  held_by l number e =
+      let user = read_of (λ (one : Opened). one.call) (user_of calls l) number e in
+      let found = found_in (is_its l) user.0 calls user.1 in
+      let at = place_of_its user.0 l found.1 in
+      let inside : at.0 < 2 = at.1 in
+      (user.0, at.0, found.0, user.2, omega (arith, inside, two), at.2)
+
+  open_by : (number : ℕ) (a : Agent) → (opened_world script calls).agent number ≡ Some a → (one : Opened) × Contains calls one × (one.call ≡ number)
+  open_by number a e =
+      let user = read_of (agent script) (find (is_call number) calls) a e in
+      let found = found_in (is_call number) user.0 calls user.1 in
+      (user.0, found.0, sym (eqb-true number user.0.call found.1))
+
+  pub opens : IsOpening script calls (opened_world script calls)
+  opens = record {
+    distinct = distinct;
+    lines = record {
+      stand = λ one there i within. ap row_if (by_line one there i within);
+      armed = λ one there i within. ap line_if (by_line one there i within);
+      held = λ one there i within. ap (option_map (λ (who : Opened). who.call)) (by_line one there i within);
+      others_null = λ l row e. null_or_none (user_of calls l) row e;
+      held_alone = held_by;
+    };
+    gateway = record {
+      association = refl;
+      no_ephemeral = λ k. refl;
+      nothing_cut = refl;
+      no_context_given = refl;
+      no_ephemeral_given = refl;
+      no_creator = refl;
+      no_reply_kept = refl;
+    };
+    agents = record { opened = λ one there. ap (option_map (agent script)) (by_number one there); no_other = open_by };
+    messages = record { no_request = refl; no_answer = refl; no_note = refl };
+  }
+
+-- ---- the calls of an opening differ
+
+-- a call alone
+pub one_call : (script : Script) → length script.lines ≡ 2 → AreDistinct script (call ∷ [])
+one_call script two = record {
+  calls_differ = λ who other there too same. sym (only_one call who there) ∙ only_one call other too;
+  lines_differ = λ who other there too i j within inside same. (
+    sym (only_one call who there) ∙ only_one call other too,
+    same_place i j (ap (λ (x : Opened). x.lines i) (only_one call who there) ∙ same ∙ sym (ap (λ (x : Opened). x.lines j) (only_one call other too))),
+  );
 }
   where
     same_place : (i j : ℕ) → i + 1 ≡ j + 1 → i ≡ j
     same_place i j e = omega (arith, e)
 
-    its_line : (i : ℕ) → i < length script.lines → is_its (i + 1) ≡ true
-    its_line i within = is_its_line i (omega (arith, within, two))
-
--- ---- line 1 goes off hook
+-- ---- the first line of a call goes off hook
 
 abbrev off : LineRow
 off = record armed_line { hook = hooks.Off }
 
-abbrev off_hook_gateway : Gateway
-off_hook_gateway = with_notes (with_line gateway 1 off) 7 1
+abbrev off_hook_gateway : Gateway → Opened → Gateway
+off_hook_gateway g one = with_notes (with_line g (one.lines 0) off) one.call 1
 
-abbrev pub off_hook_world : Script → World
-off_hook_world script = record (with_gateway (opened_world script) off_hook_gateway) { notes = off_hook ∷ [] }
+abbrev pub off_hook_world : World → Opened → World
+off_hook_world w one = record (with_gateway w (off_hook_gateway w.gateway one)) { notes = off_hook one ∷ w.notes }
 
-pub goes_off : (script : Script) → LineOccurs (opened_world script) 1 (event.Hook hooks.Off) (off_hook_world script)
-goes_off script = record {
-  gateway = off_hook_gateway;
-  sent = off_hook ∷ [];
+-- the line is held by the call, armed and on hook, in association 1, and no note to the call was sent
+pub record IsWaiting (g : Gateway) (one : Opened) : Type 0 where
+  pub association : g.association ≡ 1
+  pub held : g.holder (one.lines 0) ≡ Some one.call
+  pub is_armed : g.line (one.lines 0) ≡ armed_line
+  pub none_sent : (g.link one.call).notes ≡ 0
+
+pub goes_off : (w : World) (one : Opened) → IsWaiting w.gateway one → LineOccurs w (one.lines 0) (event.Hook hooks.Off) (off_hook_world w one)
+goes_off w one waiting = record {
+  gateway = off_hook_gateway w.gateway one;
+  sent = off_hook one ∷ [];
   happens = record {
-    call = 7;
-    outcome = record { row = off; note = Some off_hook.note };
-    held = refl;
-    happens = refl;
-    notes_are = refl;
-    room = omega (arith);
+    call = one.call;
+    outcome = record { row = off; note = Some (off_hook one).note };
+    held = waiting.held;
+    happens = ap (λ row. outcome_of row (event.Hook hooks.Off)) waiting.is_armed;
+    notes_are = rw (waiting.association, waiting.none_sent) refl;
+    room = let none = waiting.none_sent in omega (arith, none);
     after_is = refl;
   };
   after_is = refl;

@@ -15,9 +15,9 @@ use Rattle.mg_model.specs.World.{World, Event, execute, reply, pass, timer, IsFi
 use Rattle.mg_examples.specs.Needed.{IsNeeded}
 use Rattle.mg_examples.proofs.CreatedTwice.{created_twice, entries, accepted, listed, breaks}
 use Rattle.mg_examples.specs.Talk.{call}
-use Rattle.mg_safety.proofs.Shared.Single.{first_in}
+use Rattle.mg_model.proofs.Single.{first_in}
 use Rattle.mg_examples.proofs.Creations.{creates, made, created, creation_executed}
-use Rattle.mg_examples.proofs.TwoLinesOpening.{board, agent, opened_world, opens}
+use Rattle.mg_examples.proofs.TwoLinesOpening.{board, agent, opened_world, opens, one_call}
 
 -- ---- messages
 
@@ -36,10 +36,10 @@ answer n = record { call = 7; association = 1; number = n; results = made n ∷ 
 -- ---- the timer ends, and the first request is sent
 
 abbrev w0 : World
-w0 = opened_world created_twice
+w0 = opened_world created_twice (call ∷ [])
 
 abbrev asking : Agent
-asking = unwrap_or (timed created_twice (agent created_twice)) (agent created_twice)
+asking = unwrap_or (timed created_twice (agent created_twice call)) (agent created_twice call)
 
 abbrev w1 : World
 w1 = agent_steps w0 7 asking
@@ -50,13 +50,13 @@ sends = refl
 -- ---- it is executed
 
 abbrev b1 : Board
-b1 = created board 1 None None 1
+b1 = created (board (call ∷ [])) 1 None None 1
 
 abbrev r1 : Running
 r1 = after_command (start_of w1.gateway) (adds 1) (item_at [] (adds 1)) b1 (made 1) 1
 
-first_executed : IsExecuted board (item_at [] (adds 1)) b1 (made 1)
-first_executed = creation_executed board 1 None None 1 (record { row = refl; is_number = (omega (arith), omega (arith)); not_given = refl })
+first_executed : IsExecuted (board (call ∷ [])) (item_at [] (adds 1)) b1 (made 1)
+first_executed = creation_executed (board (call ∷ [])) 1 None None 1 (record { row = refl; is_number = (omega (arith), omega (arith)); not_given = refl })
 
 first_at_end : RunsFrom 1 None r1 1 [] r1 None
 unfolding RunsFrom
@@ -166,7 +166,7 @@ unfolding Runs
 run = (
   w1,
   (
-    record { before = agent created_twice; agent = asking; open_call = refl; steps = refl; after_is = refl },
+    record { before = agent created_twice call; agent = asking; open_call = refl; steps = refl; after_is = refl },
     (
       w2,
       (
@@ -216,5 +216,5 @@ unbound_needed = record {
   accepted = accepted;
   listed = listed;
   breaks = breaks;
-  ends = record { calls = call ∷ []; events = events; opening = w0; end = w6; opens = opens created_twice refl; runs = run; bad = bad };
+  ends = record { calls = call ∷ []; events = events; opening = w0; end = w6; opens = opens created_twice refl (call ∷ []) (one_call created_twice refl); runs = run; bad = bad };
 }

@@ -1,3 +1,5 @@
 pub mod Basic
+pub mod TwoLines
 pub mod Talk
+pub mod TwoTalks
 pub mod Needed

@@ -1,5 +1,5 @@
-//! Examples that show that the promise over runs isn't hollow: there are runs in which two lines are joined, and no obligation could be
-//! left out. Each function here is empty: its contract is the example.
+//! Examples that show that the promise over runs isn't hollow: there are runs in which two lines are joined, also in two calls at once under
+//! a certificate that breaks no obligation, and no obligation could be left out. Each function here is empty: its contract is the example.
 #![tactic(auto)]
 
 pub mod runs;

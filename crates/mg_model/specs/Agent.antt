@@ -17,6 +17,7 @@ use Rattle.mg_model.specs.declared.commands.RemoteOption.TheVariants.{NoneGiven,
 use Rattle.mg_model.specs.declared.commands.SignalsName.{SignalsName}
 use Rattle.mg_model.specs.declared.commands.Termination.{Termination}
 use Rattle.mg_model.specs.declared.commands.Termination.TheVariants as termination
+use Rattle.mg_model.specs.declared.failures.Failure.{Failure}
 use Rattle.mg_model.specs.declared.line_events.SignalSet.{SignalSet}
 use Rattle.mg_model.specs.declared.references.ContextRef.{ContextRef}
 use Rattle.mg_model.specs.declared.references.ContextRef.TheVariants.{Number, MadeAt}
@@ -31,7 +32,7 @@ use Rattle.mg_model.specs.declared.transitions.EventItem.TheVariants as item
 use Rattle.mg_model.specs.Delivery.{Inbox, arrival, is_new, with_accepted}
 use Rattle.mg_model.specs.Items.{Done}
 use Rattle.mg_model.specs.LineEvents.{ListItem, Note}
-use Rattle.mg_model.specs.Messages.{Descriptors, RequestCommand, add_line, add_ephemeral, modify, move, subtract, subtract_all, set_topology, Request, Reply, SentNote, Failure}
+use Rattle.mg_model.specs.Messages.{Descriptors, RequestCommand, add_line, add_ephemeral, modify, move, subtract, subtract_all, set_topology, Request, Reply, SentNote}
 use Rattle.mg_model.specs.Numbers.{null, choose, all, no_ephemeral, first_association, first_number, opening_request, last_number}
 use Rattle.mg_model.specs.Request.{Names, built, created_context, created_ephemeral}
 use Rattle.mg_model.specs.Script.{Script, NamedMap, DigitMap}
@@ -188,8 +189,6 @@ abbrev pub request_of : Script → Agent → ℕ → Request
 request_of script a state =
     record { call = a.call; association = a.association; number = a.next; commands = commands_of script a none_made 0 (built_by script a state) }
 
--- ---- entering a state
-
 -- an empty request is not sent, and takes no number; the numbers end
 abbrev pub entered_with : Script → Agent → ℕ → Bool → Option Agent
 entered_with script a state true = Some (record a { state = state; phase = awaits_pass })
@@ -210,8 +209,6 @@ entered_or_rests script a (Some state) = entered script a state
 abbrev pub entered_if : Script → Agent → Option ℕ → Option Agent
 entered_if script a None = None
 entered_if script a (Some state) = entered script a state
-
--- ---- what a reply binds
 
 abbrev pub bound_if : Bool → (ℕ → Option ℕ) → ℕ → Option ℕ → ℕ → Option ℕ
 bound_if creates bound name number = if creates then with_at bound name number else bound
@@ -250,16 +247,18 @@ after_results a [] results number = a
 after_results a (command ∷ more) [] number = a
 after_results a (command ∷ more) (done ∷ results) number = after_results (after_result a command done number) more results number
 
--- ---- steps
-
 abbrev pub leads_on : Script → Agent → Agent → Option Failure → Option Agent
 leads_on script was a None = entered_or_rests script a (state_of script was.state).ok
 leads_on script was a (Some failure) = entered_if script a (state_of script was.state).fault
 
+-- a reply to this request
+abbrev pub answers : Reply → Request → Bool
+answers reply request = (reply.call == request.call) && ((reply.association == request.association) && reply.number == request.number)
+
 -- the reply to the outstanding request is taken
 abbrev pub replied_to : Script → Agent → Phase → Reply → Option Agent
 replied_to script a (awaits_reply request) reply =
-    if (reply.association == request.association) && reply.number == request.number
+    if answers reply request
     then leads_on script a (after_results a (built_by script a a.state) reply.results reply.number) reply.failure
     else None
 replied_to script a awaits_pass reply = None
@@ -301,14 +300,14 @@ is_resting resting = true
 is_resting awaits_pass = false
 is_resting (awaits_reply request) = false
 
--- the inbox of the agent
 abbrev pub inbox_of : Agent → Inbox
 inbox_of a = record { association = a.association; accepted = a.accepted }
 
--- a note is accepted at rest, in a state that isn't an end, where it is new to the inbox
+-- a note to this call is accepted at rest, in a state that isn't an end, where it is new to the inbox
 abbrev pub may_accept : Script → Agent → SentNote → Bool
 may_accept script a sent =
-    is_resting a.phase && not (state_of script a.state).is_end && is_new (arrival (inbox_of a) sent.association sent.number)
+    (sent.call == a.call)
+    && (is_resting a.phase && not (state_of script a.state).is_end && is_new (arrival (inbox_of a) sent.association sent.number))
 
 abbrev pub noted : Script → Agent → List ℕ → SentNote → Option Agent
 noted script a slots sent =

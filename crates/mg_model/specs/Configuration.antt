@@ -6,7 +6,7 @@ use Rattle.std.specs.Prelude.{◌≡◌, ℕ, ◌==◌, Bool, true, false, if◌
 use Rattle.std.specs.List.{list_any}
 use Rattle.mg_names.specs.declared.modes.Mode.{Mode}
 use Rattle.mg_names.specs.declared.modes.Mode.TheVariants.{Inactive}
-use Rattle.mg_names.specs.declared.phases.Link.{Link}
+use Rattle.mg_names.specs.declared.phases.LinkPhase.{LinkPhase}
 use Rattle.mg_names.specs.declared.context_values.ContextValue.{ContextValue}
 use Rattle.mg_names.specs.declared.context_values.ContextValue.TheVariants.{Free, Live, Stale}
 use Rattle.mg_model.specs.declared.commands.Termination.{Termination}
@@ -21,7 +21,7 @@ pub record Configuration : Type 0 where
   -- the state that the call is in, by its place
   pub state : ℕ
   -- how far the state's request has come
-  pub link : Link
+  pub link : LinkPhase
   -- where each termination stands
   pub spot : Termination → Spot
   pub mode : Termination → Mode

@@ -1,4 +1,4 @@
--- What a link says of a request that arrives, and an inbox of a note (H.248.1 section 8.1: a transaction is executed at most
+-- What a link says of a request that arrives, and an inbox of a note (H.248.1 Annex D.1.1: a transaction is executed at most
 -- once; that a new number confirms all lower ones is this profile's own). A reader should check that a number is fresh only
 -- where it is above the last one that was kept, in the link's association.
 use Rattle.std.specs.Prelude.{ℕ, ◌==◌, Bool, true, false, if◌then◌else◌, nat_lt, Option, Some, None}

@@ -1,7 +1,7 @@
 -- How a digit map is completed by the symbols that are dialled (H.248.1 section 7.1.14; the parameter `Meth` of `dd/ce` in
 -- Annex E.6). All is said of whole lists of symbols. A reader should check when a list is complete, and that a symbol
 -- which leaves no alternative is taken back (this profile's own).
-use Rattle.std.specs.Prelude.{ℕ, suc, ◌+◌, ◌<◌, ◌==◌, Bool, true, false, not, ◌&&◌, IsTrue, if◌then◌else◌, List, [], ◌∷◌, ◌++◌, length, take, position, slice_index_or, Option, Some, None, is_none, option_and_then}
+use Rattle.std.specs.Prelude.{ℕ, suc, ◌+◌, ◌<◌, ◌==◌, Bool, true, false, not, ◌&&◌, IsTrue, if◌then◌else◌, List, [], ◌∷◌, ◌++◌, length, take, position, slice_index_or, Option, Some, None, is_none, is_some, option_and_then}
 use Rattle.mg_names.specs.declared.symbols.Symbol.{Symbol}
 use Rattle.mg_names.specs.declared.symbols.Symbol.TheVariants.{Zero, One, Two, Three, Four, Five, Six, Seven, Eight, Nine, E, F}
 use Rattle.mg_model.specs.declared.positions.Position.{Position}
@@ -97,17 +97,17 @@ pub record Collected : Type 0 where
   pub completion : Option Completion
   pub kept : Bool
 
--- after the symbols with the new one: the only alternative left is matched; or none takes them, and the new one is taken
--- back; or collecting goes on
-abbrev pub after_symbol : DigitMap → List Symbol → List Symbol → Option ℕ → Bool → Collected
-after_symbol map before symbols (Some n) none_left =
-    record { digits = completed; completion = Some (record { method = Unambiguous; alternative = Some n; symbols = symbols }); kept = true }
-after_symbol map before symbols None true = record { digits = completed; completion = Some (ended map before); kept = false }
-after_symbol map before symbols None false = record { digits = collecting symbols; completion = None; kept = true }
+-- the symbols before, and then with one more: the only alternative left is matched; or none takes them, and the new one is
+-- taken back; or collecting goes on
+abbrev pub after_symbol : DigitMap → List Symbol → List Symbol → Collected
+after_symbol map before symbols =
+    if is_some (sole_match map symbols)
+    then record { digits = completed; completion = Some (record { method = Unambiguous; alternative = sole_match map symbols; symbols = symbols }); kept = true }
+    else if is_empty (candidates map symbols) then record { digits = completed; completion = Some (ended map before); kept = false }
+    else record { digits = collecting symbols; completion = None; kept = true }
 
 abbrev pub with_symbol : DigitMap → Dialling → Symbol → Collected
-with_symbol map (collecting symbols) s =
-    after_symbol map symbols (symbols ++ s ∷ []) (sole_match map (symbols ++ s ∷ [])) (is_empty (candidates map (symbols ++ s ∷ [])))
+with_symbol map (collecting symbols) s = after_symbol map symbols (symbols ++ s ∷ [])
 with_symbol map completed s = record { digits = completed; completion = None; kept = false }
 
 -- what a pause makes of it

@@ -6,8 +6,8 @@
 use Rattle.std.specs.Prelude.{◌≡◌, ℕ, zero, suc, ◌+◌, ◌⊎◌, ◌*◌, ◌/◌, ◌%◌, ◌<◌, Bool, List, [], ◌∷◌, map, length, slice_index_or, Contains}
 use Rattle.std.specs.List.{All}
 use Rattle.mg_names.specs.declared.modes.Mode.{Mode}
-use Rattle.mg_names.specs.declared.phases.Link.{Link}
-use Rattle.mg_names.specs.declared.phases.Link.TheVariants.{Resting}
+use Rattle.mg_names.specs.declared.phases.LinkPhase.{LinkPhase}
+use Rattle.mg_names.specs.declared.phases.LinkPhase.TheVariants.{Resting}
 use Rattle.mg_names.specs.declared.context_values.ContextValue.{ContextValue}
 use Rattle.mg_model.specs.declared.commands.EventsName.{EventsName}
 use Rattle.mg_model.specs.declared.commands.EventsName.TheVariants.{Empty}
@@ -21,7 +21,7 @@ use Rattle.mg_model.specs.Steps.{unused}
 
 -- a component with the values that an entry allows it, each once, in the order of the format's table
 pub data Component : Type 0 where
-  links : List Link → Component
+  links : List LinkPhase → Component
   spots : Termination → List Spot → Component
   modes : Termination → List Mode → Component
   events : ℕ → List EventsName → Component
@@ -40,7 +40,7 @@ pub record Entry : Type 0 where
 abbrev pub Choice : Type 0
 Choice = Configuration → Configuration
 
-abbrev pub link_choice : Link → Choice
+abbrev pub link_choice : LinkPhase → Choice
 link_choice link c = record c { link = link }
 
 abbrev pub spot_choice : Termination → Spot → Choice

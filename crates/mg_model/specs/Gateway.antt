@@ -1,8 +1,10 @@
 -- The gateway whole: its association, the connection model, its lines, for each call the reply that its link keeps and the
 -- count of its notes, and what events do to it. A reader should check that a request is executed at most once (H.248.1
--- section 8.1), that messages of another association do nothing, and what a restart takes away.
+-- Annex D.1.1), that messages of another association do nothing, and what a restart takes away.
 use Rattle.std.specs.Prelude.{◌≡◌, ℕ, ◌+◌, ◌≤◌, ◌==◌, false, if◌then◌else◌, List, [], ◌∷◌, length, Option, Some, None}
 use Rattle.mg_names.specs.declared.identifiers.TermId.{TermId}
+use Rattle.mg_model.specs.declared.failures.ChosenRefusal.{ChosenRefusal}
+use Rattle.mg_model.specs.declared.failures.Failure.{Failure}
 use Rattle.mg_model.specs.declared.line_events.LineEvent.{LineEvent}
 use Rattle.mg_model.specs.declared.line_events.LineEvent.TheVariants.{Hook, Flash, Digit, Pause, SignalEnd}
 use Rattle.mg_model.specs.declared.rows.Row.{Row}
@@ -10,9 +12,9 @@ use Rattle.mg_model.specs.Board.{Board}
 use Rattle.mg_model.specs.Delivery.{Link, Offer, fresh, kept, discard, offer}
 use Rattle.mg_model.specs.Items.{subtracted}
 use Rattle.mg_model.specs.LineEvents.{LineRow, Note, Outcome, cleared, hooked, flashed, dialled, paused, signal_ended}
-use Rattle.mg_model.specs.Messages.{Request, Reply, SentNote, Failure}
+use Rattle.mg_model.specs.Messages.{Request, Reply, SentNote}
 use Rattle.mg_model.specs.Numbers.{last_number}
-use Rattle.mg_model.specs.RequestRun.{Running, Refusal, RunsFrom}
+use Rattle.mg_model.specs.RequestRun.{Running, RaisedNote, RunsFrom}
 
 -- the link of a call: the reply to the last request that was executed, if there is one, and how many notes were sent
 pub record CallLink : Type 0 where
@@ -59,10 +61,10 @@ abbrev pub start_of : Gateway → Running
 start_of g = record { board = g.board; line = g.line; results = []; notes = [] }
 
 -- notes on their way, numbered on from a count
-abbrev pub sent_notes : ℕ → ℕ → ℕ → List (ℕ × Note) → List SentNote
+abbrev pub sent_notes : ℕ → ℕ → ℕ → List RaisedNote → List SentNote
 sent_notes call association count [] = []
 sent_notes call association count (n ∷ more) =
-    record { call = call; association = association; number = count + 1; line = n.0; note = n.1 } ∷ sent_notes call association (count + 1) more
+    record { call = call; association = association; number = count + 1; line = n.line; note = n.note } ∷ sent_notes call association (count + 1) more
 
 abbrev pub reply_of : Request → Running → Option Failure → Reply
 reply_of request end failure =
@@ -79,12 +81,12 @@ after_request g request end failure =
     (record { last = Some (reply_of request end failure); notes = (g.link request.call).notes + length end.notes })
 
 -- a request whose number is fresh is executed. Where the numbers of notes could run out it can't happen (this profile's own)
-pub record IsExecutedBy (g : Gateway) (request : Request) (refusal : Refusal) (after : Gateway) (reply : Reply) (notes : List SentNote) : Type 0 where
+pub record IsExecutedBy (g : Gateway) (request : Request) (chosen : Option ChosenRefusal) (after : Gateway) (reply : Reply) (notes : List SentNote) : Type 0 where
   pub end : Running
   pub failure : Option Failure
   pub is_fresh : offer_to g request ≡ fresh
   pub room : (g.link request.call).notes + length request.commands ≤ last_number
-  pub runs : RunsFrom request.number refusal (start_of g) 0 request.commands end failure
+  pub runs : RunsFrom request.number chosen (start_of g) 0 request.commands end failure
   pub after_is : after ≡ after_request g request end failure
   pub reply_is : reply ≡ reply_of request end failure
   pub notes_are : notes ≡ sent_notes request.call request.association (g.link request.call).notes end.notes

@@ -209,10 +209,10 @@ with_topology cut t u topology =
     with_cut (with_cut cut t u (not (second_receives topology))) u t (not (first_receives topology))
 
 -- the terminations that a command takes out of their context for good
-abbrev pub leaves : Board → Item → TermId → Bool
-leaves b (Subtract context t) u = same_term u t
-leaves b (SubtractAll context) u = place_of b u == context.0
-leaves b item u = false
+abbrev pub subtracts : Board → Item → TermId → Bool
+subtracts b (Subtract context t) u = same_term u t
+subtracts b (SubtractAll context) u = place_of b u == context.0
+subtracts b item u = false
 
 abbrev pub moved : Board → Item → Chosen → Board
 moved b (Add context what settings) chosen = with_added b what chosen (target context chosen) settings
@@ -220,7 +220,7 @@ moved b (Modify context t settings) chosen = placed b t context.0 settings
 moved b (Move context t settings) chosen = placed (record b { cut = without_cuts (same_term t) b.cut }) t context.0 settings
 moved b (SetTopology context t u topology) chosen =
     record b { cut = with_topology b.cut t u topology }
-moved b item chosen = without b (leaves b item)
+moved b item chosen = without b (subtracts b item)
 
 -- the board after a command that is legal
 abbrev pub effect : Board → Item → Chosen → Board
@@ -254,8 +254,8 @@ only_if test n = if test then Some n else None
 pub record IsResult (b : Board) (item : Item) (chosen : Chosen) (done : Done) : Type 0 where
   pub context : done.context ≡ only_if (creates_context item) chosen.context
   pub ephemeral : done.ephemeral ≡ only_if (creates_ephemeral item) chosen.ephemeral
-  pub lines : Lists (λ n. leaves b item (Line (record { 0 = n })) && exists b (Line (record { 0 = n }))) done.lines
-  pub ephemerals : Lists (λ n. leaves b item (Eph n) && exists b (Eph n)) done.ephemerals
+  pub lines : Lists (λ n. subtracts b item (Line (record { 0 = n })) && exists b (Line (record { 0 = n }))) done.lines
+  pub ephemerals : Lists (λ n. subtracts b item (Eph n) && exists b (Eph n)) done.ephemerals
 
 -- the command is executed: some fresh numbers were chosen, and the board and the result are those of the command
 pub record IsExecuted (b : Board) (item : Item) (after : Board) (done : Done) : Type 0 where

@@ -16,6 +16,7 @@ pub mod Items
 pub mod Media
 pub mod DigitMaps
 pub mod LineEvents
+pub mod Failures
 pub mod Messages
 pub mod RequestRun
 pub mod Gateway

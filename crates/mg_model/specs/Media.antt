@@ -1,8 +1,8 @@
 -- Paths of media on the gateway, and joined lines. Within a context media goes by modes and topology (H.248.1 sections
--- 7.1.5 and 7.1.18); from one context to another it crosses only between two ephemerals that name each other (this
+-- 7.1.7 and 7.1.18); from one context to another it crosses only between two ephemerals that name each other (this
 -- profile's own). The definition is about lists of crossings. A reader should check the direction: a hop needs that the
 -- first termination receives media for the context, and the second sends it out.
-use Rattle.std.specs.Prelude.{ℕ, ◌==◌, Bool, true, false, not, ◌&&◌, IsTrue, List, [], ◌∷◌, Option, Some, None, ◌⊎◌}
+use Rattle.std.specs.Prelude.{◌≡◌, ℕ, ◌==◌, Bool, true, false, not, ◌&&◌, IsTrue, List, [], ◌∷◌, Option, Some, None, ◌⊎◌}
 use Rattle.mg_names.specs.declared.identifiers.TermId.{TermId}
 use Rattle.mg_names.specs.declared.identifiers.TermId.TheVariants.{Line, Eph}
 use Rattle.mg_names.specs.declared.modes.Mode.{Mode}
@@ -48,9 +48,11 @@ goes_over b from [] to = hops b from to
 goes_over b from (crossing ∷ more) to =
     hops b from (Eph crossing.0) && crosses b crossing.0 crossing.1 && goes_over b (Eph crossing.1) more to
 
--- there is a path from the one line to the other
-abbrev pub HasPath : Board → ℕ → ℕ → Type 0
-HasPath b i j = (crossings : List (ℕ × ℕ)) × IsTrue (goes_over b (Line (record { 0 = i })) crossings (Line (record { 0 = j })))
+-- there is a path from the one line to another line
+pub record HasPath (b : Board) (i j : ℕ) : Type 0 where
+  pub another : i ≡ j → ⊥
+  pub crossings : List (ℕ × ℕ)
+  pub goes : IsTrue (goes_over b (Line (record { 0 = i })) crossings (Line (record { 0 = j })))
 
 -- two lines are joined if there is a path either way
 abbrev pub AreJoined : Board → ℕ → ℕ → Type 0

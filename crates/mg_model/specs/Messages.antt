@@ -2,9 +2,9 @@
 -- (H.248.1 section 8 on transactions, 7.2.7 on Notify). A reader should check that a command may name what an earlier one
 -- of its request created, by that command's place, and that all else is by identifiers.
 use Rattle.std.specs.Prelude.{ℕ, List, Option}
-use Rattle.mg_names.specs.declared.codes.Code.{Code}
 use Rattle.mg_names.specs.declared.modes.Mode.{Mode}
 use Rattle.mg_names.specs.declared.topologies.Topology.{Topology}
+use Rattle.mg_model.specs.declared.failures.Failure.{Failure}
 use Rattle.mg_model.specs.declared.line_events.SignalSet.{SignalSet}
 use Rattle.mg_model.specs.declared.references.ContextRef.{ContextRef}
 use Rattle.mg_model.specs.declared.references.RemoteRef.{RemoteRef}
@@ -35,11 +35,7 @@ pub record Request : Type 0 where
   pub number : ℕ
   pub commands : List RequestCommand
 
--- the place of the command that failed, and its code
-abbrev pub Failure : Type 0
-Failure = ℕ × Code
-
--- the reply: the results of the commands that were done, and the failure if there was one
+-- the reply: the results of the commands that were done, and the place of the one that failed with its code, if one did
 pub record Reply : Type 0 where
   pub call : ℕ
   pub association : ℕ

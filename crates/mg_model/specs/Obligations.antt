@@ -4,7 +4,7 @@
 use Rattle.std.specs.Prelude.{◌≡◌, ℕ, ◌<◌, false, IsTrue, List, [], ◌∷◌, length, slice_get, Option, Some, None, ◌⊎◌}
 use Rattle.mg_names.specs.declared.obligations.Obligation.{Obligation}
 use Rattle.mg_names.specs.declared.obligations.Obligation.TheVariants as obligation
-use Rattle.mg_names.specs.declared.phases.Link.TheVariants.{Sent, Resting}
+use Rattle.mg_names.specs.declared.phases.LinkPhase.TheVariants.{Sent, Resting}
 use Rattle.mg_model.specs.declared.commands.Termination.TheVariants.{Line, Ephemeral}
 use Rattle.mg_model.specs.declared.components.Spot.TheVariants.{Absent, Null}
 use Rattle.mg_model.specs.declared.faults.Fault.{Fault}
@@ -19,7 +19,7 @@ use Rattle.mg_model.specs.Entries.{Entry, IsPointOf, IsCovered}
 -- joined lines are marked in the state
 abbrev pub JoinedAreMarked : Script → Configuration → Type 0
 JoinedAreMarked script c =
-    (i j : ℕ) → i < length script.lines → j < length script.lines → (i ≡ j → ⊥) → AreJoined c i j →
+    (i j : ℕ) → i < length script.lines → j < length script.lines → AreJoined c i j →
     IsTrue (is_marked (state_of script c.state).talk i j)
 
 -- at rest in an end state each line is in the null context, silent and armed for off-hook alone, and no ephemeral exists

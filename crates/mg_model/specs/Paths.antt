@@ -1,8 +1,8 @@
 -- Paths of media in a configuration, and joined lines. Media crosses from one context to another only between two
 -- ephemerals that name each other (this profile's own); within a context it goes by modes and topology (H.248.1
--- sections 7.1.5 and 7.1.18). The definition is about lists of crossings. A reader should check the direction:
+-- sections 7.1.7 and 7.1.18). The definition is about lists of crossings. A reader should check the direction:
 -- a hop needs that the first passes media into the context, and the second out of it.
-use Rattle.std.specs.Prelude.{ℕ, ◌==◌, Bool, true, false, not, ◌&&◌, IsTrue, List, [], ◌∷◌, ◌⊎◌}
+use Rattle.std.specs.Prelude.{◌≡◌, ℕ, ◌==◌, Bool, true, false, not, ◌&&◌, IsTrue, List, [], ◌∷◌, ◌⊎◌}
 use Rattle.mg_names.specs.declared.modes.Mode.{Mode}
 use Rattle.mg_names.specs.declared.modes.Mode.TheVariants.{Inactive, SendOnly, ReceiveOnly, SendReceive}
 use Rattle.mg_model.specs.declared.commands.Termination.{Termination}
@@ -48,9 +48,11 @@ goes_over c from [] to = hops c from to
 goes_over c from (crossing ∷ more) to =
     hops c from (Ephemeral crossing.0) && crosses c crossing.0 crossing.1 && goes_over c (Ephemeral crossing.1) more to
 
--- there is a path from line i to line j
-abbrev pub HasPath : Configuration → ℕ → ℕ → Type 0
-HasPath c i j = (crossings : List (ℕ × ℕ)) × IsTrue (goes_over c (Line i) crossings (Line j))
+-- there is a path from line i to another line, j
+pub record HasPath (c : Configuration) (i j : ℕ) : Type 0 where
+  pub another : i ≡ j → ⊥
+  pub crossings : List (ℕ × ℕ)
+  pub goes : IsTrue (goes_over c (Line i) crossings (Line j))
 
 -- two lines are joined if there is a path either way
 abbrev pub AreJoined : Configuration → ℕ → ℕ → Type 0

@@ -3,15 +3,15 @@
 -- call run alone on a gateway of its own. This profile's own.
 use Rattle.std.specs.Prelude.{◌≡◌, ℕ, zero, suc, ◌+◌, ◌≤◌, ◌==◌, Bool, true, false, ◌&&◌, if◌then◌else◌, List, [], ◌∷◌, ◌++◌, Contains, slice_index_or, Option, Some, None, ◌⊎◌, codes}
 use Rattle.std.specs.List.{find, flat_map}
-use Rattle.mg_names.specs.declared.codes.Code.TheVariants.{InternalFailure}
 use Rattle.mg_names.specs.declared.signals.Signal.{Signal}
 use Rattle.mg_names.specs.declared.symbols.Symbol.{Symbol}
+use Rattle.mg_model.specs.declared.failures.ChosenRefusal.{ChosenRefusal}
+use Rattle.mg_model.specs.declared.failures.Refusal.TheVariants.{InternalFailure}
 use Rattle.mg_model.specs.declared.line_events.Hook.TheVariants.{On, Off}
 use Rattle.mg_model.specs.declared.line_events.LineEvent.TheVariants.{Hook, Flash, Digit, Pause, SignalEnd}
 use Rattle.mg_model.specs.Agent.{Agent, Phase, awaits_reply, awaits_pass, resting, inbox_of}
 use Rattle.mg_model.specs.Delivery.{is_new, arrival}
 use Rattle.mg_model.specs.Messages.{Request, Reply, SentNote}
-use Rattle.mg_model.specs.RequestRun.{Refusal}
 use Rattle.mg_model.specs.Script.{Script}
 use Rattle.mg_model.specs.Tables.{state_of}
 use Rattle.mg_model.specs.World.{World, Event, on_a_line, execute, reply, pass, note, timer, hear, restart, Occurs, Opened, IsOpening}
@@ -63,9 +63,9 @@ MeansNote w a None sent =
     × ((other : SentNote) → Contains w.notes other → is_waiting a other ≡ true → sent.number ≤ other.number)
 MeansNote w a (Some n) sent = Contains w.notes sent × (sent.call ≡ a.call) × (sent.number ≡ n)
 
-abbrev pub refusal_at : Option ℕ → Refusal
+abbrev pub refusal_at : Option ℕ → Option ChosenRefusal
 refusal_at None = None
-refusal_at (Some place) = Some (place, InternalFailure)
+refusal_at (Some place) = Some (record { place = place; refusal = InternalFailure })
 
 -- the step means the event, in this world, for this agent
 abbrev pub Means : World → Agent → PlanStep → Event → Type 0

@@ -1,11 +1,15 @@
 -- What the gateway does with the commands of one request: one after the other, up to a chosen refusal, the first command that
 -- is refused, or the end (H.248.1 section 8.2.1; that what was done stays is this profile's own). A reader should check the
--- order within a command (the connection model, then Signals, then Events), and which notes are sent at the end: those whose
--- descriptor was neither replaced nor emptied by a later command of the same request (this profile's own).
-use Rattle.std.specs.Prelude.{◌≡◌, ℕ, ◌+◌, ◌==◌, Bool, false, not, ◌&&◌, ◌||◌, if◌then◌else◌, List, [], ◌∷◌, ◌++◌, filter, slice_get, Option, Some, None, unwrap_or, option_map, option_and_then, ◌⊎◌, is_some}
+-- order within a command (the connection model, then Signals, then Events), that a chosen refusal takes its place in the order
+-- of the codes, and which notes are sent at the end: those whose descriptor was neither replaced nor emptied by a later command
+-- of the same request (this profile's own).
+use Rattle.std.specs.Prelude.{◌≡◌, ℕ, ◌+◌, ◌<◌, ◌==◌, Bool, false, not, ◌&&◌, ◌||◌, if◌then◌else◌, List, [], ◌∷◌, ◌++◌, filter, slice_get, Option, Some, None, unwrap_or, option_map, option_and_then, ◌⊎◌, is_some}
 use Rattle.mg_names.specs.declared.codes.Code.{Code}
 use Rattle.mg_names.specs.declared.identifiers.TermId.{TermId}
 use Rattle.mg_names.specs.declared.identifiers.TermId.TheVariants.{Line, Eph}
+use Rattle.mg_model.specs.declared.failures.ChosenRefusal.{ChosenRefusal}
+use Rattle.mg_model.specs.declared.failures.Failure.{Failure}
+use Rattle.mg_model.specs.declared.failures.Refusal.{Refusal}
 use Rattle.mg_model.specs.declared.items.Added.TheVariants as added
 use Rattle.mg_model.specs.declared.items.Item.{Item}
 use Rattle.mg_model.specs.declared.items.Item.TheVariants.{Add, Modify, Move, Subtract, SubtractAll, SetTopology}
@@ -22,10 +26,11 @@ use Rattle.mg_model.specs.declared.references.RemoteRef.TheVariants as remote
 use Rattle.mg_model.specs.declared.references.TerminationRef.{TerminationRef}
 use Rattle.mg_model.specs.declared.references.TerminationRef.TheVariants as on
 use Rattle.mg_model.specs.Board.{Board}
-use Rattle.mg_model.specs.Items.{Done, IsLegal, IsRefused, IsExecuted, leaves}
+use Rattle.mg_model.specs.Failures.{code_of}
+use Rattle.mg_model.specs.Items.{Done, Applies, IsExecuted, rank, subtracts}
 use Rattle.mg_model.specs.LineEvents.{ListItem, LineRow, Note, Outcome, armed, signalled, cleared, stays}
 use Rattle.mg_model.specs.Numbers.{all, no_ephemeral}
-use Rattle.mg_model.specs.Messages.{Descriptors, RequestCommand, add_line, add_ephemeral, modify, move, subtract, subtract_all, set_topology, Failure}
+use Rattle.mg_model.specs.Messages.{Descriptors, RequestCommand, add_line, add_ephemeral, modify, move, subtract, subtract_all, set_topology}
 
 -- ---- names, by what the earlier commands created
 
@@ -63,13 +68,21 @@ item_at results (set_topology c t u topology) =
 
 -- ---- descriptors of a line
 
--- the line that a command's descriptors are for, with the descriptors
-abbrev pub of_termination : TerminationRef → Descriptors → Option (ℕ × Descriptors)
-of_termination (on.Line l) d = Some (l.0, d)
+-- a line, with the descriptors that a command has for it
+pub record LineDescriptors : Type 0 where
+  pub line : ℕ
+  pub descriptors : Descriptors
+
+abbrev pub on_line : ℕ → Descriptors → LineDescriptors
+on_line l d = record { line = l; descriptors = d }
+
+abbrev pub of_termination : TerminationRef → Descriptors → Option LineDescriptors
+of_termination (on.Line l) d = Some (on_line l.0 d)
 of_termination (on.Ephemeral e) d = None
 
-abbrev pub described : RequestCommand → Option (ℕ × Descriptors)
-described (add_line c l d) = Some (l, d)
+-- the line that a command's descriptors are for, with them
+abbrev pub described : RequestCommand → Option LineDescriptors
+described (add_line c l d) = Some (on_line l d)
 described (modify c t d) = of_termination t d
 described (move c t d) = of_termination t d
 described command = None
@@ -86,46 +99,54 @@ with_events row (Some list) number = armed row list number
 abbrev pub with_descriptors : LineRow → Descriptors → ℕ → Outcome
 with_descriptors row d number = with_events (with_signals row d.signals) d.events number
 
-abbrev pub is_line : Option (ℕ × Descriptors) → ℕ → Bool
+abbrev pub is_line : Option LineDescriptors → ℕ → Bool
 is_line None l = false
-is_line (Some (line, d)) l = line == l
+is_line (Some on) l = on.line == l
 
 -- the command replaces the line's Events descriptor
-abbrev pub rearms : Option (ℕ × Descriptors) → ℕ → Bool
+abbrev pub rearms : Option LineDescriptors → ℕ → Bool
 rearms None l = false
-rearms (Some (line, d)) l = (line == l) && is_some d.events
+rearms (Some on) l = (on.line == l) && is_some on.descriptors.events
 
 -- ---- the run
 
--- a request while it runs: the board, the lines, the results so far, and the notes to be sent, each with its line
+-- a note that a command raised on a line
+pub record RaisedNote : Type 0 where
+  pub line : ℕ
+  pub note : Note
+
+abbrev pub note_on : ℕ → Note → RaisedNote
+note_on l note = record { line = l; note = note }
+
+-- a request while it runs: the board, the lines, the results so far, and the notes to be sent
 pub record Running : Type 0 where
   pub board : Board
   pub line : ℕ → LineRow
   pub results : List Done
-  pub notes : List (ℕ × Note)
+  pub notes : List RaisedNote
 
 -- what becomes of a line
-abbrev pub described_row : Option (ℕ × Descriptors) → LineRow → ℕ → ℕ → LineRow
+abbrev pub described_row : Option LineDescriptors → LineRow → ℕ → ℕ → LineRow
 described_row None row l number = row
-described_row (Some (line, d)) row l number = if line == l then (with_descriptors row d number).row else row
+described_row (Some on) row l number = if on.line == l then (with_descriptors row on.descriptors number).row else row
 
 abbrev pub line_after : Running → RequestCommand → Item → ℕ → ℕ → LineRow
 line_after r command item number l =
-    if leaves r.board item (Line (record { 0 = l })) then cleared (r.line l) else described_row (described command) (r.line l) l number
+    if subtracts r.board item (Line (record { 0 = l })) then cleared (r.line l) else described_row (described command) (r.line l) l number
 
 -- the note that a command raises
-abbrev pub note_from : ℕ → Option Note → List (ℕ × Note)
+abbrev pub note_from : ℕ → Option Note → List RaisedNote
 note_from l None = []
-note_from l (Some note) = (l, note) ∷ []
+note_from l (Some note) = note_on l note ∷ []
 
-abbrev pub raised : Running → Option (ℕ × Descriptors) → ℕ → List (ℕ × Note)
+abbrev pub raised : Running → Option LineDescriptors → ℕ → List RaisedNote
 raised r None number = []
-raised r (Some (l, d)) number = note_from l (with_descriptors (r.line l) d number).note
+raised r (Some on) number = note_from on.line (with_descriptors (r.line on.line) on.descriptors number).note
 
 -- the notes whose descriptor still stands
-abbrev pub standing : Running → RequestCommand → Item → List (ℕ × Note)
+abbrev pub standing : Running → RequestCommand → Item → List RaisedNote
 standing r command item =
-    filter (λ (n : ℕ × Note). not (leaves r.board item (Line (record { 0 = n.0 })) || rearms (described command) n.0)) r.notes
+    filter (λ (n : RaisedNote). not (subtracts r.board item (Line (record { 0 = n.line })) || rearms (described command) n.line)) r.notes
 
 -- after a command that was executed
 abbrev pub after_command : Running → RequestCommand → Item → Board → Done → ℕ → Running
@@ -136,31 +157,35 @@ after_command r command item board done number = record {
   notes = standing r command item ++ raised r (described command) number;
 }
 
--- a refusal with 500 or 510 that is chosen for a place
-abbrev pub Refusal : Type 0
-Refusal = Option (ℕ × Code)
-
-abbrev pub is_chosen : Refusal → ℕ → Option Code
-is_chosen None place = None
-is_chosen (Some (at, code)) place = if at == place then Some code else None
+-- the refusal that is chosen for a place
+abbrev pub chosen_at : Option ChosenRefusal → ℕ → Option Refusal
+chosen_at None place = None
+chosen_at (Some chosen) place = if chosen.place == place then Some chosen.refusal else None
 
 -- a command at a place is executed, and no refusal is chosen for it
-pub record Executes (r : Running) (command : RequestCommand) (place : ℕ) (refusal : Refusal) (number : ℕ) (next : Running) : Type 0 where
+pub record Succeeds (r : Running) (command : RequestCommand) (place : ℕ) (chosen : Option ChosenRefusal) (number : ℕ) (next : Running) : Type 0 where
   pub board : Board
   pub done : Done
-  pub not_chosen : is_chosen refusal place ≡ None
+  pub not_chosen : chosen_at chosen place ≡ None
   pub executed : IsExecuted r.board (item_at r.results command) board done
   pub next_is : next ≡ after_command r command (item_at r.results command) board done number
 
--- a command fails: it is refused by its own code, or else by the chosen one
-abbrev pub Fails : Running → RequestCommand → ℕ → Refusal → Code → Type 0
-Fails r command place refusal code =
-    IsRefused r.board (item_at r.results command) code
-    ⊎ (IsLegal r.board (item_at r.results command) × (is_chosen refusal place ≡ Some code))
+-- a code that a command may be refused with: one that applies to it, or that of a refusal that is chosen for it
+abbrev pub MayRefuse : Board → Item → Option Refusal → Code → Type 0
+MayRefuse b item refusal code = Applies b item code ⊎ (option_map code_of refusal ≡ Some code)
+
+-- a command is refused with the first of these codes, in the order in which codes go
+pub record IsRefusedWith (b : Board) (item : Item) (refusal : Option Refusal) (code : Code) : Type 0 where
+  pub may : MayRefuse b item refusal code
+  pub first : (earlier : Code) → rank earlier < rank code → MayRefuse b item refusal earlier → ⊥
+
+-- a command at a place fails
+abbrev pub Fails : Running → RequestCommand → ℕ → Option ChosenRefusal → Code → Type 0
+Fails r command place chosen code = IsRefusedWith r.board (item_at r.results command) (chosen_at chosen place) code
 
 -- the commands from a place on, up to the first that fails or to the end
-unfoldable pub RunsFrom : ℕ → Refusal → Running → ℕ → List RequestCommand → Running → Option Failure → Type 0
-RunsFrom number refusal r place [] end failure = (end ≡ r) × (failure ≡ None)
-RunsFrom number refusal r place (command ∷ more) end failure =
-    ((next : Running) × Executes r command place refusal number next × RunsFrom number refusal next (place + 1) more end failure)
-    ⊎ ((code : Code) × Fails r command place refusal code × (end ≡ r) × (failure ≡ Some (place, code)))
+unfoldable pub RunsFrom : ℕ → Option ChosenRefusal → Running → ℕ → List RequestCommand → Running → Option Failure → Type 0
+RunsFrom number chosen r place [] end failure = (end ≡ r) × (failure ≡ None)
+RunsFrom number chosen r place (command ∷ more) end failure =
+    ((next : Running) × Succeeds r command place chosen number next × RunsFrom number chosen next (place + 1) more end failure)
+    ⊎ ((code : Code) × Fails r command place chosen code × (end ≡ r) × (failure ≡ Some (record { place = place; code = code })))

@@ -5,8 +5,8 @@ use Rattle.std.specs.Prelude.{ℕ, ◌+◌, Bool, true, false, not, ◌&&◌, if
 use Rattle.std.specs.List.{list_all, flat_map}
 use Rattle.mg_names.specs.declared.kinds.Kind.{Kind}
 use Rattle.mg_names.specs.declared.kinds.Kind.TheVariants.{On, Of, Fl, Full, Part}
-use Rattle.mg_names.specs.declared.phases.Link.{Link}
-use Rattle.mg_names.specs.declared.phases.Link.TheVariants.{Sent, Answered, Failed, Resting}
+use Rattle.mg_names.specs.declared.phases.LinkPhase.{LinkPhase}
+use Rattle.mg_names.specs.declared.phases.LinkPhase.TheVariants.{Sent, Answered, Failed, Resting}
 use Rattle.mg_names.specs.declared.modes.Mode.TheVariants.{Inactive}
 use Rattle.mg_names.specs.declared.context_values.ContextValue.TheVariants.{Free}
 use Rattle.mg_model.specs.declared.commands.Command.{Command}
@@ -42,11 +42,11 @@ abbrev pub request_in : Script → Configuration → ℕ → List Command
 request_in script c state = built (bound_names c) (state_of script state).commands
 
 -- a state is entered: its request is sent, or counts as answered where it is empty
-abbrev pub entered : Script → Configuration → ℕ → Configuration
-entered script c state =
+abbrev pub with_state : Script → Configuration → ℕ → Configuration
+with_state script c state =
     record c { state = state; link = if is_empty (request_in script c state) then Answered else Sent }
 
-abbrev pub with_link : Configuration → Link → Configuration
+abbrev pub with_link : Configuration → LinkPhase → Configuration
 with_link c link = record c { link = link }
 
 -- a refusal at each place up to the last command or the first illegal one, whichever is earlier, the commands before
@@ -85,12 +85,12 @@ names_unbound script c = list_all (creates_unbound c) (state_of script c.state).
 -- a step that enters a state, where there is one
 abbrev pub entering : Script → Configuration → StepName → Option ℕ → List Step
 entering script c name None = []
-entering script c name (Some state) = (name, entered script c state) ∷ []
+entering script c name (Some state) = (name, with_state script c state) ∷ []
 
 -- the reply without a failure: the state's `ok` target is entered, else the call rests
 abbrev pub reply_step : Script → Configuration → Option ℕ → List Step
 reply_step script c None = (Reply, with_link c Resting) ∷ []
-reply_step script c (Some state) = (Reply, entered script c state) ∷ []
+reply_step script c (Some state) = (Reply, with_state script c state) ∷ []
 
 abbrev pub all_kinds : List Kind
 all_kinds = On ∷ Of ∷ Fl ∷ Full ∷ Part ∷ []
@@ -105,7 +105,7 @@ observation script c line kind =
 abbrev pub observations : Script → Configuration → ℕ → List Step
 observations script c line = flat_map (observation script c line) all_kinds
 
-abbrev pub steps_by_link : Script → Configuration → Link → List Step
+abbrev pub steps_by_link : Script → Configuration → LinkPhase → List Step
 steps_by_link script c Sent =
     if names_unbound script c
     then (let request = request_in script c c.state in
@@ -121,7 +121,7 @@ abbrev pub steps_of : Script → Configuration → List Step
 steps_of script c = steps_by_link script c c.link
 
 -- every name free or absent, nothing cut; each of these lines in the null context, Inactive and silent, with this list
-abbrev pub unused : ℕ → ℕ → Link → EventsName → Configuration
+abbrev pub unused : ℕ → ℕ → LinkPhase → EventsName → Configuration
 unused lines state link events = record {
   state = state;
   link = link;
@@ -144,4 +144,4 @@ opening script = unused (length script.lines) script.start Resting Armed
 
 -- the configuration after a restart was heard: the restart state as entered, each line with an empty list
 abbrev pub reset : Script → Configuration
-reset script = entered script (unused (length script.lines) script.restart Answered Empty) script.restart
+reset script = with_state script (unused (length script.lines) script.restart Answered Empty) script.restart

@@ -4,6 +4,7 @@
 use Rattle.std.specs.Prelude.{◌≡◌, ℕ, ◌<◌, ◌≤◌, ◌==◌, false, IsTrue, if◌then◌else◌, List, [], ◌∷◌, ◌++◌, length, Contains, Option, Some, None, ◌⊎◌}
 use Rattle.mg_names.specs.declared.identifiers.TermId.TheVariants.{Line, Eph}
 use Rattle.mg_names.specs.declared.strictness.Strict.TheVariants.{Exact}
+use Rattle.mg_model.specs.declared.failures.ChosenRefusal.{ChosenRefusal}
 use Rattle.mg_model.specs.declared.line_events.LineEvent.{LineEvent}
 use Rattle.mg_model.specs.declared.rows.Row.{Row}
 use Rattle.mg_model.specs.Agent.{Agent, Phase, awaits_reply, awaits_pass, resting, replied, passed, noted, timed, heard, opened}
@@ -14,7 +15,6 @@ use Rattle.mg_model.specs.LineEvents.{LineRow, new_line, silent}
 use Rattle.mg_model.specs.Media.{AreJoined}
 use Rattle.mg_model.specs.Messages.{Request, Reply, SentNote}
 use Rattle.mg_model.specs.Numbers.{null, first_association, last_association, opening_request}
-use Rattle.mg_model.specs.RequestRun.{Refusal}
 use Rattle.mg_model.specs.Script.{Script}
 use Rattle.mg_model.specs.Tables.{state_of, is_marked, line_places}
 
@@ -30,7 +30,7 @@ pub record World : Type 0 where
 -- what can happen. The first is any of five: hook, flash, digit, pause, and the end of a signal
 pub data Event : Type 0 where
   on_a_line : (line : ℕ) → LineEvent → Event
-  execute : Request → Refusal → Event
+  execute : Request → Option ChosenRefusal → Event
   reply : Reply → Event
   pass : (call : ℕ) → Event
   note : SentNote → Event
@@ -67,11 +67,11 @@ abbrev pub with_gateway : World → Gateway → World
 with_gateway w g = record w { gateway = g }
 
 -- a request is executed, and its reply and its notes are sent
-pub record IsFirst (w : World) (request : Request) (refusal : Refusal) (after : World) : Type 0 where
+pub record IsFirst (w : World) (request : Request) (chosen : Option ChosenRefusal) (after : World) : Type 0 where
   pub gateway : Gateway
   pub answer : Reply
   pub sent : List SentNote
-  pub executed : IsExecutedBy w.gateway request refusal gateway answer sent
+  pub executed : IsExecutedBy w.gateway request chosen gateway answer sent
   pub after_is : after ≡ record (with_gateway w gateway) { replies = answer ∷ w.replies; notes = sent ++ w.notes }
 
 -- the kept reply is sent once more
@@ -81,9 +81,9 @@ pub record IsRepeat (w : World) (request : Request) (after : World) : Type 0 whe
   pub after_is : after ≡ record w { replies = answer ∷ w.replies }
 
 -- a request that was sent reaches the gateway: it is executed, or its reply is sent once more, or nothing happens
-abbrev pub Executes : World → Request → Refusal → World → Type 0
-Executes w request refusal after =
-    IsFirst w request refusal after ⊎ (IsRepeat w request after ⊎ (IsDiscarded w.gateway request × (after ≡ w)))
+abbrev pub Executes : World → Request → Option ChosenRefusal → World → Type 0
+Executes w request chosen after =
+    IsFirst w request chosen after ⊎ (IsRepeat w request after ⊎ (IsDiscarded w.gateway request × (after ≡ w)))
 
 -- an event of a line, and its note is sent
 pub record LineOccurs (w : World) (line : ℕ) (event : LineEvent) (after : World) : Type 0 where
@@ -94,7 +94,7 @@ pub record LineOccurs (w : World) (line : ℕ) (event : LineEvent) (after : Worl
 
 abbrev pub Occurs : Script → World → Event → World → Type 0
 Occurs script w (on_a_line line event) after = LineOccurs w line event after
-Occurs script w (execute request refusal) after = Contains w.requests request × Executes w request refusal after
+Occurs script w (execute request chosen) after = Contains w.requests request × Executes w request chosen after
 Occurs script w (reply answer) after =
     Contains w.replies answer × AgentSteps w answer.call (λ a. replied script a answer) after
 Occurs script w (pass call) after = AgentSteps w call (passed script) after
@@ -128,31 +128,44 @@ pub record AreDistinct (script : Script) (calls : List Opened) : Type 0 where
 abbrev pub armed_line : LineRow
 armed_line = record new_line { list = OffHook Exact ∷ []; request = Some opening_request }
 
--- association 1; finitely many calls, each at rest in the start state, each of its lines in the null context, Inactive,
--- silent, armed and on hook; nothing was sent
-pub record IsOpening (script : Script) (calls : List Opened) (w : World) : Type 0 where
-  pub distinct : AreDistinct script calls
-  pub association : w.gateway.association ≡ first_association
-  pub lines_stand : (one : Opened) → Contains calls one → (i : ℕ) → i < length script.lines
-      → w.gateway.board.row (Line (record { 0 = one.lines i })) ≡ Some null_row
-  pub lines_armed : (one : Opened) → Contains calls one → (i : ℕ) → i < length script.lines
-      → w.gateway.line (one.lines i) ≡ armed_line
-  pub lines_held : (one : Opened) → Contains calls one → (i : ℕ) → i < length script.lines
-      → w.gateway.holder (one.lines i) ≡ Some one.call
-  pub others_null : (l : ℕ) (row : Row) → w.gateway.board.row (Line (record { 0 = l })) ≡ Some row → row ≡ null_row
-  pub held_alone : (l call : ℕ) → w.gateway.holder l ≡ Some call
+-- the lines of calls that open: each in the null context, Inactive, silent, armed and on hook, and held by its call. Any other line stands
+-- in the null context, held by no call
+pub record AreOpenedLines (script : Script) (calls : List Opened) (g : Gateway) : Type 0 where
+  pub stand : (one : Opened) → Contains calls one → (i : ℕ) → i < length script.lines
+      → g.board.row (Line (record { 0 = one.lines i })) ≡ Some null_row
+  pub armed : (one : Opened) → Contains calls one → (i : ℕ) → i < length script.lines → g.line (one.lines i) ≡ armed_line
+  pub held : (one : Opened) → Contains calls one → (i : ℕ) → i < length script.lines → g.holder (one.lines i) ≡ Some one.call
+  pub others_null : (l : ℕ) (row : Row) → g.board.row (Line (record { 0 = l })) ≡ Some row → row ≡ null_row
+  pub held_alone : (l call : ℕ) → g.holder l ≡ Some call
       → (one : Opened) × (i : ℕ) × Contains calls one × (one.call ≡ call) × (i < length script.lines) × (one.lines i ≡ l)
-  pub no_ephemeral : (k : ℕ) → w.gateway.board.row (Eph k) ≡ None
-  pub nothing_cut : w.gateway.board.cut ≡ (λ t u. false)
-  pub no_context_given : w.gateway.board.given_context ≡ (λ n. false)
-  pub no_ephemeral_given : w.gateway.board.given_ephemeral ≡ (λ n. false)
-  pub no_creator : w.gateway.creator ≡ (λ k. None)
-  pub no_reply_kept : w.gateway.link ≡ (λ call. record { last = None; notes = 0 })
-  pub agents : (one : Opened) → Contains calls one → w.agent one.call ≡ Some (opened script one.call one.lines)
-  pub no_other_agent : (call : ℕ) (a : Agent) → w.agent call ≡ Some a → (one : Opened) × Contains calls one × (one.call ≡ call)
+
+-- association 1, in which no identifier was given out, nothing was cut and no reply is kept
+pub record IsNewGateway (g : Gateway) : Type 0 where
+  pub association : g.association ≡ first_association
+  pub no_ephemeral : (k : ℕ) → g.board.row (Eph k) ≡ None
+  pub nothing_cut : g.board.cut ≡ (λ t u. false)
+  pub no_context_given : g.board.given_context ≡ (λ n. false)
+  pub no_ephemeral_given : g.board.given_ephemeral ≡ (λ n. false)
+  pub no_creator : g.creator ≡ (λ k. None)
+  pub no_reply_kept : g.link ≡ (λ call. record { last = None; notes = 0 })
+
+-- the agents of these calls and no other, each at rest in the start state
+pub record AreOpenedAgents (script : Script) (calls : List Opened) (w : World) : Type 0 where
+  pub opened : (one : Opened) → Contains calls one → w.agent one.call ≡ Some (opened script one.call one.lines)
+  pub no_other : (call : ℕ) (a : Agent) → w.agent call ≡ Some a → (one : Opened) × Contains calls one × (one.call ≡ call)
+
+pub record NothingIsSent (w : World) : Type 0 where
   pub no_request : w.requests ≡ []
   pub no_answer : w.replies ≡ []
   pub no_note : w.notes ≡ []
+
+-- finitely many calls open on lines that differ, on a new gateway
+pub record IsOpening (script : Script) (calls : List Opened) (w : World) : Type 0 where
+  pub distinct : AreDistinct script calls
+  pub lines : AreOpenedLines script calls w.gateway
+  pub gateway : IsNewGateway w.gateway
+  pub agents : AreOpenedAgents script calls w
+  pub messages : NothingIsSent w
 
 -- ---- what is promised
 
@@ -175,14 +188,14 @@ pub record IsMarkedPair (script : Script) (w : World) (l m : ℕ) : Type 0 where
 
 -- of a call that has ended no ephemeral exists that it created, and each of its lines is silent, in the null context, with an events
 -- list that is exactly `al/of` with `strict=exact`
-pub record IsCleared (script : Script) (w : World) (call : ℕ) (a : Agent) : Type 0 where
+pub record IsReleased (script : Script) (w : World) (call : ℕ) (a : Agent) : Type 0 where
   pub no_ephemeral : (k : ℕ) → w.gateway.creator k ≡ Some call → exists w.gateway.board (Eph k) ≡ false
   pub in_null : (i : ℕ) → i < length script.lines → (row : Row) × (w.gateway.board.row (Line (record { 0 = a.lines i })) ≡ Some row) × (row.place.0 ≡ null)
   pub is_silent : (i : ℕ) → i < length script.lines → (w.gateway.line (a.lines i)).playing ≡ silent
   pub is_armed : (i : ℕ) → i < length script.lines → (w.gateway.line (a.lines i)).list ≡ OffHook Exact ∷ []
 
 -- a good world: an audio path joins two lines only inside one call whose current state marks that pair as talking, and a call
--- that has ended is cleared
+-- that has ended is released
 pub record IsGood (script : Script) (w : World) : Type 0 where
-  pub joined : (l m : ℕ) → (l ≡ m → ⊥) → AreJoined w.gateway.board l m → IsMarkedPair script w l m
-  pub ended : (call : ℕ) (a : Agent) → w.agent call ≡ Some a → HasEnded script w a → IsCleared script w call a
+  pub joined : (l m : ℕ) → AreJoined w.gateway.board l m → IsMarkedPair script w l m
+  pub ended : (call : ℕ) (a : Agent) → w.agent call ≡ Some a → HasEnded script w a → IsReleased script w call a

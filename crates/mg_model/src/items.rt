@@ -14,7 +14,7 @@ pub enum RemoteSetting {
 /// What a command sets on its termination, the Events and Signals descriptors apart; what it leaves out stays.
 #[derive(Clone, Copy, Debug, PartialEq, Eq)]
 pub struct Settings {
-    /// The mode (H.248.1 section 7.1.5 on LocalControl).
+    /// The mode (H.248.1 section 7.1.7 on LocalControl).
     pub mode: Option<Mode>,
     /// The Remote.
     pub remote: Option<RemoteSetting>,

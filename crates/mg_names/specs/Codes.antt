@@ -1,5 +1,5 @@
--- The error codes of H.248.1 that the gateway answers, by number. A reader should check the six numbers.
-use Rattle.std.specs.Prelude.{ℕ, Option, Some, None, ◌==◌, if◌then◌else◌}
+-- The error codes of H.248.1 that the gateway answers, by number and by name. A reader should check the six numbers.
+use Rattle.std.specs.Prelude.{ℕ, List, codes, Option, Some, None, ◌==◌, if◌then◌else◌}
 use Rattle.mg_names.specs.declared.codes.Code.{Code}
 use Rattle.mg_names.specs.declared.codes.Code.TheVariants.{UnknownContext, UnknownTermination, AlreadyInContext, NotInContext, InternalFailure, InsufficientResources}
 
@@ -11,6 +11,15 @@ code_number AlreadyInContext = 433
 code_number NotInContext = 435
 code_number InternalFailure = 500
 code_number InsufficientResources = 510
+
+-- its name
+abbrev pub code_name : Code → List ℕ
+code_name UnknownContext = codes "UnknownContext"
+code_name UnknownTermination = codes "UnknownTermination"
+code_name AlreadyInContext = codes "AlreadyInContext"
+code_name NotInContext = codes "NotInContext"
+code_name InternalFailure = codes "InternalFailure"
+code_name InsufficientResources = codes "InsufficientResources"
 
 -- the code of a number
 abbrev pub code_numbered : ℕ → Option Code

@@ -14,8 +14,8 @@ use Rattle.mg_names.specs.declared.kinds.Kind.{Kind}
 use Rattle.mg_names.specs.declared.kinds.Kind.TheVariants.{On, Of, Fl, Full, Part}
 use Rattle.mg_names.specs.declared.topologies.Topology.{Topology}
 use Rattle.mg_names.specs.declared.topologies.Topology.TheVariants.{Isolate, Oneway, Bothway}
-use Rattle.mg_names.specs.declared.phases.Link.{Link}
-use Rattle.mg_names.specs.declared.phases.Link.TheVariants.{Sent, Answered, Failed, Resting}
+use Rattle.mg_names.specs.declared.phases.LinkPhase.{LinkPhase}
+use Rattle.mg_names.specs.declared.phases.LinkPhase.TheVariants.{Sent, Answered, Failed, Resting}
 use Rattle.mg_names.specs.declared.context_values.ContextValue.{ContextValue}
 use Rattle.mg_names.specs.declared.context_values.ContextValue.TheVariants.{Free, Live, Stale}
 use Rattle.mg_names.specs.declared.symbols.Symbol.{Symbol}
@@ -116,14 +116,14 @@ topology_named word =
     None
 
 -- the word of a link
-abbrev pub link_text : Link → List ℕ
+abbrev pub link_text : LinkPhase → List ℕ
 link_text Sent = codes "sent"
 link_text Answered = codes "ok"
 link_text Failed = codes "fault"
 link_text Resting = codes "rest"
 
 -- what a text names
-abbrev pub link_named : List ℕ → Option Link
+abbrev pub link_named : List ℕ → Option LinkPhase
 link_named word =
     if bytes_eq word (codes "sent") then Some Sent else
     if bytes_eq word (codes "ok") then Some Answered else

@@ -1,5 +1,5 @@
 ghost use Rattle.std.specs.Prelude.{◌≡◌, Some, IfSome};
-ghost use Rattle.mg_names.specs.Codes.{code_number, code_numbered};
+ghost use Rattle.mg_names.specs.Codes.{code_name, code_number, code_numbered};
 
 /// The error code of a failed command (H.248.1 section 7.1.19 and its Annex on error codes, the ones that this gateway
 /// answers).
@@ -32,6 +32,20 @@ impl Code {
             Code::NotInContext => 435,
             Code::InternalFailure => 500,
             Code::InsufficientResources => 510,
+        }
+    }
+
+    /// The variant's name.
+    pub fn name(self) -> &'static str
+        ensures { result.now ≡ code_name self }
+    {
+        match self {
+            Code::UnknownContext => "UnknownContext",
+            Code::UnknownTermination => "UnknownTermination",
+            Code::AlreadyInContext => "AlreadyInContext",
+            Code::NotInContext => "NotInContext",
+            Code::InternalFailure => "InternalFailure",
+            Code::InsufficientResources => "InsufficientResources",
         }
     }
 

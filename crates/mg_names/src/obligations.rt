@@ -1,5 +1,5 @@
 ghost use Rattle.std.specs.Prelude.{◌≡◌};
-ghost use Rattle.mg_names.specs.Obligations.{obligation_number};
+ghost use Rattle.mg_names.specs.Obligations.{obligation_name, obligation_number};
 
 /// An obligation of a certificate. Where none is broken, every run of the script is good. This profile's own.
 #[derive(Clone, Copy, Debug, PartialEq, Eq, Hash)]
@@ -30,6 +30,20 @@ impl Obligation {
             Obligation::EndedCleared => 4,
             Obligation::CreatedUnbound => 5,
             Obligation::ResetCovered => 6,
+        }
+    }
+
+    /// The variant's name.
+    pub fn name(self) -> &'static str
+        ensures { result.now ≡ obligation_name self }
+    {
+        match self {
+            Obligation::OpeningCovered => "OpeningCovered",
+            Obligation::StepsCovered => "StepsCovered",
+            Obligation::JoinedMarked => "JoinedMarked",
+            Obligation::EndedCleared => "EndedCleared",
+            Obligation::CreatedUnbound => "CreatedUnbound",
+            Obligation::ResetCovered => "ResetCovered",
         }
     }
 }

@@ -1,6 +1,3 @@
--- Lemmas that several parts use: case splits, components of configurations, what links offer, and that the two sides agree.
-pub mod Cases
-pub mod Single
+-- Lemmas that several parts use: components of configurations, and that the two sides agree.
 pub mod Components
-pub mod Offered
 pub mod Sides

@@ -1,5 +1,6 @@
 -- The statements of small laws. Each is carried by an empty function of the same name.
-use Rattle.std.specs.Prelude.{◌≡◌, ℕ, ◌≤◌, ◌<◌, Bool, false, not, IsTrue, List, [], length, Contains, Some, None}
+use Rattle.std.specs.Prelude.{◌≡◌, ℕ, ◌≤◌, ◌<◌, Bool, false, not, IsTrue, List, [], length, Contains, Some, None, Option}
+use Rattle.mg_model.specs.declared.failures.ChosenRefusal.{ChosenRefusal}
 use Rattle.mg_names.specs.declared.identifiers.TermId.{TermId}
 use Rattle.mg_names.specs.declared.identifiers.TermId.TheVariants.{Line, Eph}
 use Rattle.mg_names.specs.declared.modes.Mode.{Mode}
@@ -17,7 +18,6 @@ use Rattle.mg_model.specs.LineEvents.{silent}
 use Rattle.mg_model.specs.Paths.{passes_in, passes_out}
 use Rattle.mg_model.specs.Media.{receives, sends, share_context, crosses, goes_over, AreJoined}
 use Rattle.mg_model.specs.Messages.{Request, Reply, SentNote}
-use Rattle.mg_model.specs.RequestRun.{Refusal}
 use Rattle.mg_model.specs.Script.{Script}
 use Rattle.mg_model.specs.World.{World, Event, on_a_line, execute, reply, pass, note, timer, hear, restart, Occurs, Opened, IsOpening, IsGood}
 use Rattle.mg_model.specs.Board.{null_row}
@@ -31,7 +31,7 @@ pub record IsSameButReplies (w after : World) : Type 0 where
 
 abbrev pub OldRequestsDoNothing : Type 0
 OldRequestsDoNothing =
-    (script : Script) (w after : World) (request : Request) (refusal : Refusal) → Occurs script w (execute request refusal) after
+    (script : Script) (w after : World) (request : Request) (refusal : Option ChosenRefusal) → Occurs script w (execute request refusal) after
     → request.number ≤ last_executed w.gateway request.call → IsSameButReplies w after
 
 pub record IsLineRestarted (w after : World) (l : ℕ) : Type 0 where

@@ -2,7 +2,7 @@
 ghost use Rattle.mg_safety.specs.Laws.{OldRequestsDoNothing, RestartsClearLines, EventsKeepOthers, OpeningsAreGood, CallsStayApart, CommandsKeepOthers, PathsStayInside, SidesAgree};
 
 /// A request whose number is not above the last one executed of its call changes nothing, but that the kept reply may be
-/// sent once more (H.248.1 section 8.1: a transaction is executed at most once).
+/// sent once more (H.248.1 Annex D.1.1: a transaction is executed at most once).
 pub fn old_requests_do_nothing()
     ensures { OldRequestsDoNothing }
 {}

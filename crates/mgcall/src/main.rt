@@ -1,33 +1,16 @@
 //! `mgcall check [--pieces N]`: reads a script and a certificate from standard input, and says in
 //! one line whether every obligation holds.
 //!
-//! `engine` is the whole program over its own devices. Its contract says which line it writes for
-//! the words and the input, and with which status; `specs/Engine.antt` and `specs/Output.antt` are
-//! what a reader has to believe. What is here binds it to the process: the words of the command
+//! The program is `engine`, in the crate of that name, over devices of its own; its contract says which line it writes
+//! for the words and the input, and with which status. What is here binds it to the process: the words of the command
 //! line, standard input and output, and the exit status.
 #![tactic(auto)]
 
-mod answer;
-mod check;
-mod engine;
-mod fused;
-mod host;
-mod input;
-mod reply;
-mod sections;
-mod sink;
-mod source;
-mod status;
-#[cfg(test)]
-mod tests;
-mod verdict;
-mod words;
-
-use crate::answer::Answer;
-use crate::engine::{engine, tell};
-use crate::host::Host;
-use crate::reply::Reply;
-use crate::status::Status;
+use engine::answer::Answer;
+use engine::program::{engine, write_reply};
+use engine::reply::Reply;
+use program_rim::host::Host;
+use program_rim::status::Status;
 use std::alloc::Global;
 use std::process::ExitCode;
 use std::{env, io};
@@ -53,7 +36,7 @@ fn run(alloc: Global, rt: &HostRuntime) -> Status {
             let mut source = Host::new(rt.stdin());
             engine(alloc, words.as_slice(), &mut source, &mut sink)
         }
-        Err(error) => tell(alloc, &reply_to_failure(&error), &mut sink),
+        Err(error) => write_reply(alloc, &reply_to_failure(&error), &mut sink),
     }
 }
 

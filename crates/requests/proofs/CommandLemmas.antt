@@ -11,11 +11,11 @@ use Rattle.mg_model.specs.declared.items.Item.{Item}
 use Rattle.mg_model.specs.declared.items.Item.TheVariants.{Add, Modify, Move, Subtract, SubtractAll, SetTopology}
 use Rattle.mg_model.specs.declared.rows.Row.{Row}
 use Rattle.mg_model.specs.Board.{Board, exists, same_term, place_in}
-use Rattle.mg_model.specs.Items.{Chosen, Done, IsLegal, IsExecuted, effect, leaves}
-use Rattle.mg_model.specs.LineEvents.{LineRow, cleared, Note}
+use Rattle.mg_model.specs.Items.{Chosen, Done, IsLegal, IsExecuted, effect, subtracts}
+use Rattle.mg_model.specs.LineEvents.{LineRow, cleared}
 use Rattle.mg_model.specs.declared.references.TerminationRef.TheVariants as on
-use Rattle.mg_model.specs.Messages.{Descriptors, RequestCommand, add_line, add_ephemeral, modify, move, subtract, subtract_all, set_topology}
-use Rattle.mg_model.specs.RequestRun.{Running, item_at, described, described_row, rearms, raised, line_after, after_command}
+use Rattle.mg_model.specs.Messages.{RequestCommand, add_line, add_ephemeral, modify, move, subtract, subtract_all, set_topology}
+use Rattle.mg_model.specs.RequestRun.{LineDescriptors, RaisedNote, Running, item_at, described, described_row, rearms, raised, line_after, after_command}
 use Rattle.contexts.proofs.ExecLemmas.{both_known, is_true_from, not_null}
 use Rattle.contexts.proofs.TermLemmas.{same_is, split_and}
 use Rattle.requests.specs.Commands.{IsThere, raised_on, row_in, finished}
@@ -31,7 +31,7 @@ place_not_null : (row : Option Row) (c : ℕ) → c ≢ 0 → (place_in row == c
 place_not_null None c not_zero h = absurd (not_zero (grind (arith, common_steps)))
 place_not_null (Some row) c not_zero h = refl
 
-pub leaves_exist : (b : Board) (item : Item) (l : ℕ) → IsLegal b item → leaves b item (line l) ≡ true → has_line b l ≡ true
+pub leaves_exist : (b : Board) (item : Item) (l : ℕ) → IsLegal b item → subtracts b item (line l) ≡ true → has_line b l ≡ true
 leaves_exist b (Add context what settings) l legal h = absurd (search rules)
 leaves_exist b (Modify context t settings) l legal h = absurd (search rules)
 leaves_exist b (Move context t settings) l legal h = absurd (search rules)
@@ -53,17 +53,17 @@ effect_stays b (Add context (added.Line k) settings) chosen l legal = set_stays 
 effect_stays b (Add context added.NewEphemeral settings) chosen l legal = refl
 effect_stays b (Modify context t settings) chosen l legal = set_stays b t _ l _ refl (both_known _ _ (legal UnknownTermination)).0
 effect_stays b (Move context t settings) chosen l legal = set_stays b t _ l _ refl (both_known _ _ (legal UnknownTermination)).0
-effect_stays b (Subtract context t) chosen l legal = out_stays b _ l (leaves b (Subtract context t) (line l)) (leaves_exist b (Subtract context t) l legal)
-effect_stays b (SubtractAll context) chosen l legal = out_stays b _ l (leaves b (SubtractAll context) (line l)) (leaves_exist b (SubtractAll context) l legal)
+effect_stays b (Subtract context t) chosen l legal = out_stays b _ l (subtracts b (Subtract context t) (line l)) (leaves_exist b (Subtract context t) l legal)
+effect_stays b (SubtractAll context) chosen l legal = out_stays b _ l (subtracts b (SubtractAll context) (line l)) (leaves_exist b (SubtractAll context) l legal)
 effect_stays b (SetTopology context t u topology) chosen l legal = refl
 
 -- the lines of the board stay
 pub lines_stay : (b : Board) (item : Item) (after : Board) (done : Done) → IsExecuted b item after done → (l : ℕ) → has_line after l ≡ has_line b l
 lines_stay b item after done e l = ap (λ (c : Board). has_line c l) e.effect_is ∙ effect_stays b item e.chosen l e.legal
 
-there_stays : (b after : Board) → ((l : ℕ) → has_line after l ≡ has_line b l) → (d : Option (ℕ × Descriptors)) → IsThere b d → IsThere after d
+there_stays : (b after : Board) → ((l : ℕ) → has_line after l ≡ has_line b l) → (d : Option LineDescriptors) → IsThere b d → IsThere after d
 there_stays b after stays None there = tt
-there_stays b after stays (Some (l, d)) there = stays l ∙ there
+there_stays b after stays (Some on) there = stays on.line ∙ there
 
 there_before : (b : Board) (results : List Done) (command : RequestCommand) → IsLegal b (item_at results command) → IsThere b (described command)
 there_before b results (add_line c l d) legal = (both_known _ _ (legal UnknownTermination)).0
@@ -104,14 +104,14 @@ both : (a b : Bool) → a ≡ true → b ≡ true → IsTrue (a && b)
 both a b h k = rw (h, k) (search rules)
 
 -- the lines that leave are those that the result lists
-pub among_leaves : (b : Board) (item : Item) (after : Board) (done : Done) → IsExecuted b item after done → (l : ℕ) → is_among done.lines l ≡ leaves b item (line l)
-among_leaves b item after done e l = equal_tests (is_among done.lines l) (leaves b item (line l))
-    (λ h. (split_and (leaves b item (line l)) (has_line b l) ((e.result.lines.exactly l).0 (Contains-from_any equal_is l done.lines h))).0)
-    (λ h. among_from done.lines l ((e.result.lines.exactly l).1 (both (leaves b item (line l)) (has_line b l) h (leaves_exist b item l e.legal h))))
+pub among_leaves : (b : Board) (item : Item) (after : Board) (done : Done) → IsExecuted b item after done → (l : ℕ) → is_among done.lines l ≡ subtracts b item (line l)
+among_leaves b item after done e l = equal_tests (is_among done.lines l) (subtracts b item (line l))
+    (λ h. (split_and (subtracts b item (line l)) (has_line b l) ((e.result.lines.exactly l).0 (Contains-from_any equal_is l done.lines h))).0)
+    (λ h. among_from done.lines l ((e.result.lines.exactly l).1 (both (subtracts b item (line l)) (has_line b l) h (leaves_exist b item l e.legal h))))
 
 -- ---- the rest of a command
 
-described_none : (b : Board) (results : List Done) (command : RequestCommand) (u : TermId) → leaves b (item_at results command) u ≡ true → described command ≡ None
+described_none : (b : Board) (results : List Done) (command : RequestCommand) (u : TermId) → subtracts b (item_at results command) u ≡ true → described command ≡ None
 described_none b results (add_line c l d) u h = absurd (search rules)
 described_none b results (add_ephemeral c d) u h = refl
 described_none b results (modify c t d) u h = absurd (search rules)
@@ -120,16 +120,16 @@ described_none b results (subtract c t) u h = refl
 described_none b results (subtract_all c) u h = refl
 described_none b results (set_topology c t v topology) u h = refl
 
-row_either : (d : Option (ℕ × Descriptors)) (row : LineRow) (l number : ℕ) (gone : Bool) → (gone ≡ true → d ≡ None) →
+row_either : (d : Option LineDescriptors) (row : LineRow) (l number : ℕ) (gone : Bool) → (gone ≡ true → d ≡ None) →
     (if gone then cleared (described_row d row l number) else described_row d row l number) ≡ (if gone then cleared row else described_row d row l number)
 row_either d row l number true none = rw (none refl) refl
 row_either d row l number false none = refl
 
-raised_same : (r : Running) (d : Option (ℕ × Descriptors)) (number : ℕ) → raised_on r.line d number ≡ raised r d number
+raised_same : (r : Running) (d : Option LineDescriptors) (number : ℕ) → raised_on r.line d number ≡ raised r d number
 raised_same r None number = refl
-raised_same r (Some (l, d)) number = refl
+raised_same r (Some on) number = refl
 
-line_same : (r : Running) (command : RequestCommand) (gone : List ℕ) (number : ℕ) → ((l : ℕ) → is_among gone l ≡ leaves r.board (item_at r.results command) (line l)) →
+line_same : (r : Running) (command : RequestCommand) (gone : List ℕ) (number : ℕ) → ((l : ℕ) → is_among gone l ≡ subtracts r.board (item_at r.results command) (line l)) →
     (l : ℕ) → row_in gone (described command) r.line number l ≡ line_after r command (item_at r.results command) number l
 line_same r command gone number same l =
     ap (λ (g : Bool). if g then cleared (described_row (described command) (r.line l) l number) else described_row (described command) (r.line l) l number) (same l)
@@ -139,10 +139,10 @@ line_same r command gone number same l =
 pub finished_is : (r : Running) (command : RequestCommand) (after : Board) (done : Done) (number : ℕ) → IsExecuted r.board (item_at r.results command) after done →
     finished (record r { board = after }) (described command) done number ≡ after_command r command (item_at r.results command) after done number
 finished_is r command after done number e =
-    let same : (l : ℕ) → is_among done.lines l ≡ leaves r.board (item_at r.results command) (line l) = among_leaves r.board (item_at r.results command) after done e in
+    let same : (l : ℕ) → is_among done.lines l ≡ subtracts r.board (item_at r.results command) (line l) = among_leaves r.board (item_at r.results command) after done e in
     λ i. record {
       board = after;
       line = λ l. line_same r command done.lines number same l i;
       results = r.results ++ done ∷ [];
-      notes = filter (λ (n : ℕ × Note). not (same n.0 i || rearms (described command) n.0)) r.notes ++ raised_same r (described command) number i;
+      notes = filter (λ (n : RaisedNote). not (same n.line i || rearms (described command) n.line)) r.notes ++ raised_same r (described command) number i;
     }

@@ -1,4 +1,5 @@
 pub mod CommandLemmas
+pub mod RefusalLemmas
 pub mod RunLemmas
 pub mod SameLemmas
 pub mod IdleLemmas

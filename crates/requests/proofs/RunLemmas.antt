@@ -1,14 +1,15 @@
 -- The run of a request, command by command.
 use Rattle.std.proofs.Common.{◌≡◌, ℕ, ◌+◌, ◌<◌, ◌≤◌, List, ◌∷◌, map, drop, length, get_or, drop-cons, add-one, Option, Some, None, inl, inr, refl, ap, subst, sym, ◌∙◌, suc}
 use Rattle.std.proofs.lemmas.List.{drop_all}
+use Rattle.mg_model.specs.declared.failures.ChosenRefusal.{ChosenRefusal}
+use Rattle.mg_model.specs.declared.failures.Failure.{Failure}
 use Rattle.mg_names.specs.declared.codes.Code.{Code}
 use Rattle.mg_model.specs.declared.items.Item.{Item}
 use Rattle.mg_model.specs.Board.{Board}
 use Rattle.mg_model.specs.Items.{Done, IsExecuted}
 use Rattle.mg_model.specs.LineEvents.{LineRow}
-use Rattle.mg_model.specs.Messages.{Failure}
 use Rattle.mg_model.specs.Messages as model
-use Rattle.mg_model.specs.RequestRun.{Running, Refusal, RunsFrom, Executes, Fails, is_chosen, item_at, described}
+use Rattle.mg_model.specs.RequestRun.{Running, RunsFrom, Succeeds, Fails, chosen_at, item_at, described}
 use Rattle.requests.specs.declared.command.RequestCommand.{RequestCommand}
 use Rattle.requests.specs.Commands.{finished, IsThere}
 use Rattle.requests.specs.Views.{command_of}
@@ -18,10 +19,10 @@ abbrev pub done_on : Running → Board → (ℕ → LineRow) → Running
 done_on r after line = record r { board = after; line = line }
 
 -- the board did a command, and then the rest of it was done
-pub executes : (r next : Running) (command : model.RequestCommand) (item : Item) (after : Board) (line : ℕ → LineRow) (done : Done) (place : ℕ) (refusal : Refusal) (number : ℕ) →
-    item ≡ item_at r.results command → is_chosen refusal place ≡ None → IsExecuted r.board item after done → line ≡ r.line →
-    next ≡ finished (done_on r after line) (described command) done number → Executes r command place refusal number next
-executes r next command item after line done place refusal number item_is none e lines next_is =
+pub succeeds : (r next : Running) (command : model.RequestCommand) (item : Item) (after : Board) (line : ℕ → LineRow) (done : Done) (place : ℕ) (refusal : Option ChosenRefusal) (number : ℕ) →
+    item ≡ item_at r.results command → chosen_at refusal place ≡ None → IsExecuted r.board item after done → line ≡ r.line →
+    next ≡ finished (done_on r after line) (described command) done number → Succeeds r command place refusal number next
+succeeds r next command item after line done place refusal number item_is none e lines next_is =
     let executed : IsExecuted r.board (item_at r.results command) after done = subst (λ (i : Item). IsExecuted r.board i after done) item_is e in
     record {
       board = after;
@@ -43,19 +44,19 @@ from_place commands place command bound is =
     ∙ ap (λ (c : RequestCommand). command_of c ∷ map command_of (drop (suc place) commands)) (sym is)
     ∙ ap (λ (k : ℕ). command_of command ∷ map command_of (drop k commands)) (sym (add-one place))
 
-pub runs_on : (number : ℕ) (refusal : Refusal) (r next : Running) (place : ℕ) (commands : List RequestCommand) (command : RequestCommand) (end : Running) (failure : Option Failure) →
-    place < length commands → command ≡ get_or commands place command → Executes r (command_of command) place refusal number next →
+pub runs_on : (number : ℕ) (refusal : Option ChosenRefusal) (r next : Running) (place : ℕ) (commands : List RequestCommand) (command : RequestCommand) (end : Running) (failure : Option Failure) →
+    place < length commands → command ≡ get_or commands place command → Succeeds r (command_of command) place refusal number next →
     RunsFrom number refusal next (place + 1) (map command_of (drop (place + 1) commands)) end failure → RunsFrom number refusal r place (map command_of (drop place commands)) end failure
 unfolding RunsFrom
 runs_on number refusal r next place commands command end failure bound is e more = rw (from_place commands place command bound is) (inl (next, e, more))
 
-pub runs_to_failure : (number : ℕ) (refusal : Refusal) (r end : Running) (place : ℕ) (commands : List RequestCommand) (command : RequestCommand) (code : Code) →
+pub runs_to_failure : (number : ℕ) (refusal : Option ChosenRefusal) (r end : Running) (place : ℕ) (commands : List RequestCommand) (command : RequestCommand) (code : Code) →
     place < length commands → command ≡ get_or commands place command → Fails r (command_of command) place refusal code → end ≡ r →
-    RunsFrom number refusal r place (map command_of (drop place commands)) end (Some (place, code))
+    RunsFrom number refusal r place (map command_of (drop place commands)) end (Some (record { place = place; code = code }))
 unfolding RunsFrom
 runs_to_failure number refusal r end place commands command code bound is fails stays = rw (from_place commands place command bound is) (inr (code, fails, stays, refl))
 
-pub runs_out : (number : ℕ) (refusal : Refusal) (r : Running) (place : ℕ) (commands : List RequestCommand) → length commands ≤ place →
+pub runs_out : (number : ℕ) (refusal : Option ChosenRefusal) (r : Running) (place : ℕ) (commands : List RequestCommand) → length commands ≤ place →
     RunsFrom number refusal r place (map command_of (drop place commands)) r None
 unfolding RunsFrom
 runs_out number refusal r place commands past = rw (drop_all place commands past) (refl, refl)

@@ -2,6 +2,8 @@
 use Rattle.std.proofs.Common.{◌≡◌, ℕ, ◌+◌, ◌==◌, Bool, true, false, if◌then◌else◌, List, [], ◌∷◌, ◌++◌, map, length, slice_get, get_or, Option, Some, None, unwrap_or, option_map, option_and_then, inl, inr, refl, ap, subst, sym, ◌∙◌, append_assoc, append-nil, rules}
 use Rattle.std.proofs.Math.Seq.{get_or-append_seam}
 use Rattle.std.proofs.lemmas.Option.{slice_get-map}
+use Rattle.mg_model.specs.declared.failures.ChosenRefusal.{ChosenRefusal}
+use Rattle.mg_model.specs.declared.failures.Failure.{Failure}
 use Rattle.mg_names.specs.declared.codes.Code.{Code}
 use Rattle.mg_names.specs.declared.identifiers.TermId.TheVariants.{Line, Eph}
 use Rattle.mg_model.specs.declared.items.Added.TheVariants as added
@@ -10,6 +12,7 @@ use Rattle.mg_model.specs.declared.items.Item.TheVariants.{Add, Modify, Move, Su
 use Rattle.mg_model.specs.declared.items.RemoteSetting.TheVariants.{Ephemeral}
 use Rattle.mg_model.specs.Board.{Board}
 use Rattle.mg_model.specs.Numbers.{choose}
+use Rattle.mg_model.specs.Failures.{code_of}
 use Rattle.mg_model.specs.Items.{Chosen, Done, IsExecuted, Applies, effect, only_if, given, creates_context, creates_ephemeral, placed, with_ephemeral}
 use Rattle.mg_model.specs.LineEvents.{LineRow}
 use Rattle.mg_model.specs.declared.references.ContextRef.{ContextRef}
@@ -21,8 +24,8 @@ use Rattle.mg_model.specs.declared.references.RemoteRef.TheVariants as remote
 use Rattle.mg_model.specs.declared.references.TerminationRef.{TerminationRef}
 use Rattle.mg_model.specs.declared.references.TerminationRef.TheVariants as on
 use Rattle.mg_model.specs.Numbers.{all, no_ephemeral}
-use Rattle.mg_model.specs.Messages.{Descriptors, RequestCommand, add_line, add_ephemeral, modify, move, subtract, subtract_all, set_topology, Failure}
-use Rattle.mg_model.specs.RequestRun.{Running, Refusal, RunsFrom, Executes, Fails, context_at, ephemeral_at, termination_at, remote_at, settings_at, item_at, line_after}
+use Rattle.mg_model.specs.Messages.{Descriptors, RequestCommand, add_line, add_ephemeral, modify, move, subtract, subtract_all, set_topology}
+use Rattle.mg_model.specs.RequestRun.{Running, RunsFrom, Succeeds, Fails, MayRefuse, chosen_at, context_at, ephemeral_at, termination_at, remote_at, settings_at, item_at, line_after}
 use Rattle.requests.specs.Commands.{created}
 
 -- the boards and the lines are the same, and so are the identifiers that were created
@@ -124,8 +127,8 @@ map-append : (xs ys : List Done) → map created (xs ++ ys) ≡ map created xs +
 map-append [] ys = refl
 map-append (x ∷ xs) ys = ap (λ cs. created x ∷ cs) (map-append xs ys)
 
-step_alike : (r s next other : Running) (command : RequestCommand) (place : ℕ) (refusal : Refusal) (number : ℕ) → IsAlike r s →
-    (e : Executes r command place refusal number next) → (f : Executes s command place refusal number other) → created e.done ≡ created f.done → IsAlike next other
+step_alike : (r s next other : Running) (command : RequestCommand) (place : ℕ) (refusal : Option ChosenRefusal) (number : ℕ) → IsAlike r s →
+    (e : Succeeds r command place refusal number next) → (f : Succeeds s command place refusal number other) → created e.done ≡ created f.done → IsAlike next other
 step_alike r s next other command place refusal number alike e f same =
     let items = item_same r.results s.results alike.created command in
     let executed : IsExecuted s.board (item_at s.results command) e.board e.done =
@@ -147,11 +150,11 @@ pub record Begins (xs ys : List (Option ℕ × Option ℕ)) : Type 0 where
 nothing_more : (xs ys : List (Option ℕ × Option ℕ)) → ys ≡ xs → Begins xs ys
 nothing_more xs ys e = record { more = []; is = e ∙ sym (append-nil xs) }
 
-after_one : (r next : Running) (command : RequestCommand) (place : ℕ) (refusal : Refusal) (number : ℕ) → (e : Executes r command place refusal number next) →
+after_one : (r next : Running) (command : RequestCommand) (place : ℕ) (refusal : Option ChosenRefusal) (number : ℕ) → (e : Succeeds r command place refusal number next) →
     map created next.results ≡ map created r.results ++ created e.done ∷ []
 after_one r next command place refusal number e = ap (λ (q : Running). map created q.results) e.next_is ∙ map-append r.results (e.done ∷ [])
 
-pub begins : (number : ℕ) (refusal : Refusal) (r : Running) (place : ℕ) (commands : List RequestCommand) (end : Running) (failure : Option Failure) →
+pub begins : (number : ℕ) (refusal : Option ChosenRefusal) (r : Running) (place : ℕ) (commands : List RequestCommand) (end : Running) (failure : Option Failure) →
     RunsFrom number refusal r place commands end failure → Begins (map created r.results) (map created end.results)
 unfolding RunsFrom
 begins number refusal r place [] end failure (is, none) = nothing_more _ _ (ap (λ (q : Running). map created q.results) is)
@@ -169,13 +172,15 @@ first_same xs ys x y more rest e f =
     sym (get_or-append_seam xs x more x) ∙ ap (λ cs. get_or cs (length xs) x) f ∙ ap (λ (zs : List (Option ℕ × Option ℕ)). get_or (ys ++ y ∷ rest) (length zs) x) e ∙ get_or-append_seam ys y rest x
 
 -- a command that is executed on the one doesn't fail on the other
-not_failing : (r s next : Running) (command : RequestCommand) (place : ℕ) (refusal : Refusal) (number : ℕ) (code : Code) → IsAlike r s → Executes r command place refusal number next →
+not_failing : (r s next : Running) (command : RequestCommand) (place : ℕ) (refusal : Option ChosenRefusal) (number : ℕ) (code : Code) → IsAlike r s → Succeeds r command place refusal number next →
     Fails s command place refusal code → ⊥
-not_failing r s next command place refusal number code alike e (inl refused) =
-    e.executed.legal code (subst (λ (item : Item). Applies r.board item code) (sym (item_same r.results s.results alike.created command))
-    (subst (λ (b : Board). Applies b (item_at s.results command) code) (sym alike.board) refused.applies))
-not_failing r s next command place refusal number code alike e (inr (legal, chosen)) =
-    let both : Some code ≡ None = sym chosen ∙ e.not_chosen in absurd (search rules)
+not_failing r s next command place refusal number code alike e fails = neither fails.may
+  where
+    neither : MayRefuse s.board (item_at s.results command) (chosen_at refusal place) code → ⊥
+    neither (inl applies) =
+        e.executed.legal code (subst (λ (item : Item). Applies r.board item code) (sym (item_same r.results s.results alike.created command))
+        (subst (λ (b : Board). Applies b (item_at s.results command) code) (sym alike.board) applies))
+    neither (inr chosen) = let both : None ≡ Some code = sym (ap (option_map code_of) e.not_chosen) ∙ chosen in absurd (search rules)
 
 back : (r s : Running) → IsAlike r s → IsAlike s r
 back r s alike = record { board = sym alike.board; line = sym alike.line; created = sym alike.created }
@@ -183,7 +188,7 @@ back r s alike = record { board = sym alike.board; line = sym alike.line; create
 ended : (r s end other : Running) → IsAlike r s → end ≡ r → other ≡ s → IsAlike end other
 ended r s end other alike e f = subst (λ (q : Running). IsAlike q other) (sym e) (subst (λ (q : Running). IsAlike r q) (sym f) alike)
 
-pub same_end : (number : ℕ) (refusal : Refusal) (r s : Running) (place : ℕ) (commands : List RequestCommand) (end other : Running) (failure fault : Option Failure) → IsAlike r s →
+pub same_end : (number : ℕ) (refusal : Option ChosenRefusal) (r s : Running) (place : ℕ) (commands : List RequestCommand) (end other : Running) (failure fault : Option Failure) → IsAlike r s →
     RunsFrom number refusal r place commands end failure → RunsFrom number refusal s place commands other fault → map created end.results ≡ map created other.results → IsAlike end other
 unfolding RunsFrom
 same_end number refusal r s place [] end other failure fault alike (is, none) (equals, nothing) same = ended r s end other alike is equals

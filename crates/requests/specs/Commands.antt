@@ -3,14 +3,15 @@
 -- them, and may check that a step is the command's execution or its failure, as the model has them.
 use Rattle.std.specs.Prelude.{◌≡◌, ℕ, ◌==◌, true, not, ◌||◌, if◌then◌else◌, List, [], ◌∷◌, ◌++◌, filter, Option, Some, None, unwrap_or, option_map, option_and_then}
 use Rattle.std.specs.List.{list_any}
+use Rattle.mg_model.specs.declared.failures.ChosenRefusal.{ChosenRefusal}
 use Rattle.mg_names.specs.declared.codes.Code.{Code}
 use Rattle.mg_names.specs.declared.identifiers.LineNo.{LineNo}
 use Rattle.mg_model.specs.Board.{Board}
 use Rattle.mg_model.specs.Items.{Done}
-use Rattle.mg_model.specs.LineEvents.{LineRow, Note, new_line, cleared}
+use Rattle.mg_model.specs.LineEvents.{LineRow, new_line, cleared}
 use Rattle.mg_model.specs.Members.{is_among}
-use Rattle.mg_model.specs.Messages.{Descriptors, RequestCommand}
-use Rattle.mg_model.specs.RequestRun.{Running, Refusal, Executes, Fails, described_row, note_from, with_descriptors, rearms}
+use Rattle.mg_model.specs.Messages.{RequestCommand}
+use Rattle.mg_model.specs.RequestRun.{LineDescriptors, RaisedNote, Running, Succeeds, Fails, described_row, note_from, with_descriptors, rearms}
 use Rattle.requests.specs.declared.outcome.LineNote.{LineNote}
 use Rattle.requests.specs.declared.progress.Progress.{Progress}
 use Rattle.requests.specs.Connected.{has_line, end_in}
@@ -29,33 +30,34 @@ abbrev pub rows_cleared : List ℕ → (ℕ → Option LineRow) → ℕ → Opti
 rows_cleared gone rows n = if is_among gone n then option_map cleared (rows n) else rows n
 
 -- the line that is described is there
-abbrev pub IsThere : Board → Option (ℕ × Descriptors) → Type 0
+abbrev pub IsThere : Board → Option LineDescriptors → Type 0
 IsThere b None = Unit {0}
-IsThere b (Some (l, d)) = has_line b l ≡ true
+IsThere b (Some on) = has_line b on.line ≡ true
 
 -- the row of a line after the descriptors of a command, and cleared where it is among the lines that left
-abbrev pub row_in : List ℕ → Option (ℕ × Descriptors) → (ℕ → LineRow) → ℕ → ℕ → LineRow
+abbrev pub row_in : List ℕ → Option LineDescriptors → (ℕ → LineRow) → ℕ → ℕ → LineRow
 row_in gone d rows number l = if is_among gone l then cleared (described_row d (rows l) l number) else described_row d (rows l) l number
 
 -- the notes whose descriptor still stands
-abbrev pub notes_left : List ℕ → Option (ℕ × Descriptors) → List (ℕ × Note) → List (ℕ × Note)
-notes_left gone d notes = filter (λ (n : ℕ × Note). not (is_among gone n.0 || rearms d n.0)) notes
+abbrev pub notes_left : List ℕ → Option LineDescriptors → List RaisedNote → List RaisedNote
+notes_left gone d notes = filter (λ (n : RaisedNote). not (is_among gone n.line || rearms d n.line)) notes
 
-abbrev pub noted : Option LineNote → List (ℕ × Note)
+abbrev pub noted : Option LineNote → List RaisedNote
 noted None = []
 noted (Some n) = line_note n ∷ []
 
 -- the note that descriptors raise, by the rows of the lines
-abbrev pub raised_on : (ℕ → LineRow) → Option (ℕ × Descriptors) → ℕ → List (ℕ × Note)
+abbrev pub raised_on : (ℕ → LineRow) → Option LineDescriptors → ℕ → List RaisedNote
 raised_on rows None number = []
-raised_on rows (Some (l, d)) number = note_from l (with_descriptors (rows l) d number).note
+raised_on rows (Some on) number = note_from on.line (with_descriptors (rows on.line) on.descriptors number).note
 
-abbrev pub raised_in : (ℕ → Option LineRow) → Option (ℕ × Descriptors) → ℕ → List (ℕ × Note)
+abbrev pub raised_in : (ℕ → Option LineRow) → Option LineDescriptors → ℕ → List RaisedNote
 raised_in rows None number = []
-raised_in rows (Some (l, d)) number = note_from l (option_and_then (λ row. (with_descriptors row d number).note) (rows l))
+raised_in rows (Some on) number =
+    note_from on.line (option_and_then (λ row. (with_descriptors row on.descriptors number).note) (rows on.line))
 
 -- what is left to do once the board did a command, with its result
-abbrev pub finished : Running → Option (ℕ × Descriptors) → Done → ℕ → Running
+abbrev pub finished : Running → Option LineDescriptors → Done → ℕ → Running
 finished r d done number = record {
   board = r.board;
   line = row_in done.lines d r.line number;
@@ -64,8 +66,8 @@ finished r d done number = record {
 }
 
 -- a command is executed, or fails with a code and changes nothing
-abbrev pub IsStep : Running → RequestCommand → ℕ → Refusal → ℕ → Running → Option Code → Type 0
-IsStep r command place refusal number next None = Executes r command place refusal number next
+abbrev pub IsStep : Running → RequestCommand → ℕ → Option ChosenRefusal → ℕ → Running → Option Code → Type 0
+IsStep r command place refusal number next None = Succeeds r command place refusal number next
 IsStep r command place refusal number next (Some code) = Fails r command place refusal code × (next ≡ r)
 
 -- the identifiers that were created

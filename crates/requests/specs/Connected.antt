@@ -1,24 +1,24 @@
--- What the connections of a gateway show: the sheet of the board and the rows of the lines; from them the pointwise board, the
+-- What the connections of a gateway show: the board_value of the board and the rows of the lines; from them the pointwise board, the
 -- row of each line, the state from which a request starts and the one in which it ends, and what becomes of the rows. A reader
 -- should check that a line that isn't there is read as a new one, and that only the line that is named changes.
-use Rattle.std.specs.Prelude.{◌≡◌, ℕ, ◌==◌, Bool, true, false, ◌&&◌, if◌then◌else◌, List, [], Option, unwrap_or, is_some, Err}
+use Rattle.std.specs.Prelude.{◌≡◌, ℕ, ◌==◌, Bool, true, false, ◌&&◌, if◌then◌else◌, List, [], Option, Some, None, unwrap_or, is_some, Err}
 use Rattle.mg_names.specs.declared.identifiers.TermId.TheVariants.{Line}
 use Rattle.mg_model.specs.Board.{Board, exists, place_of}
 use Rattle.mg_model.specs.Items.{Done}
-use Rattle.mg_model.specs.LineEvents.{LineRow, Note, Outcome, new_line}
-use Rattle.mg_model.specs.RequestRun.{Running}
+use Rattle.mg_model.specs.LineEvents.{LineRow, Outcome, new_line}
+use Rattle.mg_model.specs.RequestRun.{RaisedNote, Running}
 use Rattle.mg_model.specs.World.{armed_line}
-use Rattle.contexts.specs.Sheet.{Sheet, board_of}
+use Rattle.contexts.specs.BoardValue.{BoardValue, board_of}
 use Rattle.line_events.specs.declared.fault.LineFault.TheVariants.{UnknownLine}
 use Rattle.line_events.specs.Answers.{Answer, row_after, answer}
 use Rattle.line_events.specs.Rows.{row_of}
 
 pub record Connected : Type 0 where
-  pub sheet : Sheet
+  pub board_value : BoardValue
   pub lines : List (ℕ × LineRow)
 
 abbrev pub board_in : Connected → Board
-board_in c = board_of c.sheet
+board_in c = board_of c.board_value
 
 -- the row of a line; a line that isn't there is read as a new one
 abbrev pub line_in : Connected → ℕ → LineRow
@@ -27,6 +27,10 @@ line_in c l = unwrap_or (row_of c.lines l) new_line
 -- whether a line is there
 abbrev pub has_line : Board → ℕ → Bool
 has_line b l = exists b (Line (record { 0 = l }))
+
+-- the row of a line that is there
+abbrev pub line_there : Connected → ℕ → Option LineRow
+line_there c l = if has_line (board_in c) l then Some (line_in c l) else None
 
 -- whether a line is there, in the null context
 abbrev pub is_idle : Board → ℕ → Bool
@@ -41,7 +45,7 @@ IsMatched b rows = (l : ℕ) → has_line b l ≡ is_some (rows l)
 abbrev pub start_in : Connected → Running
 start_in c = record { board = board_in c; line = line_in c; results = []; notes = [] }
 
-abbrev pub end_in : Connected → List Done → List (ℕ × Note) → Running
+abbrev pub end_in : Connected → List Done → List RaisedNote → Running
 end_in c results notes = record { board = board_in c; line = line_in c; results = results; notes = notes }
 
 -- ---- what happens on a line

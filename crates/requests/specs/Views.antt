@@ -1,18 +1,13 @@
--- The values of the model that commands and chosen refusals are. A reader should check that
--- each variant is the constructor of its name.
+-- The values of the model that commands and notes are. A reader should check that each variant is the constructor of its name.
 use Rattle.std.specs.Borrow.{Bor}
-use Rattle.std.specs.Prelude.{ℕ, List, map, Option, option_map}
-use Rattle.mg_names.specs.declared.codes.Code.{Code}
-use Rattle.mg_names.specs.declared.codes.Code.TheVariants as code
+use Rattle.std.specs.Prelude.{List, map, Option, option_map}
 use Rattle.mg_names.specs.declared.identifiers.LineNo.{LineNo}
-use Rattle.mg_model.specs.LineEvents.{Note}
 use Rattle.mg_model.specs.Messages as model
+use Rattle.mg_model.specs.RequestRun.{LineDescriptors, RaisedNote, on_line}
 use Rattle.requests.specs.declared.command.Descriptors.{Descriptors}
 use Rattle.requests.specs.declared.command.RequestCommand.{RequestCommand}
 use Rattle.requests.specs.declared.command.RequestCommand.TheVariants as command
 use Rattle.requests.specs.declared.outcome.LineNote.{LineNote}
-use Rattle.requests.specs.declared.refusal.Refusal.{Refusal}
-use Rattle.requests.specs.declared.refusal.Refusal.TheVariants as refusal
 
 abbrev pub descriptors_of : Descriptors → model.Descriptors
 descriptors_of d = record { mode = d.mode; remote = d.remote; events = d.events; signals = d.signals }
@@ -27,19 +22,11 @@ command_of (command.SubtractAll c) = model.subtract_all c
 command_of (command.SetTopology c t u topology) = model.set_topology c t u topology
 
 -- the line that descriptors are for, with them
-abbrev pub line_described : Option (LineNo × Bor Descriptors) → Option (ℕ × model.Descriptors)
-line_described found = option_map (λ (f : LineNo × Bor Descriptors). (f.0.0, descriptors_of f.1.now)) found
+abbrev pub line_described : Option (LineNo × Bor Descriptors) → Option LineDescriptors
+line_described found = option_map (λ (f : LineNo × Bor Descriptors). on_line f.0.0 (descriptors_of f.1.now)) found
 
-abbrev pub code_of : Refusal → Code
-code_of refusal.InternalFailure = code.InternalFailure
-code_of refusal.InsufficientResources = code.InsufficientResources
+abbrev pub line_note : LineNote → RaisedNote
+line_note n = record { line = n.line.0; note = n.note }
 
--- a chosen refusal, with the place that it is for
-abbrev pub chosen_of : Option (ℕ × Refusal) → Option (ℕ × Code)
-chosen_of chosen = option_map (λ (r : ℕ × Refusal). (r.0, code_of r.1)) chosen
-
-abbrev pub line_note : LineNote → ℕ × Note
-line_note n = (n.line.0, n.note)
-
-abbrev pub line_notes : List LineNote → List (ℕ × Note)
+abbrev pub line_notes : List LineNote → List RaisedNote
 line_notes notes = map line_note notes

@@ -8,9 +8,9 @@ use mg_names::topologies::Topology;
 
 /// What a command sets on its termination; what it leaves out stays. Events and Signals descriptors are for lines alone: on an
 /// ephemeral they do nothing (this profile's own).
-#[derive(Drop)]
+#[derive(Debug, Default, Drop)]
 pub struct Descriptors {
-    /// The mode (H.248.1 section 7.1.5 on LocalControl).
+    /// The mode (H.248.1 section 7.1.7 on LocalControl).
     pub mode: Option<Mode>,
     /// The Remote.
     pub remote: Option<RemoteRef>,
@@ -21,7 +21,7 @@ pub struct Descriptors {
 }
 
 /// A command of a request (H.248.1 section 7.2).
-#[derive(Drop)]
+#[derive(Debug, Drop)]
 pub enum RequestCommand {
     /// Add of a line.
     AddLine {

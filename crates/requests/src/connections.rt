@@ -1,20 +1,22 @@
 //! The connections of a gateway.
-ghost use Rattle.std.specs.Prelude.{◌≡◌, ℕ, ◌⊎◌, Some, unwrap_or, IfOk, OnOk, IfErr, OnErr};
-ghost use Rattle.mg_model.specs.Items.{IsExecuted, IsLegal, IsRefused};
+ghost use Rattle.std.specs.Prelude.{◌≡◌, ℕ, Some, option_map, unwrap_or, IfOk, OnOk, IfErr, OnErr};
+ghost use Rattle.mg_model.specs.Items.{IsExecuted};
 ghost use Rattle.mg_model.specs.LineEvents.{new_line};
+ghost use Rattle.mg_model.specs.RequestRun.{IsRefusedWith};
 ghost use Rattle.contexts.specs.Faults.{IsFault};
-ghost use Rattle.contexts.specs.Sheet.{opened, started};
+ghost use Rattle.contexts.specs.BoardValue.{opened, started};
 ghost use Rattle.line_events.specs.Rows.{row_of};
 ghost use Rattle.mg_model.specs.Updates.{with_at};
 ghost use Rattle.requests.specs.Commands.{filled, IsThere, row_in, noted, raised_on};
-ghost use Rattle.requests.specs.Connected.{board_in, line_in, has_line, is_idle};
+ghost use Rattle.requests.specs.Connected.{board_in, line_in, line_there, has_line, is_idle};
 ghost use Rattle.requests.specs.Views.{line_described};
 
 use crate::command::Descriptors;
 use crate::descriptors::{clear_lines, set_described};
 use crate::outcome::LineNote;
 use contexts::{Board, Done, ExecFault};
-use line_events::{LineFault, LineSet};
+use line_events::{LineFault, LineRow, LineSet};
+use mg_model::failures::Refusal;
 use mg_model::items::Item;
 use mg_names::codes::Code;
 use mg_names::identifiers::{ContextId, LineNo, TermId};
@@ -31,13 +33,13 @@ pub struct Connections {
 }
 
 impl Model for Connections {
-    ghost use Rattle.contexts.specs.Sheet.{board_of};
+    ghost use Rattle.contexts.specs.BoardValue.{board_of};
     ghost use Rattle.line_events.specs.Rows.{row_of};
     ghost use Rattle.requests.specs.Connected.{Connected, IsMatched};
 
     ghost Value = { Connected };
 
-    ghost view = { λ c. record { sheet = c.board; lines = c.lines } };
+    ghost view = { λ c. record { board_value = c.board; lines = c.lines } };
 
     ghost invariant = { λ c. IsMatched (board_of c.board) (row_of c.lines) };
 }
@@ -95,9 +97,16 @@ impl Connections {
 
     /// The connection model.
     pub fn board(&self) -> &Board
-        ensures { result.now ≡ self.now.sheet }
+        ensures { result.now ≡ self.now.board_value }
     {
         &self.board
+    }
+
+    /// The row of a line; `None` where it isn't there.
+    pub fn line(&self, line: LineNo) -> Option<&LineRow>
+        ensures { option_map (λ row. row.now) result ≡ line_there self.now line.0 }
+    {
+        self.lines.row(line)
     }
 
     /// Whether a line is there.
@@ -129,13 +138,15 @@ impl Connections {
         self.board.exec(item)
     }
 
-    /// The code of a command for which a refusal is chosen: its own code, or else the chosen one.
-    pub(crate) fn refused(&self, item: &Item, chosen: Code) -> Code
-        ensures { IsRefused (board_in self.now) item.now result ⊎ (IsLegal (board_in self.now) item.now × (result ≡ chosen)) }
+    /// The code of a command for which a refusal is chosen: its own code, unless the chosen one goes before it. Want of numbers, 510, goes
+    /// after a chosen 500.
+    pub(crate) fn refused(&self, item: &Item, chosen: Refusal) -> Code
+        ensures { IsRefusedWith (board_in self.now) item.now (Some chosen) result }
     {
         match self.board.refusal(item) {
+            None => chosen.code(),
+            Some(Code::InsufficientResources) => chosen.code(),
             Some(code) => code,
-            None => chosen,
         }
     }
 

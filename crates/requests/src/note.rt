@@ -7,7 +7,7 @@ use std::marker::Model;
 
 /// A note to a call's agent, with its number among the notes of the call (H.248.1 section 7.2.7 on Notify; the numbers are this
 /// profile's own).
-#[derive(Drop)]
+#[derive(Debug, Drop)]
 pub struct SentNote {
     call: CallNo,
     association: Assoc,

@@ -1,18 +1,18 @@
 //! A request while it runs.
 ghost use Rattle.std.specs.Prelude.{◌≡◌, [], ◌∷◌, ◌++◌, map, IfOk, OnOk};
-ghost use Rattle.mg_model.specs.RequestRun.{RunsFrom, is_chosen, rearms, described};
+ghost use Rattle.mg_model.specs.RequestRun.{RunsFrom, chosen_at, rearms, described};
 ghost use Rattle.requests.specs.Commands.{running, IsThere, notes_left, noted, finished, IsStep};
 ghost use Rattle.mg_model.specs.Members.{is_among};
 ghost use Rattle.requests.specs.Connected.{board_in, start_in};
-ghost use Rattle.requests.specs.Views.{chosen_of, command_of, line_described, line_notes};
+ghost use Rattle.requests.specs.Views.{command_of, line_described, line_notes};
 
 use crate::command::{Descriptors, RequestCommand};
 use crate::connections::Connections;
 use crate::descriptors::described;
 use crate::items::item_at;
 use crate::outcome::LineNote;
-use crate::refusal::Refusal;
 use contexts::{Done, ExecFault};
+use mg_model::failures::{ChosenRefusal, Failure, Refusal};
 use mg_names::codes::Code;
 use mg_names::identifiers::LineNo;
 use std::alloc::AllocError;
@@ -25,15 +25,15 @@ pub(crate) struct Progress {
     pub(crate) notes: Vec<LineNote>,
 }
 
-/// The code that is chosen for a place.
-fn chosen_at(refusal: Option<(usize, Refusal)>, place: usize) -> Option<Code>
-    ensures { result ≡ is_chosen (chosen_of refusal) place }
+/// The refusal that is chosen for a place.
+fn chosen_at(chosen: Option<ChosenRefusal>, place: usize) -> Option<Refusal>
+    ensures { result ≡ chosen_at chosen place }
 {
-    let Some((at, refusal)) = refusal else {
+    let Some(chosen) = chosen else {
         return None;
     };
-    if at == place {
-        return Some(refusal.code());
+    if chosen.place == place {
+        return Some(chosen.refusal);
     }
     None
 }
@@ -119,14 +119,14 @@ impl Progress {
         &mut self,
         command: &RequestCommand,
         place: usize,
-        refusal: Option<(usize, Refusal)>,
+        chosen: Option<ChosenRefusal>,
         number: u32,
     ) -> Result<Option<Code>, AllocError>
-        ensures { IfOk result (IsStep (running self.old) (command_of command.now) place (chosen_of refusal) number (running self.new)) }
+        ensures { IfOk result (IsStep (running self.old) (command_of command.now) place chosen number (running self.new)) }
     {
         let item = item_at(self.results.as_slice(), command);
-        if let Some(code) = chosen_at(refusal, place) {
-            return Ok(Some(self.connections.refused(&item, code)));
+        if let Some(refusal) = chosen_at(chosen, place) {
+            return Ok(Some(self.connections.refused(&item, refusal)));
         }
         match self.connections.exec(&item) {
             Ok(done) => {
@@ -142,14 +142,14 @@ impl Progress {
     pub(crate) fn run(
         &mut self,
         commands: &[RequestCommand],
-        refusal: Option<(usize, Refusal)>,
+        chosen: Option<ChosenRefusal>,
         number: u32,
-    ) -> Result<Option<(usize, Code)>, AllocError>
-        ensures { IfOk result (RunsFrom number (chosen_of refusal) (running self.old) 0 (map command_of commands.now) (running self.new)) }
+    ) -> Result<Option<Failure>, AllocError>
+        ensures { IfOk result (RunsFrom number chosen (running self.old) 0 (map command_of commands.now) (running self.new)) }
     {
         for place in 0..commands.len() {
-            if let Some(code) = self.step(&commands[place], place, refusal, number)? {
-                return Ok(Some((place, code)));
+            if let Some(code) = self.step(&commands[place], place, chosen, number)? {
+                return Ok(Some(Failure { place, code }));
             }
         }
         Ok(None)

@@ -2,19 +2,19 @@
 ghost use Rattle.std.specs.Prelude.{◌≡◌, IfOk};
 
 use contexts::Done;
-use mg_names::codes::Code;
+use mg_model::failures::Failure;
 use mg_names::identifiers::{Assoc, CallNo};
 use std::alloc::AllocError;
 use std::marker::Model;
 
 /// The reply to a request: the results of the commands that were done, and the failure if there was one (H.248.1 section 8.2.2).
-#[derive(Drop)]
+#[derive(Debug, Drop)]
 pub struct Reply {
     call: CallNo,
     association: Assoc,
     number: u32,
     results: Vec<Done>,
-    failure: Option<(usize, Code)>,
+    failure: Option<Failure>,
 }
 
 impl Model for Reply {
@@ -39,7 +39,7 @@ impl Reply {
         association: Assoc,
         number: u32,
         results: Vec<Done>,
-        failure: Option<(usize, Code)>,
+        failure: Option<Failure>,
     ) -> Reply
         ensures { result ≡ record { call = call.0; association = association.0; number = number; results = results.items; failure = failure } }
     {
@@ -94,7 +94,7 @@ impl Reply {
     }
 
     /// The place of the command that failed, from 0, with its code; `None` where all were done.
-    pub fn failure(&self) -> Option<(usize, Code)>
+    pub fn failure(&self) -> Option<Failure>
         ensures { result ≡ self.now.failure }
     {
         self.failure

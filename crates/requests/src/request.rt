@@ -7,7 +7,7 @@ use mg_names::identifiers::{Assoc, CallNo};
 use std::marker::Model;
 
 /// A request of a call's agent: a transaction with one action after the other (H.248.1 section 8.2.1).
-#[derive(Drop)]
+#[derive(Debug, Drop)]
 pub struct Request {
     call: CallNo,
     association: Assoc,

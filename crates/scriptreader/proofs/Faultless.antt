@@ -6,7 +6,7 @@ use Rattle.std.proofs.lemmas.Bool.{ltb-false}
 use Rattle.scriptreader.specs.declared.fault.ScriptFault.{ScriptFault}
 use Rattle.scriptreader.specs.declared.fault.ScriptFault.TheVariants as fault
 use Rattle.scriptreader.specs.Written.{Document}
-use Rattle.scriptreader.specs.Faults.{fault_of, use_fault_of, state_fault_of, has_bad_name, has_duplicate, has_unknown, has_bad_map, names_state, lacks_fault, has_vain_outcome, is_end_that_goes_on, makes_and_subtracts, is_too_large}
+use Rattle.scriptreader.specs.Faults.{fault_of, use_fault_of, state_fault_of, has_bad_name, has_duplicate, has_unknown, has_bad_map, names_state, lacks_fault, has_outcome_without_commands, is_end_that_goes_on, makes_and_subtracts, is_too_large}
 use Rattle.scriptreader.proofs.BooleanTests.{or_left, or_right, holds}
 
 passed : (b : Bool) (fault : ScriptFault) (rest : Option ScriptFault) → (if b then Some fault else rest) ≡ None → (b ≡ false) × (rest ≡ None)
@@ -31,7 +31,7 @@ faultless d e =
     let e5 = passed (not (names_state d d.start)) fault.NoStart _ e4.1 in
     let e6 = passed (not (names_state d d.restart)) fault.NoRestart _ e5.1 in
     let e7 = passed (list_any (λ s. lacks_fault s) d.states) fault.NoFault _ e6.1 in
-    let e8 = passed (list_any (λ s. has_vain_outcome s) d.states) fault.OkWithoutActions _ e7.1 in
+    let e8 = passed (list_any (λ s. has_outcome_without_commands s) d.states) fault.OkWithoutActions _ e7.1 in
     let e9 = passed (list_any (λ s. is_end_that_goes_on s) d.states) fault.EndWithTransitions _ e8.1 in
     let e10 = passed (list_any (λ s. makes_and_subtracts s) d.states) fault.MadeAndSubtracted _ e9.1 in
     let e11 = passed (is_too_large d) fault.TooMany _ e10.1 in

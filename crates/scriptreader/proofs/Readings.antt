@@ -7,7 +7,7 @@ use Rattle.scriptreader.specs.declared.fault.ScriptFault.{ScriptFault}
 use Rattle.scriptreader.specs.declared.fault.ScriptFault.TheVariants.{NotToml, BadKey, BadName, Duplicate, Unknown, BadMap, NoStart, NoRestart, NoFault, OkWithoutActions, EndWithTransitions, MadeAndSubtracted, TooMany, NoMemory}
 use Rattle.scriptreader.specs.Written.{Document}
 use Rattle.std.specs.List.{list_any}
-use Rattle.scriptreader.specs.Faults.{fault_of, use_fault_of, state_fault_of, has_bad_name, has_duplicate, has_unknown, has_bad_map, names_state, lacks_fault, has_vain_outcome, is_end_that_goes_on, makes_and_subtracts, is_too_large}
+use Rattle.scriptreader.specs.Faults.{fault_of, use_fault_of, state_fault_of, has_bad_name, has_duplicate, has_unknown, has_bad_map, names_state, lacks_fault, has_outcome_without_commands, is_end_that_goes_on, makes_and_subtracts, is_too_large}
 use Rattle.scriptreader.specs.Meaning.{script_meant}
 use Rattle.scriptreader.specs.Documents.{document_in}
 use Rattle.scriptreader.specs.Reading.{Answers, IsText, ReadsScript, document_read, fault_or_table, tree_read}
@@ -25,7 +25,7 @@ state_fault_is_other : (d : Document) → state_fault_of d ≡ Some NotToml → 
 unfolding state_fault_of
 state_fault_is_other d =
     other (list_any (λ s. lacks_fault s) d.states) NoFault _ (λ p. absurd cc)
-    (other (list_any (λ s. has_vain_outcome s) d.states) OkWithoutActions _ (λ p. absurd cc)
+    (other (list_any (λ s. has_outcome_without_commands s) d.states) OkWithoutActions _ (λ p. absurd cc)
     (other (list_any (λ s. is_end_that_goes_on s) d.states) EndWithTransitions _ (λ p. absurd cc)
     (other (list_any (λ s. makes_and_subtracts s) d.states) MadeAndSubtracted _ (λ p. absurd cc)
     (other (is_too_large d) TooMany None (λ p. absurd cc) none_is_some))))

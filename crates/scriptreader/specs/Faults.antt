@@ -190,8 +190,8 @@ has_commands s = nat_lt 0 (length s.commands)
 abbrev pub lacks_fault : State → Bool
 lacks_fault s = has_commands s && is_none s.fault
 
-abbrev pub has_vain_outcome : State → Bool
-has_vain_outcome s = not (has_commands s) && (is_some s.ok || is_some s.fault)
+abbrev pub has_outcome_without_commands : State → Bool
+has_outcome_without_commands s = not (has_commands s) && (is_some s.ok || is_some s.fault)
 
 abbrev pub goes_on : State → Bool
 goes_on s = has_commands s || (is_some s.ok || (is_some s.fault || (is_some s.timer || nat_lt 0 (length s.on))))
@@ -209,14 +209,14 @@ ephemerals_made (Add create context own name options) = text_if own name
 ephemerals_made command = []
 
 -- a subtract of one of the ephemerals, or of all of one of the contexts
-unfoldable pub unmakes : List (List ℕ) → List (List ℕ) → WrittenCommand → Bool
-unmakes contexts ephemerals (Subtract context name) = is_among name ephemerals
-unmakes contexts ephemerals (SubtractAll context) = is_among context contexts
-unmakes contexts ephemerals command = false
+unfoldable pub subtracts_made : List (List ℕ) → List (List ℕ) → WrittenCommand → Bool
+subtracts_made contexts ephemerals (Subtract context name) = is_among name ephemerals
+subtracts_made contexts ephemerals (SubtractAll context) = is_among context contexts
+subtracts_made contexts ephemerals command = false
 
 unfoldable pub makes_and_subtracts : State → Bool
 makes_and_subtracts s =
-    list_any (λ c. unmakes (each_once [] (flat_map contexts_made s.commands)) (each_once [] (flat_map ephemerals_made s.commands)) c) s.commands
+    list_any (λ c. subtracts_made (each_once [] (flat_map contexts_made s.commands)) (each_once [] (flat_map ephemerals_made s.commands)) c) s.commands
 
 -- this profile's limits
 abbrev pub is_too_large : Document → Bool
@@ -229,7 +229,7 @@ is_too_large d =
 unfoldable pub state_fault_of : Document → Option ScriptFault
 state_fault_of d =
     if list_any (λ s. lacks_fault s) d.states then Some fault.NoFault
-    else if list_any (λ s. has_vain_outcome s) d.states then Some fault.OkWithoutActions
+    else if list_any (λ s. has_outcome_without_commands s) d.states then Some fault.OkWithoutActions
     else if list_any (λ s. is_end_that_goes_on s) d.states then Some fault.EndWithTransitions
     else if list_any (λ s. makes_and_subtracts s) d.states then Some fault.MadeAndSubtracted
     else if is_too_large d then Some fault.TooMany

@@ -53,7 +53,7 @@ pub enum ScriptFault {
 }
 
 impl ScriptFault {
-    /// The fault's number in the order of precedence, or 0 for want of memory.
+    /// The fault's number in the order of precedence, or 0 where memory ran out.
     pub fn number(&self) -> u8
         ensures { result ≡ number_of self.now }
     {

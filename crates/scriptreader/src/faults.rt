@@ -2,7 +2,7 @@
 ghost use Rattle.std.specs.Prelude.{◌≡◌, ◌++◌, List, ℕ, None, false, not, nat_lt, length, IfOk, OnOk};
 ghost use Rattle.std.specs.List.{list_any, flat_map};
 ghost use Rattle.typed_values.specs.Names.{each_once};
-ghost use Rattle.scriptreader.specs.Faults.{has_bad_name, has_duplicate, is_bad_map, has_bad_map, has_unknown, names_state, scope_of, is_too_large, unmakes, makes_and_subtracts, contexts_made, ephemerals_made, lacks_fault, has_vain_outcome, is_end_that_goes_on, state_fault_of, use_fault_of, fault_of};
+ghost use Rattle.scriptreader.specs.Faults.{has_bad_name, has_duplicate, is_bad_map, has_bad_map, has_unknown, names_state, scope_of, is_too_large, subtracts_made, makes_and_subtracts, contexts_made, ephemerals_made, lacks_fault, has_outcome_without_commands, is_end_that_goes_on, state_fault_of, use_fault_of, fault_of};
 
 use crate::duplicates::has_duplicate;
 use crate::fault::ScriptFault;
@@ -72,7 +72,7 @@ fn has_bad_map(alloc: Global, document: &Document) -> Result<bool, AllocError>
 }
 
 impl WrittenState {
-    ghost use Rattle.scriptreader.specs.Faults.{has_commands, lacks_fault, has_vain_outcome, goes_on, is_end_that_goes_on};
+    ghost use Rattle.scriptreader.specs.Faults.{has_commands, lacks_fault, has_outcome_without_commands, goes_on, is_end_that_goes_on};
 
     fn has_commands(&self) -> bool
         ensures { result ≡ has_commands self.now }
@@ -86,8 +86,8 @@ impl WrittenState {
         self.has_commands() && self.fault.is_none()
     }
 
-    fn has_vain_outcome(&self) -> bool
-        ensures { result ≡ has_vain_outcome self.now }
+    fn has_outcome_without_commands(&self) -> bool
+        ensures { result ≡ has_outcome_without_commands self.now }
     {
         !self.has_commands() && (self.ok.is_some() || self.fault.is_some())
     }
@@ -119,7 +119,7 @@ fn makes_and_subtracts(alloc: Global, state: &WrittenState) -> Result<bool, Allo
     add_contexts(&mut contexts, commands)?;
     let mut ephemerals = Names::new(alloc);
     add_ephemerals(&mut ephemerals, commands)?;
-    Ok(one_unmakes(&contexts, &ephemerals, commands))
+    Ok(one_subtracts_made(&contexts, &ephemerals, commands))
 }
 
 /// Adds the context that a command creates.
@@ -177,11 +177,11 @@ fn add_ephemerals<'a>(
 }
 
 /// Whether one of the commands subtracts one of the ephemerals, or all of one of the contexts.
-fn one_unmakes(contexts: &Names, ephemerals: &Names, commands: &[WrittenCommand]) -> bool
-    ensures { result ≡ list_any (λ c. unmakes contexts.now ephemerals.now c) commands.now }
+fn one_subtracts_made(contexts: &Names, ephemerals: &Names, commands: &[WrittenCommand]) -> bool
+    ensures { result ≡ list_any (λ c. subtracts_made contexts.now ephemerals.now c) commands.now }
 {
     for command in commands {
-        if unmakes(contexts, ephemerals, command) {
+        if subtracts_made(contexts, ephemerals, command) {
             return true;
         }
     }
@@ -189,9 +189,9 @@ fn one_unmakes(contexts: &Names, ephemerals: &Names, commands: &[WrittenCommand]
 }
 
 /// Whether a command subtracts one of the ephemerals, or all of one of the contexts.
-#[tactic(auto, unfolding(crate::specs::Faults::unmakes))]
-fn unmakes(contexts: &Names, ephemerals: &Names, command: &WrittenCommand) -> bool
-    ensures { result ≡ unmakes contexts.now ephemerals.now command.now }
+#[tactic(auto, unfolding(crate::specs::Faults::subtracts_made))]
+fn subtracts_made(contexts: &Names, ephemerals: &Names, command: &WrittenCommand) -> bool
+    ensures { result ≡ subtracts_made contexts.now ephemerals.now command.now }
 {
     match command {
         WrittenCommand::Subtract { name, .. } => ephemerals.has(name.as_str()),
@@ -242,9 +242,11 @@ fn one_lacks_fault(states: &[WrittenState]) -> bool
 
 /// Whether a state without commands has a target of their outcome.
 fn one_has_vain_outcome(states: &[WrittenState]) -> bool
-    ensures { result ≡ list_any (λ s. has_vain_outcome s) states.now }
+    ensures { result ≡ list_any (λ s. has_outcome_without_commands s) states.now }
 {
-    states.iter().any(|state| state.has_vain_outcome())
+    states
+        .iter()
+        .any(|state| state.has_outcome_without_commands())
 }
 
 /// Whether an end state has commands or a target.

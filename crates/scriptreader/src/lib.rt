@@ -5,7 +5,7 @@
 //! `texts`, `items` and `commands`), the document is searched for one fault after the other (`faults`, `duplicates`,
 //! `scope`), and then its table is built (`build`, over `lookups` and `requests`). The contract of `read_script` is
 //! exact: the answer is the table that the document means, or its lowest fault, or that the bytes are no TOML; only
-//! want of memory may stand in place of it. `laws` has what every table has that is answered.
+//! running out of memory may stand in place of it. `laws` has what every table has that is answered.
 #![tactic(auto)]
 
 mod build;

@@ -105,9 +105,9 @@ abbrev pub NoRemotes : List (ℕ × Row) → Type 0
 NoRemotes rows = (n : ℕ) → IfSome (row_at rows n) (λ row. row.remote ≡ None)
 
 -- a line's row has no Remote
-abbrev pub IsBare : TermId → Row → Type 0
-IsBare (Line l) row = row.remote ≡ None
-IsBare (Eph k) row = Unit {0}
+abbrev pub LineHasNoRemote : TermId → Row → Type 0
+LineHasNoRemote (Line l) row = row.remote ≡ None
+LineHasNoRemote (Eph k) row = Unit {0}
 
 pub record IsSound (lines ephemerals : List (ℕ × Row)) (last : ℕ) : Type 0 where
   pub above : NoneAbove ephemerals last

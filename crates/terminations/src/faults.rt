@@ -16,7 +16,7 @@ pub enum AddLineFault {
 }
 
 impl AddLineFault {
-    /// The fault's number, or 0 for want of memory.
+    /// The fault's number, or 0 where memory ran out.
     pub fn number(&self) -> u8
         ensures { result ≡ line_number self.now }
     {
@@ -49,7 +49,7 @@ pub enum CreateFault {
 }
 
 impl CreateFault {
-    /// The fault's number, or 0 for want of memory.
+    /// The fault's number, or 0 where memory ran out.
     pub fn number(&self) -> u8
         ensures { result ≡ create_number self.now }
     {

@@ -35,7 +35,7 @@ impl Model for Terms {
 
 #[tactic(auto, unfolding(crate::specs::Table::row_of, crate::specs::Table::given_of))]
 impl Terms {
-    ghost use Rattle.terminations.specs.Table.{row_of, given_of, put, left, destroyed, with_mode, with_remote, cleared, known, unless_taken, known_ephemeral, overwritten, IsBare, IsCreated, next_of};
+    ghost use Rattle.terminations.specs.Table.{row_of, given_of, put, left, destroyed, with_mode, with_remote, cleared, known, unless_taken, known_ephemeral, overwritten, LineHasNoRemote, IsCreated, next_of};
     ghost use Rattle.mg_model.specs.Board.{row_with, null_row};
 
     /// No termination, and no number given.
@@ -53,7 +53,7 @@ impl Terms {
     /// The row of a termination; `None` where it doesn't exist.
     pub fn get(&self, t: TermId) -> Option<Row>
         ensures row { result ≡ row_of self.now t }
-        ensures bare { IfSome result (IsBare t) }
+        ensures bare { IfSome result (LineHasNoRemote t) }
     {
         match t {
             TermId::Line(line) => rows::row_at(&self.lines, line.0),
@@ -109,7 +109,7 @@ impl Terms {
 
     /// Writes the row of a termination that exists.
     fn overwrite(&mut self, t: TermId, row: Row)
-        requires { IsBare t row }
+        requires { LineHasNoRemote t row }
         ensures rows { row_of self.new ≡ row_with (row_of self.old) t (overwritten row (row_of self.old t)) }
         ensures given { given_of self.new ≡ given_of self.old }
     {
@@ -181,7 +181,7 @@ impl Terms {
         Ok(())
     }
 
-    /// Sets the mode of a termination (H.248.1 section 7.1.5). 430 where it doesn't exist.
+    /// Sets the mode of a termination (H.248.1 section 7.1.7). 430 where it doesn't exist.
     pub fn set_mode(&mut self, t: TermId, mode: Mode) -> Result<(), Code>
         ensures answer { result ≡ known (row_of self.old t) }
         ensures rows { row_of self.new ≡ row_with (row_of self.old) t (with_mode mode (row_of self.old t)) }

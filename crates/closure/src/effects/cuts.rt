@@ -2,7 +2,7 @@
 ghost use Rattle.std.specs.Prelude.{◌≡◌};
 ghost use Rattle.mg_model.specs.Configuration.{is_same, terminations};
 ghost use Rattle.mg_model.specs.Effects.{without_cuts_of};
-ghost use Rattle.closure.specs.Turns.{forget_pair, forget_pairs};
+ghost use Rattle.closure.specs.Elementwise.{forget_pair, forget_pairs};
 ghost use Rattle.configuration.specs.Config.{configuration_of};
 
 use configuration::config::Config;

@@ -3,7 +3,7 @@
 ghost use Rattle.std.specs.Prelude.{◌≡◌, ℕ, ◌≤◌};
 ghost use Rattle.mg_model.specs.Configuration.{settled, value_of};
 ghost use Rattle.mg_model.specs.Effects.{put_in};
-ghost use Rattle.closure.specs.Turns.{settled_at};
+ghost use Rattle.closure.specs.Elementwise.{settled_at};
 ghost use Rattle.configuration.specs.Config.{configuration_of};
 
 use configuration::config::Config;

@@ -5,7 +5,7 @@ ghost use Rattle.mg_model.specs.Configuration.{is_in, is_same, terminations};
 ghost use Rattle.mg_model.specs.Effects.{is_legal, effect, without_terminations};
 ghost use Rattle.mg_model.specs.Script.{Script};
 ghost use Rattle.closure.specs.Groups.{is_subtract};
-ghost use Rattle.closure.specs.Turns.{lost_at, remote_lost, without_line, without_ephemeral, without_remotes_to, subtracted_from, subtracted_each};
+ghost use Rattle.closure.specs.Elementwise.{lost_at, remote_lost, without_line, without_ephemeral, without_remotes_to, subtracted_from, subtracted_each};
 ghost use Rattle.configuration.specs.Config.{configuration_of};
 
 use crate::effects::cuts::forget_cuts;

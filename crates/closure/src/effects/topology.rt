@@ -3,7 +3,7 @@ ghost use Rattle.std.specs.Prelude.{◌≡◌, ◌&&◌, if◌then◌else◌};
 ghost use Rattle.mg_model.specs.Effects.{is_legal, effect};
 ghost use Rattle.mg_model.specs.Script.{Script};
 ghost use Rattle.closure.specs.Groups.{is_topology};
-ghost use Rattle.closure.specs.Turns.{with_topology};
+ghost use Rattle.closure.specs.Elementwise.{with_topology};
 ghost use Rattle.configuration.specs.Config.{configuration_of};
 
 use configuration::config::Config;

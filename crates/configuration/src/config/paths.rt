@@ -4,7 +4,7 @@ ghost use Rattle.mg_model.specs.Paths.{hops, crosses, HasPath, AreJoined};
 ghost use Rattle.configuration.specs.Config.{configuration_of};
 ghost use Rattle.std.specs.Prelude.{◌∷◌, []};
 ghost use Rattle.std.specs.List.{find, list_any};
-ghost use Rattle.configuration.specs.Search.{hops_from, is_reached, arrives_at, is_new};
+ghost use Rattle.configuration.specs.Search.{Goes, hops_from, is_reached, arrives_at, is_new};
 
 use crate::config::Config;
 use crate::spots;
@@ -70,15 +70,25 @@ fn next_arrival(config: &Config, line: Slot, arrived: &[bool; 4]) -> Option<Slot
         && arrives_at(config, line, arrived, *slot))
 }
 
-/// Whether there is a path from one line to another.
-fn has_path(config: &Config, from: Slot, to: Slot) -> bool
-    ensures { IsTrue result ↔ HasPath (configuration_of config.now) from to }
+/// Whether media goes from one line to one that may be the same.
+fn goes(config: &Config, from: Slot, to: Slot) -> bool
+    ensures { IsTrue result ↔ Goes (configuration_of config.now) from to }
 {
     let mut arrived = [false; 4];
     while let Some(slot) = next_arrival(config, from, &arrived) {
         arrived[slot.index()] = true;
     }
     is_reached(config, from, &arrived, &Termination::Line(to))
+}
+
+/// Whether there is a path from one line to another line.
+fn has_path(config: &Config, from: Slot, to: Slot) -> bool
+    ensures { IsTrue result ↔ HasPath (configuration_of config.now) from to }
+{
+    if from.index() == to.index() {
+        return false;
+    }
+    goes(config, from, to)
 }
 
 /// Whether two different lines are joined: there is a path of media from one to the other, either way.

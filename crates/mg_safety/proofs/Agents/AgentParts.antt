@@ -1,24 +1,25 @@
 -- Parts of the steps of an agent: the configuration that it is shown by where a target is entered, and what stays of a lost call.
 use Rattle.std.proofs.Common.{◌≡◌, ◌∙◌, ◌<◌, ◌≤◌, ℕ, false, List, [], length, Option, Some, None, sym, subst, arith, inl, inr}
 use Rattle.std.specs.Prelude.{Contains, ◌⊎◌}
+use Rattle.mg_model.specs.declared.failures.Failure.{Failure}
 use Rattle.mg_names.specs.declared.identifiers.TermId.TheVariants.{Line}
-use Rattle.mg_names.specs.declared.phases.Link as phases
-use Rattle.mg_names.specs.declared.phases.Link.TheVariants.{Resting}
+use Rattle.mg_names.specs.declared.phases.LinkPhase as phases
+use Rattle.mg_names.specs.declared.phases.LinkPhase.TheVariants.{Resting}
 use Rattle.mg_model.specs.declared.steps.StepName.{StepName}
 use Rattle.mg_model.specs.declared.steps.StepName.TheVariants as names
 use Rattle.mg_model.specs.Agent.{Agent, awaits_reply, resting, entered_or_rests, entered_if, leads_on}
 use Rattle.mg_model.specs.Configuration.{Configuration}
 use Rattle.mg_model.specs.Entries.{Entry}
 use Rattle.mg_model.specs.Gateway.{Gateway, last_executed}
-use Rattle.mg_model.specs.Messages.{Request, Failure}
+use Rattle.mg_model.specs.Messages.{Request}
 use Rattle.mg_model.specs.Script.{Script}
 use Rattle.mg_model.specs.Steps as steps
 use Rattle.mg_model.specs.Steps.{Step, entering, reply_step, steps_by_link, steps_of}
 use Rattle.mg_model.specs.Tables.{state_of}
 use Rattle.mg_model.specs.LineEvents.{silent}
 use Rattle.mg_model.specs.Board.{null_row}
-use Rattle.mg_safety.proofs.Shared.Single.{only_here}
-use Rattle.mg_safety.proofs.Shared.Cases.{none_is_some, the_some}
+use Rattle.mg_model.proofs.Single.{only_here}
+use Rattle.mg_model.proofs.Cases.{none_is_some, the_some}
 use Rattle.mg_safety.proofs.Invariant.Sound.{Stands, IsCurrent, IsLost, IsSentBy}
 use Rattle.mg_safety.proofs.Invariant.Statements.{IsClosed}
 use Rattle.mg_safety.proofs.Agents.Entering.{Follows, follows_resting, enters_follows, IsBetween, enters_current, rests_current}
@@ -27,10 +28,10 @@ use Rattle.mg_safety.proofs.Agents.AgentSteps.{Goes}
 -- ---- the configuration after a step
 
 -- the link of a configuration says which steps it has
-pub step_of : (script : Script) (entries : List Entry) → IsClosed script entries → (c : Configuration) (link : phases.Link) (step : Step)
+pub step_of : (script : Script) (entries : List Entry) → IsClosed script entries → (c : Configuration) (link : phases.LinkPhase) (step : Step)
     → Stands script entries c → c.link ≡ link → Contains (steps_by_link script c link) step → Stands script entries step.1
 step_of script entries closed c link step stands is among =
-    closed.steps c step stands (subst (λ (l : phases.Link). Contains (steps_by_link script c l) step) (sym is) among)
+    closed.steps c step stands (subst (λ (l : phases.LinkPhase). Contains (steps_by_link script c l) step) (sym is) among)
 
 -- a target is entered, where the checker enters it
 pub target_entered : (script : Script) (entries : List Entry) (g : Gateway) (e : Agent) (c : Configuration) (name : StepName) (target : Option ℕ) (b : Agent)
@@ -38,7 +39,7 @@ pub target_entered : (script : Script) (entries : List Entry) (g : Gateway) (e :
     → entered_if script e target ≡ Some b → IsCurrent script entries g b
 target_entered script entries g e c name None b between stands is = absurd (none_is_some b is)
 target_entered script entries g e c name (Some state) b between stands is =
-    enters_current script entries g e c state b between (stands (name, steps.entered script c state) (only_here (name, steps.entered script c state))) is
+    enters_current script entries g e c state b between (stands (name, steps.with_state script c state) (only_here (name, steps.with_state script c state))) is
 
 -- after a reply without a failure the target is entered, or the call rests
 pub answer_led : (script : Script) (entries : List Entry) (g : Gateway) (e : Agent) (c : Configuration) (target : Option ℕ) (b : Agent)
@@ -48,7 +49,7 @@ answer_led script entries g e c None b between state stands is = subst (IsCurren
     (rests_current script entries g e c between state (stands (names.Reply, steps.with_link c Resting) (only_here (names.Reply, steps.with_link c Resting))))
 answer_led script entries g e c (Some target) b between state stands is =
     enters_current script entries g e c target b between
-    (stands (names.Reply, steps.entered script c target) (only_here (names.Reply, steps.entered script c target))) is
+    (stands (names.Reply, steps.with_state script c target) (only_here (names.Reply, steps.with_state script c target))) is
 
 -- ---- the agent after it
 

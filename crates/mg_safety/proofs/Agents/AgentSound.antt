@@ -2,8 +2,8 @@
 use Rattle.std.proofs.Common.{◌≡◌, ◌∙◌, ◌<◌, ℕ, Bool, true, false, List, Some, None, refl, sym, subst, arith, inl, inr, true≢false}
 use Rattle.std.proofs.lemmas.List.Elements.{Contains-append_right}
 use Rattle.std.specs.Prelude.{if◌then◌else◌, Contains, ◌⊎◌}
-use Rattle.mg_names.specs.declared.phases.Link as phases
-use Rattle.mg_names.specs.declared.phases.Link.TheVariants.{Answered, Resting}
+use Rattle.mg_names.specs.declared.phases.LinkPhase as phases
+use Rattle.mg_names.specs.declared.phases.LinkPhase.TheVariants.{Answered, Resting}
 use Rattle.mg_model.specs.declared.steps.StepName.TheVariants as names
 use Rattle.mg_model.specs.Agent.{Agent, Phase, awaits_reply, awaits_pass, resting, entered_or_rests, entered_if, passed_in, passed, is_resting, timed}
 use Rattle.mg_model.specs.Entries.{Entry}
@@ -15,7 +15,7 @@ use Rattle.mg_model.specs.Steps.{Step, entering, observations}
 use Rattle.std.specs.List.{flat_map}
 use Rattle.mg_model.specs.Tables.{state_of, line_places}
 use Rattle.mg_model.specs.World.{World, pass, timer}
-use Rattle.mg_safety.proofs.Shared.Cases.{none_is_some}
+use Rattle.mg_model.proofs.Cases.{none_is_some}
 use Rattle.mg_safety.proofs.Invariant.Shown.{naming, Shown, LinesShown}
 use Rattle.mg_safety.proofs.Invariant.Sound.{owned_in, IsPassing, IsResting, IsAt, IsCurrent, IsLost, CallIsSound}
 use Rattle.mg_safety.proofs.Invariant.Statements.{IsClosed, KeepsSound}
@@ -53,7 +53,7 @@ pub rest_quiet : (phase : Phase) → phase ≡ resting → (request : Request) �
 rest_quiet phase rests request is = not_resting request (sym rests ∙ is)
 
 -- where the phase is so, the call is at this point of its request
-pub at_pass : (script : Script) (g : Gateway) (a e : Agent) (link : phases.Link) → a.phase ≡ awaits_pass → IsAt script g a e link → IsPassing a e link
+pub at_pass : (script : Script) (g : Gateway) (a e : Agent) (link : phases.LinkPhase) → a.phase ≡ awaits_pass → IsAt script g a e link → IsPassing a e link
 at_pass script g a e link is (inl sent) = absurd (pass_quiet a.phase is sent.request sent.outstanding.phase)
 at_pass script g a e link is (inr (inl answered)) = absurd (pass_quiet a.phase is answered.request answered.outstanding.phase)
 at_pass script g a e link is (inr (inr (inl passing))) = passing
@@ -62,7 +62,7 @@ at_pass script g a e link is (inr (inr (inr rests))) = absurd (apart (sym rests.
     apart : resting ≡ awaits_pass → ⊥
     apart e = cc
 
-pub at_rest : (script : Script) (g : Gateway) (a e : Agent) (link : phases.Link) → a.phase ≡ resting → IsAt script g a e link → IsResting a e link
+pub at_rest : (script : Script) (g : Gateway) (a e : Agent) (link : phases.LinkPhase) → a.phase ≡ resting → IsAt script g a e link → IsResting a e link
 at_rest script g a e link is (inl sent) = absurd (rest_quiet a.phase is sent.request sent.outstanding.phase)
 at_rest script g a e link is (inr (inl answered)) = absurd (rest_quiet a.phase is answered.request answered.outstanding.phase)
 at_rest script g a e link is (inr (inr (inl passing))) = absurd (apart (sym passing.phase ∙ is))

@@ -9,8 +9,8 @@ use Rattle.mg_model.specs.Gateway.{Gateway, last_executed}
 use Rattle.mg_model.specs.Messages.{Request}
 use Rattle.mg_model.specs.Script.{Script}
 use Rattle.mg_model.specs.World.{World, AgentSteps, agent_steps, sent_in}
-use Rattle.mg_safety.proofs.Shared.Single.{none_in, only_one}
-use Rattle.mg_safety.proofs.Shared.Cases.{the_some}
+use Rattle.mg_model.proofs.Single.{none_in, only_one}
+use Rattle.mg_model.proofs.Cases.{the_some}
 use Rattle.mg_safety.proofs.Invariant.Sound.{IsSentBy, IsCurrent, IsLost, CallIsSound, GatewayIsSound, IsSound}
 
 -- the agent b goes on from a: what it sends is new and its own, what was sent before is settled, and it is current or lost

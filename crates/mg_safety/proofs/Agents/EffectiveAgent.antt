@@ -1,7 +1,7 @@
 -- What a reply binds leaves the rest of the agent; so the agent as it will be once it has taken a reply that is kept has the lines of the
 -- call.
 use Rattle.std.proofs.Common.{◌≡◌, ◌∙◌, ℕ, List, [], ◌∷◌, refl, ap, inl, inr}
-use Rattle.mg_names.specs.declared.phases.Link as phases
+use Rattle.mg_names.specs.declared.phases.LinkPhase as phases
 use Rattle.mg_model.specs.declared.commands.Command.{Command}
 use Rattle.mg_model.specs.declared.commands.Command.TheVariants.{AddLine, AddEphemeral, ModifyLine, ModifyEphemeral, MoveLine, MoveEphemeral, Subtract, SubtractAll, SetTopology}
 use Rattle.mg_model.specs.declared.commands.Termination.TheVariants as termination
@@ -53,7 +53,7 @@ results_keep a (command ∷ more) (done ∷ results) number =
 
 -- ---- the agent once a kept reply is taken
 
-pub same_lines : (script : Script) (g : Gateway) (a e : Agent) (link : phases.Link) → IsAt script g a e link → e.lines ≡ a.lines
+pub same_lines : (script : Script) (g : Gateway) (a e : Agent) (link : phases.LinkPhase) → IsAt script g a e link → e.lines ≡ a.lines
 same_lines script g a e link (inl sent) = ap (λ (x : Agent). x.lines) sent.effective
 same_lines script g a e link (inr (inl answered)) =
     ap (λ (x : Agent). x.lines) answered.effective

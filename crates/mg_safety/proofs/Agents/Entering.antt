@@ -1,8 +1,8 @@
 -- An agent that enters a state: what it keeps of itself, what it sends, and that the configuration which the checker enters is shown then.
 use Rattle.std.proofs.Common.{◌≡◌, ◌∙◌, ◌+◌, ◌<◌, ◌≤◌, ℕ, Bool, true, false, List, [], ◌∷◌, Some, None, refl, sym, ap, subst, arith, inl, inr}
 use Rattle.std.specs.Prelude.{if◌then◌else◌, nat_le}
-use Rattle.mg_names.specs.declared.phases.Link as phases
-use Rattle.mg_names.specs.declared.phases.Link.TheVariants.{Sent, Answered, Resting}
+use Rattle.mg_names.specs.declared.phases.LinkPhase as phases
+use Rattle.mg_names.specs.declared.phases.LinkPhase.TheVariants.{Sent, Answered, Resting}
 use Rattle.mg_model.specs.declared.commands.Command.{Command}
 use Rattle.mg_model.specs.declared.commands.Command.TheVariants.{AddLine, AddEphemeral, ModifyLine, ModifyEphemeral, MoveLine, MoveEphemeral, Subtract, SubtractAll, SetTopology}
 use Rattle.mg_model.specs.Agent.{Agent, Made, Phase, awaits_reply, awaits_pass, resting, entered_with, entered, built_by, command_of, commands_of, made_after, none_made, request_of}
@@ -17,7 +17,7 @@ use Rattle.mg_model.specs.Script.{Script}
 use Rattle.mg_model.specs.Steps as steps
 use Rattle.mg_model.specs.Steps.{request_in}
 use Rattle.mg_model.specs.Tables.{state_of, is_empty}
-use Rattle.mg_safety.proofs.Shared.Cases.{none_is_some, the_some}
+use Rattle.mg_model.proofs.Cases.{none_is_some, the_some}
 use Rattle.mg_safety.proofs.Invariant.Shown.{naming, Shown, LinesShown}
 use Rattle.mg_safety.proofs.Requests.RunKnown.{bound_agree}
 use Rattle.mg_safety.proofs.Requests.RunSteps.{shown_still}
@@ -127,18 +127,18 @@ commands_same script e state next phase made place (command ∷ more) = one_more
 -- ---- what is shown after a step
 
 pub lines_still : (script : Script) (e : Agent) (line : ℕ → LineRow) (c : Configuration) (phase : Phase) (state next : ℕ) (accepted : ℕ → Bool)
-    (link : phases.Link) → LinesShown script e line c
+    (link : phases.LinkPhase) → LinesShown script e line c
     → LinesShown script (record e { state = state; phase = phase; next = next; accepted = accepted }) line (record c { state = state; link = link })
 lines_still script e line c phase state next accepted link s = record { events = s.events; silent = s.silent; expected = s.expected }
 
 -- the agent enters a state where the configuration that the checker enters stands
 entered_current : (script : Script) (entries : List Entry) (g : Gateway) (e : Agent) (c : Configuration) (state : ℕ) (b : Agent) (empty : Bool)
-    → IsBetween script g e c → Stands script entries (steps.entered script c state) → is_empty (built_by script e state) ≡ empty
+    → IsBetween script g e c → Stands script entries (steps.with_state script c state) → is_empty (built_by script e state) ≡ empty
     → entered_with script e state empty ≡ Some b → IsCurrent script entries g b
 entered_current script entries g e c state b true between stands empty is = subst (IsCurrent script entries g)
     (the_some (record e { state = state; phase = awaits_pass }) b is) (record {
       association = between.association;
-      c = steps.entered script c state;
+      c = steps.with_state script c state;
       e = record e { state = state; phase = awaits_pass };
       stands = stands;
       state = refl;
@@ -161,7 +161,7 @@ entered_current script entries g e c state b false between stands empty is = num
     numbered true is = subst (IsCurrent script entries g)
         (the_some (record e { state = state; phase = awaits_reply (request_of script e state); next = e.next + 1 }) b is) (record {
           association = between.association;
-          c = steps.entered script c state;
+          c = steps.with_state script c state;
           e = record e { state = state; phase = awaits_reply (request_of script e state); next = e.next + 1 };
           stands = stands;
           state = refl;
@@ -186,7 +186,7 @@ entered_current script entries g e c state b false between stands empty is = num
     numbered false is = absurd (none_is_some b is)
 
 pub enters_current : (script : Script) (entries : List Entry) (g : Gateway) (e : Agent) (c : Configuration) (state : ℕ) (b : Agent)
-    → IsBetween script g e c → Stands script entries (steps.entered script c state) → entered script e state ≡ Some b → IsCurrent script entries g b
+    → IsBetween script g e c → Stands script entries (steps.with_state script c state) → entered script e state ≡ Some b → IsCurrent script entries g b
 enters_current script entries g e c state b between stands is =
     entered_current script entries g e c state b (is_empty (built_by script e state)) between stands refl is
 

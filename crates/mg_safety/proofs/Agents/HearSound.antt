@@ -5,7 +5,7 @@ use Rattle.std.proofs.lemmas.Bool.{eqb-true, eq-eqb}
 use Rattle.std.proofs.Math.Nat.{eq-or-lt_of_le}
 use Rattle.std.proofs.lemmas.Grind.{common_steps}
 use Rattle.std.specs.Prelude.{◌==◌, ◌&&◌, ◌||◌, not, if◌then◌else◌, nat_lt, ◌⊎◌}
-use Rattle.mg_names.specs.declared.phases.Link.TheVariants.{Answered}
+use Rattle.mg_names.specs.declared.phases.LinkPhase.TheVariants.{Answered}
 use Rattle.mg_model.specs.declared.commands.EventsName.TheVariants.{Empty}
 use Rattle.mg_model.specs.declared.commands.Termination.{Termination}
 use Rattle.mg_model.specs.declared.commands.Termination.TheVariants as termination
@@ -19,7 +19,7 @@ use Rattle.mg_model.specs.Script.{Script}
 use Rattle.mg_model.specs.Steps as steps
 use Rattle.mg_model.specs.World.{World, hear}
 use Rattle.mg_model.specs.Accepted.{IsSlot}
-use Rattle.mg_safety.proofs.Shared.Cases.{none_is_some}
+use Rattle.mg_model.proofs.Cases.{none_is_some}
 use Rattle.mg_safety.proofs.Invariant.Shown.{Naming, Shown, LinesShown, number_at, row_on, term_of, cut_on}
 use Rattle.mg_safety.proofs.Invariant.Sound.{IsOfScript, is_call, owned_in, IsCurrent, IsLost, CallIsSound}
 use Rattle.mg_safety.proofs.Invariant.Statements.{IsClosed, KeepsSound}

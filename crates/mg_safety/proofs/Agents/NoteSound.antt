@@ -3,7 +3,7 @@
 use Rattle.std.proofs.Common.{◌≡◌, ◌∙◌, ◌<◌, ℕ, Bool, true, false, List, Option, Some, None, refl, sym, ap, subst, arith, inl, inr, true≢false}
 use Rattle.std.proofs.lemmas.Bool.{eqb-true}
 use Rattle.std.specs.Prelude.{◌==◌, ◌&&◌, not, if◌then◌else◌, ◌⊎◌}
-use Rattle.mg_names.specs.declared.phases.Link.TheVariants.{Resting}
+use Rattle.mg_names.specs.declared.phases.LinkPhase.TheVariants.{Resting}
 use Rattle.mg_model.specs.declared.steps.StepName.TheVariants as names
 use Rattle.mg_model.specs.Delivery.{Inbox, arrival, is_new, arrives_new, was_seen, is_old}
 use Rattle.mg_model.specs.Agent.{Agent, inbox_of, resting, entered_or_stays, is_resting, line_in, list_of, may_accept, noted, target_of}
@@ -16,7 +16,7 @@ use Rattle.mg_model.specs.Script.{Script}
 use Rattle.mg_model.specs.Steps as steps
 use Rattle.mg_model.specs.Tables.{state_of, items_of, raises, target_in, line_places}
 use Rattle.mg_model.specs.World.{World, note}
-use Rattle.mg_safety.proofs.Shared.Cases.{none_is_some, the_some}
+use Rattle.mg_model.proofs.Cases.{none_is_some, the_some, and_second}
 use Rattle.mg_safety.proofs.Invariant.Sound.{Stands, IsCurrent, IsLost, IsNoteSound, IsNoteStanding, CallIsSound}
 use Rattle.mg_safety.proofs.Invariant.Statements.{IsClosed, KeepsSound}
 use Rattle.mg_safety.proofs.Agents.Entering.{Follows, not_resting, enters_follows, IsBetween, enters_current}
@@ -58,7 +58,7 @@ accepts script a b sent is = by_case (may_accept script a sent) refl is
         else None) ≡ Some b → IsAccepted script a b sent
     by_case true e is =
         let both = first_and_third (is_resting a.phase) (not (state_of script a.state).is_end)
-        (is_new (arrival (inbox_of a) sent.association sent.number)) e in
+        (is_new (arrival (inbox_of a) sent.association sent.number)) (and_second (sent.call == a.call) _ e) in
         record { phase = rests a.phase both.0; association = new_is_ours (inbox_of a) sent.association sent.number both.1; leads = is }
     by_case false e is = absurd (none_is_some b is)
 
@@ -108,7 +108,7 @@ stays_current script entries g a number k phase link between = record {
 -- where the note leads, the checker's configuration stands
 note_leads : (script : Script) (entries : List Entry) → IsClosed script entries → (g : Gateway) (a : Agent) (sent : SentNote) (state : ℕ)
     (k : IsCurrent script entries g a) → k.c.link ≡ Resting → IsBetween script g a k.c → IsNoteStanding g sent
-    → LeadsOn script a sent.line sent.note state → Stands script entries (steps.entered script k.c state)
+    → LeadsOn script a sent.line sent.note state → Stands script entries (steps.with_state script k.c state)
 note_leads script entries closed g a sent state k link between standing where_to =
     let i = where_to.i in
     let request : (g.line sent.line).request ≡ Some sent.note.request =
@@ -120,7 +120,7 @@ note_leads script entries closed g a sent state k link between standing where_to
     list_says script (k.c.events i) (g.line sent.line).list sent.note.kind list (standing.raised request) in
     let target : target_in (state_of script k.c.state).on i sent.note.kind ≡ Some state =
     ap (λ n. target_in (state_of script n).on i sent.note.kind) k.state ∙ where_to.target in
-    step_of script entries closed k.c Resting (names.Observe i sent.note.kind, steps.entered script k.c state) k.stands link
+    step_of script entries closed k.c Resting (names.Observe i sent.note.kind, steps.with_state script k.c state) k.stands link
     (observed script k.c i sent.note.kind state where_to.place raised target)
 
 note_current : (script : Script) (entries : List Entry) → IsClosed script entries → (g : Gateway) (a b : Agent) (sent : SentNote)

@@ -7,7 +7,7 @@ use Rattle.std.specs.Prelude.{◌==◌, ◌||◌, if◌then◌else◌, Contains,
 use Rattle.std.specs.List.{flat_map}
 use Rattle.mg_names.specs.declared.kinds.Kind.{Kind}
 use Rattle.mg_names.specs.declared.kinds.Kind.TheVariants as kind
-use Rattle.mg_names.specs.declared.phases.Link.TheVariants.{Resting}
+use Rattle.mg_names.specs.declared.phases.LinkPhase.TheVariants.{Resting}
 use Rattle.mg_model.specs.declared.commands.EventsName.{EventsName}
 use Rattle.mg_model.specs.declared.steps.StepName.TheVariants as names
 use Rattle.mg_model.specs.declared.transitions.EventItem.{EventItem}
@@ -16,9 +16,9 @@ use Rattle.mg_model.specs.Agent.{Agent, line_in, same_number, target_of, list_it
 use Rattle.mg_model.specs.Configuration.{Configuration}
 use Rattle.mg_model.specs.LineEvents.{ListItem, Note}
 use Rattle.mg_model.specs.Script.{Script}
-use Rattle.mg_model.specs.Steps.{Step, all_kinds, entered, entering, observation, observations, steps_by_link}
+use Rattle.mg_model.specs.Steps.{Step, all_kinds, with_state, entering, observation, observations, steps_by_link}
 use Rattle.mg_model.specs.Tables.{state_of, items_of, item_raises, raises, target_in, below, line_places}
-use Rattle.mg_safety.proofs.Shared.Single.{only_here, only_one}
+use Rattle.mg_model.proofs.Single.{only_here, only_one}
 use Rattle.mg_safety.proofs.Invariant.Shown.{raises_kind, list_raises}
 
 -- ---- lists
@@ -137,9 +137,9 @@ has_kind kind.Part = (4, omega arith, refl)
 -- what the list raises is among the observations of its line, with the state that it leads to
 pub observed : (script : Script) (c : Configuration) (i : ℕ) (what : Kind) (state : ℕ) → Contains (line_places script) i
     → raises (items_of script (c.events i)) what ≡ true → target_in (state_of script c.state).on i what ≡ Some state
-    → Contains (steps_by_link script c Resting) (names.Observe i what, entered script c state)
+    → Contains (steps_by_link script c Resting) (names.Observe i what, with_state script c state)
 observed script c i what state place raised target =
-    let step : Step = (names.Observe i what, entered script c state) in
+    let step : Step = (names.Observe i what, with_state script c state) in
     let among : Contains (entering script c (names.Observe i what) (target_in (state_of script c.state).on i what)) step =
     subst (λ o. Contains (entering script c (names.Observe i what) o) step) (sym target) (only_here step) in
     let seen : Contains (observation script c i what) step = subst (λ (p : Bool). Contains

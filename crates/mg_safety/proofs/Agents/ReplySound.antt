@@ -3,18 +3,19 @@
 use Rattle.std.proofs.Common.{◌≡◌, ◌∙◌, ◌<◌, ◌≤◌, Bool, true, false, List, Option, Some, None, refl, sym, ap, subst, arith, inl, inr}
 use Rattle.std.proofs.lemmas.Bool.{and_parts, eqb-true}
 use Rattle.std.specs.Prelude.{◌==◌, ◌&&◌, if◌then◌else◌, Contains, unwrap_or, ◌⊎◌}
-use Rattle.mg_names.specs.declared.phases.Link.TheVariants.{Answered, Failed}
+use Rattle.mg_model.specs.declared.failures.Failure.{Failure}
+use Rattle.mg_names.specs.declared.phases.LinkPhase.TheVariants.{Answered, Failed}
 use Rattle.mg_model.specs.declared.steps.StepName.TheVariants as names
-use Rattle.mg_model.specs.Agent.{Agent, Phase, awaits_reply, awaits_pass, resting, built_by, after_results, leads_on, replied_to, replied}
+use Rattle.mg_model.specs.Agent.{answers, Agent, Phase, awaits_reply, awaits_pass, resting, built_by, after_results, leads_on, replied_to, replied}
 use Rattle.mg_model.specs.Configuration.{Configuration}
 use Rattle.mg_model.specs.Entries.{Entry}
 use Rattle.mg_model.specs.Gateway.{Gateway, last_executed, number_of}
-use Rattle.mg_model.specs.Messages.{Request, Reply, Failure}
+use Rattle.mg_model.specs.Messages.{Request, Reply}
 use Rattle.mg_model.specs.Script.{Script}
 use Rattle.mg_model.specs.Steps as steps
 use Rattle.mg_model.specs.Tables.{state_of}
 use Rattle.mg_model.specs.World.{World, reply}
-use Rattle.mg_safety.proofs.Shared.Cases.{none_is_some}
+use Rattle.mg_model.proofs.Cases.{none_is_some}
 use Rattle.mg_safety.proofs.Invariant.Sound.{Stands, link_of, IsAnswered, IsAt, IsCurrent, IsLost, IsReplySound, CallIsSound}
 use Rattle.mg_safety.proofs.Invariant.Statements.{IsClosed, KeepsSound}
 use Rattle.mg_safety.proofs.Agents.Entering.{same_request, IsBetween}
@@ -39,10 +40,11 @@ takes : (script : Script) (a b : Agent) (answer : Reply) → replied script a an
 takes script a b answer is = in_phase a.phase refl is
   where
     fits : (request : Request) → a.phase ≡ awaits_reply request → (fit : Bool)
-        → ((answer.association == request.association) && answer.number == request.number) ≡ fit
+        → answers answer request ≡ fit
         → (if fit then leads_on script a (bound script a answer) answer.failure else None) ≡ Some b → IsTaken script a b answer
     fits request phase true e is =
-        let same = and_parts (answer.association == request.association) (answer.number == request.number) e in
+        let same = and_parts (answer.association == request.association) (answer.number == request.number)
+        (and_parts (answer.call == request.call) ((answer.association == request.association) && answer.number == request.number) e).1 in
         record {
           request = request;
           phase = phase;
@@ -54,7 +56,7 @@ takes script a b answer is = in_phase a.phase refl is
 
     in_phase : (phase : Phase) → a.phase ≡ phase → replied_to script a phase answer ≡ Some b → IsTaken script a b answer
     in_phase (awaits_reply request) phase is =
-        fits request phase ((answer.association == request.association) && answer.number == request.number) refl is
+        fits request phase (answers answer request) refl is
     in_phase awaits_pass phase is = absurd (none_is_some b is)
     in_phase resting phase is = absurd (none_is_some b is)
 

@@ -21,7 +21,7 @@ use Rattle.mg_model.specs.Effects.{is_legal, effect, put_in, with_line_options, 
 use Rattle.mg_model.specs.Script.{Script}
 use Rattle.mg_model.specs.Accepted.{IsSlot, IsContext, IsCommandOf}
 use Rattle.mg_safety.proofs.Shared.Components.{is_same_self, is_same_is}
-use Rattle.mg_safety.proofs.Shared.Cases.{where_false}
+use Rattle.mg_model.proofs.Cases.{where_false}
 use Rattle.mg_safety.proofs.Certificate.Declared.{AreSlots}
 use Rattle.mg_safety.proofs.Invariant.Sound.{IsOfScript}
 

@@ -6,8 +6,8 @@ use Rattle.std.proofs.lemmas.Bool.{cases_lt}
 use Rattle.std.proofs.lemmas.List.Elements.{All-nil, All-cons, All-head, All-tail, All-append}
 use Rattle.std.proofs.lemmas.Option.{unwrap_or-slice_get, slice_get_past}
 use Rattle.mg_names.specs.declared.kinds.Kind.{Kind}
-use Rattle.mg_names.specs.declared.phases.Link.{Link}
-use Rattle.mg_names.specs.declared.phases.Link.TheVariants.{Sent, Answered, Failed, Resting}
+use Rattle.mg_names.specs.declared.phases.LinkPhase.{LinkPhase}
+use Rattle.mg_names.specs.declared.phases.LinkPhase.TheVariants.{Sent, Answered, Failed, Resting}
 use Rattle.mg_model.specs.declared.commands.Command.{Command}
 use Rattle.mg_model.specs.declared.commands.EventsName.{EventsName}
 use Rattle.mg_model.specs.declared.commands.EventsName.TheVariants.{Empty, Armed}
@@ -20,7 +20,7 @@ use Rattle.mg_model.specs.Configuration.{Configuration}
 use Rattle.mg_model.specs.Effects.{is_legal, effect}
 use Rattle.mg_model.specs.Request.{Names, uses_known, names_after, built}
 use Rattle.mg_model.specs.Script.{Script, State}
-use Rattle.mg_model.specs.Steps.{Step, steps_of, steps_by_link, request_in, entered, with_link, refusals, executed, execution, names_unbound, entering, reply_step, all_kinds, observation, observations, unused, opening, reset, bound_names}
+use Rattle.mg_model.specs.Steps.{Step, steps_of, steps_by_link, request_in, with_state, with_link, refusals, executed, execution, names_unbound, entering, reply_step, all_kinds, observation, observations, unused, opening, reset, bound_names}
 use Rattle.mg_model.specs.Tables.{state_of, no_state, items_of, raises, target_in, line_places}
 use Rattle.mg_model.specs.Accepted.{IsScript, IsSlot, IsCommandOf, IsStateOf}
 use Rattle.mg_safety.proofs.Certificate.Declared.{past_is_not_below, unused_past}
@@ -29,7 +29,7 @@ use Rattle.mg_safety.proofs.Invariant.Sound.{IsOfScript}
 
 -- ---- the configurations in which a call opens, and after a restart
 
-of_unused : (script : Script) (state : ℕ) (link : Link) (list : EventsName) → IsOfScript script (unused (length script.lines) state link list)
+of_unused : (script : Script) (state : ℕ) (link : LinkPhase) (list : EventsName) → IsOfScript script (unused (length script.lines) state link list)
 of_unused script state link list = record {
   spot = at;
   mode = λ t undeclared. refl;
@@ -45,7 +45,7 @@ of_unused script state link list = record {
     at (Ephemeral k) undeclared = refl
 
 -- the state that a call is in and how far its request has come are no names of the script
-of_phase : (script : Script) (c : Configuration) (state : ℕ) (link : Link) → IsOfScript script c → IsOfScript script (record c { state = state; link = link })
+of_phase : (script : Script) (c : Configuration) (state : ℕ) (link : LinkPhase) → IsOfScript script c → IsOfScript script (record c { state = state; link = link })
 of_phase script c state link o = record {
   spot = o.spot;
   mode = o.mode;
@@ -56,8 +56,8 @@ of_phase script c state link o = record {
   cut = o.cut;
 }
 
-of_entered : (script : Script) (c : Configuration) (state : ℕ) → IsOfScript script c → IsOfScript script (entered script c state)
-of_entered script c state o = of_phase script c state (entered script c state).link o
+of_entered : (script : Script) (c : Configuration) (state : ℕ) → IsOfScript script c → IsOfScript script (with_state script c state)
+of_entered script c state o = of_phase script c state (with_state script c state).link o
 
 pub of_opening : (script : Script) → IsOfScript script (opening script)
 of_opening script = of_unused script script.start Resting Armed
@@ -132,11 +132,11 @@ module _ (script : Script) where
 
   of_entering : (c : Configuration) → IsOfScript script c → (name : StepName) (target : Option ℕ) → All LeadsToOne (entering script c name target)
   of_entering c o name None = All-nil LeadsToOne
-  of_entering c o name (Some state) = one_step name (entered script c state) (of_entered script c state o)
+  of_entering c o name (Some state) = one_step name (with_state script c state) (of_entered script c state o)
 
   of_reply : (c : Configuration) → IsOfScript script c → (target : Option ℕ) → All LeadsToOne (reply_step script c target)
   of_reply c o None = one_step Reply (with_link c Resting) (of_phase script c c.state Resting o)
-  of_reply c o (Some state) = one_step Reply (entered script c state) (of_entered script c state o)
+  of_reply c o (Some state) = one_step Reply (with_state script c state) (of_entered script c state o)
 
   of_each : {A : Type 0} (f : A → List Step) → ((x : A) → All LeadsToOne (f x)) → (xs : List A) → All LeadsToOne (flat_map f xs)
   of_each f each [] = All-nil LeadsToOne
@@ -150,7 +150,7 @@ module _ (script : Script) where
       by_test true = of_entering c o (Observe line kind) (target_in (state_of script c.state).on line kind)
       by_test false = All-nil LeadsToOne
 
-  of_link : IsScript script → (c : Configuration) → IsOfScript script c → (link : Link) → All LeadsToOne (steps_by_link script c link)
+  of_link : IsScript script → (c : Configuration) → IsOfScript script c → (link : LinkPhase) → All LeadsToOne (steps_by_link script c link)
   of_link is c o Sent = by_test (names_unbound script c)
     where
       by_test : (unbound : Bool) → All LeadsToOne (if unbound

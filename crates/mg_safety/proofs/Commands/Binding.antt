@@ -14,7 +14,7 @@ use Rattle.mg_model.specs.Configuration.{Configuration, is_free}
 use Rattle.mg_model.specs.Items.{given, is_context_number}
 use Rattle.mg_model.specs.Script.{Script}
 use Rattle.mg_model.specs.Accepted.{IsSlot}
-use Rattle.mg_safety.proofs.Shared.Cases.{false_not_true, none_is_some, none_of, the_some}
+use Rattle.mg_model.proofs.Cases.{false_not_true, none_is_some, none_of, the_some}
 use Rattle.mg_safety.proofs.Invariant.Shown.{Naming, term_of, number_at, Shown, IsAccounted, AreBuilt}
 
 -- ---- tests

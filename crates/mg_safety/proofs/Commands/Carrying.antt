@@ -10,7 +10,7 @@ use Rattle.mg_model.specs.Board.{Board, same_term, exists, place_of}
 use Rattle.mg_model.specs.Configuration.{Configuration}
 use Rattle.mg_model.specs.Script.{Script}
 use Rattle.mg_model.specs.Accepted.{IsSlot}
-use Rattle.mg_safety.proofs.Shared.Cases.{the_some}
+use Rattle.mg_model.proofs.Cases.{the_some}
 use Rattle.mg_safety.proofs.Commands.OneRow.{HasOneRow, accounted_after, built_as_before, changes_as_owned}
 use Rattle.mg_safety.proofs.Commands.Placing.{HasOneName, eph_is, placed_shown}
 use Rattle.mg_safety.proofs.Invariant.Shown.{Naming, term_of, Shown, IsAccounted, Owner, owned_at, AreBuilt, ChangesOwned}

@@ -13,7 +13,7 @@ use Rattle.mg_model.specs.Board.{Board, same_term, exists, place_of, place_in}
 use Rattle.mg_model.specs.Updates.{with_at}
 use Rattle.mg_model.specs.Configuration.{Configuration, with_of}
 use Rattle.mg_model.specs.Items.{given, without_cuts}
-use Rattle.mg_safety.proofs.Shared.Cases.{none_is_some, the_some}
+use Rattle.mg_model.proofs.Cases.{none_is_some, the_some}
 use Rattle.mg_safety.proofs.Commands.Binding.{with_at_here, with_at_kept, with_at_some, given_new, given_still}
 use Rattle.mg_safety.proofs.Commands.OneRow.{HasOneRow, row_here, row_elsewhere, accounted_after}
 use Rattle.mg_safety.proofs.Invariant.Shown.{Naming, IsAccounted, Owner, owned_at, AreBuilt}

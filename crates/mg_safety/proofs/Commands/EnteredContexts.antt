@@ -16,7 +16,7 @@ use Rattle.mg_model.specs.Items.{is_context_number}
 use Rattle.mg_model.specs.Request.{place_known}
 use Rattle.mg_model.specs.Script.{Script}
 use Rattle.mg_model.specs.Accepted.{IsScript, IsSlot}
-use Rattle.mg_safety.proofs.Shared.Cases.{none_is_some, some_of}
+use Rattle.mg_model.proofs.Cases.{none_is_some, some_of}
 use Rattle.mg_safety.proofs.Commands.Binding.{with_context, with_given, with_at_some, with_at_kept, given_new, not_fresh}
 use Rattle.mg_safety.proofs.Commands.Carrying.{IsEntered, entered_before}
 use Rattle.mg_safety.proofs.Commands.InForce.{MayExist, context_in_force, someone_in, owned_in_context, live_of, in_named, null_named}

@@ -23,7 +23,7 @@ use Rattle.mg_model.specs.Request.{place_known, remote_option_known}
 use Rattle.mg_model.specs.Script.{Script}
 use Rattle.mg_model.specs.Accepted.{IsRemote}
 use Rattle.mg_safety.proofs.Shared.Components.{free_as_before}
-use Rattle.mg_safety.proofs.Shared.Cases.{and_first, and_second, false_not_true, neither_first, neither_second, not_refused, some_of}
+use Rattle.mg_model.proofs.Cases.{and_first, and_second, false_not_true, neither_first, neither_second, not_refused, some_of}
 use Rattle.mg_safety.proofs.Commands.Binding.{shown_live}
 use Rattle.mg_safety.proofs.Commands.Carrying.{Carries, IsEntered, carried}
 use Rattle.mg_safety.proofs.Invariant.CarriedOver.{IsCarried, IsCarriedOver}

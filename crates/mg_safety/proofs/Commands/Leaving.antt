@@ -22,7 +22,7 @@ use Rattle.mg_model.specs.Items.{subtracted, without}
 use Rattle.mg_model.specs.Script.{Script}
 use Rattle.mg_model.specs.Accepted.{IsSlot}
 use Rattle.mg_safety.proofs.Shared.Components.{free_as_before}
-use Rattle.mg_safety.proofs.Shared.Cases.{where_true, where_false, some_is_none}
+use Rattle.mg_model.proofs.Cases.{where_true, where_false, some_is_none}
 use Rattle.mg_safety.proofs.Invariant.Shown.{Naming, Shown, RemoteReads, Owner, owned_at, row_on, cut_on, term_of, eph_of, number_at, IsAccounted}
 
 -- the terminations of the board that leave are those of the slots that leave, and their names are unbound; a context's name is unbound only

@@ -11,7 +11,7 @@ use Rattle.mg_model.specs.Board.{Board, exists, place_of, ContextExists}
 use Rattle.mg_model.specs.Configuration.{Configuration}
 use Rattle.mg_model.specs.Items.{subtracted, without}
 use Rattle.mg_model.specs.Script.{Script}
-use Rattle.mg_safety.proofs.Shared.Cases.{not_both, where_true, where_false, some_is_none}
+use Rattle.mg_model.proofs.Cases.{not_both, where_true, where_false, some_is_none}
 use Rattle.mg_safety.proofs.Commands.InForce.{name_stands}
 use Rattle.mg_safety.proofs.Commands.Leaving.{Leaves, names_left, exists_after, not_after, place_before}
 use Rattle.mg_safety.proofs.Events.Others.{name_owned}

@@ -25,7 +25,7 @@ use Rattle.mg_model.specs.Items.{Chosen, is_context_number, effect, row_at, targ
 use Rattle.mg_model.specs.Script.{Script}
 use Rattle.mg_model.specs.Accepted.{IsSlot}
 use Rattle.mg_safety.proofs.Shared.Components.{free_as_before}
-use Rattle.mg_safety.proofs.Shared.Cases.{and_first, false_not_true, neither_first, neither_second, not_refused}
+use Rattle.mg_model.proofs.Cases.{and_first, false_not_true, neither_first, neither_second, not_refused}
 use Rattle.mg_safety.proofs.Commands.Binding.{with_at_here, with_context, with_given, given_still, shown_live, shown_given, accounted_given, built_given}
 use Rattle.mg_safety.proofs.Commands.Carrying.{Carries, IsEntered, entered_before, owned_named, carried}
 use Rattle.mg_safety.proofs.Invariant.CarriedOver.{IsCarried, IsCarriedOver}

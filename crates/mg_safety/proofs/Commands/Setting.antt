@@ -26,7 +26,7 @@ use Rattle.mg_model.specs.Items.{row_at, without_cuts}
 use Rattle.mg_model.specs.Script.{Script}
 use Rattle.mg_model.specs.Accepted.{IsSlot}
 use Rattle.mg_safety.proofs.Shared.Components.{is_same_self}
-use Rattle.mg_safety.proofs.Shared.Cases.{same_turned}
+use Rattle.mg_model.proofs.Cases.{same_turned}
 use Rattle.mg_safety.proofs.Commands.Binding.{with_at_here, with_at_kept}
 use Rattle.mg_safety.proofs.Commands.Placing.{HasOneName, term_test, is_term}
 use Rattle.mg_safety.proofs.Invariant.Shown.{Naming, eph_of, term_of, row_on, cut_on, number_at, RemoteReads, Shown, line_settings, ephemeral_settings, remote_for}

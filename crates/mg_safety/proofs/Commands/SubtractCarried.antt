@@ -19,12 +19,12 @@ use Rattle.mg_model.specs.Board.{Board, exists, place_of, same_term, ContextExis
 use Rattle.mg_model.specs.Updates.{with_at}
 use Rattle.mg_model.specs.Configuration.{Configuration, is_same, is_in, is_free, is_live}
 use Rattle.mg_model.specs.Effects.{is_legal, effect}
-use Rattle.mg_model.specs.Items.{Done, Lists, leaves, without}
+use Rattle.mg_model.specs.Items.{Done, Lists, subtracts, without}
 use Rattle.mg_model.specs.Request.{termination_known}
 use Rattle.mg_model.specs.Script.{Script}
 use Rattle.mg_model.specs.Accepted.{IsSlot}
 use Rattle.mg_safety.proofs.Shared.Components.{is_in_self, is_same_is, is_same_self, same_term_is, same_term_self}
-use Rattle.mg_safety.proofs.Shared.Cases.{at_another, not_both, same_test, where_true, where_false, some_is_none, some_of, the_some}
+use Rattle.mg_model.proofs.Cases.{at_another, not_both, same_test, where_true, where_false, some_is_none, some_of, the_some}
 use Rattle.mg_safety.proofs.Invariant.CarriedOver.{IsReady, IsCarried, IsCarriedOver}
 use Rattle.mg_safety.proofs.Commands.InForce.{MayExist, names_once, in_named, same_place, context_in_force, live_context, term_in_force}
 use Rattle.mg_safety.proofs.Commands.Leaving.{Leaves, names_left, configuration_left, shown_left}
@@ -34,12 +34,12 @@ use Rattle.mg_safety.proofs.Invariant.Shown.{Naming, Shown, Owner, owned_at, ter
 -- what a command carries over by which terminations leave
 carried_left : (script : Script) (own : Owner) (n m : Naming) (contexts ephemerals : ℕ → Option ℕ) (b : Board) (c : Configuration)
     (left : Termination → Bool) (values : ℕ → ContextValue) (command : Command) (done : Done) → IsReady script own n m b c command
-    → Leaves script n contexts ephemerals b c (leaves b (item_for m command)) left values → is_legal c command ≡ true
+    → Leaves script n contexts ephemerals b c (subtracts b (item_for m command)) left values → is_legal c command ≡ true
     → named_after n command done ≡ names_left n contexts ephemerals → built_after m command done ≡ m
     → effect script c command ≡ configuration_left c left values
-    → IsCarried script own n m b c command (without b (leaves b (item_for m command))) done
+    → IsCarried script own n m b c command (without b (subtracts b (item_for m command))) done
 carried_left script own n m contexts ephemerals b c left values command done ready leaving legal named built configured =
-    let gone : TermId → Bool = leaves b (item_for m command) in
+    let gone : TermId → Bool = subtracts b (item_for m command) in
     record {
       legal = legal;
       shown = rw (named, configured) (shown_left script own n contexts ephemerals b c gone left values ready.shown ready.accounted leaving);

@@ -1,18 +1,18 @@
 -- A request that reaches the gateway keeps the world sound: it is executed, or its reply is sent once more, or nothing happens.
-use Rattle.std.proofs.Common.{◌≡◌, ◌∙◌, ◌++◌, List, [], ◌∷◌, refl, sym, ap, subst, arith, inl, inr}
+use Rattle.std.proofs.Common.{◌≡◌, ◌∙◌, ◌++◌, List, [], ◌∷◌, refl, sym, ap, subst, arith, inl, inr, Option}
 use Rattle.std.proofs.lemmas.List.Elements.{Contains-append_cases}
 use Rattle.std.specs.Prelude.{Contains}
+use Rattle.mg_model.specs.declared.failures.ChosenRefusal.{ChosenRefusal}
 use Rattle.mg_model.specs.Entries.{Entry}
 use Rattle.mg_model.specs.Gateway.{Gateway, reply_of, after_request, sent_notes, IsExecutedBy}
 use Rattle.mg_model.specs.Messages.{Request, Reply, SentNote}
-use Rattle.mg_model.specs.RequestRun.{Refusal}
 use Rattle.mg_model.specs.Script.{Script}
 use Rattle.mg_model.specs.World.{World, execute, with_gateway, Executes, IsFirst, IsRepeat}
 use Rattle.mg_model.specs.Accepted.{IsScript}
-use Rattle.mg_safety.proofs.Shared.Single.{only_one}
+use Rattle.mg_model.proofs.Single.{only_one}
 use Rattle.mg_safety.proofs.Invariant.Sound.{IsReplySound, IsSound}
 use Rattle.mg_safety.proofs.Invariant.Statements.{IsClosed, RequestsRun, OthersStayShown, OwnersAgree, KeepsSound}
-use Rattle.mg_safety.proofs.Shared.Offered.{fresh_at, kept_at}
+use Rattle.mg_model.proofs.Offered.{fresh_at, kept_at}
 use Rattle.mg_safety.proofs.Events.Executing.{HasRun, is_due, due_runs}
 use Rattle.mg_safety.proofs.Events.ExecutedCalls.{OtherLost, world_after, calls_after}
 use Rattle.mg_safety.proofs.Events.ExecutedGateway.{gateway_after}
@@ -28,7 +28,7 @@ same_world : (w : World) (g h : Gateway) (answer other : Reply) (sent more : Lis
 same_world w g h answer other sent more first second third = cc
 
 has_run : RequestsRun → (script : Script) (entries : List Entry) → IsScript script → IsClosed script entries → (w : World) (request : Request)
-    (refusal : Refusal) (g : Gateway) (answer : Reply) (sent : List SentNote) → IsSound script entries w → Contains w.requests request
+    (refusal : Option ChosenRefusal) (g : Gateway) (answer : Reply) (sent : List SentNote) → IsSound script entries w → Contains w.requests request
     → (x : IsExecutedBy w.gateway request refusal g answer sent) → HasRun script entries w request x.end x.failure
 has_run run script entries is_script closed w request refusal g answer sent sound there x =
     let open_call = sound.gateway.requests request there in
@@ -48,7 +48,7 @@ has_run run script entries is_script closed w request refusal g answer sent soun
     }
 
 first_sound : RequestsRun → OthersStayShown → OwnersAgree → OtherLost → (script : Script) (entries : List Entry) → IsScript script → IsClosed script entries
-    → (w : World) (request : Request) (refusal : Refusal) (after : World) → IsSound script entries w → Contains w.requests request
+    → (w : World) (request : Request) (refusal : Option ChosenRefusal) (after : World) → IsSound script entries w → Contains w.requests request
     → IsFirst w request refusal after → IsSound script entries after
 unfolding world_with
 first_sound run shown agree lost script entries is_script closed w request refusal after sound there f =
@@ -102,7 +102,7 @@ repeat_sound script entries w request after sound r =
       };
     })
 
-pub execute_sound : RequestsRun → OthersStayShown → OwnersAgree → OtherLost → (request : Request) (refusal : Refusal) → KeepsSound (execute request refusal)
+pub execute_sound : RequestsRun → OthersStayShown → OwnersAgree → OtherLost → (request : Request) (refusal : Option ChosenRefusal) → KeepsSound (execute request refusal)
 execute_sound run shown agree lost request refusal script entries is_script closed w after sound occurs = by_case occurs.1
   where
     by_case : Executes w request refusal after → IsSound script entries after

@@ -3,13 +3,14 @@ use Rattle.std.proofs.Common.{◌≡◌, ◌∙◌, ◌<◌, ◌++◌, ℕ, Bool
 use Rattle.std.proofs.Math.Path.{fun_ext}
 use Rattle.std.proofs.lemmas.Bool.{eqb-true, eqb-false}
 use Rattle.std.specs.Prelude.{◌==◌, unwrap_or}
+use Rattle.mg_model.specs.declared.failures.Failure.{Failure}
 use Rattle.mg_names.specs.declared.identifiers.TermId.{TermId}
-use Rattle.mg_names.specs.declared.phases.Link as phases
+use Rattle.mg_names.specs.declared.phases.LinkPhase as phases
 use Rattle.mg_model.specs.Agent.{Agent, after_results, built_by}
 use Rattle.mg_model.specs.Entries.{Entry}
 use Rattle.mg_model.specs.Gateway.{Gateway, CallLink, last_executed, reply_of, after_request, sent_notes}
 use Rattle.mg_model.specs.LineEvents.{LineRow}
-use Rattle.mg_model.specs.Messages.{Request, Failure}
+use Rattle.mg_model.specs.Messages.{Request}
 use Rattle.mg_model.specs.RequestRun.{Running}
 use Rattle.mg_model.specs.Script.{Script}
 use Rattle.mg_model.specs.World.{World, with_gateway}
@@ -104,7 +105,7 @@ module _ (script : Script) (entries : List Entry) (w : World) (request : Request
     line_kept : (l : ℕ) → w.gateway.holder l ≡ Some b.call → end.line l ≡ w.gateway.line l
     line_kept l held = h.run.other_lines l (not_call_of (w.gateway.holder l) b.call h.agent.call held (λ e. unlike (e ∙ h.call)))
 
-    other_at : (e : Agent) (link : phases.Link) → IsAt script w.gateway b e link → IsAt script (after_request w.gateway request end failure) b e link
+    other_at : (e : Agent) (link : phases.LinkPhase) → IsAt script w.gateway b e link → IsAt script (after_request w.gateway request end failure) b e link
     other_at e link (inl s) = inl (record {
       request = s.request;
       outstanding = s.outstanding;

@@ -4,6 +4,7 @@ use Rattle.std.proofs.Common.{◌≡◌, ◌∙◌, ◌+◌, ◌<◌, ◌≤◌,
 use Rattle.std.proofs.lemmas.Bool.{eqb-true, eqb-false}
 use Rattle.std.proofs.lemmas.List.Elements.{Contains-append_left, Contains-append_right, Contains-append_cases}
 use Rattle.std.specs.Prelude.{◌==◌, if◌then◌else◌, Contains, unwrap_or, ◌⊎◌}
+use Rattle.mg_model.specs.declared.failures.Failure.{Failure}
 use Rattle.mg_names.specs.declared.identifiers.TermId.TheVariants.{Line, Eph}
 use Rattle.mg_model.specs.declared.rows.Row.{Row}
 use Rattle.mg_model.specs.Agent.{Agent}
@@ -11,13 +12,13 @@ use Rattle.mg_model.specs.Board.{exists}
 use Rattle.mg_model.specs.Entries.{Entry}
 use Rattle.mg_model.specs.Gateway.{CallLink, last_executed, number_of, reply_of, after_request, creator_after, sent_notes}
 use Rattle.mg_model.specs.LineEvents.{LineRow, Note}
-use Rattle.mg_model.specs.Messages.{Request, Reply, SentNote, Failure}
-use Rattle.mg_model.specs.RequestRun.{Running}
+use Rattle.mg_model.specs.Messages.{Request, Reply, SentNote}
+use Rattle.mg_model.specs.RequestRun.{Running, RaisedNote, note_on}
 use Rattle.mg_model.specs.Script.{Script}
 use Rattle.mg_model.specs.World.{World}
-use Rattle.mg_safety.proofs.Shared.Single.{only_one}
+use Rattle.mg_model.proofs.Single.{only_one}
 use Rattle.mg_safety.proofs.Events.Others.{is_call_of}
-use Rattle.mg_safety.proofs.Shared.Cases.{none_is_some}
+use Rattle.mg_model.proofs.Cases.{none_is_some}
 use Rattle.mg_safety.proofs.Invariant.Shown.{list_raises}
 use Rattle.mg_safety.proofs.Invariant.Sound.{is_call, IsReplySound, IsNoteStanding, IsNoteSound, GatewayIsSound, IsSound}
 use Rattle.mg_safety.proofs.Invariant.Statements.{LineGoes}
@@ -26,24 +27,24 @@ use Rattle.mg_safety.proofs.Events.ExecutedCalls.{world_after}
 
 -- ---- notes that a request sends
 
-record IsSentFrom (call association : ℕ) (notes : List (ℕ × Note)) (sent : SentNote) : Type 0 where
+record IsSentFrom (call association : ℕ) (notes : List RaisedNote) (sent : SentNote) : Type 0 where
   line : ℕ
   note : Note
-  among : Contains notes (line, note)
+  among : Contains notes (note_on line note)
   of_call : sent.call ≡ call
   of_association : sent.association ≡ association
   of_line : sent.line ≡ line
   note_is : sent.note ≡ note
 
-sent_from : (call association count : ℕ) (notes : List (ℕ × Note)) (sent : SentNote) → Contains (sent_notes call association count notes) sent
+sent_from : (call association count : ℕ) (notes : List RaisedNote) (sent : SentNote) → Contains (sent_notes call association count notes) sent
     → IsSentFrom call association notes sent
 sent_from call association count [] sent there = absurd (let nothing : there.0 < 0 = there.1 in omega (arith, nothing))
 sent_from call association count (n ∷ more) sent there =
-    let one : SentNote = record { call = call; association = association; number = count + 1; line = n.0; note = n.1 } in
+    let one : SentNote = record { call = call; association = association; number = count + 1; line = n.line; note = n.note } in
     elim (Contains-append_cases (one ∷ []) (sent_notes call association (count + 1) more) sent there) [
       | inl first ↦ (let same : one ≡ sent = only_one one sent first in record {
-        line = n.0;
-        note = n.1;
+        line = n.line;
+        note = n.note;
         among = Contains-append_left (n ∷ []) more n (0, omega arith, refl);
         of_call = sym (ap (λ (x : SentNote). x.call) same);
         of_association = sym (ap (λ (x : SentNote). x.association) same);
@@ -53,7 +54,7 @@ sent_from call association count (n ∷ more) sent there =
       | inr later ↦ (let rest : IsSentFrom call association more sent = sent_from call association (count + 1) more sent later in record {
         line = rest.line;
         note = rest.note;
-        among = Contains-append_right (n ∷ []) more (rest.line, rest.note) rest.among;
+        among = Contains-append_right (n ∷ []) more (note_on rest.line rest.note) rest.among;
         of_call = rest.of_call;
         of_association = rest.of_association;
         of_line = rest.of_line;

@@ -2,16 +2,18 @@
 use Rattle.std.proofs.Common.{◌≡◌, ◌∙◌, ◌<◌, ◌≤◌, ℕ, Bool, true, false, List, Option, Some, refl, sym, ap, subst, arith, inl, inr}
 use Rattle.std.proofs.lemmas.Bool.{eqb-true, eqb-false}
 use Rattle.std.specs.Prelude.{◌==◌, ◌+◌, length, ◌⊎◌}
-use Rattle.mg_names.specs.declared.phases.Link.TheVariants.{Sent}
+use Rattle.mg_model.specs.declared.failures.ChosenRefusal.{ChosenRefusal}
+use Rattle.mg_model.specs.declared.failures.Failure.{Failure}
+use Rattle.mg_names.specs.declared.phases.LinkPhase.TheVariants.{Sent}
 use Rattle.mg_model.specs.Agent.{Agent, awaits_reply}
 use Rattle.mg_model.specs.Entries.{Entry}
 use Rattle.mg_model.specs.Gateway.{Gateway, CallLink, last_executed, number_of, start_of, reply_of, after_request}
-use Rattle.mg_model.specs.Messages.{Request, RequestCommand, Failure}
-use Rattle.mg_model.specs.RequestRun.{Running, Refusal, RunsFrom}
+use Rattle.mg_model.specs.Messages.{Request, RequestCommand}
+use Rattle.mg_model.specs.RequestRun.{Running, RunsFrom}
 use Rattle.mg_model.specs.Script.{Script}
 use Rattle.mg_model.specs.World.{World}
 use Rattle.mg_model.specs.Accepted.{IsScript}
-use Rattle.mg_safety.proofs.Shared.Cases.{at_another, at_one}
+use Rattle.mg_model.proofs.Cases.{at_another, at_one}
 use Rattle.mg_safety.proofs.Invariant.Shown.{naming, Shown, LinesShown, IsAccounted, ChangesOwned}
 use Rattle.mg_safety.proofs.Invariant.Sound.{is_call, owner_of, owned_in, IsOutstanding, IsAt, IsCurrent, IsLost, IsSentBy, CallIsSound, GatewayIsSound}
 use Rattle.mg_safety.proofs.Invariant.Statements.{IsClosed, IsRunOf, RequestsRun, IsOwnChange}
@@ -74,7 +76,7 @@ is_due script entries w request a sound sent present newer = by_phase (sent.outs
 
 -- so its run is a run of the configuration
 pub due_runs : RequestsRun → (script : Script) (entries : List Entry) → IsScript script → IsClosed script entries → (g : Gateway) (a : Agent)
-    (request : Request) (refusal : Refusal) (end : Running) (failure : Option Failure) → IsDue script entries g a request → IsAccounted g.board
+    (request : Request) (refusal : Option ChosenRefusal) (end : Running) (failure : Option Failure) → IsDue script entries g a request → IsAccounted g.board
     → RunsFrom request.number refusal (start_of g) 0 request.commands end failure → IsRunOf script entries g a request.number end failure
 due_runs run script entries is_script closed g a request refusal end failure due accounted runs =
     let k = due.k in

@@ -4,7 +4,7 @@ use Rattle.std.proofs.Common.{◌≡◌, ◌∙◌, ◌+◌, ◌++◌, ℕ, Bool
 use Rattle.std.specs.Prelude.{◌==◌, if◌then◌else◌, Contains}
 use Rattle.std.proofs.lemmas.Bool.{eqb-true}
 use Rattle.std.proofs.lemmas.List.Elements.{Contains-append_cases}
-use Rattle.mg_names.specs.declared.phases.Link as phases
+use Rattle.mg_names.specs.declared.phases.LinkPhase as phases
 use Rattle.mg_model.specs.Agent.{Agent, awaits_reply}
 use Rattle.mg_model.specs.Configuration.{Configuration}
 use Rattle.mg_model.specs.Entries.{Entry}
@@ -146,7 +146,7 @@ module _ (script : Script) (entries : List Entry) (w : World) (sound : IsSound s
 
   -- ---- calls
 
-  at_kept : (a e : Agent) (link : phases.Link) → IsAt script g a e link → IsAt script later a e link
+  at_kept : (a e : Agent) (link : phases.LinkPhase) → IsAt script g a e link → IsAt script later a e link
   at_kept a e link (inl sent) = inl (record {
     request = sent.request;
     outstanding = sent.outstanding;

@@ -24,7 +24,7 @@ use Rattle.mg_model.specs.World.{World, Opened, IsOpening, armed_line}
 use Rattle.mg_model.specs.Board.{null_row}
 use Rattle.mg_model.specs.Accepted.{IsSlot}
 use Rattle.mg_safety.proofs.Agents.Entering.{not_resting}
-use Rattle.mg_safety.proofs.Shared.Cases.{none_is_some, where_true}
+use Rattle.mg_model.proofs.Cases.{none_is_some, where_true}
 use Rattle.mg_safety.proofs.SmallLaws.OpeningLaws.{all_in_null}
 use Rattle.mg_safety.proofs.Invariant.Shown.{Naming, naming, term_of, row_on, cut_on, number_at, Shown, LinesShown}
 use Rattle.mg_safety.proofs.Invariant.Sound.{IsCurrent, CallIsSound, GatewayIsSound, is_call, owned_in}
@@ -58,7 +58,7 @@ module _ (script : Script) (entries : List Entry) (closed : IsClosed script entr
     events_is i within = where_true (nat_lt i (length script.lines)) Armed Empty (below_is i (length script.lines) within)
 
     row_is : (i : ℕ) → i < length script.lines → w.gateway.board.row (Line (record { 0 = one.lines i })) ≡ Some null_row
-    row_is i within = o.lines_stand one there i within
+    row_is i within = o.lines.stand one there i within
 
     stands : (t : Termination) → IsSlot script t → is_some (row_on b (term_of names t)) ≡ is_present ((opening script).spot t)
     stands (termination.Line i) within = ap is_some (row_is i within) ∙ sym (ap is_present (spot_is i within))
@@ -81,7 +81,7 @@ module _ (script : Script) (entries : List Entry) (closed : IsClosed script entr
 
     cut : (t u : Termination) → IsSlot script t → IsSlot script u → (opening script).cut t u ≡ cut_on b (term_of names t) (term_of names u)
     cut (termination.Line i) (termination.Line j) first second =
-        sym (ap (λ (is_cut : TermId → TermId → Bool). is_cut (Line (record { 0 = one.lines i })) (Line (record { 0 = one.lines j }))) o.nothing_cut)
+        sym (ap (λ (is_cut : TermId → TermId → Bool). is_cut (Line (record { 0 = one.lines i })) (Line (record { 0 = one.lines j }))) o.gateway.nothing_cut)
     cut (termination.Line i) (termination.Ephemeral k) first second = refl
     cut (termination.Ephemeral k) u first second = refl
 
@@ -95,7 +95,7 @@ module _ (script : Script) (entries : List Entry) (closed : IsClosed script entr
       cut = cut;
       bound = λ j. refl;
       line_stands = λ i within. ap is_some (row_is i within);
-      line_owned = λ i within. ap (λ h. is_call h one.call) (o.lines_held one there i within) ∙ eq-eqb one.call one.call refl;
+      line_owned = λ i within. ap (λ h. is_call h one.call) (o.lines.held one there i within) ∙ eq-eqb one.call one.call refl;
       line_once = λ i j first second e. (o.distinct.lines_differ one one there there i j first second e).1;
       context_real = λ j x e. absurd (none_is_some x e);
       context_once = λ i j x e other. absurd (none_is_some x e);
@@ -104,11 +104,11 @@ module _ (script : Script) (entries : List Entry) (closed : IsClosed script entr
       ephemeral_stands = λ k x e. absurd (none_is_some x e);
       ephemeral_owned = λ k x e. absurd (none_is_some x e);
       ephemeral_once = λ k i x e other. absurd (none_is_some x e);
-      ephemeral_named = λ x owned standing. absurd (true≢false (sym standing ∙ ap is_some (o.no_ephemeral x)));
+      ephemeral_named = λ x owned standing. absurd (true≢false (sym standing ∙ ap is_some (o.gateway.no_ephemeral x)));
     }
 
     armed : (i : ℕ) → i < length script.lines → w.gateway.line (one.lines i) ≡ armed_line
-    armed i within = o.lines_armed one there i within
+    armed i within = o.lines.armed one there i within
 
     expects_zero : (test : Bool) (q : ℕ) → (if test then Some 0 else None) ≡ Some q → q ≡ 0
     expects_zero true q e = ap (λ (x : Option ℕ). unwrap_or x 0) (sym e)
@@ -123,11 +123,11 @@ module _ (script : Script) (entries : List Entry) (closed : IsClosed script entr
     }
 
     none_executed : (call : ℕ) → last_executed w.gateway call ≡ 0
-    none_executed call = ap (λ (link : ℕ → CallLink). number_of (link call).last) o.no_reply_kept
+    none_executed call = ap (λ (link : ℕ → CallLink). number_of (link call).last) o.gateway.no_reply_kept
 
     current : IsCurrent script entries w.gateway (opened script one.call one.lines)
     current = record {
-      association = sym o.association;
+      association = sym o.gateway.association;
       c = opening script;
       e = opened script one.call one.lines;
       stands = closed.opening;
@@ -144,9 +144,9 @@ module _ (script : Script) (entries : List Entry) (closed : IsClosed script entr
           numbered = refl;
           first = omega (arith);
           next = omega (arith, none);
-          held = λ i within. o.lines_held one there i within;
+          held = λ i within. o.lines.held one there i within;
           once = λ i j first second e. (o.distinct.lines_differ one one there there i j first second e).1;
-          requests = λ request among of. absurd (none_among request w.requests o.no_request among);
+          requests = λ request among of. absurd (none_among request w.requests o.messages.no_request among);
           outstanding = λ request awaiting. absurd (not_resting request awaiting);
           part = inl current;
         }
@@ -154,45 +154,45 @@ module _ (script : Script) (entries : List Entry) (closed : IsClosed script entr
   -- ---- the gateway
 
   none_created : (x call : ℕ) → w.gateway.creator x ≡ Some call → ⊥
-  none_created x call e = none_is_some call (sym (ap (λ (creator : ℕ → Option ℕ). creator x) o.no_creator) ∙ e)
+  none_created x call e = none_is_some call (sym (ap (λ (creator : ℕ → Option ℕ). creator x) o.gateway.no_creator) ∙ e)
 
   none_kept : (call : ℕ) (answer : Reply) → (w.gateway.link call).last ≡ Some answer → ⊥
-  none_kept call answer e = none_is_some answer (sym (ap (λ (link : ℕ → CallLink). (link call).last) o.no_reply_kept) ∙ e)
+  none_kept call answer e = none_is_some answer (sym (ap (λ (link : ℕ → CallLink). (link call).last) o.gateway.no_reply_kept) ∙ e)
 
   held : (l call : ℕ) → w.gateway.holder l ≡ Some call
       → (a : Agent) × (i : ℕ) × (w.agent call ≡ Some a) × (i < length script.lines) × (a.lines i ≡ l)
   held l call e =
-      let one = o.held_alone l call e in
-      (opened script one.0.call one.0.lines, one.1, ap w.agent (sym one.3) ∙ o.agents one.0 one.2, one.4, one.5)
+      let one = o.lines.held_alone l call e in
+      (opened script one.0.call one.0.lines, one.1, ap w.agent (sym one.3) ∙ o.agents.opened one.0 one.2, one.4, one.5)
 
   request_ids : (l call q : ℕ) → w.gateway.holder l ≡ Some call → (w.gateway.line l).request ≡ Some q → q ≤ last_executed w.gateway call
   request_ids l call q e stands =
-      let one = o.held_alone l call e in
-      let is_armed : w.gateway.line l ≡ armed_line = ap w.gateway.line (sym one.5) ∙ o.lines_armed one.0 one.2 one.1 one.4 in
+      let one = o.lines.held_alone l call e in
+      let is_armed : w.gateway.line l ≡ armed_line = ap w.gateway.line (sym one.5) ∙ o.lines.armed one.0 one.2 one.1 one.4 in
       let zero_is : q ≡ 0 = ap (λ (x : Option ℕ). unwrap_or x 0) (sym stands ∙ ap (λ (row : LineRow). row.request) is_armed) in
       omega (arith, zero_is)
 
   gateway_sound : GatewayIsSound script w
   gateway_sound = record {
     accounted = record {
-      ephemerals = λ x standing. absurd (true≢false (sym standing ∙ ap is_some (o.no_ephemeral x)));
+      ephemerals = λ x standing. absurd (true≢false (sym standing ∙ ap is_some (o.gateway.no_ephemeral x)));
       contexts = λ t elsewhere. absurd (elsewhere (all_in_null script calls w o t));
     };
     creator_given = λ x call e. absurd (none_created x call e);
-    created = λ x standing. absurd (true≢false (sym standing ∙ ap is_some (o.no_ephemeral x)));
-    unheld = λ l row free stands. ap (λ (r : Row). r.place.0) (o.others_null l row stands);
+    created = λ x standing. absurd (true≢false (sym standing ∙ ap is_some (o.gateway.no_ephemeral x)));
+    unheld = λ l row free stands. ap (λ (r : Row). r.place.0) (o.lines.others_null l row stands);
     held = held;
     kept = λ call answer e. absurd (none_kept call answer e);
     request_ids = request_ids;
-    requests = λ request among. absurd (none_among request w.requests o.no_request among);
-    replies = λ answer among. absurd (none_among answer w.replies o.no_answer among);
-    notes = λ sent among. absurd (none_among sent w.notes o.no_note among);
+    requests = λ request among. absurd (none_among request w.requests o.messages.no_request among);
+    replies = λ answer among. absurd (none_among answer w.replies o.messages.no_answer among);
+    notes = λ sent among. absurd (none_among sent w.notes o.messages.no_note among);
   }
 
   call_sound : (call : ℕ) (a : Agent) → w.agent call ≡ Some a → CallIsSound script entries w call a
   call_sound call a there =
-      let one = o.no_other_agent call a there in
-      let known : w.agent call ≡ Some (opened script one.0.call one.0.lines) = ap w.agent (sym one.2) ∙ o.agents one.0 one.1 in
+      let one = o.agents.no_other call a there in
+      let known : w.agent call ≡ Some (opened script one.0.call one.0.lines) = ap w.agent (sym one.2) ∙ o.agents.opened one.0 one.1 in
       let same : opened script one.0.call one.0.lines ≡ a = ap (λ (x : Option Agent). unwrap_or x a) (sym known ∙ there) in
       subst (λ (x : Agent). CallIsSound script entries w call x) same
       (subst (λ (n : ℕ). CallIsSound script entries w n (opened script one.0.call one.0.lines)) one.2 (one_sound one.0 one.1))

@@ -16,7 +16,7 @@ use Rattle.mg_model.specs.Gateway.{Gateway, CallLink}
 use Rattle.mg_model.specs.LineEvents.{LineRow}
 use Rattle.mg_model.specs.Script.{Script}
 use Rattle.mg_model.specs.Accepted.{IsSlot}
-use Rattle.mg_safety.proofs.Shared.Cases.{not_both, different, some_is_none, the_some}
+use Rattle.mg_model.proofs.Cases.{not_both, different, some_is_none, the_some}
 use Rattle.mg_safety.proofs.Invariant.Shown.{Naming, Shown, RemoteReads, owned_at, row_on, cut_on, term_of, eph_of}
 use Rattle.mg_safety.proofs.Invariant.Sound.{is_call, owner_of, owned_in, IsLost}
 use Rattle.mg_safety.proofs.Invariant.Statements.{IsOwnChange, OthersStayShown, OwnersAgree}

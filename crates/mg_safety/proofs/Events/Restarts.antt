@@ -12,7 +12,7 @@ use Rattle.mg_model.specs.Messages.{Request, Reply, SentNote}
 use Rattle.mg_model.specs.Script.{Script}
 use Rattle.mg_model.specs.World.{World, restart, with_gateway}
 use Rattle.mg_model.specs.Board.{null_row}
-use Rattle.mg_safety.proofs.Shared.Cases.{none_is_some}
+use Rattle.mg_model.proofs.Cases.{none_is_some}
 use Rattle.mg_safety.proofs.Agents.EffectiveAgent.{same_lines}
 use Rattle.mg_safety.proofs.Invariant.Shown.{IsAccounted}
 use Rattle.mg_safety.proofs.Invariant.Sound.{IsCurrent, IsLost, IsSentBy, CallIsSound, IsReplySound, IsNoteSound, GatewayIsSound, IsSound}

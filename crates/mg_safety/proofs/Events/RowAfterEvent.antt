@@ -20,8 +20,8 @@ use Rattle.mg_model.specs.declared.line_events.LineEvent.TheVariants as event
 use Rattle.mg_model.specs.Gateway.{outcome_of}
 use Rattle.mg_model.specs.declared.transitions.EventItem.TheVariants.{OnHook, OffHook, Flash, Digits}
 use Rattle.mg_model.specs.LineEvents.{ListItem, LineRow, Note, Outcome, silent, is_hook, is_flash, map_in, kind_of, stays, detected, is_on, same_hook, hooked, flashed, kind_by, note_by, note_of, taken, dialled_by, dialled, paused_by, paused, plays, without_signal, signal_ended}
-use Rattle.mg_safety.proofs.Shared.Single.{any_too}
-use Rattle.mg_safety.proofs.Shared.Cases.{none_is_some, the_some}
+use Rattle.mg_model.proofs.Single.{any_too}
+use Rattle.mg_model.proofs.Cases.{none_is_some, the_some}
 use Rattle.mg_safety.proofs.Invariant.Shown.{raises_kind, list_raises}
 
 pub record IsRowAfter (row : LineRow) (outcome : Outcome) : Type 0 where

@@ -22,9 +22,9 @@ use Rattle.mg_model.specs.Obligations as obligations
 use Rattle.mg_model.specs.Paths as paths
 use Rattle.mg_model.specs.Script.{Script}
 use Rattle.mg_model.specs.Tables.{state_of, items_of, is_armed_list, is_marked}
-use Rattle.mg_model.specs.World.{World, IsMarkedPair, HasEnded, IsCleared}
+use Rattle.mg_model.specs.World.{World, IsMarkedPair, HasEnded, IsReleased}
 use Rattle.mg_safety.proofs.Agents.AgentSound.{at_rest}
-use Rattle.mg_safety.proofs.Shared.Cases.{none_is_some, the_some}
+use Rattle.mg_model.proofs.Cases.{none_is_some, the_some}
 use Rattle.mg_safety.proofs.Agents.EffectiveAgent.{same_lines}
 use Rattle.mg_safety.proofs.GoodWorlds.GoodPaths.{IsNamed, path_shown, path_starts_outside}
 use Rattle.mg_safety.proofs.Invariant.Shown.{Naming, naming, eph_of, row_on, number_at}
@@ -97,7 +97,7 @@ module _ (script : Script) (entries : List Entry) (closed : IsClosed script entr
   path_of l m path = held_by (w.gateway.holder l) refl
     where
       outside : place_in (row_at l) ≡ 0 → ⊥
-      outside = path_starts_outside w.gateway.board (Line (record { 0 = l })) (Line (record { 0 = m })) path.0 path.1
+      outside = path_starts_outside w.gateway.board (Line (record { 0 = l })) (Line (record { 0 = m })) path.crossings path.goes
 
       by_part : (call : ℕ) (a : Agent) (i : ℕ) → w.agent call ≡ Some a → i < length script.lines → a.lines i ≡ l
           → IsCurrent script entries w.gateway a ⊎ IsLost script w.gateway a → IsPathOf l m
@@ -106,7 +106,7 @@ module _ (script : Script) (entries : List Entry) (closed : IsClosed script entr
           let start : IsNamed script (naming current.e) (termination.Line i) (Line (record { 0 = l })) =
           record { slot = within; is = ap (λ (n : ℕ). Some (Line (record { 0 = n }))) (ap (λ (lines : ℕ → ℕ). lines i) same ∙ is) } in
           let found = path_shown script (owned_in w.gateway a.call) (naming current.e) w.gateway.board current.c current.shown (termination.Line i)
-          (Line (record { 0 = l })) (Line (record { 0 = m })) path.0 start path.1 in
+          (Line (record { 0 = l })) (Line (record { 0 = m })) path.crossings start path.goes in
           let last = line_of script (naming current.e) found.to m found.named in
           record {
             call = call;
@@ -119,7 +119,11 @@ module _ (script : Script) (entries : List Entry) (closed : IsClosed script entr
             second = (last.within, ap (λ (lines : ℕ → ℕ). lines last.i) (sym same) ∙ last.line_is);
             stands = current.stands;
             state = current.state;
-            path = (found.crossings, subst (λ v. IsTrue (paths.goes_over current.c (termination.Line i) found.crossings v)) last.slot_is found.path);
+            path = record {
+              another = λ e. path.another (sym is ∙ ap a.lines e ∙ ap (λ (lines : ℕ → ℕ). lines last.i) (sym same) ∙ last.line_is);
+              crossings = found.crossings;
+              goes = subst (λ v. IsTrue (paths.goes_over current.c (termination.Line i) found.crossings v)) last.slot_is found.path;
+            };
           }
       by_part call a i there within is (inr lost) = absurd (outside (ap (λ n. place_in (row_at n)) (sym is) ∙ ap place_in (lost.rows i within)))
 
@@ -129,11 +133,8 @@ module _ (script : Script) (entries : List Entry) (closed : IsClosed script entr
           let h = sound.gateway.held l call e in
           by_part call h.0 h.1 h.2 h.3 h.4 (sound.calls call h.0 h.2).part
 
-  unlike : (l m i j : ℕ) (lines : ℕ → ℕ) → (l ≡ m → ⊥) → lines i ≡ l → lines j ≡ m → i ≡ j → ⊥
-  unlike l m i j lines differ first second e = differ (sym first ∙ ap lines e ∙ second)
-
-  joined : (l m : ℕ) → (l ≡ m → ⊥) → media.AreJoined w.gateway.board l m → IsMarkedPair script w l m
-  joined l m differ (inl path) =
+  joined : (l m : ℕ) → media.AreJoined w.gateway.board l m → IsMarkedPair script w l m
+  joined l m (inl path) =
       let p = path_of l m path in
       record {
         call = p.call;
@@ -144,9 +145,9 @@ module _ (script : Script) (entries : List Entry) (closed : IsClosed script entr
         first = p.first;
         second = p.second;
         marked = subst (λ state. IsTrue (is_marked (state_of script state).talk p.i p.j)) p.state
-            (closed.marked p.c p.stands p.i p.j p.first.0 p.second.0 (unlike l m p.i p.j p.agent.lines differ p.first.1 p.second.1) (inl p.path));
+            (closed.marked p.c p.stands p.i p.j p.first.0 p.second.0 (inl p.path));
       }
-  joined l m differ (inr path) =
+  joined l m (inr path) =
       let p = path_of m l path in
       record {
         call = p.call;
@@ -157,7 +158,7 @@ module _ (script : Script) (entries : List Entry) (closed : IsClosed script entr
         first = p.second;
         second = p.first;
         marked = subst (λ state. IsTrue (is_marked (state_of script state).talk p.j p.i)) p.state
-            (closed.marked p.c p.stands p.j p.i p.second.0 p.first.0 (unlike l m p.j p.i p.agent.lines differ p.second.1 p.first.1) (inr p.path));
+            (closed.marked p.c p.stands p.j p.i p.second.0 p.first.0 (inr p.path));
       }
 
   -- ---- calls that have ended
@@ -200,16 +201,16 @@ module _ (script : Script) (entries : List Entry) (closed : IsClosed script entr
         ap (λ l. (w.gateway.line l).list) (sym (same_line i)) ∙ current.lines_shown.events i within
         ∙ armed_is script (items_of script (current.c.events i)) (cleared.armed i within)
 
-    call_cleared : IsCleared script w call a
-    call_cleared = record { no_ephemeral = no_ephemeral; in_null = in_null; is_silent = is_silent; is_armed = is_armed }
+    call_released : IsReleased script w call a
+    call_released = record { no_ephemeral = no_ephemeral; in_null = in_null; is_silent = is_silent; is_armed = is_armed }
 
-  ended : (call : ℕ) (a : Agent) → w.agent call ≡ Some a → HasEnded script w a → IsCleared script w call a
+  ended : (call : ℕ) (a : Agent) → w.agent call ≡ Some a → HasEnded script w a → IsReleased script w call a
   ended call a there has_ended = by_part (sound.calls call a there).part
     where
-      by_part : IsCurrent script entries w.gateway a ⊎ IsLost script w.gateway a → IsCleared script w call a
+      by_part : IsCurrent script entries w.gateway a ⊎ IsLost script w.gateway a → IsReleased script w call a
       by_part (inl current) =
           let rests = at_rest script w.gateway a current.e current.c.link has_ended.at_rest current.at in
-          call_cleared call a (sound.calls call a there).numbered current
+          call_released call a (sound.calls call a there).numbered current
           (closed.cleared current.c current.stands rests.link_is (subst (λ state. IsTrue (state_of script state).is_end) (sym current.state) has_ended.is_end))
       by_part (inr lost) =
           let before : a.association < w.gateway.association = lost.association in

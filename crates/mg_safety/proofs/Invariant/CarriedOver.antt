@@ -5,7 +5,7 @@ use Rattle.mg_model.specs.declared.commands.Command.{Command}
 use Rattle.mg_model.specs.Board.{Board}
 use Rattle.mg_model.specs.Configuration.{Configuration, IsWellFormed}
 use Rattle.mg_model.specs.Effects.{is_legal, effect}
-use Rattle.mg_model.specs.Items.{Done, IsExecuted, leaves}
+use Rattle.mg_model.specs.Items.{Done, IsExecuted, subtracts}
 use Rattle.mg_model.specs.Request.{uses_known}
 use Rattle.mg_model.specs.Script.{Script}
 use Rattle.mg_model.specs.Steps.{creates_unbound}
@@ -31,7 +31,7 @@ pub record IsCarried (script : Script) (own : Owner) (n m : Naming) (b : Board) 
   pub accounted : IsAccounted after
   pub built : AreBuilt (named_after n command done) (built_after m command done) after
   pub changes : ChangesOwned own b after
-  pub leaving : (t : TermId) → leaves b (item_for m command) t ≡ true → owned_at own b t ≡ true
+  pub leaving : (t : TermId) → subtracts b (item_for m command) t ≡ true → owned_at own b t ≡ true
 
 abbrev pub IsCarriedOver : Command → Type 0
 IsCarriedOver command =

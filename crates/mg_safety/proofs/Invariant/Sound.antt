@@ -1,10 +1,11 @@
 -- What holds of every world of a run whose script and certificate have no broken obligation: each call is shown by a configuration of the
 -- certificate, or it is lost; and what a call owns is named by it alone.
 use Rattle.std.specs.Prelude.{◌≡◌, ℕ, ◌<◌, ◌≤◌, ◌==◌, Bool, true, false, List, [], length, Contains, Option, Some, None, ◌⊎◌}
+use Rattle.mg_model.specs.declared.failures.Failure.{Failure}
 use Rattle.mg_names.specs.declared.identifiers.TermId.{TermId}
 use Rattle.mg_names.specs.declared.identifiers.TermId.TheVariants.{Line, Eph}
-use Rattle.mg_names.specs.declared.phases.Link as phases
-use Rattle.mg_names.specs.declared.phases.Link.TheVariants.{Sent, Answered, Failed, Resting}
+use Rattle.mg_names.specs.declared.phases.LinkPhase as phases
+use Rattle.mg_names.specs.declared.phases.LinkPhase.TheVariants.{Sent, Answered, Failed, Resting}
 use Rattle.mg_model.specs.declared.rows.Row.{Row}
 use Rattle.mg_model.specs.Agent.{Agent, awaits_reply, awaits_pass, resting, after_results, built_by, commands_of, none_made}
 use Rattle.mg_model.specs.Board.{exists}
@@ -12,7 +13,7 @@ use Rattle.mg_model.specs.Configuration.{Configuration}
 use Rattle.mg_model.specs.Entries.{Entry, IsCovered}
 use Rattle.mg_model.specs.Gateway.{Gateway, last_executed}
 use Rattle.mg_model.specs.LineEvents.{silent}
-use Rattle.mg_model.specs.Messages.{Request, Reply, SentNote, Failure}
+use Rattle.mg_model.specs.Messages.{Request, Reply, SentNote}
 use Rattle.mg_model.specs.Script.{Script}
 use Rattle.mg_model.specs.World.{World}
 use Rattle.mg_model.specs.Board.{null_row}
@@ -60,7 +61,7 @@ abbrev pub owned_in : Gateway → ℕ → TermId → Bool
 owned_in g call = owned_at (owner_of g call) g.board
 
 -- the link of the configuration once a reply is kept
-abbrev pub link_of : Option Failure → phases.Link
+abbrev pub link_of : Option Failure → phases.LinkPhase
 link_of None = Answered
 link_of (Some failure) = Failed
 
@@ -71,14 +72,14 @@ pub record IsOutstanding (script : Script) (a : Agent) (request : Request) : Typ
   pub association : request.association ≡ a.association
   pub commands : request.commands ≡ commands_of script a none_made 0 (built_by script a a.state)
 
-pub record IsSent (script : Script) (g : Gateway) (a e : Agent) (link : phases.Link) : Type 0 where
+pub record IsSent (script : Script) (g : Gateway) (a e : Agent) (link : phases.LinkPhase) : Type 0 where
   pub request : Request
   pub outstanding : IsOutstanding script a request
   pub above : last_executed g a.call < request.number
   pub effective : e ≡ a
   pub link_is : link ≡ Sent
 
-pub record IsAnswered (script : Script) (g : Gateway) (a e : Agent) (link : phases.Link) : Type 0 where
+pub record IsAnswered (script : Script) (g : Gateway) (a e : Agent) (link : phases.LinkPhase) : Type 0 where
   pub request : Request
   pub outstanding : IsOutstanding script a request
   pub answer : Reply
@@ -87,18 +88,18 @@ pub record IsAnswered (script : Script) (g : Gateway) (a e : Agent) (link : phas
   pub effective : e ≡ after_results a (built_by script a a.state) answer.results answer.number
   pub link_is : link ≡ link_of answer.failure
 
-pub record IsPassing (a e : Agent) (link : phases.Link) : Type 0 where
+pub record IsPassing (a e : Agent) (link : phases.LinkPhase) : Type 0 where
   pub phase : a.phase ≡ awaits_pass
   pub effective : e ≡ a
   pub link_is : link ≡ Answered
 
-pub record IsResting (a e : Agent) (link : phases.Link) : Type 0 where
+pub record IsResting (a e : Agent) (link : phases.LinkPhase) : Type 0 where
   pub phase : a.phase ≡ resting
   pub effective : e ≡ a
   pub link_is : link ≡ Resting
 
 -- how far the state's request has come, with the agent as it will be once it has taken a reply that is kept
-abbrev pub IsAt : Script → Gateway → Agent → Agent → phases.Link → Type 0
+abbrev pub IsAt : Script → Gateway → Agent → Agent → phases.LinkPhase → Type 0
 IsAt script g a e link = IsSent script g a e link ⊎ (IsAnswered script g a e link ⊎ (IsPassing a e link ⊎ IsResting a e link))
 
 -- the call is of the gateway's association, and the gateway shows a configuration of the certificate

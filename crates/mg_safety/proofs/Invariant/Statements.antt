@@ -1,16 +1,17 @@
 -- The statements of the lemmas of which the promise over runs is made, each proved in a file of its own.
 use Rattle.std.specs.Prelude.{◌≡◌, ℕ, true, false, if◌then◌else◌, List, Contains, Option, Some, None, ◌⊎◌}
 use Rattle.std.specs.List.{All}
+use Rattle.mg_model.specs.declared.failures.ChosenRefusal.{ChosenRefusal}
+use Rattle.mg_model.specs.declared.failures.Failure.{Failure}
 use Rattle.mg_names.specs.declared.identifiers.TermId.{TermId}
-use Rattle.mg_names.specs.declared.phases.Link.TheVariants.{Sent}
+use Rattle.mg_names.specs.declared.phases.LinkPhase.TheVariants.{Sent}
 use Rattle.mg_model.specs.Agent.{Agent, after_results, built_by, commands_of, none_made}
 use Rattle.mg_model.specs.Configuration.{Configuration}
 use Rattle.mg_model.specs.Entries.{Entry}
 use Rattle.mg_model.specs.Gateway.{Gateway, start_of}
 use Rattle.mg_model.specs.LineEvents.{LineRow, Note}
-use Rattle.mg_model.specs.Messages.{Failure}
 use Rattle.mg_model.specs.Obligations.{NoneBroken, JoinedAreMarked, EndedIsCleared, CreatedAreUnbound}
-use Rattle.mg_model.specs.RequestRun.{Running, Refusal, RunsFrom}
+use Rattle.mg_model.specs.RequestRun.{Running, RunsFrom, note_on}
 use Rattle.mg_model.specs.Script.{Script}
 use Rattle.mg_model.specs.Steps.{Step, steps_of, opening, reset}
 use Rattle.mg_model.specs.World.{World, Event, Opened, IsOpening, IsGood, Occurs}
@@ -52,7 +53,7 @@ pub record IsRunOf (script : Script) (entries : List Entry) (g : Gateway) (a : A
   pub changes : ChangesOwned (owner_of g a.call) g.board end.board
   pub other_lines : (l : ℕ) → is_call (g.holder l) a.call ≡ false → end.line l ≡ g.line l
   pub own_lines : (l : ℕ) → LineGoes number (g.line l) (end.line l)
-  pub notes : (l : ℕ) (note : Note) → Contains end.notes (l, note)
+  pub notes : (l : ℕ) (note : Note) → Contains end.notes (note_on l note)
       → (is_call (g.holder l) a.call ≡ true) × (note.request ≡ number)
       × ((end.line l).request ≡ Some number → list_raises (end.line l).list note.kind ≡ true)
 
@@ -60,7 +61,7 @@ abbrev pub RequestsRun : Type 0
 RequestsRun =
     (script : Script) (entries : List Entry) → IsScript script → IsClosed script entries → (g : Gateway) (a : Agent) (c : Configuration)
     → Stands script entries c → c.link ≡ Sent → c.state ≡ a.state → Shown script (owned_in g a.call) (naming a) g.board c
-    → LinesShown script a g.line c → IsAccounted g.board → (number : ℕ) (refusal : Refusal) (end : Running) (failure : Option Failure)
+    → LinesShown script a g.line c → IsAccounted g.board → (number : ℕ) (refusal : Option ChosenRefusal) (end : Running) (failure : Option Failure)
     → RunsFrom number refusal (start_of g) 0 (commands_of script a none_made 0 (built_by script a a.state)) end failure
     → IsRunOf script entries g a number end failure
 

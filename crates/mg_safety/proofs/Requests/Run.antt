@@ -5,9 +5,11 @@ use Rattle.std.proofs.lemmas.List.{append-nil}
 use Rattle.std.proofs.lemmas.List.Elements.{Contains-append_right, All-head, All-tail}
 use Rattle.std.specs.Prelude.{Contains, if◌then◌else◌}
 use Rattle.std.specs.List.{All, list_all}
+use Rattle.mg_model.specs.declared.failures.ChosenRefusal.{ChosenRefusal}
+use Rattle.mg_model.specs.declared.failures.Failure.{Failure}
 use Rattle.mg_names.specs.declared.identifiers.TermId.TheVariants.{Line}
-use Rattle.mg_names.specs.declared.phases.Link as phases
-use Rattle.mg_names.specs.declared.phases.Link.TheVariants.{Sent, Answered, Failed}
+use Rattle.mg_names.specs.declared.phases.LinkPhase as phases
+use Rattle.mg_names.specs.declared.phases.LinkPhase.TheVariants.{Sent, Answered, Failed}
 use Rattle.mg_model.specs.declared.commands.Command.{Command}
 use Rattle.mg_model.specs.declared.steps.StepName.TheVariants.{Refuse, Execute}
 use Rattle.mg_model.specs.Agent.{Agent, Made, after_result, after_results, bound_by, built_by, command_of, commands_of, made_after, none_made}
@@ -17,15 +19,14 @@ use Rattle.mg_model.specs.Effects.{is_legal, effect}
 use Rattle.mg_model.specs.Entries.{Entry}
 use Rattle.mg_model.specs.Gateway.{Gateway, start_of}
 use Rattle.mg_model.specs.Items.{Done, IsExecuted}
-use Rattle.mg_model.specs.Messages.{Failure}
 use Rattle.mg_model.specs.Request.{Names, built}
-use Rattle.mg_model.specs.RequestRun.{Running, Refusal, Executes, RunsFrom, after_command, line_after, described, is_line}
+use Rattle.mg_model.specs.RequestRun.{Running, Succeeds, RunsFrom, after_command, line_after, described, is_line}
 use Rattle.mg_model.specs.Script.{Script}
 use Rattle.mg_model.specs.Steps.{Step, creates_unbound, executed, execution, refusals, steps_by_link, with_link, names_unbound, bound_names}
 use Rattle.mg_model.specs.Tables.{state_of}
 use Rattle.mg_model.specs.Accepted.{IsScript, IsCommandOf, create_once}
-use Rattle.mg_safety.proofs.Shared.Single.{first_in}
-use Rattle.mg_safety.proofs.Shared.Cases.{and_first, and_second}
+use Rattle.mg_model.proofs.Single.{first_in}
+use Rattle.mg_model.proofs.Cases.{and_first, and_second}
 use Rattle.mg_safety.proofs.Invariant.CarriedOver.{IsReady, IsCarried, IsCarriedOver}
 use Rattle.mg_safety.proofs.Requests.RunCarried.{lines_carried}
 use Rattle.mg_safety.proofs.Requests.RunKnown.{AreKnown, binds, bound_agree, built_all, built_known, built_once, built_pass, known_on, state_is}
@@ -75,7 +76,7 @@ nothing_taken e (command ∷ left) number = refl
 
 module _ (script : Script) (is_script : IsScript script) (entries : List Entry) (g : Gateway) (a : Agent) (number : ℕ) where
   -- the request ends at this place
-  ended : (r : Running) (place : ℕ) (left : List Command) (made : Made) (e : Agent) (c : Configuration) (link : phases.Link) (failure : Option Failure)
+  ended : (r : Running) (place : ℕ) (left : List Command) (made : Made) (e : Agent) (c : Configuration) (link : phases.LinkPhase) (failure : Option Failure)
       → IsUnderway script entries g a number r place left made e c → Stands script entries (with_link c link) → link ≡ link_of failure
       → IsRunOf script entries g a number r failure
   ended r place left made e c link failure u stands is =
@@ -165,8 +166,8 @@ module _ (script : Script) (is_script : IsScript script) (entries : List Entry) 
     }
 
   -- a command that was executed
-  went : CommandsCarry → (r next : Running) (place : ℕ) (refusal : Refusal) (command : Command) (more : List Command) (made : Made) (e : Agent) (c : Configuration)
-      → IsUnderway script entries g a number r place (command ∷ more) made e c → (x : Executes r (command_of script a made command) place refusal number next)
+  went : CommandsCarry → (r next : Running) (place : ℕ) (refusal : Option ChosenRefusal) (command : Command) (more : List Command) (made : Made) (e : Agent) (c : Configuration)
+      → IsUnderway script entries g a number r place (command ∷ more) made e c → (x : Succeeds r (command_of script a made command) place refusal number next)
       → IsUnderway script entries g a number next (place + 1) more (made_after made command place) (after_result e command x.done number) (effect script c command)
   went carry r next place refusal command more made e c u x =
       let m = naming_at a made r.results in
@@ -179,7 +180,7 @@ module _ (script : Script) (is_script : IsScript script) (entries : List Entry) 
       (next_underway r place command more made e c u x.board x.done ran carried)
 
   -- the commands that are left run
-  runs_on : CommandsCarry → (refusal : Refusal) (end : Running) (failure : Option Failure) (left : List Command) (r : Running) (place : ℕ) (made : Made) (e : Agent)
+  runs_on : CommandsCarry → (refusal : Option ChosenRefusal) (end : Running) (failure : Option Failure) (left : List Command) (r : Running) (place : ℕ) (made : Made) (e : Agent)
       (c : Configuration) → IsUnderway script entries g a number r place left made e c
       → RunsFrom number refusal r place (commands_of script a made place left) end failure → IsRunOf script entries g a number end failure
   unfolding RunsFrom
@@ -195,7 +196,7 @@ module _ (script : Script) (is_script : IsScript script) (entries : List Entry) 
 
 -- ---- the start
 
-steps_sent : (script : Script) (c : Configuration) (link : phases.Link) (commands : List Command) → link ≡ Sent → names_unbound script c ≡ true
+steps_sent : (script : Script) (c : Configuration) (link : phases.LinkPhase) (commands : List Command) → link ≡ Sent → names_unbound script c ≡ true
     → commands ≡ built (bound_names c) (state_of script c.state).commands → steps_by_link script c link ≡ steps_left script c 0 commands
 steps_sent script c link commands sent unbound is =
     ap (λ l. steps_by_link script c l) sent ∙ chosen (names_unbound script c) unbound ∙ ap (steps_left script c 0) (sym is)

@@ -16,10 +16,10 @@ use Rattle.mg_model.specs.Configuration.{Configuration, is_in, is_live}
 use Rattle.mg_model.specs.Effects.{plays_after, is_legal, effect}
 use Rattle.mg_model.specs.Items.{Done, IsExecuted}
 use Rattle.mg_model.specs.LineEvents.{LineRow, cleared}
-use Rattle.mg_model.specs.RequestRun.{Running, described_row, line_after}
+use Rattle.mg_model.specs.RequestRun.{Running, described_row, line_after, on_line}
 use Rattle.mg_model.specs.Script.{Script}
 use Rattle.mg_model.specs.Accepted.{IsCommandOf}
-use Rattle.mg_safety.proofs.Shared.Cases.{same_test, same_turned}
+use Rattle.mg_model.proofs.Cases.{same_test, same_turned}
 use Rattle.mg_safety.proofs.Requests.RunLines.{AreShown, leaves_test, listed_test, described_lines, cleared_lines}
 use Rattle.mg_safety.proofs.Invariant.Shown.{naming, naming_at, Shown, LinesShown, Owner, owned_at, AreBuilt, item_for, context_for}
 
@@ -46,11 +46,11 @@ module _ (script : Script) (own : Owner) (e a : Agent) (made : Made) (r : Runnin
 
   by_descriptors : (x : ℕ) (o : LineOptions) → x < length script.lines
       → AreShown script e.lines (expected_if (is_some o.events) e.expected x number)
-      (λ l. described_row (Some (a.lines x, line_descriptors script o)) (r.line l) l number)
+      (λ l. described_row (Some (on_line (a.lines x) (line_descriptors script o))) (r.line l) l number)
       (with_at c.events x (unwrap_or o.events (c.events x))) (with_at c.plays x (plays_after script o.signals (c.plays x)))
   by_descriptors x o inside =
       subst (λ (lines : ℕ → ℕ). AreShown script lines (expected_if (is_some o.events) e.expected x number)
-      (λ l. described_row (Some (a.lines x, line_descriptors script o)) (r.line l) l number)
+      (λ l. described_row (Some (on_line (a.lines x) (line_descriptors script o))) (r.line l) l number)
       (with_at c.events x (unwrap_or o.events (c.events x))) (with_at c.plays x (plays_after script o.signals (c.plays x)))) built.lines
       (described_lines script a.lines e.expected r.line c.events c.plays
       (subst (λ (lines : ℕ → ℕ). AreShown script lines e.expected r.line c.events c.plays) (sym built.lines) stay)

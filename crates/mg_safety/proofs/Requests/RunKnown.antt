@@ -19,7 +19,7 @@ use Rattle.mg_model.specs.Request.{Names, uses_known, with_name, names_after, cr
 use Rattle.mg_model.specs.Script.{Script, State}
 use Rattle.mg_model.specs.Tables.{state_of, no_state}
 use Rattle.mg_model.specs.Accepted.{IsScript, IsCommandOf, IsStateOf, creates_apart, create_once}
-use Rattle.mg_safety.proofs.Shared.Cases.{and_first, and_second, by_test}
+use Rattle.mg_model.proofs.Cases.{and_first, and_second, by_test}
 use Rattle.mg_safety.proofs.Invariant.Shown.{Naming, naming, Shown, known_by, item_for, built_after, eph_of, row_on}
 use Rattle.mg_safety.proofs.Invariant.Sound.{IsOfScript}
 

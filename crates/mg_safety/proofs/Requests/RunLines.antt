@@ -30,7 +30,7 @@ use Rattle.mg_model.specs.LineEvents.{ListItem, LineRow, Outcome, armed, cleared
 use Rattle.mg_model.specs.RequestRun.{with_signals, with_events}
 use Rattle.mg_model.specs.Script.{Script}
 use Rattle.mg_model.specs.Tables.{signals_of, is_empty}
-use Rattle.mg_safety.proofs.Shared.Cases.{by_test, same_test, some_of, the_some}
+use Rattle.mg_model.proofs.Cases.{by_test, same_test, some_of, the_some}
 use Rattle.mg_safety.proofs.Invariant.Shown.{Naming, Shown, AreBuilt, number_at, context_for}
 
 -- ---- the lines, as far as they show a configuration

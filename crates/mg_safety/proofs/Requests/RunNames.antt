@@ -17,7 +17,7 @@ use Rattle.mg_model.specs.Request.{created_context, created_ephemeral}
 use Rattle.mg_model.specs.Items.{Done}
 use Rattle.mg_model.specs.RequestRun.{context_at, ephemeral_at, termination_at, remote_at, item_at}
 use Rattle.mg_model.specs.Script.{Script}
-use Rattle.mg_safety.proofs.Shared.Cases.{the_some}
+use Rattle.mg_model.proofs.Cases.{the_some}
 use Rattle.mg_safety.proofs.Invariant.Shown.{Naming, naming, naming_at, context_made, ephemeral_made, context_for, ephemeral_for, target_for, place_for, term_for, remote_for, item_for, named_after, built_after}
 
 -- ---- a command by the names that it is built with

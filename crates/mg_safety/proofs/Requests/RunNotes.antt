@@ -15,15 +15,15 @@ use Rattle.mg_model.specs.declared.line_events.SignalSet.{SignalSet}
 use Rattle.mg_model.specs.Agent.{Agent, Made, command_of}
 use Rattle.mg_model.specs.Board.{Board}
 use Rattle.mg_model.specs.Configuration.{Configuration}
-use Rattle.mg_model.specs.Items.{Done, leaves}
+use Rattle.mg_model.specs.Items.{Done, subtracts}
 use Rattle.mg_model.specs.declared.transitions.EventItem.TheVariants.{OnHook, OffHook, Flash, Digits}
 use Rattle.mg_model.specs.LineEvents.{ListItem, LineRow, Note, Outcome, armed, cleared, is_standing, kind_of}
-use Rattle.mg_model.specs.Messages.{Descriptors, RequestCommand}
-use Rattle.mg_model.specs.RequestRun.{Running, with_signals, with_events, with_descriptors, described, described_row, line_after, is_line, rearms, note_from, raised, standing}
+use Rattle.mg_model.specs.Messages.{RequestCommand}
+use Rattle.mg_model.specs.RequestRun.{LineDescriptors, RaisedNote, Running, note_on, with_signals, with_events, with_descriptors, described, described_row, line_after, is_line, rearms, note_from, raised, standing}
 use Rattle.mg_model.specs.Script.{Script}
 use Rattle.mg_model.specs.Accepted.{IsCommandOf}
-use Rattle.mg_safety.proofs.Shared.Single.{any_too, only_one}
-use Rattle.mg_safety.proofs.Shared.Cases.{by_test}
+use Rattle.mg_model.proofs.Single.{any_too, only_one}
+use Rattle.mg_model.proofs.Cases.{by_test}
 use Rattle.mg_safety.proofs.Requests.RunLines.{armed_list, armed_request}
 use Rattle.mg_safety.proofs.Invariant.Shown.{naming, naming_at, Shown, Owner, owned_at, AreBuilt, raises_kind, list_raises}
 use Rattle.mg_safety.proofs.Invariant.Statements.{LineGoes}
@@ -49,14 +49,14 @@ goes_by_descriptors : (row : LineRow) (signals : Option SignalSet) (events : Opt
 goes_by_descriptors row signals None number = inr (inr (set_list row signals, set_request row signals))
 goes_by_descriptors row signals (Some list) number = inl (armed_request (with_signals row signals) list number)
 
-goes_described : (row : LineRow) (d : Option (ℕ × Descriptors)) (l number : ℕ) → LineGoes number row (described_row d row l number)
+goes_described : (row : LineRow) (d : Option LineDescriptors) (l number : ℕ) → LineGoes number row (described_row d row l number)
 goes_described row None l number = inr (inr (refl, refl))
-goes_described row (Some (line, d)) l number = by_test (LineGoes number row) (with_descriptors row d number).row row (line == l)
-    (λ e. goes_by_descriptors row d.signals d.events number) (λ e. inr (inr (refl, refl)))
+goes_described row (Some on) l number = by_test (LineGoes number row) (with_descriptors row on.descriptors number).row row (on.line == l)
+    (λ e. goes_by_descriptors row on.descriptors.signals on.descriptors.events number) (λ e. inr (inr (refl, refl)))
 
 pub line_goes : (r : Running) (command : RequestCommand) (item : Item) (number l : ℕ) → LineGoes number (r.line l) (line_after r command item number l)
 line_goes r command item number l = by_test (LineGoes number (r.line l)) (cleared (r.line l)) (described_row (described command) (r.line l) l number)
-    (leaves r.board item (term.Line (record { 0 = l }))) (λ e. inr (inl refl)) (λ e. goes_described (r.line l) (described command) l number)
+    (subtracts r.board item (term.Line (record { 0 = l }))) (λ e. inr (inl refl)) (λ e. goes_described (r.line l) (described command) l number)
 
 pub goes_on : (number : ℕ) (row mid after : LineRow) → LineGoes number row mid → LineGoes number mid after → LineGoes number row after
 goes_on number row mid after first (inl e) = inl e
@@ -89,17 +89,17 @@ module _ (script : Script) (own : Owner) (e a : Agent) (made : Made) (results : 
   described_held (SubtractAll j) declared l same = no_line same
   described_held (SetTopology j t u topology) declared l same = no_line same
 
-undescribed : (d : Option (ℕ × Descriptors)) (row : LineRow) (l number : ℕ) → is_line d l ≡ false → described_row d row l number ≡ row
+undescribed : (d : Option LineDescriptors) (row : LineRow) (l number : ℕ) → is_line d l ≡ false → described_row d row l number ≡ row
 undescribed None row l number e = refl
-undescribed (Some (line, d)) row l number e = rw e refl
+undescribed (Some on) row l number e = rw e refl
 
 pub other_line : (held : ℕ → Bool) (r : Running) (command : RequestCommand) (item : Item) (number : ℕ)
-    → ((l : ℕ) → leaves r.board item (term.Line (record { 0 = l })) ≡ true → held l ≡ true)
+    → ((l : ℕ) → subtracts r.board item (term.Line (record { 0 = l })) ≡ true → held l ≡ true)
     → ((l : ℕ) → is_line (described command) l ≡ true → held l ≡ true)
     → (l : ℕ) → held l ≡ false → line_after r command item number l ≡ r.line l
 other_line held r command item number leaving describing l other =
     by_test (λ (row : LineRow). row ≡ r.line l) (cleared (r.line l)) (described_row (described command) (r.line l) l number)
-    (leaves r.board item (term.Line (record { 0 = l }))) (λ e. absurd (true≢false (sym (leaving l e) ∙ other)))
+    (subtracts r.board item (term.Line (record { 0 = l }))) (λ e. absurd (true≢false (sym (leaving l e) ∙ other)))
     (λ e. undescribed (described command) (r.line l) l number (false_from_ne_true (is_line (described command) l) (λ is. true≢false (sym (describing l is) ∙ other))))
 
 -- ---- the notes
@@ -109,10 +109,10 @@ abbrev pub IsRaised : ℕ → LineRow → Note → Type 0
 IsRaised number row note = (note.request ≡ number) × (row.request ≡ Some number → list_raises row.list note.kind ≡ true)
 
 -- each note that is to be sent
-abbrev pub AreNotes : (ℕ → Bool) → ℕ → (ℕ → LineRow) → List (ℕ × Note) → Type 0
-AreNotes held number line notes = (l : ℕ) (note : Note) → Contains notes (l, note) → (held l ≡ true) × IsRaised number (line l) note
+abbrev pub AreNotes : (ℕ → Bool) → ℕ → (ℕ → LineRow) → List RaisedNote → Type 0
+AreNotes held number line notes = (l : ℕ) (note : Note) → Contains notes (note_on l note) → (held l ≡ true) × IsRaised number (line l) note
 
-pub no_notes : {P : Type 0} (l : ℕ) (note : Note) → Contains {X = ℕ × Note} [] (l, note) → P
+pub no_notes : {P : Type 0} (l : ℕ) (note : Note) → Contains {X = RaisedNote} [] (note_on l note) → P
 no_notes l note among = absurd (let below : among.0 < 0 = among.1 in omega (arith, below))
 
 standing_raises : (hook : Hook) (item : ListItem) → is_standing hook item ≡ true → raises_kind (kind_of hook) item ≡ true
@@ -145,9 +145,9 @@ descriptors_note row signals (Some list) number note e =
     (is.0, λ armed. ap (λ (items : List ListItem). list_raises items note.kind) (armed_list (with_signals row signals) list number) ∙ is.1)
 
 -- what a filter keeps
-kept_by : (test : (ℕ × Note) → Bool) (notes : List (ℕ × Note)) (n : ℕ × Note) → Contains (filter test notes) n → Contains notes n × (test n ≡ true)
+kept_by : (test : RaisedNote → Bool) (notes : List RaisedNote) (n : RaisedNote) → Contains (filter test notes) n → Contains notes n × (test n ≡ true)
 kept_by test [] n = λ among. absurd (let below : among.0 < 0 = among.1 in omega (arith, below))
-kept_by test (x ∷ notes) n = by_test (λ (kept : List (ℕ × Note)). Contains kept n → Contains (x ∷ notes) n × (test n ≡ true))
+kept_by test (x ∷ notes) n = by_test (λ (kept : List RaisedNote). Contains kept n → Contains (x ∷ notes) n × (test n ≡ true))
     (x ∷ filter test notes) (filter test notes) (test x)
     (λ passes among. elim (Contains-append_cases (x ∷ []) (filter test notes) n among) [
       | inl first ↦ (Contains-append_left (x ∷ []) notes n first, ap test (sym (only_one x n first)) ∙ passes)
@@ -156,15 +156,15 @@ kept_by test (x ∷ notes) n = by_test (λ (kept : List (ℕ × Note)). Contains
     (λ fails among. let rest = kept_by test notes n among in (Contains-append_right (x ∷ []) notes n rest.0, rest.1))
 
 -- the notes whose descriptor still stands
-kept_rows : (d : Option (ℕ × Descriptors)) (row : LineRow) (l number : ℕ) → rearms d l ≡ false
+kept_rows : (d : Option LineDescriptors) (row : LineRow) (l number : ℕ) → rearms d l ≡ false
     → ((described_row d row l number).list ≡ row.list) × ((described_row d row l number).request ≡ row.request)
 kept_rows None row l number e = (refl, refl)
-kept_rows (Some (line, d)) row l number e = at_line (line == l) e
+kept_rows (Some on) row l number e = at_line (on.line == l) e
   where
-    at_line : (same : Bool) → (same && is_some d.events) ≡ false
-        → ((if same then (with_descriptors row d number).row else row).list ≡ row.list)
-        × ((if same then (with_descriptors row d number).row else row).request ≡ row.request)
-    at_line true none = kept_by_descriptors row d.signals d.events number none
+    at_line : (same : Bool) → (same && is_some on.descriptors.events) ≡ false
+        → ((if same then (with_descriptors row on.descriptors number).row else row).list ≡ row.list)
+        × ((if same then (with_descriptors row on.descriptors number).row else row).request ≡ row.request)
+    at_line true none = kept_by_descriptors row on.descriptors.signals on.descriptors.events number none
     at_line false none = (refl, refl)
 
 neither : (x y : Bool) → not (x || y) ≡ true → (x ≡ false) × (y ≡ false)
@@ -177,38 +177,38 @@ still_raised : (number : ℕ) (row after : LineRow) (note : Note) → (after.lis
 still_raised number row after note kept is =
     (is.0, λ armed. ap (λ (items : List ListItem). list_raises items note.kind) kept.0 ∙ is.1 (sym kept.1 ∙ armed))
 
-new_note : (line : ℕ) (o : Option Note) (l : ℕ) (note : Note) → Contains (note_from line o) (l, note) → (line ≡ l) × (o ≡ Some note)
+new_note : (line : ℕ) (o : Option Note) (l : ℕ) (note : Note) → Contains (note_from line o) (note_on l note) → (line ≡ l) × (o ≡ Some note)
 new_note line None l note among = no_notes l note among
 new_note line (Some one) l note among =
-    let is : (line, one) ≡ (l, note) = only_one (line, one) (l, note) among in
-    (ap (λ (n : ℕ × Note). n.0) is, ap (λ (n : ℕ × Note). Some n.1) is)
+    let is : (note_on line one) ≡ (note_on l note) = only_one (note_on line one) (note_on l note) among in
+    (ap (λ (n : RaisedNote). n.line) is, ap (λ (n : RaisedNote). Some n.note) is)
 
 module _ (held : ℕ → Bool) (r : Running) (command : RequestCommand) (item : Item) (number : ℕ) where
   -- a line that leaves has no RequestID
   on_row : (l : ℕ) (note : Note) → note.request ≡ number
-      → (leaves r.board item (term.Line (record { 0 = l })) ≡ false → IsRaised number (described_row (described command) (r.line l) l number) note)
+      → (subtracts r.board item (term.Line (record { 0 = l })) ≡ false → IsRaised number (described_row (described command) (r.line l) l number) note)
       → IsRaised number (line_after r command item number l) note
   on_row l note is stays = by_test (λ (row : LineRow). IsRaised number row note) (cleared (r.line l)) (described_row (described command) (r.line l) l number)
-      (leaves r.board item (term.Line (record { 0 = l }))) (λ e. (is, λ armed. absurd (true≢false (sym (ap is_some armed))))) stays
+      (subtracts r.board item (term.Line (record { 0 = l }))) (λ e. (is, λ armed. absurd (true≢false (sym (ap is_some armed))))) stays
 
-  raised_on : (d : Option (ℕ × Descriptors)) → ((l : ℕ) → is_line d l ≡ true → held l ≡ true) → (l : ℕ) (note : Note)
-      → Contains (raised r d number) (l, note) → (held l ≡ true) × IsRaised number (described_row d (r.line l) l number) note
+  raised_on : (d : Option LineDescriptors) → ((l : ℕ) → is_line d l ≡ true → held l ≡ true) → (l : ℕ) (note : Note)
+      → Contains (raised r d number) (note_on l note) → (held l ≡ true) × IsRaised number (described_row d (r.line l) l number) note
   raised_on None describing l note among = no_notes l note among
-  raised_on (Some (line, d)) describing l note among =
-      let is = new_note line (with_descriptors (r.line line) d number).note l note among in
-      let same : (line == l) ≡ true = eq-eqb line l is.0 in (
+  raised_on (Some on) describing l note among =
+      let is = new_note on.line (with_descriptors (r.line on.line) on.descriptors number).note l note among in
+      let same : (on.line == l) ≡ true = eq-eqb on.line l is.0 in (
         describing l same,
-        rw same (descriptors_note (r.line l) d.signals d.events number note
-            (ap (λ (n : ℕ). (with_descriptors (r.line n) d number).note) (sym is.0) ∙ is.1)),
+        rw same (descriptors_note (r.line l) on.descriptors.signals on.descriptors.events number note
+            (ap (λ (n : ℕ). (with_descriptors (r.line n) on.descriptors number).note) (sym is.0) ∙ is.1)),
       )
 
   pub notes_carried : ((l : ℕ) → is_line (described command) l ≡ true → held l ≡ true) → AreNotes held number r.line r.notes
       → AreNotes held number (line_after r command item number) (standing r command item ++ raised r (described command) number)
   notes_carried describing before l note among =
-      elim (Contains-append_cases (standing r command item) (raised r (described command) number) (l, note) among) [
+      elim (Contains-append_cases (standing r command item) (raised r (described command) number) (note_on l note) among) [
         | inl stands ↦
-            let kept = kept_by (λ (n : ℕ × Note). not (leaves r.board item (term.Line (record { 0 = n.0 })) || rearms (described command) n.0)) r.notes (l, note) stands in
-            let tests = neither (leaves r.board item (term.Line (record { 0 = l }))) (rearms (described command) l) kept.1 in
+            let kept = kept_by (λ (n : RaisedNote). not (subtracts r.board item (term.Line (record { 0 = n.line })) || rearms (described command) n.line)) r.notes (note_on l note) stands in
+            let tests = neither (subtracts r.board item (term.Line (record { 0 = l }))) (rearms (described command) l) kept.1 in
             let was = before l note kept.0 in (
               was.0,
               on_row l note was.1.0 (λ e. still_raised number (r.line l) (described_row (described command) (r.line l) l number) note

@@ -8,7 +8,7 @@ use Rattle.mg_names.specs.declared.context_values.ContextValue.{ContextValue}
 use Rattle.mg_names.specs.declared.context_values.ContextValue.TheVariants.{Free, Live, Stale}
 use Rattle.mg_names.specs.declared.identifiers.TermId.{TermId}
 use Rattle.mg_names.specs.declared.identifiers.TermId.TheVariants.{Line, Eph}
-use Rattle.mg_names.specs.declared.phases.Link as phases
+use Rattle.mg_names.specs.declared.phases.LinkPhase as phases
 use Rattle.mg_model.specs.declared.commands.Command.{Command}
 use Rattle.mg_model.specs.declared.commands.Command.TheVariants.{AddLine, AddEphemeral, ModifyLine, ModifyEphemeral, MoveLine, MoveEphemeral, Subtract, SubtractAll, SetTopology}
 use Rattle.mg_model.specs.declared.commands.Termination.{Termination}
@@ -25,7 +25,7 @@ use Rattle.mg_model.specs.Request.{created_context, created_ephemeral}
 use Rattle.mg_model.specs.Script.{Script}
 use Rattle.mg_model.specs.Steps.{creates_unbound, with_link}
 use Rattle.mg_model.specs.Accepted.{is_apart, creates_apart}
-use Rattle.mg_safety.proofs.Shared.Cases.{and_first, and_second, by_test}
+use Rattle.mg_model.proofs.Cases.{and_first, and_second, by_test}
 use Rattle.mg_safety.proofs.Invariant.Shown.{Naming, Shown, LinesShown, Owner, owned_at, ChangesOwned}
 
 -- ---- changes of what is owned
@@ -207,7 +207,7 @@ module _ (script : Script) (c : Configuration) (command : Command) (legal : is_l
 
 -- ---- the link of a configuration
 
-pub formed_with_link : (c : Configuration) (link : phases.Link) → IsWellFormed (with_link c link) → IsWellFormed c
+pub formed_with_link : (c : Configuration) (link : phases.LinkPhase) → IsWellFormed (with_link c link) → IsWellFormed c
 formed_with_link c link f = record {
   live = f.live;
   absent_mode = f.absent_mode;
@@ -217,7 +217,7 @@ formed_with_link c link f = record {
 }
 
 -- the board and the lines show neither the state nor the link
-pub shown_still : (script : Script) (owned : TermId → Bool) (n : Naming) (b : Board) (c : Configuration) (state : ℕ) (link : phases.Link)
+pub shown_still : (script : Script) (owned : TermId → Bool) (n : Naming) (b : Board) (c : Configuration) (state : ℕ) (link : phases.LinkPhase)
     → Shown script owned n b c → Shown script owned n b (record c { state = state; link = link })
 shown_still script owned n b c state link s = record {
   stands = s.stands;
@@ -240,7 +240,7 @@ shown_still script owned n b c state link s = record {
   ephemeral_named = s.ephemeral_named;
 }
 
-pub lines_with_link : (script : Script) (e : Agent) (line : ℕ → LineRow) (c : Configuration) (link : phases.Link)
+pub lines_with_link : (script : Script) (e : Agent) (line : ℕ → LineRow) (c : Configuration) (link : phases.LinkPhase)
     → LinesShown script e line c → LinesShown script e line (with_link c link)
 lines_with_link script e line c link s = record { events = s.events; silent = s.silent; expected = s.expected }
 

@@ -11,7 +11,7 @@ use Rattle.mg_model.specs.declared.components.Spot.{Spot}
 use Rattle.mg_model.specs.declared.components.Spot.TheVariants.{Absent, Null, In}
 use Rattle.mg_model.specs.Board.{same_term}
 use Rattle.mg_model.specs.Configuration.{is_same, is_in, is_free, value_of}
-use Rattle.mg_safety.proofs.Shared.Cases.{false_not_true}
+use Rattle.mg_model.proofs.Cases.{false_not_true}
 
 -- ---- terminations of a script
 

@@ -1,17 +1,18 @@
 -- What an agent sends is its call's.
 use Rattle.std.proofs.Common.{◌≡◌, ◌+◌, ℕ, Bool, true, false, List, Option, Some, None, is_some, refl, sym, ap, subst, true≢false}
 use Rattle.std.specs.Prelude.{◌==◌, ◌&&◌, not, if◌then◌else◌, nat_lt, nat_le, Contains}
+use Rattle.mg_model.specs.declared.failures.Failure.{Failure}
 use Rattle.mg_model.specs.Delivery.{arrival, is_new}
-use Rattle.mg_model.specs.Agent.{Agent, inbox_of, Phase, awaits_reply, awaits_pass, resting, entered_with, entered, entered_or_rests, entered_if, entered_or_stays, built_by, request_of, after_results, leads_on, replied_to, replied, passed_in, passed, may_accept, target_of, line_in, noted, is_resting, timed, forgotten, heard}
+use Rattle.mg_model.specs.Agent.{answers, Agent, inbox_of, Phase, awaits_reply, awaits_pass, resting, entered_with, entered, entered_or_rests, entered_if, entered_or_stays, built_by, request_of, after_results, leads_on, replied_to, replied, passed_in, passed, may_accept, target_of, line_in, noted, is_resting, timed, forgotten, heard}
 use Rattle.mg_model.specs.Numbers.{last_number}
 use Rattle.mg_model.specs.Updates.{with_at}
-use Rattle.mg_model.specs.Messages.{Request, Reply, SentNote, Failure}
+use Rattle.mg_model.specs.Messages.{Request, Reply, SentNote}
 use Rattle.mg_model.specs.Script.{Script}
 use Rattle.mg_model.specs.Tables.{state_of, is_empty}
 use Rattle.mg_model.specs.World.{sent_in}
 use Rattle.mg_safety.proofs.Agents.EffectiveAgent.{results_keep}
-use Rattle.mg_safety.proofs.Shared.Single.{none_in, only_one}
-use Rattle.mg_safety.proofs.Shared.Cases.{the_some}
+use Rattle.mg_model.proofs.Single.{none_in, only_one}
+use Rattle.mg_model.proofs.Cases.{the_some, and_second}
 
 -- each request that is outstanding in a phase is of the call
 abbrev pub IsOwn : ℕ → Phase → Type 0
@@ -66,7 +67,7 @@ replied_own script a reply = in_phase a.phase
     answered request false = gives_none a.call
 
     in_phase : (phase : Phase) → GivesOwn a.call (replied_to script a phase reply)
-    in_phase (awaits_reply request) = answered request ((reply.association == request.association) && reply.number == request.number)
+    in_phase (awaits_reply request) = answered request (answers reply request)
     in_phase awaits_pass = gives_none a.call
     in_phase resting = gives_none a.call
 
@@ -114,5 +115,6 @@ noted_own script a slots sent = accepted (may_accept script a sent) refl
         then entered_or_stays script (record a { accepted = with_at a.accepted sent.number true }) (target_of script a (line_in a sent.line slots) sent.note)
         else None)
     accepted true e = entered_or_same (target_of script a (line_in a sent.line slots) sent.note)
-        (first_true (is_resting a.phase) (not (state_of script a.state).is_end) (is_new (arrival (inbox_of a) sent.association sent.number)) e)
+        (first_true (is_resting a.phase) (not (state_of script a.state).is_end) (is_new (arrival (inbox_of a) sent.association sent.number))
+        (and_second (sent.call == a.call) _ e))
     accepted false e = gives_none a.call

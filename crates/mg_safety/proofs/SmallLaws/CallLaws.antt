@@ -2,18 +2,19 @@
 use Rattle.std.proofs.Common.{◌≡◌, ◌∙◌, ◌+◌, ◌<◌, ◌≤◌, ◌++◌, ℕ, List, [], ◌∷◌, length, Option, Some, None, refl, sym, ap, subst, arith, inl, inr, zero, suc, get_or}
 use Rattle.std.specs.Prelude.{Contains, unwrap_or}
 use Rattle.std.proofs.lemmas.List.Elements.{Contains-append_cases}
+use Rattle.mg_model.specs.declared.failures.ChosenRefusal.{ChosenRefusal}
 use Rattle.mg_names.specs.declared.identifiers.TermId.TheVariants.{Line}
 use Rattle.mg_model.specs.Agent.{Agent, replied, passed, noted, timed, heard}
 use Rattle.mg_model.specs.LineEvents.{Note}
 use Rattle.mg_model.specs.declared.line_events.LineEvent.{LineEvent}
 use Rattle.mg_model.specs.Gateway.{Gateway, last_executed, row_restarted, notes_from, sent_notes, reply_of}
 use Rattle.mg_model.specs.Messages.{Request, Reply, SentNote}
-use Rattle.mg_model.specs.RequestRun.{Refusal}
+use Rattle.mg_model.specs.RequestRun.{RaisedNote}
 use Rattle.mg_model.specs.World.{World, on_a_line, execute, reply, pass, note, timer, hear, restart, Executes, IsFirst, LineOccurs, AgentSteps, sent_in}
 use Rattle.mg_model.specs.Tables.{line_places}
 use Rattle.mg_safety.specs.Laws.{OldRequestsDoNothing, RestartsClearLines, EventsKeepOthers, AreNumbered, IsSameButReplies, IsSameFor}
-use Rattle.mg_safety.proofs.Shared.Cases.{at_another}
-use Rattle.mg_safety.proofs.Shared.Offered.{fresh_at, kept_at}
+use Rattle.mg_model.proofs.Cases.{at_another}
+use Rattle.mg_model.proofs.Offered.{fresh_at, kept_at}
 use Rattle.mg_safety.proofs.SmallLaws.AgentLaws.{IsOwn, GivesOwn, replied_own, passed_own, noted_own, timed_own, heard_own}
 
 same_but_replies : (w after : World) (replies : List Reply) → after ≡ record w { replies = replies } → IsSameButReplies w after
@@ -24,7 +25,7 @@ same_but_replies w after replies e = record {
   notes = ap (λ (x : World). x.notes) e;
 }
 
-by_case : (w after : World) (request : Request) (refusal : Refusal) → request.number ≤ last_executed w.gateway request.call
+by_case : (w after : World) (request : Request) (refusal : Option ChosenRefusal) → request.number ≤ last_executed w.gateway request.call
     → Executes w request refusal after → IsSameButReplies w after
 by_case w after request refusal old (inl first) =
     let above : last_executed w.gateway request.call < request.number = (fresh_at w.gateway request first.executed.is_fresh).1 in absurd (omega (arith, old, above))
@@ -115,13 +116,13 @@ cons_of of call x xs is own y among = elim (Contains-append_cases (x ∷ []) xs 
   | inr later ↦ own y later
 ]
 
-notes_of_call : (call association count : ℕ) (notes : List (ℕ × Note)) → AreOf (λ (n : SentNote). n.call) call (sent_notes call association count notes)
+notes_of_call : (call association count : ℕ) (notes : List RaisedNote) → AreOf (λ (n : SentNote). n.call) call (sent_notes call association count notes)
 notes_of_call call association count [] = none_of (λ (n : SentNote). n.call) call
 notes_of_call call association count (n ∷ more) =
-    cons_of (λ (m : SentNote). m.call) call (record { call = call; association = association; number = count + 1; line = n.0; note = n.1 })
+    cons_of (λ (m : SentNote). m.call) call (record { call = call; association = association; number = count + 1; line = n.line; note = n.note })
     (sent_notes call association (count + 1) more) refl (notes_of_call call association (count + 1) more)
 
-first_keeps : (w after : World) (request : Request) (refusal : Refusal) (call other : ℕ) → IsFirst w request refusal after → request.call ≡ call
+first_keeps : (w after : World) (request : Request) (refusal : Option ChosenRefusal) (call other : ℕ) → IsFirst w request refusal after → request.call ≡ call
     → (call ≡ other → ⊥) → IsSameFor w after other
 first_keeps w after request refusal call other f of differ =
     let x = f.executed in
@@ -142,7 +143,7 @@ first_keeps w after request refusal call other f of differ =
           (subst (λ (v : World). Contains v.notes sent) f.after_is there);
     }
 
-request_keeps : (w after : World) (request : Request) (refusal : Refusal) (call other : ℕ) → AreNumbered w → Executes w request refusal after
+request_keeps : (w after : World) (request : Request) (refusal : Option ChosenRefusal) (call other : ℕ) → AreNumbered w → Executes w request refusal after
     → request.call ≡ call → (call ≡ other → ⊥) → IsSameFor w after other
 request_keeps w after request refusal call other numbered (inl first) of differ = first_keeps w after request refusal call other first of differ
 request_keeps w after request refusal call other numbered (inr (inl again)) of differ = record {

@@ -11,10 +11,10 @@ use Rattle.mg_model.specs.Media.{receives, sends}
 use Rattle.mg_model.specs.LineEvents.{LineRow}
 use Rattle.mg_model.specs.Media.{hops, crosses, goes_over, AreJoined}
 use Rattle.mg_model.specs.Script.{Script}
-use Rattle.mg_model.specs.World.{World, Opened, IsOpening, IsCleared}
+use Rattle.mg_model.specs.World.{World, Opened, IsOpening, IsReleased}
 use Rattle.mg_model.specs.Board.{null_row}
 use Rattle.mg_safety.specs.Laws.{OpeningsAreGood, CallsStayApart}
-use Rattle.mg_safety.proofs.Shared.Cases.{three_parts}
+use Rattle.mg_model.proofs.Cases.{three_parts}
 
 -- ---- nothing is joined where all stands in the null context
 
@@ -38,38 +38,37 @@ module _ (script : Script) (calls : List Opened) (w : World) (o : IsOpening scri
   in_null_row (Some r) all = ap (λ (row : Row). row.place.0) (all r refl)
 
   pub all_in_null : (t : TermId) → place_of w.gateway.board t ≡ 0
-  all_in_null (Line l) = in_null_row (w.gateway.board.row (Line l)) (o.others_null l.0)
-  all_in_null (Eph k) = ap place_in (o.no_ephemeral k)
+  all_in_null (Line l) = in_null_row (w.gateway.board.row (Line l)) (o.lines.others_null l.0)
+  all_in_null (Eph k) = ap place_in (o.gateway.no_ephemeral k)
 
   none_joined : (l m : ℕ) → AreJoined w.gateway.board l m → ⊥
-  none_joined l m (inl path) = no_path w.gateway.board all_in_null (Line (record { 0 = l })) (Line (record { 0 = m })) path.0 path.1
-  none_joined l m (inr path) = no_path w.gateway.board all_in_null (Line (record { 0 = m })) (Line (record { 0 = l })) path.0 path.1
+  none_joined l m (inl path) = no_path w.gateway.board all_in_null (Line (record { 0 = l })) (Line (record { 0 = m })) path.crossings path.goes
+  none_joined l m (inr path) = no_path w.gateway.board all_in_null (Line (record { 0 = m })) (Line (record { 0 = l })) path.crossings path.goes
 
-  cleared : (call : ℕ) (a : Agent) → w.agent call ≡ Some a → IsCleared script w call a
-  cleared call a there =
-      let one = o.no_other_agent call a there in
-      let known : w.agent call ≡ Some (opened script one.0.call one.0.lines) = ap w.agent (sym one.2) ∙ o.agents one.0 one.1 in
+  released : (call : ℕ) (a : Agent) → w.agent call ≡ Some a → IsReleased script w call a
+  released call a there =
+      let one = o.agents.no_other call a there in
+      let known : w.agent call ≡ Some (opened script one.0.call one.0.lines) = ap w.agent (sym one.2) ∙ o.agents.opened one.0 one.1 in
       let same : a ≡ opened script one.0.call one.0.lines = ap (λ (x : Option Agent). unwrap_or x a) (sym there ∙ known) in
       let lines : (i : ℕ) → a.lines i ≡ one.0.lines i = λ i. ap (λ (x : Agent). x.lines i) same in
       record {
-        no_ephemeral = λ k of. ap is_some (o.no_ephemeral k);
-        in_null = λ i within. (null_row, ap (λ l. w.gateway.board.row (Line (record { 0 = l }))) (lines i) ∙ o.lines_stand one.0 one.1 i within, refl);
-        is_silent = λ i within. ap (λ l. (w.gateway.line l).playing) (lines i) ∙ ap (λ (r : LineRow). r.playing) (o.lines_armed one.0 one.1 i within);
-        is_armed = λ i within. ap (λ l. (w.gateway.line l).list) (lines i) ∙ ap (λ (r : LineRow). r.list) (o.lines_armed one.0 one.1 i within);
+        no_ephemeral = λ k of. ap is_some (o.gateway.no_ephemeral k);
+        in_null = λ i within. (null_row, ap (λ l. w.gateway.board.row (Line (record { 0 = l }))) (lines i) ∙ o.lines.stand one.0 one.1 i within, refl);
+        is_silent = λ i within. ap (λ l. (w.gateway.line l).playing) (lines i) ∙ ap (λ (r : LineRow). r.playing) (o.lines.armed one.0 one.1 i within);
+        is_armed = λ i within. ap (λ l. (w.gateway.line l).list) (lines i) ∙ ap (λ (r : LineRow). r.list) (o.lines.armed one.0 one.1 i within);
       }
 
 pub openings_good : OpeningsAreGood
 openings_good script calls w o = record {
-  joined = λ l m differ joined. absurd (none_joined script calls w o l m joined);
-  ended = λ call a there ended. cleared script calls w o call a there;
+  joined = λ l m joined. absurd (none_joined script calls w o l m joined);
+  ended = λ call a there ended. released script calls w o call a there;
 }
 
 -- ---- good worlds
 
 pub calls_apart : CallsStayApart
 calls_apart script w good apart call other a b i j there where_other first second differ joined =
-    let unlike : a.lines i ≡ b.lines j → ⊥ = λ e. differ (apart call other a b i j there where_other first second e) in
-    let pair = good.joined (a.lines i) (b.lines j) unlike joined in
+    let pair = good.joined (a.lines i) (b.lines j) joined in
     let mine = apart pair.call call pair.agent a pair.i i pair.open_call there pair.first.0 first pair.first.1 in
     let theirs = apart pair.call other pair.agent b pair.j j pair.open_call where_other pair.second.0 second pair.second.1 in
     differ (sym mine ∙ theirs)

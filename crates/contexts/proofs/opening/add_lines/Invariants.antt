@@ -1,7 +1,7 @@
 use Rattle.std.proofs.Common.{◌≡◌, drop}
 use Rattle.mg_names.specs.declared.identifiers.TermId.{TermId}
 use Rattle.terminations.specs.Table.{row_of, given_of}
-use Rattle.contexts.specs.Sheet.{filled}
+use Rattle.contexts.specs.BoardValue.{filled}
 use Rattle.contexts.proofs.opening.add_lines.Given as goal
 
 -- what is left to do makes of the rows now what the whole makes of the rows at the start

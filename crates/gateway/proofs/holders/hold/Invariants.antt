@@ -1,5 +1,5 @@
 use Rattle.std.proofs.Common.{◌≡◌, ◌&&◌, ℕ, Some, drop, is_some, if◌then◌else◌}
-use Rattle.contexts.specs.Sheet.{names_line}
+use Rattle.contexts.specs.BoardValue.{names_line}
 use Rattle.gateway.specs.Calls.{line_entry}
 use Rattle.gateway.proofs.holders.hold.Given as goal
 

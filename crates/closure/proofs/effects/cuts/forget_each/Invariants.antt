@@ -2,7 +2,7 @@
 use Rattle.std.proofs.Common.{◌≡◌, drop}
 use Rattle.mg_model.specs.Configuration.{terminations}
 use Rattle.configuration.specs.Config.{configuration_of}
-use Rattle.closure.specs.Turns.{forget_pairs}
+use Rattle.closure.specs.Elementwise.{forget_pairs}
 use Rattle.closure.proofs.effects.cuts.forget_each.Given as goal
 
 -- what is left to do makes of the configuration now what the whole makes of the one at the start

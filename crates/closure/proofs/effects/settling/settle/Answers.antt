@@ -1,7 +1,7 @@
 -- Four turns are the settling of every context name: a name past the fourth is free.
 use Rattle.std.proofs.Common.{◌≡◌, ℕ, slice_index_or, refl, ap, ◌∙◌}
 use Rattle.configuration.specs.Config.{configuration_of}
-use Rattle.closure.specs.Turns.{settled_at}
+use Rattle.closure.specs.Elementwise.{settled_at}
 use Rattle.closure.proofs.SettleLemmas.{settled_all}
 use Rattle.closure.proofs.effects.settling.settle.Goals as goal
 

@@ -1,7 +1,7 @@
 -- Four turns are the loss of every Remote: an ephemeral past the fourth has none.
 use Rattle.std.proofs.Common.{◌≡◌, ℕ, slice_index_or, refl, ap, ◌∙◌}
 use Rattle.configuration.specs.Config.{configuration_of}
-use Rattle.closure.specs.Turns.{lost_at}
+use Rattle.closure.specs.Elementwise.{lost_at}
 use Rattle.closure.proofs.SubtractLemmas.{lost_all}
 use Rattle.closure.proofs.effects.subtract.lose_remotes_to.Goals as goal
 

@@ -2,7 +2,7 @@
 use Rattle.std.proofs.Common.{◌≡◌, drop}
 use Rattle.mg_model.specs.Configuration.{terminations}
 use Rattle.configuration.specs.Config.{configuration_of}
-use Rattle.closure.specs.Turns.{subtracted_each}
+use Rattle.closure.specs.Elementwise.{subtracted_each}
 use Rattle.closure.proofs.effects.subtract.subtract_each.Given as goal
 
 -- what is left to do makes of the configuration now what the whole makes of the one at the start

@@ -4,7 +4,7 @@ use Rattle.mg_names.specs.declared.identifiers.TermId.{TermId}
 use Rattle.mg_model.specs.Board.{same_term, place_of}
 use Rattle.terminations.specs.Table.{row_of}
 use Rattle.contexts.specs.Paths.{arrived}
-use Rattle.contexts.specs.Sheet.{board_of, stands_in}
+use Rattle.contexts.specs.BoardValue.{board_of, stands_in}
 use Rattle.contexts.proofs.PathLemmas.{leads_from, leads_by_one, trail_grows, trail_fits, none_left}
 use Rattle.contexts.proofs.board.Board.+leads.Goals as goal
 

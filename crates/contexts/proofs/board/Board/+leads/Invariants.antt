@@ -1,6 +1,6 @@
 use Rattle.std.proofs.Common.{◌-◌, length, drop}
 use Rattle.contexts.specs.Paths.{arrived, LeadsByOne}
-use Rattle.contexts.specs.Sheet.{board_of}
+use Rattle.contexts.specs.BoardValue.{board_of}
 use Rattle.contexts.proofs.board.Board.+leads.Given as goal
 
 -- the ephemerals that are not on the trail

@@ -1,5 +1,5 @@
 use Rattle.std.proofs.lemmas.Map.Entries.{length-keys_of}
-use Rattle.contexts.specs.Sheet.{board_of}
+use Rattle.contexts.specs.BoardValue.{board_of}
 use Rattle.contexts.proofs.CountLemmas.{counts}
 use Rattle.contexts.proofs.board.Board.contexts.Goals as goal
 

@@ -1,6 +1,6 @@
 use Rattle.std.proofs.Common.{◌∙◌, sym, refl}
 use Rattle.terminations.specs.Table.{row_of}
-use Rattle.contexts.specs.Sheet.{board_of}
+use Rattle.contexts.specs.BoardValue.{board_of}
 use Rattle.contexts.proofs.TieLemmas.{same_boards, cut_of_same, cuts_viewed}
 use Rattle.contexts.proofs.board.Board.copy.Goals as goal
 

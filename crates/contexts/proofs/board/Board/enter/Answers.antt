@@ -2,7 +2,7 @@ use Rattle.std.proofs.Common.{◌∙◌, sym, refl}
 use Rattle.terminations.specs.Table.{row_of}
 use Rattle.contexts.specs.Groups.{group_at}
 use Rattle.contexts.specs.Rows.{row_in}
-use Rattle.contexts.specs.Sheet.{board_of}
+use Rattle.contexts.specs.BoardValue.{board_of}
 use Rattle.contexts.proofs.TieLemmas.{Enters, tied_entered, cut_entered, same_boards, cut_of_same, cuts_viewed}
 use Rattle.contexts.proofs.board.Board.enter.Goals as goal
 

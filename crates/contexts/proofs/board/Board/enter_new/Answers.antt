@@ -6,7 +6,7 @@ use Rattle.terminations.specs.Table.{row_of, next_of}
 use Rattle.mg_model.specs.Board.{row_with, null_row}
 use Rattle.contexts.specs.Groups.{group_at}
 use Rattle.contexts.specs.Rows.{row_in}
-use Rattle.contexts.specs.Sheet.{board_of}
+use Rattle.contexts.specs.BoardValue.{board_of}
 use Rattle.contexts.proofs.TieLemmas.{Enters, tied_entered, cut_entered, same_boards, cut_of_same, cuts_viewed, stands_not}
 use Rattle.contexts.proofs.CutLemmas.{cut_of_none}
 use Rattle.contexts.proofs.MoveLemmas.{CreatedAt, created_at, tied_undone, some_same, changed_new}

@@ -1,6 +1,6 @@
 use Rattle.std.proofs.Common.{rules, inl}
 use Rattle.mg_names.specs.declared.codes.Code.TheVariants.{InsufficientResources}
-use Rattle.contexts.specs.Sheet.{board_of}
+use Rattle.contexts.specs.BoardValue.{board_of}
 use Rattle.contexts.proofs.NumberLemmas.{room_left}
 use Rattle.contexts.proofs.board.Board.exec_add.Goals as goal
 

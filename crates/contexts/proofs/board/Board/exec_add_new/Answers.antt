@@ -1,5 +1,5 @@
 use Rattle.std.proofs.Common.{◌+◌, true}
-use Rattle.contexts.specs.Sheet.{board_of}
+use Rattle.contexts.specs.BoardValue.{board_of}
 use Rattle.contexts.proofs.AddLemmas.{IsNew, can_be_added, executed_add, is_choose, next_is_new}
 use Rattle.contexts.proofs.board.Board.exec_add_new.Goals as goal
 

@@ -1,5 +1,5 @@
 use Rattle.std.proofs.Common.{refl, rules, false}
-use Rattle.contexts.specs.Sheet.{board_of}
+use Rattle.contexts.specs.BoardValue.{board_of}
 use Rattle.contexts.proofs.AddLemmas.{can_be_added, context_named, executed_add, is_not_choose}
 use Rattle.contexts.proofs.board.Board.exec_add_to.Goals as goal
 

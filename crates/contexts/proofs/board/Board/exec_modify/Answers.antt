@@ -1,7 +1,7 @@
 use Rattle.std.proofs.Common.{◌∙◌, ap, refl, ℕ}
 use Rattle.mg_names.specs.declared.codes.Code.TheVariants.{UnknownTermination, NotInContext}
 use Rattle.mg_model.specs.Items.{placed}
-use Rattle.contexts.specs.Sheet.{board_of}
+use Rattle.contexts.specs.BoardValue.{board_of}
 use Rattle.contexts.proofs.ExecLemmas.{executed_plain, both_known, fits_from, is_place}
 use Rattle.contexts.proofs.board.Board.exec_modify.Goals as goal
 

@@ -2,7 +2,7 @@ use Rattle.std.proofs.Common.{◌≡◌, refl, true}
 use Rattle.mg_names.specs.declared.codes.Code.TheVariants.{UnknownTermination, NotInContext}
 use Rattle.mg_names.specs.declared.identifiers.TermId.TheVariants.{Line, Eph}
 use Rattle.mg_model.specs.Board.{exists}
-use Rattle.contexts.specs.Sheet.{board_of}
+use Rattle.contexts.specs.BoardValue.{board_of}
 use Rattle.contexts.proofs.ExecLemmas.{executed_out, is_true_from, is_place}
 use Rattle.contexts.proofs.ListsLemmas.{lists_same, one_leaves}
 use Rattle.contexts.proofs.board.Board.exec_subtract.Goals as goal

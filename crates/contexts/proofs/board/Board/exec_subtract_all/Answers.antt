@@ -1,7 +1,7 @@
 use Rattle.std.proofs.Common.{refl}
 use Rattle.mg_names.specs.declared.codes.Code.TheVariants.{UnknownContext}
 use Rattle.mg_names.specs.declared.identifiers.TermId.TheVariants.{Line, Eph}
-use Rattle.contexts.specs.Sheet.{board_of}
+use Rattle.contexts.specs.BoardValue.{board_of}
 use Rattle.contexts.proofs.ExecLemmas.{executed_out, not_null}
 use Rattle.contexts.proofs.ListsLemmas.{lists_same, all_leave}
 use Rattle.contexts.proofs.board.Board.exec_subtract_all.Goals as goal

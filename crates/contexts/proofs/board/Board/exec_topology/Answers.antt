@@ -1,6 +1,6 @@
 use Rattle.std.proofs.Common.{refl}
 use Rattle.mg_names.specs.declared.codes.Code.TheVariants.{UnknownContext, NotInContext}
-use Rattle.contexts.specs.Sheet.{board_of}
+use Rattle.contexts.specs.BoardValue.{board_of}
 use Rattle.contexts.proofs.ExecLemmas.{executed_plain, not_equal_false, either_known, either_false, not_null}
 use Rattle.contexts.proofs.board.Board.exec_topology.Goals as goal
 

@@ -1,4 +1,4 @@
-use Rattle.contexts.specs.Sheet.{board_of}
+use Rattle.contexts.specs.BoardValue.{board_of}
 use Rattle.contexts.proofs.TieLemmas.{exists_iff}
 use Rattle.contexts.proofs.board.Board.has_context.Goals as goal
 

@@ -1,4 +1,4 @@
-use Rattle.contexts.specs.Sheet.{board_of}
+use Rattle.contexts.specs.BoardValue.{board_of}
 use Rattle.contexts.proofs.NumberLemmas.{used_up, used_up_back}
 use Rattle.contexts.proofs.board.Board.has_no_context_left.Goals as goal
 

@@ -3,14 +3,14 @@ use Rattle.mg_model.specs.Board.{place_in}
 use Rattle.terminations.specs.Table.{row_of}
 use Rattle.contexts.specs.declared.cuts.Cut.{Cut}
 use Rattle.contexts.specs.Groups.{group_at, has_cut}
-use Rattle.contexts.specs.Sheet.{board_of}
+use Rattle.contexts.specs.BoardValue.{board_of}
 use Rattle.contexts.proofs.TieLemmas.{cuts_viewed}
 use Rattle.contexts.proofs.board.Board.is_cut.Goals as goal
 
 pub returns : goal.returns
 unfolding board_of
 returns c =
-    let place : c.place_of.result ≡ place_in (row_of c.self.inside.terms c.args.t.now) = rw (← c.self.view_is) at c.place_of.ensures in
+    let place : c.place_of.result ≡ place_in (row_of c.self.inside.terms c.args.from) = rw (← c.self.view_is) at c.place_of.ensures in
     rw (← c.self.view_is) (c.is_cut.ensures
-    ∙ ap (λ (n : ℕ). has_cut (group_at c.self.inside.cuts.entries n) c.args.t.now c.args.u.now) place
-    ∙ ap (λ (g : Option (List Cut)). has_cut g c.args.t.now c.args.u.now) (sym (cuts_viewed c.self.inside.cuts.entries (place_in (row_of c.self.inside.terms c.args.t.now)))))
+    ∙ ap (λ (n : ℕ). has_cut (group_at c.self.inside.cuts.entries n) c.args.from c.args.to) place
+    ∙ ap (λ (g : Option (List Cut)). has_cut g c.args.from c.args.to) (sym (cuts_viewed c.self.inside.cuts.entries (place_in (row_of c.self.inside.terms c.args.from)))))

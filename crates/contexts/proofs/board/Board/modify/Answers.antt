@@ -1,7 +1,7 @@
 use Rattle.std.proofs.Common.{◌≡◌, ◌∙◌, sym, refl}
 use Rattle.terminations.specs.Table.{row_of}
 use Rattle.contexts.specs.Groups.{group_at}
-use Rattle.contexts.specs.Sheet.{board_of}
+use Rattle.contexts.specs.BoardValue.{board_of}
 use Rattle.mg_model.specs.Board.{place_in}
 use Rattle.mg_names.specs.declared.identifiers.TermId.{TermId}
 use Rattle.contexts.proofs.TieLemmas.{tied_within, cut_within, same_boards, place_kept, cut_of_same, cuts_viewed}

@@ -7,7 +7,7 @@ use Rattle.terminations.specs.Table.{row_of, left}
 use Rattle.mg_model.specs.Board.{row_with}
 use Rattle.contexts.specs.Groups.{group_at}
 use Rattle.contexts.specs.Rows.{row_in}
-use Rattle.contexts.specs.Sheet.{board_of}
+use Rattle.contexts.specs.BoardValue.{board_of}
 use Rattle.contexts.proofs.TieLemmas.{same_boards, cut_of_same, cuts_viewed}
 use Rattle.contexts.proofs.RowLemmas.{row_with_here, changes_twice}
 use Rattle.contexts.proofs.MoveLemmas.{Moves, tied_moved, cut_moved, left_exists, left_place, left_row_in}

@@ -3,7 +3,7 @@ use Rattle.mg_model.specs.Board.{same_term}
 use Rattle.mg_model.specs.Items.{without_cuts}
 use Rattle.terminations.specs.Table.{row_of, cleared}
 use Rattle.contexts.specs.Groups.{group_at}
-use Rattle.contexts.specs.Sheet.{board_of}
+use Rattle.contexts.specs.BoardValue.{board_of}
 use Rattle.contexts.proofs.TieLemmas.{Leaves, tied_left, cut_left, same_boards, cut_of_same, cuts_viewed}
 use Rattle.contexts.proofs.RowLemmas.{cleared_place, subtracted_one}
 use Rattle.contexts.proofs.board.Board.subtract.Goals as goal

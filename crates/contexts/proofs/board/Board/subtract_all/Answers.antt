@@ -3,7 +3,7 @@ use Rattle.mg_model.specs.Board.{place_in}
 use Rattle.mg_model.specs.Items.{without_cuts}
 use Rattle.terminations.specs.Table.{row_of}
 use Rattle.contexts.specs.Groups.{group_at}
-use Rattle.contexts.specs.Sheet.{board_of}
+use Rattle.contexts.specs.BoardValue.{board_of}
 use Rattle.contexts.proofs.TieLemmas.{same_boards, cut_of_same, cuts_viewed}
 use Rattle.contexts.proofs.ClearLemmas.{Clears, clears_rows, subtracted_all, tied_cleared, cut_cleared, cleared_by}
 use Rattle.contexts.proofs.board.Board.subtract_all.Goals as goal

@@ -4,7 +4,7 @@ use Rattle.std.proofs.lemmas.Result.{IfOk-weaker}
 use Rattle.mg_names.specs.declared.identifiers.TermId.TheVariants.{Line, Eph}
 use Rattle.mg_model.specs.Board.{same_term}
 use Rattle.contexts.specs.Steps.{IsTakenOut}
-use Rattle.contexts.specs.Sheet.{board_of}
+use Rattle.contexts.specs.BoardValue.{board_of}
 use Rattle.contexts.proofs.ListsLemmas.{lists_same}
 use Rattle.contexts.proofs.board.Board.taken_out_of.Goals as goal
 

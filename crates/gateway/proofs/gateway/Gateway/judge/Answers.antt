@@ -7,7 +7,7 @@ use Rattle.mg_model.specs.Messages.{Request, Reply}
 use Rattle.mg_model.specs.Gateway.{IsKept}
 use Rattle.std.proofs.Common.{subst}
 use Rattle.gateway.specs.Calls.{OpenCall, call_in, delivery_link}
-use Rattle.gateway.specs.Whole.{Whole, gateway_of}
+use Rattle.gateway.specs.GatewayValue.{GatewayValue, gateway_of}
 use Rattle.gateway.proofs.JudgeLemmas.{nobody, addressed, is_discarded, is_kept, has_no_room}
 use Rattle.gateway.proofs.gateway.Gateway.judge.Goals as goal
 
@@ -16,16 +16,16 @@ same_number a b e = grind (arith, nat_tests)
 
 pub returns-in_default : goal.returns-in_default
 returns-in_default c = inl (nobody c.args.self.now c.args.call.0 c.args.request.now
-    (sym (ap (λ (w : Whole). call_in w.calls c.args.call.0) c.self.view_is) ∙ sym c.in_default.ensures))
+    (sym (ap (λ (w : GatewayValue). call_in w.calls c.args.call.0) c.self.view_is) ∙ sym c.in_default.ensures))
 
 pub returns-in-Discard : goal.returns-in-Discard
 returns-in-Discard c =
-    let w : Whole = c.args.self.now in
+    let w : GatewayValue = c.args.self.now in
     let call : ℕ = c.args.call.0 in
     let request : Request = c.args.request.now in
     let state : OpenCall = c.in-Some.state.now in
-    let found : call_in w.calls call ≡ Some state = sym (ap (λ (x : Whole). call_in x.calls call) c.self.view_is) ∙ sym c.in-Some.ensures in
-    let tied : state.association ≡ w.association = c.self.invariant.links call state (sym c.in-Some.ensures) ∙ ap (λ (x : Whole). x.association) c.self.view_is in
+    let found : call_in w.calls call ≡ Some state = sym (ap (λ (x : GatewayValue). call_in x.calls call) c.self.view_is) ∙ sym c.in-Some.ensures in
+    let tied : state.association ≡ w.association = c.self.invariant.links call state (sym c.in-Some.ensures) ∙ ap (λ (x : GatewayValue). x.association) c.self.view_is in
     let ours : request.call ≡ call = sym c.call.ensures ∙ same_number _ _ c.if-ne.ensures in
     let asked : offer (delivery_link state) request.association request.number ≡ offer (delivery_link state) c.association.result.0 c.number.result =
     ap (λ (a : ℕ). offer (delivery_link state) a request.number) (sym c.association.ensures) ∙ ap (offer (delivery_link state) c.association.result.0) (sym c.number.ensures) in
@@ -33,12 +33,12 @@ returns-in-Discard c =
 
 pub returns-in-Ok : goal.returns-in-Ok
 returns-in-Ok c =
-    let w : Whole = c.args.self.now in
+    let w : GatewayValue = c.args.self.now in
     let call : ℕ = c.args.call.0 in
     let request : Request = c.args.request.now in
     let state : OpenCall = c.in-Some.state.now in
-    let found : call_in w.calls call ≡ Some state = sym (ap (λ (x : Whole). call_in x.calls call) c.self.view_is) ∙ sym c.in-Some.ensures in
-    let tied : state.association ≡ w.association = c.self.invariant.links call state (sym c.in-Some.ensures) ∙ ap (λ (x : Whole). x.association) c.self.view_is in
+    let found : call_in w.calls call ≡ Some state = sym (ap (λ (x : GatewayValue). call_in x.calls call) c.self.view_is) ∙ sym c.in-Some.ensures in
+    let tied : state.association ≡ w.association = c.self.invariant.links call state (sym c.in-Some.ensures) ∙ ap (λ (x : GatewayValue). x.association) c.self.view_is in
     let ours : request.call ≡ call = sym c.call.ensures ∙ same_number _ _ c.if-ne.ensures in
     let asked : offer (delivery_link state) request.association request.number ≡ offer (delivery_link state) c.association.result.0 c.number.result =
     ap (λ (a : ℕ). offer (delivery_link state) a request.number) (sym c.association.ensures) ∙ ap (offer (delivery_link state) c.association.result.0) (sym c.number.ensures) in (
@@ -49,12 +49,12 @@ returns-in-Ok c =
 
 pub returns-then-commands-last : goal.returns-then-commands-last
 returns-then-commands-last c =
-    let w : Whole = c.args.self.now in
+    let w : GatewayValue = c.args.self.now in
     let call : ℕ = c.args.call.0 in
     let request : Request = c.args.request.now in
     let state : OpenCall = c.in-Some.state.now in
-    let found : call_in w.calls call ≡ Some state = sym (ap (λ (x : Whole). call_in x.calls call) c.self.view_is) ∙ sym c.in-Some.ensures in
-    let tied : state.association ≡ w.association = c.self.invariant.links call state (sym c.in-Some.ensures) ∙ ap (λ (x : Whole). x.association) c.self.view_is in
+    let found : call_in w.calls call ≡ Some state = sym (ap (λ (x : GatewayValue). call_in x.calls call) c.self.view_is) ∙ sym c.in-Some.ensures in
+    let tied : state.association ≡ w.association = c.self.invariant.links call state (sym c.in-Some.ensures) ∙ ap (λ (x : GatewayValue). x.association) c.self.view_is in
     let ours : request.call ≡ call = sym c.call.ensures ∙ same_number _ _ c.if-ne.ensures in
     let asked : offer (delivery_link state) request.association request.number ≡ offer (delivery_link state) c.association.result.0 c.number.result =
     ap (λ (a : ℕ). offer (delivery_link state) a request.number) (sym c.association.ensures) ∙ ap (offer (delivery_link state) c.association.result.0) (sym c.number.ensures) in

@@ -1,4 +1,4 @@
-use Rattle.gateway.specs.Whole.{gateway_of}
+use Rattle.gateway.specs.GatewayValue.{gateway_of}
 use Rattle.gateway.proofs.StartLemmas.{or_no_memory}
 use Rattle.gateway.proofs.gateway.Gateway.open_call.Goals as goal
 

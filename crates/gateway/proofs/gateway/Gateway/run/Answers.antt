@@ -2,9 +2,9 @@ use Rattle.std.proofs.Common.{◌≡◌, ◌+◌, ◌≤◌, length, refl, subst
 use Rattle.std.proofs.lemmas.List.{length-map}
 use Rattle.mg_model.specs.Numbers.{last_number}
 use Rattle.mg_model.specs.Messages.{Request}
-use Rattle.requests.specs.Views.{chosen_of, line_notes}
+use Rattle.requests.specs.Views.{line_notes}
 use Rattle.gateway.specs.Standby.{IsEnd}
-use Rattle.gateway.specs.Whole.{Whole}
+use Rattle.gateway.specs.GatewayValue.{GatewayValue}
 use Rattle.gateway.proofs.JudgeLemmas.{room_for, run_made}
 use Rattle.gateway.proofs.gateway.Gateway.run.Goals as goal
 
@@ -26,10 +26,10 @@ overflow_add-result c =
 pub returns-clause-runs : goal.returns-clause-runs
 returns-clause-runs c =
     let request : Request = c.args.request.now in
-    run_made c.args.self.now.connected request (chosen_of c.args.refusal) c.args.last c.in_ok-connections.connections
+    run_made c.args.self.now.connected request c.args.chosen c.args.last c.in_ok-connections.connections
     c.in_ok-connections.outcome.results.items (line_notes c.in_ok-connections.outcome.notes.items) c.in_ok-connections.outcome.failure
     c.new-reply.result c.in_ok-kept.kept c.in_ok-notes.notes.items (c.args.last + c.len-count.result)
-    (subst (λ (w : Whole). IsEnd w.connected request (chosen_of c.args.refusal) c.in_ok-connections.connections
+    (subst (λ (w : GatewayValue). IsEnd w.connected request c.args.chosen c.in_ok-connections.connections
     c.in_ok-connections.outcome.results.items (line_notes c.in_ok-connections.outcome.notes.items) c.in_ok-connections.outcome.failure) c.self.view_is c.in_ok-connections.ensures.runs)
     (rw (c.new-reply.ensures, c.call-call.ensures, c.association-association.ensures, c.number.ensures) refl)
     c.in_ok-kept.ensures

@@ -1,0 +1,68 @@
+//! What the program says of a script and a certificate.
+ghost use Rattle.std.specs.Prelude.{◌≡◌, IfOk, option_map, string_bytes};
+ghost use Rattle.engine.specs.Replies.{answer_line};
+ghost use Rattle.engine.specs.VerdictLines.{Judges, NamesFault};
+ghost use Rattle.script_table.specs.Words.{words_of};
+
+use crate::answer::{Answer, Broken};
+use composition::{CheckFault, Verdict, check};
+use mg_model::faults::Fault;
+use mg_model::steps::StepName;
+use script_table::Script;
+use scriptreader::read_script;
+use std::alloc::{AllocError, Global};
+
+/// The words of a step, with the names of the script's lines.
+fn words_of(
+    alloc: Global,
+    script: &Script,
+    step: &Option<StepName>,
+) -> Result<Option<String>, AllocError>
+    ensures { IfOk result (λ words. option_map string_bytes words ≡ option_map (words_of script.now.lines) step.now) }
+{
+    match step {
+        Some(step) => Ok(Some(script.step_words(alloc, step)?)),
+        None => Ok(None),
+    }
+}
+
+/// What is said of a broken obligation. A step's words name lines, so the script is read again.
+fn broken(alloc: Global, bytes: &[u8], fault: &Fault) -> Answer
+    ensures { NamesFault bytes.now fault.now (answer_line result) }
+{
+    let Ok(script) = read_script(alloc, bytes) else {
+        return Answer::NoMemory;
+    };
+    match words_of(alloc, &script, &fault.step) {
+        Ok(step) => Answer::No(Broken {
+            obligation: fault.obligation.number(),
+            entry: fault.entry,
+            point: fault.point,
+            step,
+        }),
+        Err(_) => Answer::NoMemory,
+    }
+}
+
+/// The answer on a script and a certificate.
+pub fn answer(alloc: Global, script: &[u8], certificate: &[u8]) -> Answer
+    ensures { Judges script.now certificate.now (answer_line result) }
+{
+    match check(alloc, script, certificate) {
+        Ok(Verdict::Yes(checked)) => Answer::Yes {
+            states: checked.states(),
+            entries: checked.entries(),
+            points: checked.points(),
+        },
+        Ok(Verdict::No(fault)) => broken(alloc, script, &fault),
+        Err(CheckFault::Script(fault)) => Answer::ScriptFault {
+            number: fault.number(),
+            name: fault.name(),
+        },
+        Err(CheckFault::Cert(fault)) => Answer::CertificateFault {
+            number: fault.number(),
+            name: fault.name(),
+        },
+        Err(CheckFault::NoMemory) => Answer::NoMemory,
+    }
+}

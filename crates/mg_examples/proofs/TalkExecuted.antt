@@ -1,0 +1,27 @@
+-- The request of the state `talk` is executed in any world where the call can be joined and sent no request before.
+use Rattle.std.proofs.Common.{◌≡◌, ◌≤◌, ℕ, [], None, refl, ap, arith}
+use Rattle.mg_model.proofs.Offered.{is_fresh_at}
+use Rattle.mg_model.specs.Gateway.{number_of}
+use Rattle.mg_model.specs.World.{World, IsFirst, Opened}
+use Rattle.mg_examples.proofs.TwoLinesJoined.{IsReady, to_talk, r2, runs_through, all_done, talking_gateway, talking_world}
+
+module _ (w : World) (one : Opened) (context : ℕ) (ready : IsReady w.gateway.board one context) where
+  pub executes : (w.gateway.link one.call).last ≡ None → (w.gateway.link one.call).notes ≤ 1
+      → IsFirst w (to_talk one w.gateway.association) None (talking_world w one context ready)
+  executes none few = record {
+    gateway = talking_gateway w one context ready;
+    answer = all_done w one context ready;
+    sent = [];
+    executed = record {
+      end = r2 w one context ready None;
+      failure = None;
+      is_fresh = is_fresh_at w.gateway (to_talk one w.gateway.association) refl
+          (let last : number_of (w.gateway.link one.call).last ≡ 0 = ap number_of none in omega (arith, last));
+      room = omega (arith, few);
+      runs = runs_through w one context ready None;
+      after_is = refl;
+      reply_is = refl;
+      notes_are = refl;
+    };
+    after_is = refl;
+  }

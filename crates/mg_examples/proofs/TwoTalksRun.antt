@@ -1,0 +1,179 @@
+-- The run of two calls at once, world by world: line 1 and line 3 go off hook, each call enters `talk`, both requests are executed, and
+-- both replies are taken.
+use Rattle.std.proofs.Common.{◌≡◌, ◌+◌, ◌<◌, ℕ, List, [], ◌∷◌, None, refl, arith, inl}
+use Rattle.std.specs.Prelude.{unwrap_or, Contains}
+use Rattle.mg_model.specs.declared.line_events.Hook.TheVariants as hooks
+use Rattle.mg_model.specs.declared.line_events.LineEvent.TheVariants as event
+use Rattle.mg_model.specs.Agent.{Agent, noted, replied}
+use Rattle.mg_model.specs.Script.{Script}
+use Rattle.mg_model.specs.Tables.{line_places}
+use Rattle.mg_model.specs.World.{World, Event, on_a_line, note, execute, reply, AgentSteps, agent_steps, Opened, AreDistinct, Runs}
+use Rattle.mg_examples.specs.Talk.{call, off_hook, to_talk, all_done}
+use Rattle.mg_examples.specs.TwoLines.{to_talk_off_hook, calling}
+use Rattle.mg_examples.specs.TwoTalks.{both_lines, other_call, to_two_talks, TwoCallsTalk}
+use Rattle.mg_examples.proofs.Finding.{of_both}
+use Rattle.mg_examples.proofs.TalkEntries.{reachable, all_listed}
+use Rattle.mg_examples.proofs.TalkUnbroken.{none_broken}
+use Rattle.mg_examples.proofs.TwoLines.{is_script}
+use Rattle.mg_examples.proofs.TalkExecuted.{executes}
+use Rattle.mg_examples.proofs.TwoLinesJoined.{IsReady, talking_world, joined}
+use Rattle.mg_examples.proofs.TwoLinesOpening.{agent, opened_world, opens, IsWaiting, off_hook_world, goes_off}
+
+abbrev script : Script
+script = calling both_lines
+
+abbrev calls : List Opened
+calls = call ∷ other_call ∷ []
+
+-- ---- the calls differ, and so do their lines
+
+abbrev Differ : Opened → Opened → Type 0
+Differ one other =
+    (one.call ≡ other.call → one ≡ other) × ((i j : ℕ) → i < 2 → j < 2 → one.lines i ≡ other.lines j → (one ≡ other) × (i ≡ j))
+
+itself : (number first : ℕ) → Differ (record { call = number; lines = λ i. i + first }) (record { call = number; lines = λ i. i + first })
+itself number first = ((λ same. refl), (λ i j within inside same. (refl, omega (arith, same))))
+
+all_differ : (one other : Opened) → Contains calls one → Contains calls other → Differ one other
+all_differ one other there too =
+    of_both (λ (x : Opened). Differ x other) call other_call one (of_both (Differ call) call other_call other (itself 7 1) apart too)
+    (of_both (Differ other_call) call other_call other apart_back (itself 8 3) too) there
+  where
+    apart : Differ call other_call
+    apart = ((λ same. absurd (omega (arith, same))), (λ i j within inside same. absurd (omega (arith, within, inside, same))))
+
+    apart_back : Differ other_call call
+    apart_back = ((λ same. absurd (omega (arith, same))), (λ i j within inside same. absurd (omega (arith, within, inside, same))))
+
+distinct : AreDistinct script calls
+distinct = record {
+  calls_differ = λ one other there too. (all_differ one other there too).0;
+  lines_differ = λ one other there too. (all_differ one other there too).1;
+}
+
+-- ---- the agents of a call: in `talk` with its request sent, and at rest in `talk`
+
+abbrev asking : Opened → Agent
+asking one = unwrap_or (noted script (agent script one) (line_places script) (off_hook one)) (agent script one)
+
+abbrev at_rest : Opened → ℕ → Agent
+at_rest one context = unwrap_or (replied script (asking one) (all_done one context)) (asking one)
+
+-- ---- the worlds
+
+abbrev w0 : World
+w0 = opened_world script calls
+
+abbrev w1 : World
+w1 = off_hook_world w0 call
+
+abbrev w2 : World
+w2 = off_hook_world w1 other_call
+
+abbrev w3 : World
+w3 = agent_steps w2 7 (asking call)
+
+abbrev w4 : World
+w4 = agent_steps w3 8 (asking other_call)
+
+ready : IsReady w4.gateway.board call 1
+ready = record {
+  differ = λ e. omega (arith, e);
+  first_row = refl;
+  second_row = refl;
+  uncut = refl;
+  is_number = (omega (arith), omega (arith));
+  not_given = refl;
+}
+
+abbrev w5 : World
+w5 = talking_world w4 call 1 ready
+
+also_ready : IsReady w5.gateway.board other_call 2
+also_ready = record {
+  differ = λ e. omega (arith, e);
+  first_row = refl;
+  second_row = refl;
+  uncut = refl;
+  is_number = (omega (arith), omega (arith));
+  not_given = refl;
+}
+
+abbrev w6 : World
+w6 = talking_world w5 other_call 2 also_ready
+
+abbrev w7 : World
+w7 = agent_steps w6 8 (at_rest other_call 2)
+
+abbrev w8 : World
+w8 = agent_steps w7 7 (at_rest call 1)
+
+-- ---- lines 1 and 3 go off hook
+
+waits : IsWaiting w0.gateway call
+waits = record { association = refl; held = refl; is_armed = refl; none_sent = refl }
+
+also_waits : IsWaiting w1.gateway other_call
+also_waits = record { association = refl; held = refl; is_armed = refl; none_sent = refl }
+
+-- ---- the steps of the agents
+
+enters : AgentSteps w2 7 (λ a. noted script a (line_places script) (off_hook call)) w3
+enters = record { before = agent script call; agent = asking call; open_call = refl; steps = refl; after_is = refl }
+
+other_enters : AgentSteps w3 8 (λ a. noted script a (line_places script) (off_hook other_call)) w4
+other_enters = record { before = agent script other_call; agent = asking other_call; open_call = refl; steps = refl; after_is = refl }
+
+other_rests : AgentSteps w6 8 (λ a. replied script a (all_done other_call 2)) w7
+other_rests = record { before = asking other_call; agent = at_rest other_call 2; open_call = refl; steps = refl; after_is = refl }
+
+rests : AgentSteps w7 7 (λ a. replied script a (all_done call 1)) w8
+rests = record { before = asking call; agent = at_rest call 1; open_call = refl; steps = refl; after_is = refl }
+
+-- ---- the run
+
+module _ (more : List Event) (end : World) where
+  off_hook_twice : Runs script more w2 end → Runs script (on_a_line 1 (event.Hook hooks.Off) ∷ on_a_line 3 (event.Hook hooks.Off) ∷ more) w0 end
+  unfolding Runs
+  off_hook_twice goes_on = (w1, (goes_off w0 call waits, (w2, (goes_off w1 other_call also_waits, goes_on))))
+
+  both_enter : Runs script more w4 end → Runs script (note (off_hook call) ∷ note (off_hook other_call) ∷ more) w2 end
+  unfolding Runs
+  both_enter goes_on = (w3, (((1, omega (arith), refl), enters), (w4, (((0, omega (arith), refl), other_enters), goes_on))))
+
+  both_executed : Runs script more w6 end → Runs script (execute (to_talk call None) None ∷ execute (to_talk other_call None) None ∷ more) w4 end
+  unfolding Runs
+  both_executed goes_on = (
+    w5,
+    (
+      ((1, omega (arith), refl), inl (executes w4 call 1 ready refl (omega (arith)))),
+      (w6, (((0, omega (arith), refl), inl (executes w5 other_call 2 also_ready refl (omega (arith)))), goes_on)),
+    ),
+  )
+
+both_taken : Runs script (reply (all_done other_call 2) ∷ reply (all_done call 1) ∷ []) w6 w8
+unfolding Runs
+both_taken = (w7, (((0, omega (arith), refl), other_rests), (w8, (((1, omega (arith), refl), rests), refl))))
+
+run : Runs script to_two_talks w0 w8
+run =
+    off_hook_twice
+    (note (off_hook call) ∷ note (off_hook other_call) ∷ execute (to_talk call None) None ∷ execute (to_talk other_call None) None ∷ answers) w8
+    (both_enter (execute (to_talk call None) None ∷ execute (to_talk other_call None) None ∷ answers) w8 (both_executed answers w8 both_taken))
+  where
+    answers : List Event
+    answers = reply (all_done other_call 2) ∷ reply (all_done call 1) ∷ []
+
+pub two_calls_talk : TwoCallsTalk
+two_calls_talk = record {
+  entries = reachable;
+  accepted = is_script both_lines to_talk_off_hook 0;
+  listed = all_listed both_lines;
+  none_broken = none_broken;
+  opening = w0;
+  end = w8;
+  opens = opens script refl calls distinct;
+  runs = run;
+  joined = inl (record { another = λ e. omega (arith, e); crossings = []; goes = refl });
+  also_joined = joined w5.gateway.board other_call 2 also_ready;
+}

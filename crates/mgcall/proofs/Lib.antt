@@ -1,5 +1,0 @@
-pub mod Bytes
-pub mod Command
-pub mod Lines
-pub mod Told
-pub mod Verdicts

@@ -1,0 +1,11 @@
+//! The rim of the program, which knows of no script and no certificate: the words of the command line, devices to read
+//! from and write to with their faults counted, the whole input within its limit, its sections, and the exit statuses.
+#![tactic(auto)]
+
+pub mod host;
+pub mod input;
+pub mod sections;
+pub mod sink;
+pub mod source;
+pub mod status;
+pub mod words;
