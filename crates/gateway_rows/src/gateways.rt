@@ -1,7 +1,6 @@
-use crate::request_runs::failed;
 use gateway::{Answer, CannotHappen, Gateway, OpenFault};
 use line_events::{EventList, ListItem};
-use mg_model::failures::{ChosenRefusal, Refusal};
+use mg_model::failures::{ChosenRefusal, Failure, Refusal};
 use mg_model::line_events::{Hook, LineEvent};
 use mg_model::references::{ContextRef, TerminationRef};
 use mg_model::transitions::EventItem;
@@ -72,45 +71,126 @@ fn request(alloc: Global, number: u32, command: RequestCommand) -> Result<Reques
     Ok(Request::new(CALL, Assoc(1), number, commands))
 }
 
-/// The reply and the notes of a request that was executed.
-fn executed(answer: Answer) -> Option<(Reply, Vec<SentNote>)> {
+/// What a gateway does with a request.
+#[derive(Clone, Copy, Debug, PartialEq, Eq)]
+enum Deed {
+    Executes,
+    Repeats,
+    Discards,
+    Other,
+}
+
+fn deed_of(answer: &Answer) -> Deed {
     match answer {
-        Answer::Executed { reply, notes } => Some((reply, notes)),
-        Answer::Kept(_) | Answer::Discarded | Answer::CannotHappen | Answer::NoMemory => None,
+        Answer::Executed { .. } => Deed::Executes,
+        Answer::Kept(_) => Deed::Repeats,
+        Answer::Discarded => Deed::Discards,
+        Answer::CannotHappen | Answer::NoMemory => Deed::Other,
     }
 }
 
-/// The reply that was kept.
-fn kept(answer: Answer) -> Option<Reply> {
-    match answer {
-        Answer::Kept(reply) => Some(reply),
-        Answer::Executed { .. } | Answer::Discarded | Answer::CannotHappen | Answer::NoMemory =>
-            None,
+/// What a gateway does with the request of call 0 that adds the line of its number to a new context, as this call's.
+fn adds(gateway: &mut Gateway, alloc: Global, call: CallNo, number: u32) -> Deed {
+    match request(alloc, number, add(number)) {
+        Ok(request) => deed_of(&gateway.execute(call, &request, None)),
+        Err(AllocError) => Deed::Other,
     }
 }
 
-/// The context that the first command created.
-fn context_of(reply: &Reply) -> Option<u32> {
-    reply.results().get(0)?.context()
+/// How many contexts a gateway has.
+fn contexts(gateway: &Gateway) -> usize {
+    gateway.board().contexts()
 }
 
-/// The number, the event and the RequestID that a note tells.
-fn told(note: &SentNote) -> (u32, Kind, u32) {
-    (note.number(), note.note().kind(), note.note().request())
+/// The association of a gateway.
+fn association(gateway: &Gateway) -> Assoc {
+    gateway.association()
+}
+
+/// The association that a restart opens.
+fn restarted(gateway: &mut Gateway) -> Option<Assoc> {
+    gateway.restart().ok()
+}
+
+/// What a reply says.
+#[derive(Clone, Copy, Debug, PartialEq, Eq)]
+struct Said {
+    call: CallNo,
+    association: Assoc,
+    number: u32,
+    results: usize,
+    failure: Option<Failure>,
+}
+
+fn said_by(reply: &Reply) -> Said {
+    Said {
+        call: reply.call(),
+        association: reply.association(),
+        number: reply.number(),
+        results: reply.results().len(),
+        failure: reply.failure(),
+    }
+}
+
+/// What the reply to request 1 says, executed with this refusal or repeated.
+fn answered(
+    gateway: &mut Gateway,
+    alloc: Global,
+    refusal: Option<ChosenRefusal>,
+) -> Option<Said> {
+    let request = request(alloc, 1, add(1)).ok()?;
+    match gateway.execute(CALL, &request, refusal) {
+        Answer::Executed { reply, .. } => Some(said_by(&reply)),
+        Answer::Kept(reply) => Some(said_by(&reply)),
+        Answer::Discarded | Answer::CannotHappen | Answer::NoMemory => None,
+    }
+}
+
+/// What a note tells: its number, its line, the event and the RequestID.
+type Told = (u32, LineNo, Kind, u32);
+
+fn told_by(note: &SentNote) -> Told {
+    let (kind, request) = (note.note().kind(), note.note().request());
+    (note.number(), note.line(), kind, request)
+}
+
+/// What the first note tells, and how many there are, when a new gateway executes a request with these commands.
+fn noted(
+    alloc: Global,
+    commands: Vec<RequestCommand>,
+) -> Result<Option<(usize, Option<Told>)>, Fail> {
+    let mut gateway = gateway(alloc)?;
+    let request = Request::new(CALL, Assoc(1), 1, commands);
+    match gateway.execute(CALL, &request, None) {
+        Answer::Executed { notes, .. } => {
+            let first = notes.as_slice().get(0).map(|note| told_by(note));
+            Ok(Some((notes.len(), first)))
+        }
+        _ => Ok(None),
+    }
+}
+
+/// What the note tells with which a gateway answers an event of a line; a fault where the event can't happen.
+fn happens(
+    gateway: &mut Gateway,
+    line: u32,
+    event: LineEvent,
+) -> Result<Option<Told>, CannotHappen> {
+    let note = gateway.happen(LineNo(line), event)?;
+    Ok(note.as_ref().map(|note| told_by(note)))
 }
 
 #[test]
 fn a_restart_discards_older_requests(rt: HostRuntime) -> Result<(), Fail> {
     let alloc = rt.alloc();
     let mut gateway = gateway(alloc)?;
-    assert_eq!(rt; gateway.association(), Assoc(1));
-    let first = request(alloc, 1, add(1))?;
-    assert!(rt; executed(gateway.execute(CALL, &first, None)).is_some());
-    assert_eq!(rt; gateway.board().contexts(), 1);
-    assert!(rt; matches!(gateway.restart(), Ok(Assoc(2))));
-    assert_eq!(rt; gateway.association(), Assoc(2));
-    assert!(rt; matches!(gateway.execute(CALL, &first, None), Answer::Discarded));
-    assert_eq!(rt; gateway.board().contexts(), 0);
+    assert_eq!(rt; association(&gateway), Assoc(1));
+    assert!(rt; adds(&mut gateway, alloc, CALL, 1) == Deed::Executes);
+    assert_eq!(rt; contexts(&gateway), 1);
+    assert!(rt; restarted(&mut gateway) == Some(Assoc(2)));
+    assert_eq!(rt; association(&gateway), Assoc(2));
+    assert!(rt; adds(&mut gateway, alloc, CALL, 1) == Deed::Discards);
+    assert_eq!(rt; contexts(&gateway), 0);
     Ok(())
 }
 
@@ -118,22 +198,17 @@ fn a_restart_discards_older_requests(rt: HostRuntime) -> Result<(), Fail> {
 fn a_repeated_request_has_its_reply_again(rt: HostRuntime) -> Result<(), Fail> {
     let alloc = rt.alloc();
     let mut gateway = gateway(alloc)?;
-    let first = request(alloc, 1, add(1))?;
-    let Some((reply, notes)) = executed(gateway.execute(CALL, &first, None)) else {
-        panic!(rt; "executed");
-    };
-    assert_eq!(rt; notes.len(), 0);
-    let Some(again) = kept(gateway.execute(CALL, &first, None)) else {
-        panic!(rt; "kept");
-    };
-    assert_eq!(rt; again.call(), CALL);
-    assert_eq!(rt; again.association(), Assoc(1));
-    assert_eq!(rt; again.number(), 1);
-    assert_eq!(rt; again.results().len(), 1);
-    assert!(rt; context_of(&reply).is_some());
-    assert!(rt; context_of(&again) == context_of(&reply));
-    assert!(rt; again.failure().is_none());
-    assert_eq!(rt; gateway.board().contexts(), 1);
+    let done = Some(Said {
+        call: CALL,
+        association: Assoc(1),
+        number: 1,
+        results: 1,
+        failure: None,
+    });
+    assert!(rt; answered(&mut gateway, alloc, None) == done);
+    assert!(rt; answered(&mut gateway, alloc, None) == done);
+    assert!(rt; adds(&mut gateway, alloc, CALL, 1) == Deed::Repeats);
+    assert_eq!(rt; contexts(&gateway), 1);
     Ok(())
 }
 
@@ -141,116 +216,98 @@ fn a_repeated_request_has_its_reply_again(rt: HostRuntime) -> Result<(), Fail> {
 fn the_reply_to_a_failed_request_is_kept(rt: HostRuntime) -> Result<(), Fail> {
     let alloc = rt.alloc();
     let mut gateway = gateway(alloc)?;
-    let refused = Some(ChosenRefusal {
+    let refusal = Some(ChosenRefusal {
         place: 0,
         refusal: Refusal::InternalFailure,
     });
-    let first = request(alloc, 1, add(1))?;
-    let Some((reply, _)) = executed(gateway.execute(CALL, &first, refused)) else {
-        panic!(rt; "executed");
-    };
-    assert!(rt; reply.failure() == failed(0, Code::InternalFailure));
-    assert_eq!(rt; gateway.board().contexts(), 0);
-    let Some(again) = kept(gateway.execute(CALL, &first, None)) else {
-        panic!(rt; "kept");
-    };
-    assert!(rt; again.failure() == failed(0, Code::InternalFailure));
-    assert_eq!(rt; gateway.board().contexts(), 0);
+    let failed = Some(Said {
+        call: CALL,
+        association: Assoc(1),
+        number: 1,
+        results: 0,
+        failure: Some(Failure {
+            place: 0,
+            code: Code::InternalFailure,
+        }),
+    });
+    assert!(rt; answered(&mut gateway, alloc, refusal) == failed);
+    assert!(rt; answered(&mut gateway, alloc, None) == failed);
+    assert_eq!(rt; contexts(&gateway), 0);
+    Ok(())
+}
+
+#[test]
+fn a_note_of_a_replaced_descriptor_is_not_sent(rt: HostRuntime) -> Result<(), Fail> {
+    let alloc = rt.alloc();
+    let on = arm(events(alloc, EventItem::OnHook(Strict::State))?);
+    let of = arm(events(alloc, EventItem::OffHook(Strict::Exact))?);
+    let notes = noted(alloc, Vec::from_array(alloc, [on, of])?)?;
+    assert!(rt; notes == Some((0, None)));
     Ok(())
 }
 
 #[test]
 fn a_note_is_sent_while_its_descriptor_stands(rt: HostRuntime) -> Result<(), Fail> {
     let alloc = rt.alloc();
-    let on_hook = EventItem::OnHook(Strict::State);
-    let replaced = Vec::from_array(
-        alloc,
-        [
-            arm(events(alloc, on_hook)?),
-            arm(events(alloc, EventItem::OffHook(Strict::Exact))?),
-        ],
-    )?;
-    let mut one = gateway(alloc)?;
-    let both = Request::new(CALL, Assoc(1), 1, replaced);
-    let Some((_, notes)) = executed(one.execute(CALL, &both, None)) else {
-        panic!(rt; "executed");
-    };
-    assert_eq!(rt; notes.len(), 0);
-    let mut other = gateway(alloc)?;
-    let alone = request(
-        alloc,
-        1,
-        arm(events(alloc, EventItem::OnHook(Strict::State))?),
-    )?;
-    let Some((_, notes)) = executed(other.execute(CALL, &alone, None)) else {
-        panic!(rt; "executed");
-    };
-    let [note] = notes.as_slice() else {
-        panic!(rt; "one note");
-    };
-    assert!(rt; told(note) == (1, Kind::On, 1));
-    assert_eq!(rt; note.line(), LineNo(1));
+    let on = arm(events(alloc, EventItem::OnHook(Strict::State))?);
+    let notes = noted(alloc, Vec::from_array(alloc, [on])?)?;
+    assert!(rt; notes == Some((1, Some((1, LineNo(1), Kind::On, 1)))));
     Ok(())
 }
 
 #[test]
 fn events_of_lines_that_a_call_holds(rt: HostRuntime) -> Result<(), Fail> {
-    let alloc = rt.alloc();
-    let mut gateway = gateway(alloc)?;
-    let Ok(Some(first)) = gateway.happen(LineNo(1), OFF) else {
-        panic!(rt; "a note");
-    };
-    assert!(rt; told(&first) == (1, Kind::Of, 0));
-    assert!(rt; matches!(gateway.happen(LineNo(1), OFF), Err(CannotHappen)));
-    assert!(rt; matches!(gateway.happen(LineNo(1), ON), Ok(None)));
-    let Ok(Some(second)) = gateway.happen(LineNo(2), OFF) else {
-        panic!(rt; "a note");
-    };
-    assert!(rt; told(&second) == (2, Kind::Of, 0));
-    assert_eq!(rt; second.line(), LineNo(2));
-    assert!(rt; matches!(gateway.happen(LineNo(4), OFF), Err(CannotHappen)));
-    assert!(rt; matches!(gateway.happen(LineNo(9), OFF), Err(CannotHappen)));
+    let mut gateway = gateway(rt.alloc())?;
+    let first = Some((1, LineNo(1), Kind::Of, 0));
+    assert!(rt; happens(&mut gateway, 1, OFF) == Ok(first));
+    assert!(rt; happens(&mut gateway, 1, OFF) == Err(CannotHappen));
+    assert!(rt; happens(&mut gateway, 1, ON) == Ok(None));
+    let second = Some((2, LineNo(2), Kind::Of, 0));
+    assert!(rt; happens(&mut gateway, 2, OFF) == Ok(second));
+    assert!(rt; happens(&mut gateway, 4, OFF) == Err(CannotHappen));
+    assert!(rt; happens(&mut gateway, 9, OFF) == Err(CannotHappen));
     Ok(())
+}
+
+/// What opening a call on these lines answers: nothing, or the number of the fault.
+fn opens(gateway: &mut Gateway, call: CallNo, lines: &[LineNo]) -> Option<u8> {
+    match gateway.open_call(call, lines) {
+        Ok(()) => None,
+        Err(fault) => Some(fault.number()),
+    }
 }
 
 #[test]
 fn a_call_is_opened_on_free_lines(rt: HostRuntime) -> Result<(), Fail> {
-    let alloc = rt.alloc();
-    let mut gateway = gateway(alloc)?;
+    let mut gateway = gateway(rt.alloc())?;
     let other = CallNo(7);
-    let unknown = gateway.open_call(other, &[LineNo(4), LineNo(9)]);
-    assert!(rt; matches!(unknown, Err(OpenFault::UnknownLine)));
-    let held = gateway.open_call(other, &[LineNo(4), LineNo(3)]);
-    assert!(rt; matches!(held, Err(OpenFault::Taken)));
-    let twice = gateway.open_call(other, &[LineNo(4), LineNo(5), LineNo(4)]);
-    assert!(rt; matches!(twice, Err(OpenFault::Taken)));
-    let again = gateway.open_call(CALL, &[LineNo(4)]);
-    assert!(rt; matches!(again, Err(OpenFault::Taken)));
-    assert!(rt; matches!(gateway.open_call(other, &[LineNo(4), LineNo(5)]), Ok(())));
-    let Ok(Some(note)) = gateway.happen(LineNo(5), OFF) else {
-        panic!(rt; "a note");
-    };
-    assert_eq!(rt; note.call(), other);
+    assert!(rt; opens(&mut gateway, other, &[LineNo(4), LineNo(9)]) == Some(1));
+    assert!(rt; opens(&mut gateway, other, &[LineNo(4), LineNo(3)]) == Some(2));
+    assert!(rt; opens(&mut gateway, other, &[LineNo(4), LineNo(5), LineNo(4)]) == Some(2));
+    assert!(rt; opens(&mut gateway, CALL, &[LineNo(4)]) == Some(2));
+    assert!(rt; opens(&mut gateway, other, &[LineNo(4), LineNo(5)]).is_none());
+    let first = Some((1, LineNo(5), Kind::Of, 0));
+    assert!(rt; happens(&mut gateway, 5, OFF) == Ok(first));
+    Ok(())
+}
+
+#[test]
+fn faults_have_numbers_and_names(rt: HostRuntime) {
     assert_eq!(rt; OpenFault::NoMemory.number(), 0);
     assert_eq!(rt; OpenFault::UnknownLine.number(), 1);
     assert_eq!(rt; OpenFault::Taken.number(), 2);
     assert_eq!(rt; OpenFault::Taken.name(), "Taken");
-    Ok(())
 }
 
 #[test]
 fn requests_that_do_nothing(rt: HostRuntime) -> Result<(), Fail> {
     let alloc = rt.alloc();
     let mut gateway = gateway(alloc)?;
-    let zeroth = request(alloc, 0, add(1))?;
-    assert!(rt; matches!(gateway.execute(CALL, &zeroth, None), Answer::Discarded));
-    let first = request(alloc, 1, add(1))?;
-    assert!(rt; matches!(gateway.execute(CallNo(7), &first, None), Answer::Discarded));
-    let second = request(alloc, 2, add(2))?;
-    assert!(rt; executed(gateway.execute(CALL, &second, None)).is_some());
-    assert!(rt; matches!(gateway.execute(CALL, &first, None), Answer::Discarded));
-    assert!(rt; gateway.board().get(TermId::Line(LineNo(1))).is_some());
-    assert_eq!(rt; gateway.board().contexts(), 1);
+    assert!(rt; adds(&mut gateway, alloc, CALL, 0) == Deed::Discards);
+    assert!(rt; adds(&mut gateway, alloc, CallNo(7), 1) == Deed::Discards);
+    assert!(rt; adds(&mut gateway, alloc, CALL, 2) == Deed::Executes);
+    assert!(rt; adds(&mut gateway, alloc, CALL, 1) == Deed::Discards);
+    assert_eq!(rt; contexts(&gateway), 1);
     Ok(())
 }
 
@@ -259,13 +316,12 @@ fn many_requests_change_places(rt: HostRuntime) -> Result<(), Fail> {
     let alloc = rt.alloc();
     let mut gateway = gateway(alloc)?;
     for line in 1..4u32 {
-        let one = request(alloc, line, add(line))?;
-        assert!(rt; executed(gateway.execute(CALL, &one, None)).is_some());
-        assert!(rt; matches!(gateway.happen(LineNo(line), OFF), Ok(Some(_))));
+        assert!(rt; adds(&mut gateway, alloc, CALL, line) == Deed::Executes);
+        assert!(rt; matches!(happens(&mut gateway, line, OFF), Ok(Some(_))));
     }
-    assert_eq!(rt; gateway.board().contexts(), 3);
-    assert!(rt; matches!(gateway.restart(), Ok(Assoc(2))));
-    assert!(rt; matches!(gateway.happen(LineNo(2), ON), Ok(None)));
-    assert_eq!(rt; gateway.board().contexts(), 0);
+    assert_eq!(rt; contexts(&gateway), 3);
+    assert!(rt; restarted(&mut gateway) == Some(Assoc(2)));
+    assert!(rt; happens(&mut gateway, 2, ON) == Ok(None));
+    assert_eq!(rt; contexts(&gateway), 0);
     Ok(())
 }

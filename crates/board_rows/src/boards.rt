@@ -150,17 +150,19 @@ struct Crossed {
     far: u32,
 }
 
+/// A line in a new context, with an ephemeral beside it: the context and the ephemeral.
+fn beside(board: &mut Board, line: u32) -> Option<(ContextId, u32)> {
+    let done = board.exec(&add(ContextId::CHOOSE, line)).ok()?;
+    let context = ContextId(done.context()?);
+    let done = board.exec(&add_new(context)).ok()?;
+    Some((context, done.ephemeral()?))
+}
+
 impl Crossed {
     fn new(alloc: Global) -> Option<Crossed> {
         let mut board = Board::new(alloc, &LINES).ok()?;
-        let one = board.exec(&add(ContextId::CHOOSE, 1)).ok()?;
-        let one = ContextId(one.context()?);
-        let near = board.exec(&add_new(one)).ok()?;
-        let near = near.ephemeral()?;
-        let other = board.exec(&add(ContextId::CHOOSE, 2)).ok()?;
-        let other = ContextId(other.context()?);
-        let far = board.exec(&add_new(other)).ok()?;
-        let far = far.ephemeral()?;
+        let (one, near) = beside(&mut board, 1)?;
+        let (other, far) = beside(&mut board, 2)?;
         let mut crossed = Crossed { board, other, far };
         let _there = crossed.modify(one, near, None, Some(RemoteSetting::Ephemeral(far)))?;
         let _back = crossed.modify(other, far, None, Some(RemoteSetting::Ephemeral(near)))?;

@@ -1,5 +1,5 @@
 use Rattle.digits.specs.Progress.{Follows}
-use Rattle.gateway_rows.proofs.digit_maps.last_step.Given as goal
+use Rattle.line_rows.proofs.digit_maps.last_step.Given as goal
 
 abbrev pub invariant-loop-byte : goal.invariant-loop-byte
 invariant-loop-byte l = Follows l.map l.collector
