@@ -133,11 +133,7 @@ fn said_by(reply: &Reply) -> Said {
 }
 
 /// What the reply to request 1 says, executed with this refusal or repeated.
-fn answered(
-    gateway: &mut Gateway,
-    alloc: Global,
-    refusal: Option<ChosenRefusal>,
-) -> Option<Said> {
+fn answered(gateway: &mut Gateway, alloc: Global, refusal: Option<ChosenRefusal>) -> Option<Said> {
     let request = request(alloc, 1, add(1)).ok()?;
     match gateway.execute(CALL, &request, refusal) {
         Answer::Executed { reply, .. } => Some(said_by(&reply)),
