@@ -6,4 +6,4 @@
 #[cfg(test)]
 mod boards;
 #[cfg(test)]
-mod terminations;
+mod rows_of_terminations;
