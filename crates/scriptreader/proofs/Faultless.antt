@@ -6,12 +6,37 @@ use Rattle.std.proofs.lemmas.Bool.{ltb-false}
 use Rattle.scriptreader.specs.declared.fault.ScriptFault.{ScriptFault}
 use Rattle.scriptreader.specs.declared.fault.ScriptFault.TheVariants as fault
 use Rattle.scriptreader.specs.Written.{Document}
-use Rattle.scriptreader.specs.Faults.{fault_of, use_fault_of, state_fault_of, has_bad_name, has_duplicate, has_unknown, has_bad_map, names_state, lacks_fault, has_outcome_without_commands, is_end_that_goes_on, makes_and_subtracts, is_too_large}
+use Rattle.scriptreader.specs.Faults.{fault_of, name_fault_of, use_fault_of, state_fault_of, has_bad_name, has_duplicate, has_unknown, has_bad_map, names_state, lacks_fault, has_outcome_without_commands, is_end_that_goes_on, makes_and_subtracts, is_too_large}
 use Rattle.scriptreader.proofs.BooleanTests.{or_left, or_right, holds}
 
 passed : (b : Bool) (fault : ScriptFault) (rest : Option ScriptFault) → (if b then Some fault else rest) ≡ None → (b ≡ false) × (rest ≡ None)
 passed true fault rest e = absurd cc
 passed false fault rest e = (refl, e)
+
+first_of_two : (b c : Bool) (one other found : ScriptFault) (rest : Option ScriptFault) → (if b then Some one else if c then Some other else None) ≡ Some found → (if b then Some one else if c then Some other else rest) ≡ Some found
+first_of_two true c one other found rest e = e
+first_of_two false true one other found rest e = e
+first_of_two false false one other found rest e = absurd cc
+
+neither_of_two : (b c : Bool) (one other : ScriptFault) (rest : Option ScriptFault) → (if b then Some one else if c then Some other else None) ≡ None → (if b then Some one else if c then Some other else rest) ≡ rest
+neither_of_two true c one other rest e = absurd cc
+neither_of_two false true one other rest e = absurd cc
+neither_of_two false false one other rest e = refl
+
+-- a fault of the declared names is the lowest of the document
+pub names_first : (d : Document) (found : ScriptFault) → name_fault_of d ≡ Some found → fault_of d ≡ Some found
+unfolding fault_of name_fault_of
+names_first d found e = first_of_two (has_bad_name d) (has_duplicate d) fault.BadName fault.Duplicate found (use_fault_of d) e
+
+-- where they have none, the lowest is one of the uses
+pub uses_next : (d : Document) → name_fault_of d ≡ None → fault_of d ≡ use_fault_of d
+unfolding fault_of name_fault_of
+uses_next d e = neither_of_two (has_bad_name d) (has_duplicate d) fault.BadName fault.Duplicate (use_fault_of d) e
+
+-- and none of them comes twice
+pub none_twice : (d : Document) → name_fault_of d ≡ None → has_duplicate d ≡ false
+unfolding name_fault_of
+none_twice d e = (passed (has_duplicate d) fault.Duplicate None (passed (has_bad_name d) fault.BadName _ e).1).0
 
 pub record IsFaultless (d : Document) : Type 0 where
   pub duplicate : has_duplicate d ≡ false

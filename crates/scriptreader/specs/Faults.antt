@@ -244,6 +244,13 @@ use_fault_of d =
     else if not (names_state d d.restart) then Some fault.NoRestart
     else state_fault_of d
 
+-- the first fault of the declared names whose test holds
+unfoldable pub name_fault_of : Document → Option ScriptFault
+name_fault_of d =
+    if has_bad_name d then Some fault.BadName
+    else if has_duplicate d then Some fault.Duplicate
+    else None
+
 -- the first fault whose test holds, in the order of their numbers; the shape of the document comes before all of these
 unfoldable pub fault_of : Document → Option ScriptFault
 fault_of d =

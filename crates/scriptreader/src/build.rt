@@ -262,13 +262,17 @@ fn script_in(alloc: Global, scope: &Scope, document: &Document) -> Result<Script
     }))
 }
 
-/// The table of a document that has no fault.
-pub(crate) fn script(alloc: Global, document: &Document) -> Result<Script, AllocError>
-    requires { fault_of document.now ≡ None }
+/// The table of a document that has no fault, whose names are these.
+pub(crate) fn script(
+    alloc: Global,
+    scope: &Scope,
+    document: &Document,
+) -> Result<Script, AllocError>
+    requires scope { scope.now ≡ scope_of document.now }
+    requires faultless { fault_of document.now ≡ None }
     ensures { IfOk result (λ script. script_meant document.now ≡ Some script) }
 {
-    let scope = Scope::new(alloc, document)?;
-    match script_in(alloc, &scope, document) {
+    match script_in(alloc, scope, document) {
         Ok(script) => Ok(script),
         Err(Missing::Memory) => Err(AllocError),
         Err(Missing::Nothing) => unreachable!(),

@@ -2,7 +2,7 @@
 ghost use Rattle.std.specs.Prelude.{◌≡◌, ◌++◌, List, ℕ, None, false, not, nat_lt, length, IfOk, OnOk};
 ghost use Rattle.std.specs.List.{list_any, flat_map};
 ghost use Rattle.typed_values.specs.Names.{each_once};
-ghost use Rattle.scriptreader.specs.Faults.{has_bad_name, has_duplicate, is_bad_map, has_bad_map, has_unknown, names_state, scope_of, is_too_large, subtracts_made, makes_and_subtracts, contexts_made, ephemerals_made, lacks_fault, has_outcome_without_commands, is_end_that_goes_on, state_fault_of, use_fault_of, fault_of};
+ghost use Rattle.scriptreader.specs.Faults.{has_bad_name, has_duplicate, is_bad_map, has_bad_map, has_unknown, names_state, scope_of, is_too_large, subtracts_made, makes_and_subtracts, contexts_made, ephemerals_made, lacks_fault, has_outcome_without_commands, is_end_that_goes_on, state_fault_of, use_fault_of, name_fault_of};
 
 use crate::duplicates::has_duplicate;
 use crate::fault::ScriptFault;
@@ -302,7 +302,7 @@ fn lacks_state(scope: &Scope, document: &Document, name: &Option<Word>) -> bool
 
 /// The lowest fault from the names that the document uses on.
 #[tactic(auto, unfolding(crate::specs::Faults::use_fault_of))]
-fn use_fault(
+pub(crate) fn use_fault(
     alloc: Global,
     scope: &Scope,
     document: &Document,
@@ -325,13 +325,13 @@ fn use_fault(
     state_fault(alloc, document)
 }
 
-/// The lowest fault of a document that is not of its shape.
-#[tactic(auto, unfolding(crate::specs::Faults::fault_of))]
-pub(crate) fn first_fault(
+/// The lowest fault of the names that a document declares.
+#[tactic(auto, unfolding(crate::specs::Faults::name_fault_of))]
+pub(crate) fn name_fault(
     alloc: Global,
     document: &Document,
 ) -> Result<Option<ScriptFault>, AllocError>
-    ensures { IfOk result (λ f. f ≡ fault_of document.now) }
+    ensures { IfOk result (λ f. f ≡ name_fault_of document.now) }
 {
     if has_bad_name(document) {
         return Ok(Some(ScriptFault::BadName));
@@ -340,7 +340,5 @@ pub(crate) fn first_fault(
     if duplicate {
         return Ok(Some(ScriptFault::Duplicate));
     }
-    let scope = Scope::new(alloc, document)?;
-    let fault = use_fault(alloc, &scope, document)?;
-    Ok(fault)
+    Ok(None)
 }

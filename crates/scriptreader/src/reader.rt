@@ -1,10 +1,12 @@
 //! The reader of scripts.
-ghost use Rattle.std.specs.Prelude.{◌≡◌, Some, is_some, true};
+ghost use Rattle.std.specs.Prelude.{◌≡◌, Some, None, is_some, true};
 ghost use Rattle.toml.specs.Data.{Members};
 ghost use Rattle.toml.specs.View.{table_view};
+ghost use Rattle.scriptreader.specs.Faults.{name_fault_of, scope_of};
 ghost use Rattle.scriptreader.specs.Reading.{Answers, ReadsScript, document_read, tree_read};
 
 use crate::fault::ScriptFault;
+use crate::scope::Scope;
 use crate::syntax::Document;
 use crate::{build, faults, tables};
 use script_table::Script;
@@ -12,16 +14,30 @@ use std::alloc::Global;
 use toml::Table;
 use typed_values::Missing;
 
+/// The script that a document is whose declared names have no fault, and are these.
+fn in_scope(alloc: Global, scope: &Scope, document: &Document) -> Result<Script, ScriptFault>
+    requires scope { scope.now ≡ scope_of document.now }
+    requires names { name_fault_of document.now ≡ None }
+    ensures { Answers result (document_read (Some document.now)) }
+{
+    let fault = faults::use_fault(alloc, scope, document)?;
+    if let Some(fault) = fault {
+        return Err(fault);
+    }
+    let script = build::script(alloc, scope, document)?;
+    Ok(script)
+}
+
 /// The script that a document is.
 fn of_document(alloc: Global, document: &Document) -> Result<Script, ScriptFault>
     ensures { Answers result (document_read (Some document.now)) }
 {
-    let fault = faults::first_fault(alloc, document)?;
+    let fault = faults::name_fault(alloc, document)?;
     if let Some(fault) = fault {
         return Err(fault);
     }
-    let script = build::script(alloc, document)?;
-    Ok(script)
+    let scope = Scope::new(alloc, document)?;
+    in_scope(alloc, &scope, document)
 }
 
 /// The script that a tree is.
