@@ -15,8 +15,8 @@ use std::alloc::{AllocError, Global};
 use std::collections::BTreeMap;
 use std::marker::Model;
 
-/// The lines of a gateway, each with its hook state, its Events descriptor and the signals that play. A call that names a line
-/// that isn't there answers `UnknownLine`; only `add_line`, `arm` and `copy` take memory, and want of it changes nothing.
+/// The lines of a gateway, each with its hook state, its Events descriptor and the signals that play. A call answers the note that
+/// it raises, or nothing where none can come. One that names a line that isn't there answers `UnknownLine`; only `add_line`, `arm` and `copy` take memory, and want of it changes nothing.
 #[derive(Drop)]
 pub struct LineSet {
     alloc: Global,
@@ -33,6 +33,7 @@ impl Model for LineSet {
 }
 
 impl LineSet {
+    ghost use Rattle.line_events.specs.Answers.{noteless};
     ghost use Rattle.line_events.specs.Rows.{row_of, rows_after, answer_on, is_memory, IsAdded};
     ghost use Rattle.mg_model.specs.Memory.{IsOrNoMemory};
     ghost use Rattle.mg_model.specs.Updates.{with_at};
@@ -135,24 +136,24 @@ impl LineSet {
     }
 
     /// A line is given a new Signals descriptor (H.248.1 section 7.1.11): exactly what it names plays.
-    pub fn signal(&mut self, line: LineNo, set: SignalSet) -> Result<Option<Note>, LineFault>
-        ensures answer { result ≡ answer_on (row_of self.old line.0) (λ row. Some (signalled row set)) }
+    pub fn signal(&mut self, line: LineNo, set: SignalSet) -> Result<(), LineFault>
+        ensures answer { noteless result ≡ answer_on (row_of self.old line.0) (λ row. Some (signalled row set)) }
         ensures rows { row_of self.new ≡ rows_after (row_of self.old) line.0 (λ row. Some (signalled row set)) }
     {
         rows::signal(&mut self.rows, line.0, set)
     }
 
     /// A signal that plays on a line ends, at any moment (this profile's own). `CannotHappen` where it doesn't play.
-    pub fn signal_end(&mut self, line: LineNo, signal: Signal) -> Result<Option<Note>, LineFault>
-        ensures answer { result ≡ answer_on (row_of self.old line.0) (λ row. signal_ended row signal) }
+    pub fn signal_end(&mut self, line: LineNo, signal: Signal) -> Result<(), LineFault>
+        ensures answer { noteless result ≡ answer_on (row_of self.old line.0) (λ row. signal_ended row signal) }
         ensures rows { row_of self.new ≡ rows_after (row_of self.old) line.0 (λ row. signal_ended row signal) }
     {
         rows::signal_end(&mut self.rows, line.0, signal)
     }
 
     /// A line is silent and its Events descriptor empty, with no RequestID; its hook state stays (this profile's own).
-    pub fn clear(&mut self, line: LineNo) -> Result<Option<Note>, LineFault>
-        ensures answer { result ≡ answer_on (row_of self.old line.0) (λ row. Some (stays (cleared row))) }
+    pub fn clear(&mut self, line: LineNo) -> Result<(), LineFault>
+        ensures answer { noteless result ≡ answer_on (row_of self.old line.0) (λ row. Some (stays (cleared row))) }
         ensures rows { row_of self.new ≡ rows_after (row_of self.old) line.0 (λ row. Some (stays (cleared row))) }
     {
         rows::clear(&mut self.rows, line.0, self.alloc)

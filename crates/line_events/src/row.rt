@@ -2,7 +2,7 @@
 ghost use Rattle.std.specs.Prelude.{◌≡◌, None, [], IfOk, option_map};
 ghost use Rattle.mg_model.specs.LineEvents.{new_line, armed, hooked, flashed, dialled, paused, signalled, signal_ended, cleared, kind_of, map_in};
 ghost use Rattle.line_events.specs.Collecting.{digits_in, IsFollowed};
-ghost use Rattle.line_events.specs.Answers.{row_after, answer};
+ghost use Rattle.line_events.specs.Answers.{row_after, answer, noteless};
 
 use crate::fault::LineFault;
 use crate::list::EventList;
@@ -211,15 +211,15 @@ impl LineRow {
     }
 
     /// A signal that plays ends.
-    pub(crate) fn signal_end(&mut self, signal: Signal) -> Result<Option<Note>, LineFault>
+    pub(crate) fn signal_end(&mut self, signal: Signal) -> Result<(), LineFault>
         ensures row { self.new ≡ row_after self.old (signal_ended self.old signal) }
-        ensures answer { result ≡ answer (signal_ended self.old signal) }
+        ensures answer { noteless result ≡ answer (signal_ended self.old signal) }
     {
         if !signals::plays(self.playing, signal) {
             return Err(LineFault::CannotHappen);
         }
         self.playing = signals::without(self.playing, signal);
-        Ok(None)
+        Ok(())
     }
 
     /// The line is silent and its descriptor empty; the hook state stays.

@@ -1,6 +1,7 @@
 //! Rows by line number.
 ghost use Rattle.std.specs.Prelude.{◌≡◌, ℕ, ◌==◌, Some, None, OnOk, OnErr, IfOk, IfSome, is_some, if◌then◌else◌, option_map};
 ghost use Rattle.mg_model.specs.LineEvents.{new_line, armed, hooked, flashed, dialled, paused, signalled, signal_ended, cleared, stays};
+ghost use Rattle.line_events.specs.Answers.{noteless};
 ghost use Rattle.line_events.specs.Rows.{row_of, after, answer_on};
 
 use crate::fault::LineFault;
@@ -100,14 +101,14 @@ pub(crate) fn pause(rows: &mut Rows, line: u32) -> Result<Option<Note>, LineFaul
 
 /// A line is given a new Signals descriptor.
 #[tactic(auto, unfolding(crate::specs::Rows::row_of))]
-pub(crate) fn signal(rows: &mut Rows, line: u32, set: SignalSet) -> Result<Option<Note>, LineFault>
+pub(crate) fn signal(rows: &mut Rows, line: u32, set: SignalSet) -> Result<(), LineFault>
     ensures rows { (n : ℕ) → row_of rows.new.entries n ≡ (if n == line then after (λ row. Some (signalled row set)) (row_of rows.old.entries line) else row_of rows.old.entries n) }
-    ensures answer { result ≡ answer_on (row_of rows.old.entries line) (λ row. Some (signalled row set)) }
+    ensures answer { noteless result ≡ answer_on (row_of rows.old.entries line) (λ row. Some (signalled row set)) }
 {
     match rows.get_mut(&line) {
         Some(row) => {
             row.signal(set);
-            Ok(None)
+            Ok(())
         }
         None => Err(LineFault::UnknownLine),
     }
@@ -115,13 +116,9 @@ pub(crate) fn signal(rows: &mut Rows, line: u32, set: SignalSet) -> Result<Optio
 
 /// A signal that plays on a line ends.
 #[tactic(auto, unfolding(crate::specs::Rows::row_of))]
-pub(crate) fn signal_end(
-    rows: &mut Rows,
-    line: u32,
-    signal: Signal,
-) -> Result<Option<Note>, LineFault>
+pub(crate) fn signal_end(rows: &mut Rows, line: u32, signal: Signal) -> Result<(), LineFault>
     ensures rows { (n : ℕ) → row_of rows.new.entries n ≡ (if n == line then after (λ row. signal_ended row signal) (row_of rows.old.entries line) else row_of rows.old.entries n) }
-    ensures answer { result ≡ answer_on (row_of rows.old.entries line) (λ row. signal_ended row signal) }
+    ensures answer { noteless result ≡ answer_on (row_of rows.old.entries line) (λ row. signal_ended row signal) }
 {
     match rows.get_mut(&line) {
         Some(row) => row.signal_end(signal),
@@ -131,14 +128,14 @@ pub(crate) fn signal_end(
 
 /// A line is silent and its Events descriptor empty; its hook state stays.
 #[tactic(auto, unfolding(crate::specs::Rows::row_of))]
-pub(crate) fn clear(rows: &mut Rows, line: u32, alloc: Global) -> Result<Option<Note>, LineFault>
+pub(crate) fn clear(rows: &mut Rows, line: u32, alloc: Global) -> Result<(), LineFault>
     ensures rows { (n : ℕ) → row_of rows.new.entries n ≡ (if n == line then after (λ row. Some (stays (cleared row))) (row_of rows.old.entries line) else row_of rows.old.entries n) }
-    ensures answer { result ≡ answer_on (row_of rows.old.entries line) (λ row. Some (stays (cleared row))) }
+    ensures answer { noteless result ≡ answer_on (row_of rows.old.entries line) (λ row. Some (stays (cleared row))) }
 {
     match rows.get_mut(&line) {
         Some(row) => {
             row.clear(alloc);
-            Ok(None)
+            Ok(())
         }
         None => Err(LineFault::UnknownLine),
     }

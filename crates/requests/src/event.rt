@@ -37,7 +37,10 @@ impl Connections {
             LineEvent::Flash => self.lines.flash(line),
             LineEvent::Digit(symbol) => self.lines.digit(line, symbol),
             LineEvent::Pause => self.lines.pause(line),
-            LineEvent::SignalEnd(signal) => self.lines.signal_end(line, signal),
+            LineEvent::SignalEnd(signal) => {
+                self.lines.signal_end(line, signal)?;
+                Ok(None)
+            }
         }
     }
 
