@@ -4,10 +4,10 @@
 #![tactic(auto)]
 
 use gateway::{Answer, Gateway};
-use mg_model::references::ContextRef;
+use mg_model::references::{ContextRef, SettingsRef};
 use mg_names::identifiers::{CallNo, ContextId, LineNo};
 use mg_names::modes::Mode;
-use requests::{Descriptors, Request, RequestCommand};
+use requests::{LineDescriptors, MessageId, Newcomer, Request, RequestCommand};
 use std::alloc::Global;
 use std::io::Write;
 use std::process::ExitCode;
@@ -44,14 +44,15 @@ fn open_calls(gateway: &mut Gateway, calls: u32) -> Result<(), Failure> {
 
 /// Add of a line to a new context, which sends and receives there.
 fn add(line: LineNo) -> RequestCommand {
-    RequestCommand::AddLine {
+    RequestCommand::Add {
         context: ContextRef::Number(ContextId::CHOOSE),
-        line,
-        descriptors: Descriptors {
+        added: Newcomer::Line {
+            line,
+            descriptors: LineDescriptors::default(),
+        },
+        settings: SettingsRef {
             mode: Some(Mode::SendReceive),
             remote: None,
-            events: None,
-            signals: None,
         },
     }
 }
@@ -65,7 +66,12 @@ fn request(alloc: Global, gateway: &Gateway, call: u32, number: u32) -> Result<R
     let Ok(commands) = Vec::from_array(alloc, [add(line), subtract]) else {
         return Err(Failure::Memory);
     };
-    Ok(Request::new(CallNo(call), gateway.association(), number, commands))
+    let id = MessageId {
+        call: CallNo(call),
+        association: gateway.association(),
+        number,
+    };
+    Ok(Request::new(id, commands))
 }
 
 /// One request.

@@ -83,10 +83,8 @@ impl Gateway {
             notes,
         } = outcome;
         let count = notes.len() as u32;
-        let call = request.call();
-        let association = request.association();
-        let notes = numbering::numbered(self.alloc, call, association, last, notes)?;
-        let reply = Reply::new(call, association, request.number(), results, failure);
+        let notes = numbering::numbered(self.alloc, request, last, notes)?;
+        let reply = Reply::new(request.id(), results, failure);
         let kept = reply.copy()?;
         Ok(Ended {
             connections,

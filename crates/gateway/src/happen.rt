@@ -6,7 +6,7 @@ use crate::gateway::Gateway;
 use crate::{calls, holders};
 use mg_model::line_events::LineEvent;
 use mg_names::identifiers::{CallNo, LAST_NUMBER, LineNo};
-use requests::SentNote;
+use requests::{LineNote, MessageId, SentNote};
 
 impl Gateway {
     /// An event of a line, and the note of it to the call that holds the line. It can't happen where no call holds the line, where the
@@ -35,6 +35,11 @@ impl Gateway {
             return Ok(None);
         };
         calls::count(&mut self.calls, call, last + 1);
-        Ok(Some(SentNote::new(CallNo(call), self.association, last + 1, line, note)))
+        let id = MessageId {
+            call: CallNo(call),
+            association: self.association,
+            number: last + 1,
+        };
+        Ok(Some(SentNote::new(id, LineNote { line, note })))
     }
 }

@@ -26,7 +26,9 @@ pub use gateway::Gateway;
 pub use line_events::{EventList, LineRow, ListItem, Note};
 pub use mg_model::failures::{ChosenRefusal, Failure, Refusal};
 pub use mg_model::line_events::{Hook, LineEvent, Method, SignalSet};
-pub use mg_model::references::{ContextRef, EphemeralRef, RemoteRef, TerminationRef};
+pub use mg_model::references::{ContextRef, EphemeralRef, RemoteRef, SettingsRef, TerminationRef};
 pub use mg_model::rows::Row;
 pub use mg_model::transitions::EventItem;
-pub use requests::{Descriptors, Reply, Request, RequestCommand, SentNote};
+pub use requests::{
+    LineDescriptors, MessageId, Newcomer, Reply, Request, RequestCommand, SentNote, Target,
+};

@@ -1,13 +1,19 @@
 //! The request of the tour.
 use gateway::{
-    ContextRef, Descriptors, EphemeralRef, EventItem, EventList, Request, RequestCommand,
-    SignalSet, TerminationRef,
+    ContextRef, EphemeralRef, EventItem, EventList, LineDescriptors, MessageId, Newcomer, Request,
+    RequestCommand, SettingsRef, SignalSet, TerminationRef,
 };
 use mg_names::identifiers::{Assoc, CallNo, ContextId, LineNo};
 use mg_names::modes::Mode;
 use mg_names::strictness::Strict;
 use mg_names::topologies::Topology;
 use std::alloc::{AllocError, Global};
+
+/// What lets a termination send and receive.
+const BOTH_WAYS: SettingsRef = SettingsRef {
+    mode: Some(Mode::SendReceive),
+    remote: None,
+};
 
 /// An Events descriptor that listens to the hook.
 fn hook_events(alloc: Global) -> Result<EventList, AllocError> {
@@ -21,29 +27,36 @@ fn hook_events(alloc: Global) -> Result<EventList, AllocError> {
     Ok(EventList::new(items))
 }
 
-/// Add of line 1 to a new context, where it sends and receives, rings, and listens to the hook.
-fn add_line(alloc: Global) -> Result<RequestCommand, AllocError> {
-    let mut descriptors = Descriptors::default();
-    descriptors.mode = Some(Mode::SendReceive);
-    descriptors.events = Some(hook_events(alloc)?);
-    descriptors.signals = Some(SignalSet {
+/// Line 1, which rings and listens to the hook.
+fn ringing_line(alloc: Global) -> Result<Newcomer, AllocError> {
+    let ring = SignalSet {
         ring: true,
         ..SignalSet::SILENT
-    });
-    Ok(RequestCommand::AddLine {
-        context: ContextRef::Number(ContextId::CHOOSE),
+    };
+    Ok(Newcomer::Line {
         line: LineNo(1),
-        descriptors,
+        descriptors: LineDescriptors {
+            events: Some(hook_events(alloc)?),
+            signals: Some(ring),
+        },
+    })
+}
+
+/// Add of line 1 to a new context, where it sends and receives.
+fn add_line(alloc: Global) -> Result<RequestCommand, AllocError> {
+    Ok(RequestCommand::Add {
+        context: ContextRef::Number(ContextId::CHOOSE),
+        added: ringing_line(alloc)?,
+        settings: BOTH_WAYS,
     })
 }
 
 /// Add of an ephemeral to the context that the first command made.
 fn add_ephemeral() -> RequestCommand {
-    let mut descriptors = Descriptors::default();
-    descriptors.mode = Some(Mode::SendReceive);
-    RequestCommand::AddEphemeral {
+    RequestCommand::Add {
         context: ContextRef::MadeAt(0),
-        descriptors,
+        added: Newcomer::NewEphemeral,
+        settings: BOTH_WAYS,
     }
 }
 
@@ -64,5 +77,10 @@ pub(crate) fn request(
     association: Assoc,
 ) -> Result<Request, AllocError> {
     let commands = Vec::from_array(alloc, [add_line(alloc)?, add_ephemeral(), one_way()])?;
-    Ok(Request::new(call, association, 1, commands))
+    let id = MessageId {
+        call,
+        association,
+        number: 1,
+    };
+    Ok(Request::new(id, commands))
 }

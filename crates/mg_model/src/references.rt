@@ -1,5 +1,6 @@
 //! How a command of a request names what it is about.
 use mg_names::identifiers::{ContextId, LineNo};
+use mg_names::modes::Mode;
 
 /// A context: by its number, CHOOSE and NULL among them, or the one that an earlier command of the request created. The place of
 /// that command, from 0, is this profile's own.
@@ -36,4 +37,13 @@ pub enum RemoteRef {
     Nothing,
     /// An ephemeral.
     To(EphemeralRef),
+}
+
+/// What a command sets on the connection model; what it leaves out stays.
+#[derive(Clone, Copy, Debug, Default, PartialEq, Eq)]
+pub struct SettingsRef {
+    /// The mode (H.248.1 section 7.1.7 on LocalControl).
+    pub mode: Option<Mode>,
+    /// The Remote.
+    pub remote: Option<RemoteRef>,
 }

@@ -1,5 +1,5 @@
 -- A command that is executed: which lines it finds, which stay, which leave, and what is left to do once the board did it.
-use Rattle.std.proofs.Common.{◌≡◌, ◌≢◌, ℕ, ◌==◌, Bool, true, false, not, ◌&&◌, ◌||◌, IsTrue, if◌then◌else◌, List, [], ◌∷◌, ◌++◌, Contains, filter, Option, Some, None, is_some, refl, ap, sym, ◌∙◌, arith, rules}
+use Rattle.std.proofs.Common.{◌≡◌, ◌≢◌, ℕ, ◌==◌, Bool, true, false, not, ◌&&◌, ◌||◌, IsTrue, if◌then◌else◌, List, [], ◌∷◌, ◌++◌, Contains, filter, Option, Some, None, is_some, option_map, refl, ap, sym, ◌∙◌, arith, rules}
 use Rattle.std.proofs.lemmas.Grind.{common_steps}
 use Rattle.std.proofs.lemmas.List.Folds.{list_any_at}
 use Rattle.std.proofs.lemmas.Map.Views.{Contains-from_any}
@@ -18,7 +18,7 @@ use Rattle.mg_model.specs.Messages.{RequestCommand, add_line, add_ephemeral, mod
 use Rattle.mg_model.specs.RequestRun.{LineDescriptors, RaisedNote, Running, item_at, described, described_row, rearms, raised, line_after, after_command}
 use Rattle.contexts.proofs.ExecLemmas.{both_known, is_true_from, not_null}
 use Rattle.contexts.proofs.TermLemmas.{same_is, split_and}
-use Rattle.requests.specs.Commands.{IsThere, raised_on, row_in, finished}
+use Rattle.requests.specs.Commands.{IsThere, raised_on, row_in, finished, without_settings, described_line}
 use Rattle.mg_model.specs.Members.{is_among}
 use Rattle.requests.specs.Connected.{has_line}
 
@@ -135,14 +135,20 @@ line_same r command gone number same l =
     ap (λ (g : Bool). if g then cleared (described_row (described command) (r.line l) l number) else described_row (described command) (r.line l) l number) (same l)
     ∙ row_either (described command) (r.line l) l number _ (λ h. described_none r.board r.results command (line l) h)
 
+-- the settings make no difference to it
+finished_by_line : (r : Running) (d : Option LineDescriptors) (done : Done) (number : ℕ) → finished r (option_map without_settings d) done number ≡ finished r d done number
+finished_by_line r None done number = refl
+finished_by_line r (Some on) done number = refl
+
 -- what is left to do once the board did a command is the rest of the command
 pub finished_is : (r : Running) (command : RequestCommand) (after : Board) (done : Done) (number : ℕ) → IsExecuted r.board (item_at r.results command) after done →
-    finished (record r { board = after }) (described command) done number ≡ after_command r command (item_at r.results command) after done number
+    finished (record r { board = after }) (described_line command) done number ≡ after_command r command (item_at r.results command) after done number
 finished_is r command after done number e =
     let same : (l : ℕ) → is_among done.lines l ≡ subtracts r.board (item_at r.results command) (line l) = among_leaves r.board (item_at r.results command) after done e in
-    λ i. record {
+    finished_by_line (record r { board = after }) (described command) done number
+    ∙ (λ i. record {
       board = after;
       line = λ l. line_same r command done.lines number same l i;
       results = r.results ++ done ∷ [];
       notes = filter (λ (n : RaisedNote). not (same n.line i || rearms (described command) n.line)) r.notes ++ raised_same r (described command) number i;
-    }
+    })

@@ -11,7 +11,7 @@ use Rattle.mg_model.specs.LineEvents.{LineRow}
 use Rattle.mg_model.specs.Messages as model
 use Rattle.mg_model.specs.RequestRun.{Running, RunsFrom, Succeeds, Fails, chosen_at, item_at, described}
 use Rattle.requests.specs.declared.command.RequestCommand.{RequestCommand}
-use Rattle.requests.specs.Commands.{finished, IsThere}
+use Rattle.requests.specs.Commands.{finished, described_line, IsThere}
 use Rattle.requests.specs.Views.{command_of}
 use Rattle.requests.proofs.CommandLemmas.{finished_is, there_after}
 
@@ -21,7 +21,7 @@ done_on r after line = record r { board = after; line = line }
 -- the board did a command, and then the rest of it was done
 pub succeeds : (r next : Running) (command : model.RequestCommand) (item : Item) (after : Board) (line : ℕ → LineRow) (done : Done) (place : ℕ) (refusal : Option ChosenRefusal) (number : ℕ) →
     item ≡ item_at r.results command → chosen_at refusal place ≡ None → IsExecuted r.board item after done → line ≡ r.line →
-    next ≡ finished (done_on r after line) (described command) done number → Succeeds r command place refusal number next
+    next ≡ finished (done_on r after line) (described_line command) done number → Succeeds r command place refusal number next
 succeeds r next command item after line done place refusal number item_is none e lines next_is =
     let executed : IsExecuted r.board (item_at r.results command) after done = subst (λ (i : Item). IsExecuted r.board i after done) item_is e in
     record {
@@ -29,7 +29,7 @@ succeeds r next command item after line done place refusal number item_is none e
       done = done;
       not_chosen = none;
       executed = executed;
-      next_is = next_is ∙ ap (λ (ls : ℕ → LineRow). finished (done_on r after ls) (described command) done number) lines ∙ finished_is r command after done number executed;
+      next_is = next_is ∙ ap (λ (ls : ℕ → LineRow). finished (done_on r after ls) (described_line command) done number) lines ∙ finished_is r command after done number executed;
     }
 
 pub there : (b : Board) (results : List Done) (command : model.RequestCommand) (item : Item) (after : Board) (done : Done) →

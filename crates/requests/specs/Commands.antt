@@ -11,7 +11,7 @@ use Rattle.mg_model.specs.Items.{Done}
 use Rattle.mg_model.specs.LineEvents.{LineRow, new_line, cleared}
 use Rattle.mg_model.specs.Members.{is_among}
 use Rattle.mg_model.specs.Messages.{RequestCommand}
-use Rattle.mg_model.specs.RequestRun.{LineDescriptors, RaisedNote, Running, Succeeds, Fails, described_row, note_from, with_descriptors, rearms}
+use Rattle.mg_model.specs.RequestRun.{LineDescriptors, RaisedNote, Running, Succeeds, Fails, on_line, described, described_row, note_from, with_descriptors, rearms}
 use Rattle.requests.specs.declared.outcome.LineNote.{LineNote}
 use Rattle.requests.specs.declared.progress.Progress.{Progress}
 use Rattle.requests.specs.Connected.{has_line, end_in}
@@ -28,6 +28,13 @@ running p = end_in p.connections p.results.items (line_notes p.notes.items)
 -- rows with lines cleared
 abbrev pub rows_cleared : List ℕ → (ℕ → Option LineRow) → ℕ → Option LineRow
 rows_cleared gone rows n = if is_among gone n then option_map cleared (rows n) else rows n
+
+-- the line that a command's descriptors are for, with those that only a line takes: the others are the board's
+abbrev pub without_settings : LineDescriptors → LineDescriptors
+without_settings on = on_line on.line (record on.descriptors { mode = None; remote = None })
+
+abbrev pub described_line : RequestCommand → Option LineDescriptors
+described_line command = option_map without_settings (described command)
 
 -- the line that is described is there
 abbrev pub IsThere : Board → Option LineDescriptors → Type 0

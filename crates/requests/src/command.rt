@@ -1,61 +1,77 @@
 //! A command of a request.
 use line_events::EventList;
 use mg_model::line_events::SignalSet;
-use mg_model::references::{ContextRef, RemoteRef, TerminationRef};
+use mg_model::references::{ContextRef, EphemeralRef, SettingsRef, TerminationRef};
 use mg_names::identifiers::LineNo;
-use mg_names::modes::Mode;
 use mg_names::topologies::Topology;
 
-/// What a command sets on its termination; what it leaves out stays. Events and Signals descriptors are for lines alone: on an
-/// ephemeral they do nothing (this profile's own).
+/// The descriptors that only a line takes; what is left out stays.
 #[derive(Debug, Default, Drop)]
-pub struct Descriptors {
-    /// The mode (H.248.1 section 7.1.7 on LocalControl).
-    pub mode: Option<Mode>,
-    /// The Remote.
-    pub remote: Option<RemoteRef>,
+pub struct LineDescriptors {
     /// The Events descriptor (H.248.1 section 7.1.9).
     pub events: Option<EventList>,
     /// The Signals descriptor (H.248.1 section 7.1.11).
     pub signals: Option<SignalSet>,
 }
 
-/// A command of a request (H.248.1 section 7.2).
+/// What an Add brings into its context.
 #[derive(Debug, Drop)]
-pub enum RequestCommand {
-    /// Add of a line.
-    AddLine {
-        /// The context, or CHOOSE for a new one.
-        context: ContextRef,
+pub enum Newcomer {
+    /// A line, from the null context.
+    Line {
         /// The line.
         line: LineNo,
-        /// What is set on it.
-        descriptors: Descriptors,
+        /// What is set on it beside the settings of the command.
+        descriptors: LineDescriptors,
     },
-    /// Add of a new ephemeral.
-    AddEphemeral {
+    /// An ephemeral that the gateway creates.
+    NewEphemeral,
+}
+
+/// The termination of a Modify or a Move.
+#[derive(Debug, Drop)]
+pub enum Target {
+    /// A line.
+    Line {
+        /// The line.
+        line: LineNo,
+        /// What is set on it beside the settings of the command.
+        descriptors: LineDescriptors,
+    },
+    /// An ephemeral.
+    Ephemeral(EphemeralRef),
+}
+
+/// A command of a request (H.248.1 section 7.2): an `Item` of the model with references in the place of identifiers, and with the
+/// descriptors of its line.
+#[derive(Debug, Drop)]
+pub enum RequestCommand {
+    /// Add.
+    Add {
         /// The context, or CHOOSE for a new one.
         context: ContextRef,
+        /// What is added.
+        added: Newcomer,
         /// What is set on it.
-        descriptors: Descriptors,
+        settings: SettingsRef,
     },
     /// Modify.
     Modify {
         /// The context, or NULL.
         context: ContextRef,
         /// The termination.
-        termination: TerminationRef,
+        target: Target,
         /// What is set on it.
-        descriptors: Descriptors,
+        settings: SettingsRef,
     },
     /// Move.
     Move {
         /// The context that it goes to.
         context: ContextRef,
         /// The termination.
-        termination: TerminationRef,
+        target: Target,
         /// What is set on it.
-        descriptors: Descriptors,
+        settings: SettingsRef,
     },
     /// Subtract of one termination.
     Subtract {

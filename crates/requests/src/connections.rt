@@ -11,7 +11,7 @@ ghost use Rattle.requests.specs.Commands.{filled, IsThere, row_in, noted, raised
 ghost use Rattle.requests.specs.Connected.{board_in, line_in, line_there, has_line, is_idle};
 ghost use Rattle.requests.specs.Views.{line_described};
 
-use crate::command::Descriptors;
+use crate::command::LineDescriptors;
 use crate::descriptors::{clear_lines, set_described};
 use crate::outcome::LineNote;
 use contexts::{Board, Done, ExecFault};
@@ -153,7 +153,7 @@ impl Connections {
     /// The descriptors of a command, and then the lines that left, which are cleared; the note that the command raises.
     pub(crate) fn describe(
         &mut self,
-        described: &Option<(LineNo, &Descriptors)>,
+        described: &Option<(LineNo, &LineDescriptors)>,
         gone: &[u32],
         number: u32,
     ) -> Result<Option<LineNote>, AllocError>

@@ -1,16 +1,15 @@
 //! The descriptors that a command gives to a line.
 ghost use Rattle.std.specs.Prelude.{◌≡◌, ℕ, Some, IfOk, OnOk, OnErr, is_some, option_map, option_and_then};
-ghost use Rattle.mg_model.specs.RequestRun.{with_signals, with_events, with_descriptors, described_row, of_termination, described};
+ghost use Rattle.mg_model.specs.RequestRun.{with_signals, with_events, with_descriptors, described_row};
 ghost use Rattle.line_events.specs.Rows.{row_of};
 ghost use Rattle.mg_model.specs.Updates.{with_at};
-ghost use Rattle.requests.specs.Commands.{rows_cleared, noted, raised_in};
-ghost use Rattle.requests.specs.Views.{descriptors_of, line_described, command_of};
+ghost use Rattle.requests.specs.Commands.{rows_cleared, noted, raised_in, described_line};
+ghost use Rattle.requests.specs.Views.{descriptors_of, line_described, line_in_target, command_of};
 
-use crate::command::{Descriptors, RequestCommand};
+use crate::command::{LineDescriptors, Newcomer, RequestCommand, Target};
 use crate::outcome::LineNote;
 use line_events::{EventList, LineFault, LineSet, Note};
 use mg_model::line_events::SignalSet;
-use mg_model::references::TerminationRef;
 use mg_names::identifiers::LineNo;
 use std::alloc::AllocError;
 
@@ -48,7 +47,7 @@ fn set_events(
 fn set_on(
     lines: &mut LineSet,
     line: LineNo,
-    descriptors: &Descriptors,
+    descriptors: &LineDescriptors,
     number: u32,
 ) -> Result<Option<Note>, AllocError>
     ensures rows { OnOk result (row_of lines.new ≡ with_at (row_of lines.old) line.0 (option_map (λ row. (with_descriptors row (descriptors_of descriptors.now) number).row) (row_of lines.old line.0))) }
@@ -62,7 +61,7 @@ fn set_on(
 /// The descriptors of a command, if they are for a line, with the note that they raise.
 pub(crate) fn set_described(
     lines: &mut LineSet,
-    described: &Option<(LineNo, &Descriptors)>,
+    described: &Option<(LineNo, &LineDescriptors)>,
     number: u32,
 ) -> Result<Option<LineNote>, AllocError>
     ensures rows { OnOk result ((n : ℕ) → row_of lines.new n ≡ option_map (λ row. described_row (line_described described.now) row n number) (row_of lines.old n)) }
@@ -87,39 +86,27 @@ pub(crate) fn clear_lines(lines: &mut LineSet, gone: &[u32])
     }
 }
 
-/// The line of a termination, with descriptors.
-fn of_termination<'a>(
-    termination: TerminationRef,
-    descriptors: &'a Descriptors,
-) -> Option<(LineNo, &'a Descriptors)>
-    ensures { line_described result ≡ of_termination termination (descriptors_of descriptors.now) }
+/// The line that a target is, with its descriptors.
+fn described_in(target: &Target) -> Option<(LineNo, &LineDescriptors)>
+    ensures { line_described result ≡ line_in_target target.now }
 {
-    match termination {
-        TerminationRef::Line(line) => Some((line, descriptors)),
-        TerminationRef::Ephemeral(_) => None,
+    match target {
+        Target::Line { line, descriptors } => Some((*line, descriptors)),
+        Target::Ephemeral(_) => None,
     }
 }
 
 /// The line that the descriptors of a command are for, with them.
-pub(crate) fn described(command: &RequestCommand) -> Option<(LineNo, &Descriptors)>
-    ensures { line_described result ≡ described (command_of command.now) }
+pub(crate) fn described(command: &RequestCommand) -> Option<(LineNo, &LineDescriptors)>
+    ensures { line_described result ≡ described_line (command_of command.now) }
 {
     match command {
-        RequestCommand::AddLine {
-            line,
-            descriptors,
+        RequestCommand::Add {
+            added: Newcomer::Line { line, descriptors },
             ..
         } => Some((*line, descriptors)),
-        RequestCommand::Modify {
-            termination,
-            descriptors,
-            ..
-        } => of_termination(*termination, descriptors),
-        RequestCommand::Move {
-            termination,
-            descriptors,
-            ..
-        } => of_termination(*termination, descriptors),
+        RequestCommand::Modify { target, .. } => described_in(target),
+        RequestCommand::Move { target, .. } => described_in(target),
         _ => None,
     }
 }

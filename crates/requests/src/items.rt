@@ -2,12 +2,12 @@
 ghost use Rattle.std.specs.Prelude.{◌≡◌, option_map};
 ghost use Rattle.mg_model.specs.declared.items.Item.TheVariants as item;
 ghost use Rattle.mg_model.specs.RequestRun.{context_at, ephemeral_at, termination_at, remote_at, settings_at, item_at};
-ghost use Rattle.requests.specs.Views.{descriptors_of, command_of};
+ghost use Rattle.requests.specs.Views.{settings_alone, add_of, termination_of, command_of};
 
-use crate::command::{Descriptors, RequestCommand};
+use crate::command::{Newcomer, RequestCommand, Target};
 use contexts::Done;
 use mg_model::items::{Added, Item, RemoteSetting, Settings};
-use mg_model::references::{ContextRef, EphemeralRef, RemoteRef, TerminationRef};
+use mg_model::references::{ContextRef, EphemeralRef, RemoteRef, SettingsRef, TerminationRef};
 use mg_names::identifiers::{ContextId, TermId};
 use mg_names::topologies::Topology;
 
@@ -57,28 +57,42 @@ fn remote_at(results: &[Done], remote: RemoteRef) -> RemoteSetting
     }
 }
 
-/// What the descriptors set on the connection model.
-fn settings_at(results: &[Done], descriptors: &Descriptors) -> Settings
-    ensures { result ≡ settings_at results.now (descriptors_of descriptors.now) }
+/// The termination of a Modify or a Move.
+fn target_at(results: &[Done], target: &Target) -> TermId
+    ensures { result ≡ termination_at results.now (termination_of target.now) }
 {
-    let remote = match descriptors.remote {
+    match target {
+        Target::Line { line, .. } => TermId::Line(*line),
+        Target::Ephemeral(ephemeral) => TermId::Eph(ephemeral_at(results, *ephemeral)),
+    }
+}
+
+/// What is set on the connection model.
+fn settings_at(results: &[Done], settings: SettingsRef) -> Settings
+    ensures { result ≡ settings_at results.now (settings_alone settings) }
+{
+    let remote = match settings.remote {
         Some(remote) => Some(remote_at(results, remote)),
         None => None,
     };
     Settings {
-        mode: descriptors.mode,
+        mode: settings.mode,
         remote,
     }
 }
 
 /// Add on the connection model.
-fn added_at(results: &[Done], context: ContextRef, added: Added, descriptors: &Descriptors) -> Item
-    ensures { result ≡ item.Add (record { 0 = context_at results.now context }) added (settings_at results.now (descriptors_of descriptors.now)) }
+fn added_at(results: &[Done], context: ContextRef, added: &Newcomer, settings: SettingsRef) -> Item
+    ensures { result ≡ item_at results.now (add_of context added.now settings) }
 {
+    let added = match added {
+        Newcomer::Line { line, .. } => Added::Line(*line),
+        Newcomer::NewEphemeral => Added::NewEphemeral,
+    };
     Item::Add {
         context: context_at(results, context),
         added,
-        settings: settings_at(results, descriptors),
+        settings: settings_at(results, settings),
     }
 }
 
@@ -86,31 +100,26 @@ fn added_at(results: &[Done], context: ContextRef, added: Added, descriptors: &D
 fn modified_at(
     results: &[Done],
     context: ContextRef,
-    termination: TerminationRef,
-    descriptors: &Descriptors,
+    target: &Target,
+    settings: SettingsRef,
 ) -> Item
-    ensures { result ≡ item.Modify (record { 0 = context_at results.now context }) (termination_at results.now termination) (settings_at results.now (descriptors_of descriptors.now)) }
+    ensures { result ≡ item.Modify (record { 0 = context_at results.now context }) (termination_at results.now (termination_of target.now)) (settings_at results.now (settings_alone settings)) }
 {
     Item::Modify {
         context: context_at(results, context),
-        termination: termination_at(results, termination),
-        settings: settings_at(results, descriptors),
+        termination: target_at(results, target),
+        settings: settings_at(results, settings),
     }
 }
 
 /// Move on the connection model.
-fn moved_at(
-    results: &[Done],
-    context: ContextRef,
-    termination: TerminationRef,
-    descriptors: &Descriptors,
-) -> Item
-    ensures { result ≡ item.Move (record { 0 = context_at results.now context }) (termination_at results.now termination) (settings_at results.now (descriptors_of descriptors.now)) }
+fn moved_at(results: &[Done], context: ContextRef, target: &Target, settings: SettingsRef) -> Item
+    ensures { result ≡ item.Move (record { 0 = context_at results.now context }) (termination_at results.now (termination_of target.now)) (settings_at results.now (settings_alone settings)) }
 {
     Item::Move {
         context: context_at(results, context),
-        termination: termination_at(results, termination),
-        settings: settings_at(results, descriptors),
+        termination: target_at(results, target),
+        settings: settings_at(results, settings),
     }
 }
 
@@ -137,25 +146,21 @@ pub(crate) fn item_at(results: &[Done], command: &RequestCommand) -> Item
     ensures { result ≡ item_at results.now (command_of command.now) }
 {
     match command {
-        RequestCommand::AddLine {
+        RequestCommand::Add {
             context,
-            line,
-            descriptors,
-        } => added_at(results, *context, Added::Line(*line), descriptors),
-        RequestCommand::AddEphemeral {
-            context,
-            descriptors,
-        } => added_at(results, *context, Added::NewEphemeral, descriptors),
+            added,
+            settings,
+        } => added_at(results, *context, added, *settings),
         RequestCommand::Modify {
             context,
-            termination,
-            descriptors,
-        } => modified_at(results, *context, *termination, descriptors),
+            target,
+            settings,
+        } => modified_at(results, *context, target, *settings),
         RequestCommand::Move {
             context,
-            termination,
-            descriptors,
-        } => moved_at(results, *context, *termination, descriptors),
+            target,
+            settings,
+        } => moved_at(results, *context, target, *settings),
         RequestCommand::Subtract {
             context,
             termination,

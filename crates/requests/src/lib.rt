@@ -8,6 +8,7 @@ mod descriptors;
 mod event;
 mod idle;
 mod items;
+mod message_id;
 mod note;
 mod outcome;
 mod progress;
@@ -16,8 +17,9 @@ mod reply;
 mod request;
 mod run;
 
-pub use command::{Descriptors, RequestCommand};
+pub use command::{LineDescriptors, Newcomer, RequestCommand, Target};
 pub use connections::Connections;
+pub use message_id::MessageId;
 pub use note::SentNote;
 pub use outcome::{LineNote, Outcome};
 pub use reply::Reply;

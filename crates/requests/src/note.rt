@@ -1,6 +1,8 @@
 //! A note on its way.
 ghost use Rattle.std.specs.Prelude.{◌≡◌};
 
+use crate::message_id::MessageId;
+use crate::outcome::LineNote;
 use line_events::Note;
 use mg_names::identifiers::{Assoc, CallNo, LineNo};
 use std::marker::Model;
@@ -9,11 +11,8 @@ use std::marker::Model;
 /// profile's own).
 #[derive(Debug, Drop)]
 pub struct SentNote {
-    call: CallNo,
-    association: Assoc,
-    number: u32,
-    line: LineNo,
-    note: Note,
+    id: MessageId,
+    raised: LineNote,
 }
 
 impl Model for SentNote {
@@ -21,55 +20,49 @@ impl Model for SentNote {
 
     ghost Value = { model.SentNote };
 
-    ghost view = { λ n. record { call = n.call.0; association = n.association.0; number = n.number; line = n.line.0; note = n.note } };
+    ghost view = { λ n. record { call = n.id.call.0; association = n.id.association.0; number = n.id.number; line = n.raised.line.0; note = n.raised.note } };
 }
 
 impl SentNote {
-    /// The note of a line, on its way to a call.
-    pub fn new(call: CallNo, association: Assoc, number: u32, line: LineNo, note: Note) -> SentNote
-        ensures { result ≡ record { call = call.0; association = association.0; number = number; line = line.0; note = note } }
+    /// What is raised on a line, on its way to a call.
+    pub fn new(id: MessageId, raised: LineNote) -> SentNote
+        ensures { result ≡ record { call = id.call.0; association = id.association.0; number = id.number; line = raised.line.0; note = raised.note } }
     {
-        SentNote {
-            call,
-            association,
-            number,
-            line,
-            note,
-        }
+        SentNote { id, raised }
     }
 
     /// The call.
     pub fn call(&self) -> CallNo
         ensures { result.0 ≡ self.now.call }
     {
-        self.call
+        self.id.call
     }
 
     /// The association in which it was sent.
     pub fn association(&self) -> Assoc
         ensures { result.0 ≡ self.now.association }
     {
-        self.association
+        self.id.association
     }
 
     /// Its number among the notes of the call, from 1.
     pub fn number(&self) -> u32
         ensures { result ≡ self.now.number }
     {
-        self.number
+        self.id.number
     }
 
     /// The line.
     pub fn line(&self) -> LineNo
         ensures { result.0 ≡ self.now.line }
     {
-        self.line
+        self.raised.line
     }
 
     /// What is reported of the line.
     pub fn note(&self) -> &Note
         ensures { result.now ≡ self.now.note }
     {
-        &self.note
+        &self.raised.note
     }
 }

@@ -1,12 +1,12 @@
 //! A request while it runs.
 ghost use Rattle.std.specs.Prelude.{◌≡◌, [], ◌∷◌, ◌++◌, map, IfOk, OnOk};
 ghost use Rattle.mg_model.specs.RequestRun.{RunsFrom, chosen_at, rearms, described};
-ghost use Rattle.requests.specs.Commands.{running, IsThere, notes_left, noted, finished, IsStep};
+ghost use Rattle.requests.specs.Commands.{running, IsThere, notes_left, noted, finished, described_line, IsStep};
 ghost use Rattle.mg_model.specs.Members.{is_among};
 ghost use Rattle.requests.specs.Connected.{board_in, start_in};
 ghost use Rattle.requests.specs.Views.{command_of, line_described, line_notes};
 
-use crate::command::{Descriptors, RequestCommand};
+use crate::command::{LineDescriptors, RequestCommand};
 use crate::connections::Connections;
 use crate::descriptors::described;
 use crate::items::item_at;
@@ -46,7 +46,7 @@ fn is_among(gone: &[u32], line: LineNo) -> bool
 }
 
 /// Whether a command replaces the Events descriptor of a line.
-fn rearms(described: &Option<(LineNo, &Descriptors)>, line: LineNo) -> bool
+fn rearms(described: &Option<(LineNo, &LineDescriptors)>, line: LineNo) -> bool
     ensures { result ≡ rearms (line_described described.now) line.0 }
 {
     match described {
@@ -59,7 +59,7 @@ fn rearms(described: &Option<(LineNo, &Descriptors)>, line: LineNo) -> bool
 fn keep_standing(
     notes: &mut Vec<LineNote>,
     gone: &[u32],
-    described: &Option<(LineNo, &Descriptors)>,
+    described: &Option<(LineNo, &LineDescriptors)>,
 )
     ensures { line_notes notes.new.items ≡ notes_left gone.now (line_described described.now) (line_notes notes.old.items) }
 {
@@ -105,7 +105,7 @@ impl Progress {
         number: u32,
     ) -> Result<(), AllocError>
         requires { IsThere (board_in self.old.connections) (described (command_of command.now)) }
-        ensures { OnOk result (running self.new ≡ finished (running self.old) (described (command_of command.now)) done number) }
+        ensures { OnOk result (running self.new ≡ finished (running self.old) (described_line (command_of command.now)) done number) }
     {
         let described = described(command);
         let note = self.connections.describe(&described, done.lines(), number)?;

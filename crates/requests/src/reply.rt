@@ -1,6 +1,7 @@
 //! A reply.
 ghost use Rattle.std.specs.Prelude.{◌≡◌, IfOk};
 
+use crate::message_id::MessageId;
 use contexts::Done;
 use mg_model::failures::Failure;
 use mg_names::identifiers::{Assoc, CallNo};
@@ -10,9 +11,7 @@ use std::marker::Model;
 /// The reply to a request: the results of the commands that were done, and the failure if there was one (H.248.1 section 8.2.2).
 #[derive(Debug, Drop)]
 pub struct Reply {
-    call: CallNo,
-    association: Assoc,
-    number: u32,
+    id: MessageId,
     results: Vec<Done>,
     failure: Option<Failure>,
 }
@@ -22,7 +21,7 @@ impl Model for Reply {
 
     ghost Value = { model.Reply };
 
-    ghost view = { λ r. record { call = r.call.0; association = r.association.0; number = r.number; results = r.results.items; failure = r.failure } };
+    ghost view = { λ r. record { call = r.id.call.0; association = r.id.association.0; number = r.id.number; results = r.results.items; failure = r.failure } };
 }
 
 /// The same results again.
@@ -34,19 +33,11 @@ fn copied(results: &Vec<Done>) -> Result<Vec<Done>, AllocError>
 
 impl Reply {
     /// The reply with these results. The failure has the place of its command, from 0.
-    pub fn new(
-        call: CallNo,
-        association: Assoc,
-        number: u32,
-        results: Vec<Done>,
-        failure: Option<Failure>,
-    ) -> Reply
-        ensures { result ≡ record { call = call.0; association = association.0; number = number; results = results.items; failure = failure } }
+    pub fn new(id: MessageId, results: Vec<Done>, failure: Option<Failure>) -> Reply
+        ensures { result ≡ record { call = id.call.0; association = id.association.0; number = id.number; results = results.items; failure = failure } }
     {
         Reply {
-            call,
-            association,
-            number,
+            id,
             results,
             failure,
         }
@@ -57,9 +48,7 @@ impl Reply {
         ensures { IfOk result (λ copied. copied ≡ self.now) }
     {
         Ok(Reply {
-            call: self.call,
-            association: self.association,
-            number: self.number,
+            id: self.id,
             results: copied(&self.results)?,
             failure: self.failure,
         })
@@ -69,21 +58,21 @@ impl Reply {
     pub fn call(&self) -> CallNo
         ensures { result.0 ≡ self.now.call }
     {
-        self.call
+        self.id.call
     }
 
     /// The association in which the request was sent.
     pub fn association(&self) -> Assoc
         ensures { result.0 ≡ self.now.association }
     {
-        self.association
+        self.id.association
     }
 
     /// The number of the transaction.
     pub fn number(&self) -> u32
         ensures { result ≡ self.now.number }
     {
-        self.number
+        self.id.number
     }
 
     /// The results of the commands that were done, in their order.

@@ -6,5 +6,5 @@ use Rattle.gateway.proofs.numbering.numbered.Given as goal
 abbrev pub invariant-loop-noted : goal.invariant-loop-noted
 invariant-loop-noted l = record {
   number : l.number ≡ l.last + length l.yielded;
-  sent : l.sent.items ≡ sent_notes l.call.0 l.association.0 l.last (line_notes l.yielded);
+  sent : l.sent.items ≡ sent_notes l.request.call l.request.association l.last (line_notes l.yielded);
 }

@@ -31,8 +31,8 @@ returns-clause-runs c =
     c.new-reply.result c.in_ok-kept.kept c.in_ok-notes.notes.items (c.args.last + c.len-count.result)
     (subst (λ (w : GatewayValue). IsEnd w.connected request c.args.chosen c.in_ok-connections.connections
     c.in_ok-connections.outcome.results.items (line_notes c.in_ok-connections.outcome.notes.items) c.in_ok-connections.outcome.failure) c.self.view_is c.in_ok-connections.ensures.runs)
-    (rw (c.new-reply.ensures, c.call-call.ensures, c.association-association.ensures, c.number.ensures) refl)
+    (rw (c.new-reply.ensures, c.id.ensures.call, c.id.ensures.association, c.id.ensures.number) refl)
     c.in_ok-kept.ensures
-    (rw (c.in_ok-notes.ensures, c.call-call.ensures, c.association-association.ensures) refl)
+    c.in_ok-notes.ensures
     (let same : length (line_notes c.in_ok-connections.outcome.notes.items) ≡ length c.in_ok-connections.outcome.notes.items = rw length-map refl in
     omega (arith, c.in_ok-connections.outcome.notes.ok))
