@@ -2,18 +2,20 @@ use gateway::{Answer, CannotHappen, Gateway, OpenFault};
 use line_events::{EventList, ListItem};
 use mg_model::failures::{ChosenRefusal, Failure, Refusal};
 use mg_model::line_events::{Hook, LineEvent};
-use mg_model::references::{ContextRef, TerminationRef};
+use mg_model::references::{ContextRef, SettingsRef};
 use mg_model::transitions::EventItem;
 use mg_names::codes::Code;
-use mg_names::identifiers::{Assoc, CallNo, ContextId, LineNo, TermId};
+use mg_names::identifiers::{Assoc, CallNo, ContextId, LineNo};
 use mg_names::kinds::Kind;
 use mg_names::modes::Mode;
 use mg_names::strictness::Strict;
-use requests::{Descriptors, Reply, Request, RequestCommand, SentNote};
+use requests::{
+    LineDescriptors, MessageId, Newcomer, Reply, Request, RequestCommand, SentNote, Target,
+};
 use std::alloc::{AllocError, Global};
 use std::test::Fail;
 
-const CALL: CallNo = CallNo(0);
+pub(crate) const CALL: CallNo = CallNo(0);
 
 const LINES: [LineNo; 3] = [LineNo(1), LineNo(2), LineNo(3)];
 
@@ -24,7 +26,7 @@ const OFF: LineEvent = LineEvent::Hook(Hook::Off);
 const ON: LineEvent = LineEvent::Hook(Hook::On);
 
 /// A gateway with five lines and call 0 on three of them.
-fn gateway(alloc: Global) -> Result<Gateway, Fail> {
+pub(crate) fn gateway(alloc: Global) -> Result<Gateway, Fail> {
     let mut gateway = Gateway::new(alloc, &MORE_LINES)?;
     match gateway.open_call(CALL, &LINES) {
         Ok(()) => Ok(gateway),
@@ -33,10 +35,8 @@ fn gateway(alloc: Global) -> Result<Gateway, Fail> {
 }
 
 /// An Events descriptor with this item alone.
-fn events(alloc: Global, item: ListItem) -> Result<Descriptors, AllocError> {
-    Ok(Descriptors {
-        mode: None,
-        remote: None,
+fn events(alloc: Global, item: ListItem) -> Result<LineDescriptors, AllocError> {
+    Ok(LineDescriptors {
         events: Some(EventList::new(Vec::from_array(alloc, [item])?)),
         signals: None,
     })
@@ -44,31 +44,44 @@ fn events(alloc: Global, item: ListItem) -> Result<Descriptors, AllocError> {
 
 /// Add of a line to a new context.
 fn add(line: u32) -> RequestCommand {
-    RequestCommand::AddLine {
+    RequestCommand::Add {
         context: ContextRef::Number(ContextId::CHOOSE),
-        line: LineNo(line),
-        descriptors: Descriptors {
+        added: Newcomer::Line {
+            line: LineNo(line),
+            descriptors: LineDescriptors::default(),
+        },
+        settings: SettingsRef {
             mode: Some(Mode::SendReceive),
             remote: None,
-            events: None,
-            signals: None,
         },
     }
 }
 
 /// Modify of line 1 in the null context.
-fn arm(descriptors: Descriptors) -> RequestCommand {
+fn arm(descriptors: LineDescriptors) -> RequestCommand {
     RequestCommand::Modify {
         context: ContextRef::Number(ContextId::NULL),
-        termination: TerminationRef::Line(LineNo(1)),
-        descriptors,
+        target: Target::Line {
+            line: LineNo(1),
+            descriptors,
+        },
+        settings: SettingsRef::default(),
+    }
+}
+
+/// A message of call 0 in association 1.
+pub(crate) fn id(number: u32) -> MessageId {
+    MessageId {
+        call: CALL,
+        association: Assoc(1),
+        number,
     }
 }
 
 /// The request of call 0 in association 1 with one command.
 fn request(alloc: Global, number: u32, command: RequestCommand) -> Result<Request, AllocError> {
     let commands = Vec::from_array(alloc, [command])?;
-    Ok(Request::new(CALL, Assoc(1), number, commands))
+    Ok(Request::new(id(number), commands))
 }
 
 /// What a gateway does with a request.
@@ -98,7 +111,7 @@ fn adds(gateway: &mut Gateway, alloc: Global, call: CallNo, number: u32) -> Deed
 }
 
 /// How many contexts a gateway has.
-fn contexts(gateway: &Gateway) -> usize {
+pub(crate) fn contexts(gateway: &Gateway) -> usize {
     gateway.board().contexts()
 }
 
@@ -156,7 +169,7 @@ fn noted(
     commands: Vec<RequestCommand>,
 ) -> Result<Option<(usize, Option<Told>)>, Fail> {
     let mut gateway = gateway(alloc)?;
-    let request = Request::new(CALL, Assoc(1), 1, commands);
+    let request = Request::new(id(1), commands);
     match gateway.execute(CALL, &request, None) {
         Answer::Executed { notes, .. } => {
             let first = notes.as_slice().get(0).map(|note| told_by(note));

@@ -3,4 +3,6 @@
 #![tactic(auto)]
 
 #[cfg(test)]
+mod failing_requests;
+#[cfg(test)]
 mod gateways;

@@ -118,9 +118,9 @@ fn happen(lines: &mut LineSet, event: &Event) -> Result<Option<Note>, LineFault>
         Event::Flash => lines.flash(LINE),
         Event::Digit(symbol) => lines.digit(LINE, *symbol),
         Event::Pause => lines.pause(LINE),
-        Event::Signal(set) => lines.signal(LINE, *set),
-        Event::SignalEnd(signal) => lines.signal_end(LINE, *signal),
-        Event::Clear => lines.clear(LINE),
+        Event::Signal(set) => lines.signal(LINE, *set).map(|()| None),
+        Event::SignalEnd(signal) => lines.signal_end(LINE, *signal).map(|()| None),
+        Event::Clear => lines.clear(LINE).map(|()| None),
     }
 }
 
@@ -152,7 +152,7 @@ fn worked_line(rt: HostRuntime) -> Result<(), Fail> {
     let mut lines = LineSet::new(rt.alloc());
     lines.add_line(LINE)?;
     assert!(rt; lines.add_line(LINE) == Err(LineFault::CannotHappen));
-    let _ = lines.signal(LINE, DIAL_TONE)?;
+    lines.signal(LINE, DIAL_TONE)?;
     assert!(rt; lines.arm(LINE, &list, 1)?.is_none());
     for (place, (event, after)) in FIRST.iter().enumerate() {
         assert!(rt; is_so(&mut lines, event, after), "first {place}");
@@ -171,7 +171,7 @@ fn standing_hook_state(rt: HostRuntime) -> Result<(), Fail> {
     lines.add_line(LINE)?;
     assert!(rt; lines.arm(LINE, &list, 3)?.is_none());
     let _ = lines.hook(LINE, Hook::Off)?;
-    let _ = lines.signal(LINE, DIAL_TONE)?;
+    lines.signal(LINE, DIAL_TONE)?;
     let mut copied = lines.copy()?;
     let Some(note) = copied.arm(LINE, &list, 4)? else {
         panic!(rt; "no note");

@@ -1,7 +1,7 @@
 use line_events::{EventList, LineFault, ListItem};
 use mg_model::failures::{ChosenRefusal, Failure, Refusal};
 use mg_model::line_events::{Hook, LineEvent, SignalSet};
-use mg_model::references::{ContextRef, EphemeralRef, RemoteRef, TerminationRef};
+use mg_model::references::{ContextRef, EphemeralRef, RemoteRef, SettingsRef, TerminationRef};
 use mg_model::transitions::EventItem;
 use mg_names::codes::Code;
 use mg_names::identifiers::{Assoc, CallNo, ContextId, LineNo, TermId};
@@ -9,7 +9,10 @@ use mg_names::kinds::Kind;
 use mg_names::modes::Mode;
 use mg_names::signals::Signal;
 use mg_names::strictness::Strict;
-use requests::{Connections, Descriptors, Outcome, Reply, Request, RequestCommand, SentNote};
+use requests::{
+    Connections, LineDescriptors, LineNote, MessageId, Newcomer, Outcome, Reply, Request,
+    RequestCommand, SentNote, Target,
+};
 use std::alloc::{AllocError, Global};
 use std::test::Fail;
 
@@ -22,21 +25,14 @@ fn failed(place: usize, code: Code) -> Option<Failure> {
     Some(Failure { place, code })
 }
 
-/// Nothing is set.
-fn nothing() -> Descriptors {
-    Descriptors {
-        mode: None,
-        remote: None,
-        events: None,
-        signals: None,
-    }
+/// No Events and no Signals descriptor.
+fn nothing() -> LineDescriptors {
+    LineDescriptors::default()
 }
 
 /// An Events descriptor with one item.
-fn events(alloc: Global, item: ListItem) -> Result<Descriptors, AllocError> {
-    Ok(Descriptors {
-        mode: None,
-        remote: None,
+fn events(alloc: Global, item: ListItem) -> Result<LineDescriptors, AllocError> {
+    Ok(LineDescriptors {
         events: Some(EventList::new(Vec::from_array(alloc, [item])?)),
         signals: None,
     })
@@ -44,19 +40,34 @@ fn events(alloc: Global, item: ListItem) -> Result<Descriptors, AllocError> {
 
 /// Add of a line.
 fn add(context: ContextRef, line: u32) -> RequestCommand {
-    RequestCommand::AddLine {
+    RequestCommand::Add {
         context,
-        line: LineNo(line),
-        descriptors: nothing(),
+        added: Newcomer::Line {
+            line: LineNo(line),
+            descriptors: nothing(),
+        },
+        settings: SettingsRef::default(),
     }
 }
 
 /// Modify of a line.
-fn modify(context: ContextRef, line: u32, descriptors: Descriptors) -> RequestCommand {
+fn modify(context: ContextRef, line: u32, descriptors: LineDescriptors) -> RequestCommand {
     RequestCommand::Modify {
         context,
-        termination: TerminationRef::Line(LineNo(line)),
-        descriptors,
+        target: Target::Line {
+            line: LineNo(line),
+            descriptors,
+        },
+        settings: SettingsRef::default(),
+    }
+}
+
+/// A message of call 1 in association 1.
+fn id(number: u32) -> MessageId {
+    MessageId {
+        call: CallNo(1),
+        association: Assoc(1),
+        number,
     }
 }
 
@@ -68,7 +79,7 @@ fn request(
     second: RequestCommand,
 ) -> Result<Request, AllocError> {
     let commands = Vec::from_array(alloc, [first, second])?;
-    Ok(Request::new(CallNo(1), Assoc(1), number, commands))
+    Ok(Request::new(id(number), commands))
 }
 
 /// The number of the context in which a line stands.
@@ -218,18 +229,17 @@ fn created(
 #[test]
 fn an_ephemeral_is_named_by_its_place(rt: HostRuntime) -> Result<(), Fail> {
     let alloc = rt.alloc();
-    let made = RequestCommand::AddEphemeral {
+    let made = RequestCommand::Add {
         context: CHOOSE,
-        descriptors: nothing(),
+        added: Newcomer::NewEphemeral,
+        settings: SettingsRef::default(),
     };
     let set = RequestCommand::Modify {
         context: ContextRef::MadeAt(0),
-        termination: TerminationRef::Ephemeral(EphemeralRef::MadeAt(0)),
-        descriptors: Descriptors {
+        target: Target::Ephemeral(EphemeralRef::MadeAt(0)),
+        settings: SettingsRef {
             mode: Some(Mode::SendOnly),
             remote: Some(RemoteRef::To(EphemeralRef::MadeAt(0))),
-            events: None,
-            signals: None,
         },
     };
     let Some((number, mode, remote)) = created(alloc, &request(alloc, 1, made, set)?)? else {
@@ -291,9 +301,7 @@ fn an_open_line_tells_of_off_hook(rt: HostRuntime) -> Result<(), Fail> {
 #[test]
 fn a_restart_stops_the_ring(rt: HostRuntime) -> Result<(), Fail> {
     let alloc = rt.alloc();
-    let ring = Descriptors {
-        mode: None,
-        remote: None,
+    let ring = LineDescriptors {
         events: None,
         signals: Some(SignalSet {
             ring: true,
@@ -317,8 +325,7 @@ fn a_reply_is_copied(rt: HostRuntime) -> Result<(), Fail> {
     let asked = request(alloc, 9, add(CHOOSE, 1), add(CHOOSE, 1))?;
     let (_, outcome) = Connections::new(alloc, &LINES)?.run(&asked, None)?;
     let context = told_by(&outcome).context;
-    let (call, association, number) = (asked.call(), asked.association(), asked.number());
-    let reply = Reply::new(call, association, number, outcome.results, outcome.failure);
+    let reply = Reply::new(asked.id(), outcome.results, outcome.failure);
     let copied = reply.copy()?;
     assert!(rt; (copied.call(), copied.association(), copied.number()) == (CallNo(1), Assoc(1), 9));
     assert!(rt; copied.failure() == failed(1, Code::AlreadyInContext));
@@ -334,8 +341,9 @@ fn a_note_is_sent_with_its_number(rt: HostRuntime) -> Result<(), Fail> {
     let Ok(Some(note)) = connections.happen(LineNo(2), LineEvent::Hook(Hook::Off)) else {
         panic!(rt; "a note");
     };
-    let sent = SentNote::new(CallNo(1), Assoc(2), 3, LineNo(2), note);
-    assert!(rt; (sent.call(), sent.association(), sent.number()) == (CallNo(1), Assoc(2), 3));
+    let line = LineNo(2);
+    let sent = SentNote::new(id(3), LineNote { line, note });
+    assert!(rt; (sent.call(), sent.association(), sent.number()) == (CallNo(1), Assoc(1), 3));
     assert!(rt; sent.line() == LineNo(2));
     assert!(rt; sent.note().kind() == Kind::Of);
     Ok(())
