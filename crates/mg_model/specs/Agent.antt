@@ -1,24 +1,19 @@
 -- The agent of one call: the state that it is in, what its names stand for, what it waits for, and its steps. This profile's
 -- own. A reader should check exactly when each step is enabled, what a reply binds, and that a note leads on only where its
 -- RequestID is the one that is expected of its line.
-use Rattle.std.specs.Prelude.{ℕ, ◌+◌, ◌==◌, Bool, true, false, not, ◌&&◌, if◌then◌else◌, nat_lt, nat_le, List, [], ◌∷◌, map, length, slice_get, Option, Some, None, unwrap_or, option_map, is_some}
+use Rattle.std.specs.Prelude.{ℕ, ◌+◌, ◌==◌, Bool, true, false, not, ◌&&◌, if◌then◌else◌, nat_lt, nat_le, List, [], ◌∷◌, length, Option, Some, None, unwrap_or, option_map, is_some}
 use Rattle.std.specs.List.{list_any}
-use Rattle.mg_names.specs.declared.signals.Signal.{Signal}
-use Rattle.mg_names.specs.declared.signals.Signal.TheVariants.{Ring, DialTone, RingingTone, BusyTone, CongestionTone}
 use Rattle.mg_model.specs.declared.commands.Command.{Command}
 use Rattle.mg_model.specs.declared.commands.Command.TheVariants.{AddLine, AddEphemeral, ModifyLine, ModifyEphemeral, MoveLine, MoveEphemeral, Subtract, SubtractAll, SetTopology}
 use Rattle.mg_model.specs.declared.commands.EphemeralOptions.{EphemeralOptions}
-use Rattle.mg_model.specs.declared.commands.EventsName.{EventsName}
 use Rattle.mg_model.specs.declared.commands.LineOptions.{LineOptions}
 use Rattle.mg_model.specs.declared.commands.Place.{Place}
 use Rattle.mg_model.specs.declared.commands.Place.TheVariants.{NullContext, Context}
 use Rattle.mg_model.specs.declared.commands.RemoteOption.{RemoteOption}
 use Rattle.mg_model.specs.declared.commands.RemoteOption.TheVariants.{NoneGiven, Peer}
-use Rattle.mg_model.specs.declared.commands.SignalsName.{SignalsName}
 use Rattle.mg_model.specs.declared.commands.Termination.{Termination}
 use Rattle.mg_model.specs.declared.commands.Termination.TheVariants as termination
 use Rattle.mg_model.specs.declared.failures.Failure.{Failure}
-use Rattle.mg_model.specs.declared.line_events.SignalSet.{SignalSet}
 use Rattle.mg_model.specs.declared.references.ContextRef.{ContextRef}
 use Rattle.mg_model.specs.declared.references.ContextRef.TheVariants.{Number, MadeAt}
 use Rattle.mg_model.specs.declared.references.EphemeralRef.{EphemeralRef}
@@ -27,16 +22,15 @@ use Rattle.mg_model.specs.declared.references.RemoteRef.{RemoteRef}
 use Rattle.mg_model.specs.declared.references.RemoteRef.TheVariants.{Nothing, To}
 use Rattle.mg_model.specs.declared.references.TerminationRef.{TerminationRef}
 use Rattle.mg_model.specs.declared.references.TerminationRef.TheVariants.{Line, Ephemeral}
-use Rattle.mg_model.specs.declared.transitions.EventItem.{EventItem}
-use Rattle.mg_model.specs.declared.transitions.EventItem.TheVariants as item
 use Rattle.mg_model.specs.Delivery.{Inbox, arrival, is_new, with_accepted}
 use Rattle.mg_model.specs.Items.{Done}
-use Rattle.mg_model.specs.LineEvents.{ListItem, Note}
+use Rattle.mg_model.specs.LineEvents.{Note}
+use Rattle.mg_model.specs.ListContents.{list_of, set_of}
 use Rattle.mg_model.specs.Messages.{Descriptors, RequestCommand, add_line, add_ephemeral, modify, move, subtract, subtract_all, set_topology, Request, Reply, SentNote}
 use Rattle.mg_model.specs.Numbers.{null, choose, all, no_ephemeral, first_association, first_number, opening_request, last_number}
 use Rattle.mg_model.specs.Request.{Names, built, created_context, created_ephemeral}
-use Rattle.mg_model.specs.Script.{Script, NamedMap, DigitMap}
-use Rattle.mg_model.specs.Tables.{state_of, items_of, signals_of, target_in, is_empty}
+use Rattle.mg_model.specs.Script.{Script}
+use Rattle.mg_model.specs.Tables.{state_of, target_in, is_empty}
 use Rattle.mg_model.specs.Updates.{with_at}
 
 -- what the agent waits for: the reply to a request, or `pass` where its request was empty; or it is at rest
@@ -61,41 +55,6 @@ pub record Agent : Type 0 where
   pub expected : ℕ → Option ℕ
   -- the numbers of the notes that were accepted in this association
   pub accepted : ℕ → Bool
-
--- ---- the content of lists
-
-abbrev pub map_of : Script → ℕ → DigitMap
-map_of script m = unwrap_or (option_map (λ (named : NamedMap). named.map) (slice_get script.maps m)) []
-
--- an item with its digit map
-abbrev pub list_item : Script → EventItem ℕ → ListItem
-list_item script (item.OnHook strict) = item.OnHook strict
-list_item script (item.OffHook strict) = item.OffHook strict
-list_item script item.Flash = item.Flash
-list_item script (item.Digits m) = item.Digits (map_of script m)
-
-abbrev pub list_of : Script → EventsName → List ListItem
-list_of script name = map (list_item script) (items_of script name)
-
-abbrev pub same_signal : Signal → Signal → Bool
-same_signal Ring Ring = true
-same_signal DialTone DialTone = true
-same_signal RingingTone RingingTone = true
-same_signal BusyTone BusyTone = true
-same_signal CongestionTone CongestionTone = true
-same_signal a b = false
-
-abbrev pub names_signal : List Signal → Signal → Bool
-names_signal signals s = list_any (same_signal s) signals
-
-abbrev pub set_of : Script → SignalsName → SignalSet
-set_of script name = record {
-  ring = names_signal (signals_of script name) Ring;
-  dial_tone = names_signal (signals_of script name) DialTone;
-  ringing_tone = names_signal (signals_of script name) RingingTone;
-  busy_tone = names_signal (signals_of script name) BusyTone;
-  congestion_tone = names_signal (signals_of script name) CongestionTone;
-}
 
 -- ---- a request, by identifiers and places
 

@@ -20,6 +20,7 @@ pub mod Failures
 pub mod Messages
 pub mod RequestRun
 pub mod Gateway
+pub mod ListContents
 pub mod Agent
 pub mod World
 pub mod Reports

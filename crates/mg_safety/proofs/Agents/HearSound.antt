@@ -10,7 +10,8 @@ use Rattle.mg_model.specs.declared.commands.EventsName.TheVariants.{Empty}
 use Rattle.mg_model.specs.declared.commands.Termination.{Termination}
 use Rattle.mg_model.specs.declared.commands.Termination.TheVariants as termination
 use Rattle.mg_model.specs.declared.components.Spot.TheVariants.{Null, In}
-use Rattle.mg_model.specs.Agent.{Agent, entered, forgotten, heard, list_of}
+use Rattle.mg_model.specs.Agent.{Agent, entered, forgotten, heard}
+use Rattle.mg_model.specs.ListContents.{list_of}
 use Rattle.mg_model.specs.Board.{place_in, mode_in}
 use Rattle.mg_model.specs.Configuration.{Configuration, is_present}
 use Rattle.mg_model.specs.Entries.{Entry}

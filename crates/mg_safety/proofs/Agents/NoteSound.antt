@@ -6,7 +6,8 @@ use Rattle.std.specs.Prelude.{◌==◌, ◌&&◌, not, if◌then◌else◌, ◌�
 use Rattle.mg_names.specs.declared.phases.LinkPhase.TheVariants.{Resting}
 use Rattle.mg_model.specs.declared.steps.StepName.TheVariants as names
 use Rattle.mg_model.specs.Delivery.{Inbox, arrival, is_new, arrives_new, was_seen, is_old}
-use Rattle.mg_model.specs.Agent.{Agent, inbox_of, resting, entered_or_stays, is_resting, line_in, list_of, may_accept, noted, target_of}
+use Rattle.mg_model.specs.Agent.{Agent, inbox_of, resting, entered_or_stays, is_resting, line_in, may_accept, noted, target_of}
+use Rattle.mg_model.specs.ListContents.{list_of}
 use Rattle.mg_model.specs.Updates.{with_at}
 use Rattle.mg_model.specs.Configuration.{Configuration}
 use Rattle.mg_model.specs.Entries.{Entry}

@@ -12,7 +12,8 @@ use Rattle.mg_model.specs.declared.commands.EventsName.{EventsName}
 use Rattle.mg_model.specs.declared.steps.StepName.TheVariants as names
 use Rattle.mg_model.specs.declared.transitions.EventItem.{EventItem}
 use Rattle.mg_model.specs.declared.transitions.EventItem.TheVariants as item
-use Rattle.mg_model.specs.Agent.{Agent, line_in, same_number, target_of, list_item, list_of}
+use Rattle.mg_model.specs.Agent.{Agent, line_in, same_number, target_of}
+use Rattle.mg_model.specs.ListContents.{list_item, list_of}
 use Rattle.mg_model.specs.Configuration.{Configuration}
 use Rattle.mg_model.specs.LineEvents.{ListItem, Note}
 use Rattle.mg_model.specs.Script.{Script}

@@ -11,7 +11,8 @@ use Rattle.mg_model.specs.declared.commands.Termination.TheVariants as terminati
 use Rattle.mg_model.specs.declared.components.Spot.{Spot}
 use Rattle.mg_model.specs.declared.components.Spot.TheVariants.{Absent, Null, In}
 use Rattle.mg_model.specs.declared.rows.Row.{Row}
-use Rattle.mg_model.specs.Agent.{Agent, opened, list_of}
+use Rattle.mg_model.specs.Agent.{Agent, opened}
+use Rattle.mg_model.specs.ListContents.{list_of}
 use Rattle.mg_model.specs.Board.{Board, place_in, mode_in}
 use Rattle.mg_model.specs.Configuration.{is_present}
 use Rattle.mg_model.specs.Entries.{Entry}

@@ -11,7 +11,8 @@ use Rattle.mg_model.specs.declared.commands.Termination.TheVariants as terminati
 use Rattle.mg_model.specs.declared.rows.Row.{Row}
 use Rattle.mg_model.specs.declared.transitions.EventItem.{EventItem}
 use Rattle.mg_model.specs.declared.transitions.EventItem.TheVariants as item
-use Rattle.mg_model.specs.Agent.{Agent, list_item}
+use Rattle.mg_model.specs.Agent.{Agent}
+use Rattle.mg_model.specs.ListContents.{list_item}
 use Rattle.mg_model.specs.Board.{exists, place_in}
 use Rattle.mg_model.specs.Configuration.{Configuration, is_present}
 use Rattle.mg_model.specs.Entries.{Entry}

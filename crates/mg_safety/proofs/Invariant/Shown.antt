@@ -27,7 +27,8 @@ use Rattle.mg_model.specs.declared.items.RemoteSetting.{RemoteSetting}
 use Rattle.mg_model.specs.declared.items.RemoteSetting.TheVariants.{Nothing, Ephemeral}
 use Rattle.mg_model.specs.declared.items.Settings.{Settings}
 use Rattle.mg_model.specs.declared.rows.Row.{Row}
-use Rattle.mg_model.specs.Agent.{Agent, Made, list_of, bound_if, is_listed}
+use Rattle.mg_model.specs.Agent.{Agent, Made, bound_if, is_listed}
+use Rattle.mg_model.specs.ListContents.{list_of}
 use Rattle.mg_model.specs.Board.{Board, exists, place_of, place_in, mode_in, remote_in, ContextExists}
 use Rattle.mg_model.specs.Updates.{with_at}
 use Rattle.mg_model.specs.Numbers.{choose, null, all}

@@ -20,7 +20,8 @@ use Rattle.mg_model.specs.declared.commands.Termination.TheVariants as terminati
 use Rattle.mg_model.specs.declared.components.Spot.{Spot}
 use Rattle.mg_model.specs.declared.components.Spot.TheVariants.{Absent, Null, In}
 use Rattle.mg_model.specs.declared.line_events.SignalSet.{SignalSet}
-use Rattle.mg_model.specs.Agent.{list_of, names_signal, set_of, expected_if, is_listed}
+use Rattle.mg_model.specs.Agent.{expected_if, is_listed}
+use Rattle.mg_model.specs.ListContents.{list_of, names_signal, set_of}
 use Rattle.mg_model.specs.Board.{Board, place_of}
 use Rattle.mg_model.specs.Updates.{with_at}
 use Rattle.mg_model.specs.Configuration.{Configuration, is_in, is_live, is_free}
