@@ -18,11 +18,11 @@ use Rattle.contexts.specs.Paths.{is_trail, avoids, Leads, crossed, arrival, Lead
 use Rattle.mg_model.specs.Members.{is_among}
 use Rattle.contexts.proofs.TermLemmas.{same_is, split_and, by_value, not_both}
 
-both : (a b : Bool) → a ≡ true → b ≡ true → (a && b) ≡ true
+pub both : (a b : Bool) → a ≡ true → b ≡ true → (a && b) ≡ true
 both true b h k = k
 both false b h k = absurd (search rules)
 
-same_number : (i j : ℕ) → (i == j) ≡ true → i ≡ j
+pub same_number : (i j : ℕ) → (i == j) ≡ true → i ≡ j
 same_number i j e = grind (arith, common_steps)
 
 not_false : (b : Bool) → not b ≡ true → b ≡ false
