@@ -64,7 +64,6 @@ fn make_pair(board: &mut Board, first: u32) -> Result<Pair, Failure> {
     let Some(context) = done.context() else {
         return Err(Failure::Refused);
     };
-    let context = ContextId(context);
     let Ok(_) = board.exec(&Item::Add {
         context,
         added: Added::Line(LineNo(second)),

@@ -56,7 +56,7 @@ fn context_of(board: &mut Board, line: u32) -> Result<ContextId, Failure> {
     let Some(context) = done.context() else {
         return Err(Failure::Refused);
     };
-    Ok(ContextId(context))
+    Ok(context)
 }
 
 /// A board with the lines from 1 to a number, in a context each.

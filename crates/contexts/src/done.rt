@@ -1,6 +1,7 @@
 //! What a command tells of itself.
-ghost use Rattle.std.specs.Prelude.{◌≡◌, IfOk};
+ghost use Rattle.std.specs.Prelude.{◌≡◌, IfOk, option_map};
 
+use mg_names::identifiers::ContextId;
 use std::alloc::AllocError;
 use std::marker::Model;
 
@@ -44,11 +45,14 @@ impl Clone for Done {
 }
 
 impl Done {
-    /// The number of the context that the command created.
-    pub fn context(&self) -> Option<u32>
-        ensures { result ≡ self.now.context }
+    /// The context that the command created.
+    pub fn context(&self) -> Option<ContextId>
+        ensures { option_map (λ c. c.0) result ≡ self.now.context }
     {
-        self.context
+        match self.context {
+            Some(number) => Some(ContextId(number)),
+            None => None,
+        }
     }
 
     /// The number of the ephemeral that the command created.
