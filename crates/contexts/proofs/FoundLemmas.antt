@@ -1,8 +1,8 @@
 -- The search by what is found: what may be arrived at leads on, and a set that is closed holds every path.
-use Rattle.std.proofs.Common.{◌≡◌, ℕ, ◌+◌, ◌<◌, ◌≤◌, ◌==◌, Bool, true, false, ◌&&◌, ◌||◌, if◌then◌else◌, IsTrue, refl, sym, ◌∙◌, arith, rules, List, [], ◌∷◌, ◌++◌, append_assoc, length, get_or, take, Option, Some, None, ◌⊎◌, inl, inr}
+use Rattle.std.proofs.Common.{◌≡◌, ℕ, ◌+◌, ◌<◌, ◌≤◌, ◌==◌, Bool, true, false, not, ◌&&◌, ◌||◌, if◌then◌else◌, IsTrue, refl, sym, ◌∙◌, arith, rules, List, [], ◌∷◌, ◌++◌, append_assoc, length, get_or, set, take, drop, Option, Some, None, ◌⊎◌, inl, inr}
 use Rattle.std.proofs.lemmas.Grind.{common_steps}
 use Rattle.std.proofs.lemmas.List.Folds.{list_any-append}
-use Rattle.std.proofs.lemmas.List.{append-nil, take_all, take_more}
+use Rattle.std.proofs.lemmas.List.{append-nil, take-append-drop, take_all, take_more, take_more_set}
 use Rattle.std.specs.List.{list_any}
 use Rattle.mg_names.specs.declared.identifiers.TermId.{TermId}
 use Rattle.mg_names.specs.declared.identifiers.TermId.TheVariants.{Eph}
@@ -11,9 +11,9 @@ use Rattle.mg_model.specs.Members.{is_among}
 use Rattle.mg_model.specs.Media.{hops, crosses, goes_over}
 use Rattle.contexts.specs.BoardValue.{stands_in}
 use Rattle.contexts.specs.Paths.{Leads, arrival}
-use Rattle.contexts.specs.Found.{FoundValue, all_found, noted, noted_if, IsTaken, ArrivesNext, arrives_over, MayArrive, IsSpread, IsSettled, IsClosed}
+use Rattle.contexts.specs.Found.{FoundValue, all_found, noted, noted_if, IsTaken, all_differ, IsFullFor, IsOverfull, ArrivesAtMore, ArrivesNext, arrives_over, MayArrive, IsSpread, IsSettled, IsClosed}
 use Rattle.contexts.proofs.TermLemmas.{same_is, same_itself, split_and, by_value, not_both}
-use Rattle.contexts.proofs.PathLemmas.{both, same_number, next_from, arrives, stands_beside, avoids_nothing}
+use Rattle.contexts.proofs.PathLemmas.{both, not_false, negated, same_number, next_from, arrives, stands_beside, avoids_nothing}
 
 -- ---- what is among numbers
 
@@ -50,6 +50,36 @@ among_one i k h = go (either (k == i) false h)
 
 among_head : (i : ℕ) (more : List ℕ) → is_among (i ∷ more) i ≡ true
 among_head i more = or_first (i == i) (is_among more i) (itself i)
+
+-- ---- numbers that differ
+
+or_none : (a b : Bool) → (a || b) ≡ false → (a ≡ false) × (b ≡ false)
+or_none true b h = absurd (search rules)
+or_none false b h = (refl, h)
+
+neither : (a b : Bool) → a ≡ false → b ≡ false → (a || b) ≡ false
+neither true b h k = absurd (search rules)
+neither false b h k = k
+
+turned : (i k : ℕ) → (i == k) ≡ false → (k == i) ≡ false
+turned i k h = grind (arith, common_steps)
+
+pub differ_with : (i : ℕ) (xs : List ℕ) → IsTrue (all_differ xs) → is_among xs i ≡ false → IsTrue (all_differ (xs ++ i ∷ []))
+differ_with i [] h absent = refl
+differ_with i (x ∷ xs) h absent =
+    let parts = split_and (not (is_among xs x)) (all_differ xs) h in
+    let apart = or_none (i == x) (is_among xs i) absent in
+    let last : is_among (i ∷ []) x ≡ false = neither (x == i) false (turned i x apart.0) refl in
+    let new : is_among (xs ++ i ∷ []) x ≡ false = list_any-append (λ (m : ℕ). x == m) xs (i ∷ []) ∙ neither (is_among xs x) (is_among (i ∷ []) x) (not_false _ parts.0) last in
+    both (not (is_among (xs ++ i ∷ []) x)) (all_differ (xs ++ i ∷ [])) (negated _ new) (differ_with i xs parts.1 apart.1)
+
+-- one more is written after the first ones
+pub differ_set : (i k : ℕ) (xs : List ℕ) → k < length xs → IsTrue (all_differ (take k xs)) → is_among (take k xs) i ≡ false → IsTrue (all_differ (take (k + 1) (set xs k i)))
+differ_set i k xs short h absent = rw (take_more_set xs k i short) (differ_with i (take k xs) h absent)
+
+-- all that were found, cut at the next one
+pub together : (next : ℕ) (xs : List ℕ) (i : ℕ) → is_among (take next xs ++ drop next xs) i ≡ false → is_among xs i ≡ false
+together next xs i h = rw (take-append-drop {A = ℕ} next xs) at h
 
 -- ---- one more is noted
 
@@ -177,6 +207,24 @@ spread_all b from group old new members by = record {
   only = by.only;
 }
 
+-- the one that doesn't fit is one more, with all that were found
+pub overfull : (b : Board) (most : ℕ) (from t : TermId) (group : List TermId) (old mid : FoundValue) → IsSpreadBy b from group old mid →
+    IsFullFor most (arrival b [] from t) mid → IsOverfull b most from old
+overfull b most from t group old mid so_far full = go (arrival b [] from t) refl full
+  where
+    only : (k i : ℕ) → arrival b [] from t ≡ Some k → ((i == k) ≡ true) ⊎ (is_among (all_found mid) i ≡ true) → (is_among (all_found old) i ≡ true) ⊎ ArrivesNext b from i
+    only k i e (inl same) = let is : i ≡ k = same_number i k same in inr (arrival_next b from t i (rw is e))
+    only k i e (inr before) = so_far.only i before
+
+    go : (next : Option ℕ) → arrival b [] from t ≡ next → IsFullFor most next mid → IsOverfull b most from old
+    go None e bad = absurd bad
+    go (Some k) e is_full = record {
+      numbers = k ∷ all_found mid;
+      more = let many = is_full.many in omega (arith, many);
+      differ = is_full.differ;
+      only = λ i h. only k i e (either (i == k) (is_among (all_found mid) i) h);
+    }
+
 -- ---- what may be arrived at leads on
 
 pub from_start : (b : Board) (from : TermId) (i : ℕ) → ArrivesNext b from i → MayArrive b from i
@@ -263,6 +311,23 @@ closed_step b from to n old mid new closed taken misses spread = record {
     done i (inl before) = larger b to (all_found old) (all_found new) (Eph i) kept (closed.done i before)
     done i (inr last) = let same : i ≡ n = among_one n i last in rw same (record { misses = misses; arrived = spread.arrived })
 
+    sound : (i : ℕ) → (is_among (all_found mid) i ≡ true) ⊎ ArrivesNext b (Eph n) i → MayArrive b from i
+    sound i (inl before) = closed.sound i (rw (taken_found n old mid taken) at before)
+    sound i (inr next) = further b from n i (closed.sound n (taken_among n old mid taken)) next
+
+-- ---- where one more doesn't fit
+
+pub more_from_start : (b : Board) (most : ℕ) (from : TermId) → IsOverfull b most from (record { done = []; ahead = [] }) → ArrivesAtMore b most from
+more_from_start b most from over = record { numbers = over.numbers; more = over.more; differ = over.differ; sound = λ i h. sound i (over.only i h) }
+  where
+    sound : (i : ℕ) → (is_among [] i ≡ true) ⊎ ArrivesNext b from i → MayArrive b from i
+    sound i (inl bad) = absurd (search rules)
+    sound i (inr next) = from_start b from i next
+
+pub more_further : (b : Board) (most : ℕ) (from to : TermId) (n : ℕ) (old mid : FoundValue) → IsClosed b from to old → IsTaken old mid (Some n) → IsOverfull b most (Eph n) mid →
+    ArrivesAtMore b most from
+more_further b most from to n old mid closed taken over = record { numbers = over.numbers; more = over.more; differ = over.differ; sound = λ i h. sound i (over.only i h) }
+  where
     sound : (i : ℕ) → (is_among (all_found mid) i ≡ true) ⊎ ArrivesNext b (Eph n) i → MayArrive b from i
     sound i (inl before) = closed.sound i (rw (taken_found n old mid taken) at before)
     sound i (inr next) = further b from n i (closed.sound n (taken_among n old mid taken)) next

@@ -25,11 +25,11 @@ both false b h k = absurd (search rules)
 pub same_number : (i j : ℕ) → (i == j) ≡ true → i ≡ j
 same_number i j e = grind (arith, common_steps)
 
-not_false : (b : Bool) → not b ≡ true → b ≡ false
+pub not_false : (b : Bool) → not b ≡ true → b ≡ false
 not_false true h = absurd (search rules)
 not_false false h = refl
 
-negated : (b : Bool) → b ≡ false → not b ≡ true
+pub negated : (b : Bool) → b ≡ false → not b ≡ true
 negated b h = rw h refl
 
 -- ---- what is found is a path

@@ -1,6 +1,6 @@
 -- The search for a path of media by the ephemerals that it finds: those at which media arrives, each noted once. A reader should
 -- check that only what media may arrive at is noted, and that nothing is left out where the search has gone on from all of them.
-use Rattle.std.specs.Prelude.{◌≡◌, ℕ, Bool, true, false, ◌&&◌, if◌then◌else◌, IsTrue, List, [], ◌∷◌, ◌++◌, Option, Some, None, ◌⊎◌}
+use Rattle.std.specs.Prelude.{◌≡◌, ℕ, ◌<◌, Bool, true, false, not, ◌&&◌, if◌then◌else◌, IsTrue, List, [], ◌∷◌, ◌++◌, length, Option, Some, None, ◌⊎◌}
 use Rattle.mg_names.specs.declared.identifiers.TermId.{TermId}
 use Rattle.mg_names.specs.declared.identifiers.TermId.TheVariants.{Eph}
 use Rattle.mg_model.specs.Board.{Board, same_term}
@@ -22,9 +22,23 @@ all_found found = found.done ++ found.ahead
 abbrev pub noted : ℕ → FoundValue → FoundValue
 noted i found = if is_among (all_found found) i then found else record { done = found.done; ahead = found.ahead ++ i ∷ [] }
 
+-- no number stands twice
+abbrev pub all_differ : List ℕ → Bool
+all_differ [] = true
+all_differ (i ∷ more) = not (is_among more i) && all_differ more
+
+-- one more doesn't fit
+pub record IsFull (most : ℕ) (i : ℕ) (found : FoundValue) : Type 0 where
+  pub many : length (all_found found) ≡ most
+  pub differ : IsTrue (all_differ (i ∷ all_found found))
+
 abbrev pub noted_if : Option ℕ → FoundValue → FoundValue
 noted_if None found = found
 noted_if (Some i) found = noted i found
+
+abbrev pub IsFullFor : ℕ → Option ℕ → FoundValue → Type 0
+IsFullFor most None found = ⊥
+IsFullFor most (Some i) found = IsFull most i found
 
 -- the first one ahead, from which the search has now gone on
 abbrev pub IsTaken : FoundValue → FoundValue → Option ℕ → Type 0
@@ -57,6 +71,20 @@ pub record IsSpread (b : Board) (from : TermId) (old new : FoundValue) : Type 0 
   pub kept : (i : ℕ) → is_among (all_found old) i ≡ true → is_among (all_found new) i ≡ true
   pub arrived : (i : ℕ) → ArrivesNext b from i → is_among (all_found new) i ≡ true
   pub only : (i : ℕ) → is_among (all_found new) i ≡ true → (is_among (all_found old) i ≡ true) ⊎ ArrivesNext b from i
+
+-- with the ephemerals at which media arrives next there are more than this number of them
+pub record IsOverfull (b : Board) (most : ℕ) (from : TermId) (old : FoundValue) : Type 0 where
+  pub numbers : List ℕ
+  pub more : most < length numbers
+  pub differ : IsTrue (all_differ numbers)
+  pub only : (i : ℕ) → is_among numbers i ≡ true → (is_among (all_found old) i ≡ true) ⊎ ArrivesNext b from i
+
+-- media may arrive at more than this number of ephemerals
+pub record ArrivesAtMore (b : Board) (most : ℕ) (from : TermId) : Type 0 where
+  pub numbers : List ℕ
+  pub more : most < length numbers
+  pub differ : IsTrue (all_differ numbers)
+  pub sound : (i : ℕ) → is_among numbers i ≡ true → MayArrive b from i
 
 -- media doesn't hop from a termination to the aim, and each ephemeral at which it arrives next is found
 pub record IsSettled (b : Board) (to : TermId) (found : List ℕ) (from : TermId) : Type 0 where

@@ -1,14 +1,14 @@
 //! The ephemerals at which a search finds that media arrives, in a place of fixed size that needs no memory from an allocator.
-ghost use Rattle.std.specs.Prelude.{◌≡◌, ◌≤◌, false, None, length, IfSome};
+ghost use Rattle.std.specs.Prelude.{◌≡◌, ◌≤◌, None, length, IfSome};
 ghost use Rattle.mg_model.specs.Members.{is_among};
-ghost use Rattle.contexts.specs.Found.{all_found, noted, IsTaken};
+ghost use Rattle.contexts.specs.Found.{all_found, noted, IsFull, IsTaken};
 
 use std::marker::Model;
 
 /// The most ephemerals that a search can note.
 pub(crate) const FOUND_MOST: usize = 4096;
 
-/// The ephemerals that were found, in the order in which they were: the search has gone on from those before `next`, and is
+/// The ephemerals that were found, each once, in the order in which they were: the search has gone on from those before `next`, and is
 /// still to go on from those before `count`.
 #[derive(Drop)]
 pub(crate) struct Found {
@@ -18,14 +18,14 @@ pub(crate) struct Found {
 }
 
 impl Model for Found {
-    ghost use Rattle.std.specs.Prelude.{◌≤◌, take, drop};
-    ghost use Rattle.contexts.specs.Found.{FoundValue};
+    ghost use Rattle.std.specs.Prelude.{◌≤◌, IsTrue, take, drop};
+    ghost use Rattle.contexts.specs.Found.{FoundValue, all_differ};
 
     ghost Value = { FoundValue };
 
     ghost view = { λ f. record { done = take f.next (take f.count f.numbers); ahead = drop f.next (take f.count f.numbers) } };
 
-    ghost invariant = { λ f. (f.next ≤ f.count) × (f.count ≤ 4096) };
+    ghost invariant = { λ f. (f.next ≤ f.count) × (f.count ≤ 4096) × IsTrue (all_differ (take f.count f.numbers)) };
 }
 
 /// Whether a number is among numbers.
@@ -60,8 +60,7 @@ impl Found {
     pub(crate) fn note(&mut self, ephemeral: u32) -> Option<()>
         ensures noted { IfSome result (λ _. self.new ≡ noted ephemeral self.old) }
         ensures unchanged { result ≡ None → self.new ≡ self.old }
-        ensures new { result ≡ None → is_among (all_found self.old) ephemeral ≡ false }
-        ensures full { result ≡ None → length (all_found self.old) ≡ FOUND_MOST }
+        ensures full { result ≡ None → IsFull FOUND_MOST ephemeral self.old }
     {
         if self.has(ephemeral) {
             return Some(());
