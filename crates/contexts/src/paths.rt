@@ -68,9 +68,8 @@ impl Board {
 
     /// Whether there is a path of media from the one line to another line. Where media from the first line arrives at F ephemerals,
     /// 4,096 at most, in contexts with at most G members and C cuts, the search takes at most (F + 1) * (G + 1) looks at a hop, each
-    /// through at most C cuts, and as many looks through at most F numbers; it needs no deep stack. Where media arrives at more
-    /// ephemerals before it comes to the other line, each way is followed by itself: that can take exponential time, and a stack
-    /// as deep as the longest way.
+    /// through at most C cuts, and as many looks through at most F numbers; it needs no deep stack. Where media may arrive at more
+    /// ephemerals, each way may have to be followed by itself, in exponential time and with a stack as deep as the longest way.
     pub fn path(&self, from: LineNo, to: LineNo) -> bool
         ensures { IsTrue result ↔ HasPath (board_of self.now) from.0 to.0 }
     {
