@@ -65,7 +65,7 @@ fn a_destroyed_ephemeral_is_unknown(rt: HostRuntime) -> Result<(), Fail> {
     let Ok(gone) = board.exec(&Item::SubtractAll { context }) else {
         panic!(rt; "all taken out");
     };
-    assert!(rt; gone.lines() == [1u32].as_slice());
+    assert!(rt; gone.lines() == [LineNo(1)].as_slice());
     assert!(rt; gone.ephemerals() == [number].as_slice());
     assert_eq!(rt; board.contexts(), 0);
     let Ok(again) = board.exec(&add_new(ContextId::CHOOSE)) else {

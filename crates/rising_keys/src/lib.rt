@@ -29,8 +29,8 @@ pub fn numbers<V>(alloc: Global, from: &BTreeMap<u32, V>) -> Result<Vec<u32>, Al
     Ok(found)
 }
 
-/// What these numbers name.
-fn named<N: Numbered>(alloc: Global, numbers: &[u32]) -> Result<Vec<N>, AllocError>
+/// What these numbers name, in their order.
+pub fn named<N: Numbered>(alloc: Global, numbers: &[u32]) -> Result<Vec<N>, AllocError>
     ensures { IfOk result (λ found. map N.number_of found.items ≡ numbers.now) }
 {
     let mut found = Vec::new(alloc);
