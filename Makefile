@@ -23,6 +23,6 @@ test:
 	tools/refusals
 
 bench: build
-	cd crates/boardbench && rt run boardbench -- 100 20
+	cd crates/boardbench && rt run boardbench -- 100 20 1000 6
 	cd crates/gatebench && rt run gatebench -- 10 20
 	tools/bench

@@ -54,7 +54,6 @@ fn a_destroyed_ephemeral_is_unknown(rt: HostRuntime) -> Result<(), Fail> {
     let Some(context) = first.context() else {
         panic!(rt; "a number");
     };
-    let context = ContextId(context);
     assert!(rt; code(&board.exec(&add(context, 1))) == Some(Code::AlreadyInContext));
     let Ok(made) = board.exec(&add_new(context)) else {
         panic!(rt; "an ephemeral");
@@ -66,7 +65,7 @@ fn a_destroyed_ephemeral_is_unknown(rt: HostRuntime) -> Result<(), Fail> {
     let Ok(gone) = board.exec(&Item::SubtractAll { context }) else {
         panic!(rt; "all taken out");
     };
-    assert!(rt; gone.lines() == [1u32].as_slice());
+    assert!(rt; gone.lines() == [LineNo(1)].as_slice());
     assert!(rt; gone.ephemerals() == [number].as_slice());
     assert_eq!(rt; board.contexts(), 0);
     let Ok(again) = board.exec(&add_new(ContextId::CHOOSE)) else {
@@ -76,7 +75,7 @@ fn a_destroyed_ephemeral_is_unknown(rt: HostRuntime) -> Result<(), Fail> {
         panic!(rt; "a number");
     };
     let named = Item::Add {
-        context: ContextId(other),
+        context: other,
         added: Added::NewEphemeral,
         settings: settings(None, Some(RemoteSetting::Ephemeral(number))),
     };
@@ -87,6 +86,18 @@ fn a_destroyed_ephemeral_is_unknown(rt: HostRuntime) -> Result<(), Fail> {
     assert_eq!(rt; copied.contexts(), 0);
     assert_eq!(rt; board.contexts(), 1);
     assert!(rt; board.get(TermId::Line(LineNo(1))).is_some());
+    Ok(())
+}
+
+#[test]
+fn a_board_tells_what_exists(rt: HostRuntime) -> Result<(), Fail> {
+    let mut board = Board::new(rt.alloc(), &[LineNo(2), LineNo(1)])?;
+    let Some((context, ephemeral)) = beside(&mut board, 1) else {
+        panic!(rt; "a context with an ephemeral");
+    };
+    assert!(rt; board.lines()?.as_slice() == LINES.as_slice());
+    assert!(rt; board.ephemerals()?.as_slice() == [ephemeral].as_slice());
+    assert!(rt; board.context_numbers()?.as_slice() == [context].as_slice());
     Ok(())
 }
 
@@ -116,7 +127,7 @@ impl Pair {
     fn new(alloc: Global, one: Mode, two: Mode) -> Option<Pair> {
         let mut board = Board::new(alloc, &LINES).ok()?;
         let made = board.exec(&add_in(ContextId::CHOOSE, 1, one)).ok()?;
-        let context = ContextId(made.context()?);
+        let context = made.context()?;
         let _added = board.exec(&add_in(context, 2, two)).ok()?;
         Some(Pair { board, context })
     }
@@ -153,7 +164,7 @@ struct Crossed {
 /// A line in a new context, with an ephemeral beside it: the context and the ephemeral.
 fn beside(board: &mut Board, line: u32) -> Option<(ContextId, u32)> {
     let done = board.exec(&add(ContextId::CHOOSE, line)).ok()?;
-    let context = ContextId(done.context()?);
+    let context = done.context()?;
     let done = board.exec(&add_new(context)).ok()?;
     Some((context, done.ephemeral()?))
 }

@@ -1,6 +1,9 @@
-//! `boardbench CONTEXTS COMMANDS`: makes so many contexts of two lines each, then executes so many commands on them, one context
-//! after the other, and says how many contexts there are. `tools/bench` times it; it promises nothing else.
+//! `boardbench CONTEXTS COMMANDS CHAIN CROSSINGS`: makes so many contexts of two lines each, then executes so many commands on
+//! them, one context after the other, and says how many contexts there are; then makes a chain of contexts, and two contexts with
+//! so many crossings between them, and says whether media goes through. `tools/bench` times it; it promises nothing else.
 #![tactic(auto)]
+
+mod ways;
 
 use contexts::Board;
 use mg_model::items::{Added, Item, Settings};
@@ -61,7 +64,6 @@ fn make_pair(board: &mut Board, first: u32) -> Result<Pair, Failure> {
     let Some(context) = done.context() else {
         return Err(Failure::Refused);
     };
-    let context = ContextId(context);
     let Ok(_) = board.exec(&Item::Add {
         context,
         added: Added::Line(LineNo(second)),
@@ -116,6 +118,7 @@ fn commands(board: &mut Board, pairs: &[Pair], count: u32) -> Result<(), Failure
     Ok(())
 }
 
+/// How many contexts there are after the commands.
 fn run(alloc: Global, contexts: u32, count: u32) -> Result<usize, Failure> {
     let lines = lines(alloc, contexts)?;
     let Ok(mut board) = Board::new(alloc, lines.as_slice()) else {
@@ -126,34 +129,72 @@ fn run(alloc: Global, contexts: u32, count: u32) -> Result<usize, Failure> {
     Ok(board.contexts())
 }
 
-/// The two numbers of the command line.
-fn numbers(rt: &HostRuntime) -> io::Result<Option<(u32, u32)>> {
+/// What is asked for.
+#[derive(Clone, Copy)]
+struct Sizes {
+    contexts: u32,
+    commands: u32,
+    chain: u32,
+    crossings: u32,
+}
+
+/// The numbers of the command line.
+fn asked_sizes(rt: &HostRuntime) -> io::Result<Option<Sizes>> {
     let words: Vec<String> = env::args(rt)?.collect(rt.alloc())?;
-    let [_, contexts, count] = words.as_slice() else {
+    let [_, contexts, commands, chain, crossings] = words.as_slice() else {
         return Ok(None);
     };
-    let (Ok(contexts), Ok(count)) = (
+    let (Ok(contexts), Ok(commands), Ok(chain), Ok(crossings)) = (
         contexts.as_str().parse::<u32>(),
-        count.as_str().parse::<u32>(),
+        commands.as_str().parse::<u32>(),
+        chain.as_str().parse::<u32>(),
+        crossings.as_str().parse::<u32>(),
     ) else {
         return Ok(None);
     };
-    Ok(Some((contexts, count)))
+    Ok(Some(Sizes {
+        contexts,
+        commands,
+        chain,
+        crossings,
+    }))
 }
 
-fn measured(rt: &HostRuntime) -> Result<usize, Failure> {
-    let Ok(Some((contexts, count))) = numbers(rt) else {
+/// What is written.
+#[derive(Drop)]
+struct Measured {
+    contexts: usize,
+    chain: bool,
+    crossings: bool,
+}
+
+fn measure(rt: &HostRuntime) -> Result<Measured, Failure> {
+    let Ok(Some(asked)) = asked_sizes(rt) else {
         return Err(Failure::Words);
     };
-    run(rt.alloc(), contexts, count)
+    let contexts = run(rt.alloc(), asked.contexts, asked.commands)?;
+    let chain = ways::goes_through(rt.alloc(), asked.chain)?;
+    let crossings = ways::goes_past(rt.alloc(), asked.crossings)?;
+    Ok(Measured {
+        contexts,
+        chain,
+        crossings,
+    })
 }
 
 fn main(rt: HostRuntime) -> ExitCode {
-    match measured(&rt) {
-        Ok(contexts) => match writeln!(rt.stdout(), "{contexts}") {
-            Ok(()) => ExitCode::SUCCESS,
-            Err(_) => ExitCode::FAILURE,
-        },
+    let Ok(found) = measure(&rt) else {
+        return ExitCode::FAILURE;
+    };
+    let written = writeln!(
+        rt.stdout(),
+        "{} contexts, through the chain {}, past the crossings {}",
+        found.contexts,
+        found.chain,
+        found.crossings
+    );
+    match written {
+        Ok(()) => ExitCode::SUCCESS,
         Err(_) => ExitCode::FAILURE,
     }
 }

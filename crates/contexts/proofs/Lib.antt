@@ -2,6 +2,7 @@ pub mod TermLemmas
 pub mod OnceLemmas
 pub mod TieLemmas
 pub mod PathLemmas
+pub mod FoundLemmas
 pub mod CountLemmas
 pub mod RowLemmas
 pub mod CutLemmas

@@ -11,7 +11,7 @@ use Rattle.mg_model.specs.Items.{Lists}
 use Rattle.contexts.specs.BoardValue.{stands_in}
 use Rattle.contexts.proofs.TermLemmas.{same_is, by_value}
 use Rattle.contexts.proofs.MoveLemmas.{is_number, is_not}
-use Rattle.contexts.proofs.CountLemmas.{rising}
+use Rattle.rising_keys.proofs.KeyLemmas.{rising}
 
 pub lists_keys : (s : BTreeSet ℕ) → IsOrdered nat_cmp s → Lists (λ n. contains nat_cmp s n) s.keys
 lists_keys s ordered = record {

@@ -18,18 +18,18 @@ use Rattle.contexts.specs.Paths.{is_trail, avoids, Leads, crossed, arrival, Lead
 use Rattle.mg_model.specs.Members.{is_among}
 use Rattle.contexts.proofs.TermLemmas.{same_is, split_and, by_value, not_both}
 
-both : (a b : Bool) → a ≡ true → b ≡ true → (a && b) ≡ true
+pub both : (a b : Bool) → a ≡ true → b ≡ true → (a && b) ≡ true
 both true b h k = k
 both false b h k = absurd (search rules)
 
-same_number : (i j : ℕ) → (i == j) ≡ true → i ≡ j
+pub same_number : (i j : ℕ) → (i == j) ≡ true → i ≡ j
 same_number i j e = grind (arith, common_steps)
 
-not_false : (b : Bool) → not b ≡ true → b ≡ false
+pub not_false : (b : Bool) → not b ≡ true → b ≡ false
 not_false true h = absurd (search rules)
 not_false false h = refl
 
-negated : (b : Bool) → b ≡ false → not b ≡ true
+pub negated : (b : Bool) → b ≡ false → not b ≡ true
 negated b h = rw h refl
 
 -- ---- what is found is a path

@@ -4,3 +4,4 @@ pub mod Rows
 pub mod Steps
 pub mod Faults
 pub mod Paths
+pub mod Found

@@ -5,7 +5,7 @@ ghost use Rattle.contexts.specs.BoardValue.{opened, started};
 use crate::cuts::{self, Cuts};
 use crate::members::{self, Members};
 use mg_model::rows::Row;
-use mg_names::identifiers::{ContextId, TermId};
+use mg_names::identifiers::{ContextId, LineNo, TermId};
 use std::alloc::{AllocError, Global};
 use std::marker::Model;
 use terminations::Terms;
@@ -35,8 +35,9 @@ impl Model for Board {
 
 impl Board {
     ghost use Rattle.mg_names.specs.declared.identifiers.TermId.{TermId};
+    ghost use Rattle.mg_names.specs.declared.identifiers.TermId.TheVariants.{Line, Eph};
     ghost use Rattle.std.specs.List.{list_any, IsDistinct};
-    ghost use Rattle.mg_model.specs.Board.{ContextExists, same_term};
+    ghost use Rattle.mg_model.specs.Board.{ContextExists, exists, same_term};
     ghost use Rattle.mg_model.specs.Items.{IsRising};
     ghost use Rattle.terminations.specs.Table.{cleared};
     ghost use Rattle.contexts.specs.BoardValue.{board_of, stands_in, IsCount};
@@ -83,9 +84,26 @@ impl Board {
         ensures rising { IfOk result (λ found. IsRising (map (λ c. c.0) found.items)) }
         ensures exactly { IfOk result (λ found. (n : ℕ) → Contains (map (λ c. c.0) found.items) n ↔ ContextExists (board_of self.now) n) }
     {
-        let numbers = members::numbers(self.alloc, &self.members)?;
-        let found = members::contexts(self.alloc, numbers.as_slice())?;
+        let found: Vec<ContextId> = rising_keys::names(self.alloc, &self.members)?;
         Ok(found)
+    }
+
+    /// The lines that exist, in rising order.
+    #[tactic(auto, unfolding(crate::specs::BoardValue::board_of))]
+    pub fn lines(&self) -> Result<Vec<LineNo>, AllocError>
+        ensures rising { IfOk result (λ found. IsRising (map (λ l. l.0) found.items)) }
+        ensures exactly { IfOk result (λ found. (n : ℕ) → Contains (map (λ l. l.0) found.items) n ↔ IsTrue (exists (board_of self.now) (Line (record { 0 = n })))) }
+    {
+        self.terms.lines(self.alloc)
+    }
+
+    /// The numbers of the ephemerals that exist, in rising order.
+    #[tactic(auto, unfolding(crate::specs::BoardValue::board_of))]
+    pub fn ephemerals(&self) -> Result<Vec<u32>, AllocError>
+        ensures rising { IfOk result (λ found. IsRising found.items) }
+        ensures exactly { IfOk result (λ found. (n : ℕ) → Contains found.items n ↔ IsTrue (exists (board_of self.now) (Eph n))) }
+    {
+        self.terms.ephemerals(self.alloc)
     }
 
     /// Every line goes to the null context and is Inactive; no context, no ephemeral and no cut is left, and numbers may be given

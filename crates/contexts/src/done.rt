@@ -1,6 +1,7 @@
 //! What a command tells of itself.
-ghost use Rattle.std.specs.Prelude.{◌≡◌, IfOk};
+ghost use Rattle.std.specs.Prelude.{◌≡◌, IfOk, option_map, map};
 
+use mg_names::identifiers::{ContextId, LineNo};
 use std::alloc::AllocError;
 use std::marker::Model;
 
@@ -9,16 +10,17 @@ use std::marker::Model;
 pub struct Done {
     pub(crate) context: Option<u32>,
     pub(crate) ephemeral: Option<u32>,
-    pub(crate) lines: Vec<u32>,
+    pub(crate) lines: Vec<LineNo>,
     pub(crate) ephemerals: Vec<u32>,
 }
 
 impl Model for Done {
+    ghost use Rattle.std.specs.Prelude.{map};
     ghost use Rattle.mg_model.specs.Items as items;
 
     ghost Value = { items.Done };
 
-    ghost view = { λ d. record { context = d.context; ephemeral = d.ephemeral; lines = d.lines.items; ephemerals = d.ephemerals.items } };
+    ghost view = { λ d. record { context = d.context; ephemeral = d.ephemeral; lines = map (λ l. l.0) d.lines.items; ephemerals = d.ephemerals.items } };
 }
 
 /// The same numbers again.
@@ -26,6 +28,13 @@ fn copied(numbers: &Vec<u32>) -> Result<Vec<u32>, AllocError>
     ensures { IfOk result (λ found. found.items ≡ numbers.now.items) }
 {
     numbers.clone()
+}
+
+/// The same lines again.
+fn copied_lines(lines: &Vec<LineNo>) -> Result<Vec<LineNo>, AllocError>
+    ensures { IfOk result (λ found. found.items ≡ lines.now.items) }
+{
+    lines.clone()
 }
 
 impl Clone for Done {
@@ -37,18 +46,21 @@ impl Clone for Done {
         Ok(Done {
             context: self.context,
             ephemeral: self.ephemeral,
-            lines: copied(&self.lines)?,
+            lines: copied_lines(&self.lines)?,
             ephemerals: copied(&self.ephemerals)?,
         })
     }
 }
 
 impl Done {
-    /// The number of the context that the command created.
-    pub fn context(&self) -> Option<u32>
-        ensures { result ≡ self.now.context }
+    /// The context that the command created.
+    pub fn context(&self) -> Option<ContextId>
+        ensures { option_map (λ c. c.0) result ≡ self.now.context }
     {
-        self.context
+        match self.context {
+            Some(number) => Some(ContextId(number)),
+            None => None,
+        }
     }
 
     /// The number of the ephemeral that the command created.
@@ -58,9 +70,9 @@ impl Done {
         self.ephemeral
     }
 
-    /// The numbers of the lines that went to the null context, in rising order.
-    pub fn lines(&self) -> &[u32]
-        ensures { result.now ≡ self.now.lines }
+    /// The lines that went to the null context, in rising order.
+    pub fn lines(&self) -> &[LineNo]
+        ensures { map (λ l. l.0) result.now ≡ self.now.lines }
     {
         self.lines.as_slice()
     }

@@ -13,7 +13,7 @@ ghost use Rattle.contexts.specs.Steps.{IsTakenOut, IsEmptied};
 use crate::board::Board;
 use crate::done::Done;
 use crate::members;
-use mg_names::identifiers::{ContextId, TermId};
+use mg_names::identifiers::{ContextId, LineNo, TermId};
 use std::alloc::{AllocError, Global};
 use std::collections::BTreeSet;
 
@@ -63,7 +63,8 @@ fn listed(alloc: Global, set: &BTreeSet<u32>) -> Result<Vec<u32>, AllocError>
 fn taken_out(alloc: Global, group: &[TermId]) -> Result<Done, AllocError>
     ensures { IfOk result (IsTakenOut group.now) }
 {
-    let lines = listed(alloc, &line_set(alloc, group)?)?;
+    let numbers = listed(alloc, &line_set(alloc, group)?)?;
+    let lines: Vec<LineNo> = rising_keys::named(alloc, numbers.as_slice())?;
     let ephemerals = listed(alloc, &ephemeral_set(alloc, group)?)?;
     Ok(Done {
         context: None,

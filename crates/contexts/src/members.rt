@@ -1,12 +1,10 @@
 //! The members of each context. A context is kept as long as it has one.
-ghost use Rattle.std.specs.Prelude.{◌≡◌, ℕ, ◌==◌, not, None, [], ◌∷◌, ◌++◌, filter, IfOk, OnOk, OnErr, is_some, if◌then◌else◌, map};
-ghost use Rattle.std.specs.BTreeMap.{IsOrdered, keys};
-ghost use Rattle.std.specs.Ordering.{nat_cmp};
+ghost use Rattle.std.specs.Prelude.{◌≡◌, ℕ, ◌==◌, not, None, [], ◌∷◌, ◌++◌, filter, IfOk, OnOk, OnErr, is_some, if◌then◌else◌};
 ghost use Rattle.mg_model.specs.Board.{same_term};
 ghost use Rattle.contexts.specs.Groups.{group_at, listed, with_member, without_member};
 
 use crate::same::is_same;
-use mg_names::identifiers::{ContextId, TermId};
+use mg_names::identifiers::TermId;
 use std::alloc::{AllocError, Global};
 use std::collections::BTreeMap;
 
@@ -27,25 +25,6 @@ pub(crate) fn of_context(members: &Members, context: u32) -> &[TermId]
         Some(group) => group.as_slice(),
         None => &[],
     }
-}
-
-/// The numbers of the contexts that have members.
-pub(crate) fn numbers(alloc: Global, members: &Members) -> Result<Vec<u32>, AllocError>
-    ensures keys { IfOk result (λ found. found.items ≡ keys members.now) }
-    ensures ordered { OnOk result (IsOrdered nat_cmp members.now) }
-{
-    members.keys().copied().collect(alloc)
-}
-
-/// The contexts of these numbers.
-pub(crate) fn contexts(alloc: Global, numbers: &[u32]) -> Result<Vec<ContextId>, AllocError>
-    ensures { IfOk result (λ found. map (λ c. c.0) found.items ≡ numbers.now) }
-{
-    let mut found = Vec::new(alloc);
-    for number in numbers {
-        found.push(ContextId(*number))?;
-    }
-    Ok(found)
 }
 
 /// A list of one.

@@ -1,4 +1,3 @@
-pub mod NumberLemmas
 pub mod StandbyLemmas
 pub mod OpeningLemmas
 pub mod NoteLemmas

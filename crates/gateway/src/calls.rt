@@ -1,7 +1,5 @@
 //! Open calls by number.
 ghost use Rattle.std.specs.Prelude.{◌≡◌, ℕ, ◌==◌, Some, IfOk, OnOk, OnErr, if◌then◌else◌, option_map, is_some, map};
-ghost use Rattle.std.specs.Ordering.{nat_cmp};
-ghost use Rattle.std.specs.BTreeMap.{IsOrdered, keys};
 ghost use Rattle.mg_model.specs.Items.{Lists};
 ghost use Rattle.gateway.specs.Calls.{call_in, new_call, with_call, counting, keeping, restarting, WouldKeep};
 
@@ -21,31 +19,12 @@ pub(crate) fn call(calls: &Calls, number: u32) -> Option<&CallState>
     calls.get(&number)
 }
 
-/// The numbers of the open calls, as the map goes over them.
-fn keys(alloc: Global, calls: &Calls) -> Result<Vec<u32>, AllocError>
-    ensures keys { IfOk result (λ found. found.items ≡ keys calls.now) }
-    ensures ordered { OnOk result (IsOrdered nat_cmp calls.now) }
+/// The open calls, in rising order.
+#[tactic(auto, unfolding(crate::specs::Calls::call_in))]
+pub(crate) fn open_calls(alloc: Global, calls: &Calls) -> Result<Vec<CallNo>, AllocError>
+    ensures { IfOk result (λ found. Lists (λ n. is_some (call_in calls.now.entries n)) (map (λ c. c.0) found.items)) }
 {
-    calls.keys().copied().collect(alloc)
-}
-
-/// The numbers of the open calls, in rising order.
-pub(crate) fn numbers(alloc: Global, calls: &Calls) -> Result<Vec<u32>, AllocError>
-    ensures { IfOk result (λ found. Lists (λ n. is_some (call_in calls.now.entries n)) found.items) }
-{
-    let found = keys(alloc, calls)?;
-    Ok(found)
-}
-
-/// The calls of these numbers.
-pub(crate) fn calls(alloc: Global, numbers: &[u32]) -> Result<Vec<CallNo>, AllocError>
-    ensures { IfOk result (λ found. map (λ c. c.0) found.items ≡ numbers.now) }
-{
-    let mut found = Vec::new(alloc);
-    for number in numbers {
-        found.push(CallNo(*number))?;
-    }
-    Ok(found)
+    rising_keys::names(alloc, calls)
 }
 
 /// Opens a call.

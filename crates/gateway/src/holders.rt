@@ -1,7 +1,5 @@
 //! Which call holds a line. There is an entry for each line, so that holding one takes no memory.
 ghost use Rattle.std.specs.Prelude.{◌≡◌, ℕ, ◌==◌, ◌&&◌, Some, None, IfOk, OnOk, is_some, if◌then◌else◌, map};
-ghost use Rattle.std.specs.Ordering.{nat_cmp};
-ghost use Rattle.std.specs.BTreeMap.{IsOrdered, keys};
 ghost use Rattle.mg_model.specs.Items.{Lists};
 ghost use Rattle.contexts.specs.BoardValue.{names_line};
 ghost use Rattle.gateway.specs.Calls.{line_entry, holder_of};
@@ -33,31 +31,12 @@ pub(crate) fn new(alloc: Global, lines: &[LineNo]) -> Result<Holders, AllocError
     Ok(holders)
 }
 
-/// The numbers of the lines, as the map goes over them.
-fn keys(alloc: Global, holders: &Holders) -> Result<Vec<u32>, AllocError>
-    ensures keys { IfOk result (λ found. found.items ≡ keys holders.now) }
-    ensures ordered { OnOk result (IsOrdered nat_cmp holders.now) }
+/// The lines, in rising order.
+#[tactic(auto, unfolding(crate::specs::Calls::line_entry))]
+pub(crate) fn lines(alloc: Global, holders: &Holders) -> Result<Vec<LineNo>, AllocError>
+    ensures { IfOk result (λ found. Lists (λ n. is_some (line_entry holders.now.entries n)) (map (λ l. l.0) found.items)) }
 {
-    holders.keys().copied().collect(alloc)
-}
-
-/// The numbers of the lines, in rising order.
-pub(crate) fn numbers(alloc: Global, holders: &Holders) -> Result<Vec<u32>, AllocError>
-    ensures { IfOk result (λ found. Lists (λ n. is_some (line_entry holders.now.entries n)) found.items) }
-{
-    let found = keys(alloc, holders)?;
-    Ok(found)
-}
-
-/// The lines of these numbers.
-pub(crate) fn lines(alloc: Global, numbers: &[u32]) -> Result<Vec<LineNo>, AllocError>
-    ensures { IfOk result (λ found. map (λ l. l.0) found.items ≡ numbers.now) }
-{
-    let mut found = Vec::new(alloc);
-    for number in numbers {
-        found.push(LineNo(*number))?;
-    }
-    Ok(found)
+    rising_keys::names(alloc, holders)
 }
 
 /// The call that holds a line.

@@ -15,8 +15,7 @@ impl Gateway {
     pub fn lines(&self) -> Result<Vec<LineNo>, AllocError>
         ensures { IfOk result (λ lines. Lists (has_line (board_in self.now.connected)) (map (λ l. l.0) lines.items)) }
     {
-        let numbers = holders::numbers(self.alloc, &self.holders)?;
-        let lines = holders::lines(self.alloc, numbers.as_slice())?;
+        let lines = holders::lines(self.alloc, &self.holders)?;
         Ok(lines)
     }
 
@@ -50,8 +49,7 @@ impl Gateway {
     pub fn calls(&self) -> Result<Vec<CallNo>, AllocError>
         ensures { IfOk result (λ calls. Lists (is_open self.now) (map (λ c. c.0) calls.items)) }
     {
-        let numbers = calls::numbers(self.alloc, &self.calls)?;
-        let calls = calls::calls(self.alloc, numbers.as_slice())?;
+        let calls = calls::open_calls(self.alloc, &self.calls)?;
         Ok(calls)
     }
 }

@@ -83,9 +83,9 @@ fn request(
 }
 
 /// The number of the context in which a line stands.
-fn place(connections: &Connections, line: u32) -> Option<u32> {
+fn place(connections: &Connections, line: u32) -> Option<ContextId> {
     match connections.board().get(TermId::Line(LineNo(line))) {
-        Some(row) => Some(row.place.0),
+        Some(row) => Some(row.place),
         None => None,
     }
 }
@@ -100,7 +100,7 @@ fn contexts(connections: &Connections) -> usize {
 struct Told {
     failure: Option<Failure>,
     done: usize,
-    context: Option<u32>,
+    context: Option<ContextId>,
 }
 
 fn told_by(outcome: &Outcome) -> Told {
@@ -139,7 +139,7 @@ fn an_emptied_context_is_unknown(rt: HostRuntime) -> Result<(), Fail> {
     let alloc = rt.alloc();
     let made = ContextRef::MadeAt(0);
     let (connections, told) = run_on_new(alloc, &request(alloc, 1, add(CHOOSE, 1), add(made, 2))?)?;
-    let named = ContextRef::Number(ContextId(told.context.unwrap_or(0)));
+    let named = ContextRef::Number(told.context.unwrap_or(ContextId::NULL));
     let all = RequestCommand::SubtractAll { context: named };
     let second = request(alloc, 2, all, modify(named, 1, nothing()))?;
     let (connections, told) = run(connections, &second)?;

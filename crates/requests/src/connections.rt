@@ -1,5 +1,5 @@
 //! The connections of a gateway.
-ghost use Rattle.std.specs.Prelude.{◌≡◌, ℕ, Some, option_map, unwrap_or, IfOk, OnOk, IfErr, OnErr};
+ghost use Rattle.std.specs.Prelude.{◌≡◌, ℕ, Some, option_map, unwrap_or, map, IfOk, OnOk, IfErr, OnErr};
 ghost use Rattle.mg_model.specs.Items.{IsExecuted};
 ghost use Rattle.mg_model.specs.LineEvents.{new_line};
 ghost use Rattle.mg_model.specs.RequestRun.{IsRefusedWith};
@@ -154,12 +154,12 @@ impl Connections {
     pub(crate) fn describe(
         &mut self,
         described: &Option<(LineNo, &LineDescriptors)>,
-        gone: &[u32],
+        gone: &[LineNo],
         number: u32,
     ) -> Result<Option<LineNote>, AllocError>
         requires { IsThere (board_in self.old) (line_described described.now) }
         ensures board { board_in self.new ≡ board_in self.old }
-        ensures lines { OnOk result (line_in self.new ≡ row_in gone.now (line_described described.now) (line_in self.old) number) }
+        ensures lines { OnOk result (line_in self.new ≡ row_in (map (λ l. l.0) gone.now) (line_described described.now) (line_in self.old) number) }
         ensures note { IfOk result (λ note. noted note ≡ raised_on (line_in self.old) (line_described described.now) number) }
     {
         let note = set_described(&mut self.lines, described, number)?;

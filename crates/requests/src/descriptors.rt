@@ -1,5 +1,5 @@
 //! The descriptors that a command gives to a line.
-ghost use Rattle.std.specs.Prelude.{◌≡◌, ℕ, Some, IfOk, OnOk, OnErr, is_some, option_map, option_and_then};
+ghost use Rattle.std.specs.Prelude.{◌≡◌, ℕ, Some, IfOk, OnOk, OnErr, is_some, map, option_map, option_and_then};
 ghost use Rattle.mg_model.specs.RequestRun.{with_signals, with_events, with_descriptors, described_row};
 ghost use Rattle.line_events.specs.Rows.{row_of};
 ghost use Rattle.mg_model.specs.Updates.{with_at};
@@ -78,11 +78,11 @@ pub(crate) fn set_described(
 }
 
 /// Clears the lines that went to the null context.
-pub(crate) fn clear_lines(lines: &mut LineSet, gone: &[u32])
-    ensures { (n : ℕ) → row_of lines.new n ≡ rows_cleared gone.now (row_of lines.old) n }
+pub(crate) fn clear_lines(lines: &mut LineSet, gone: &[LineNo])
+    ensures { (n : ℕ) → row_of lines.new n ≡ rows_cleared (map (λ l. l.0) gone.now) (row_of lines.old) n }
 {
     for line in gone {
-        let _ = lines.clear(LineNo(*line));
+        let _ = lines.clear(*line);
     }
 }
 

@@ -18,7 +18,7 @@ pub(crate) fn context_at(results: &[Done], context: ContextRef) -> ContextId
     match context {
         ContextRef::Number(context) => context,
         ContextRef::MadeAt(place) => match results.get(place) {
-            Some(done) => ContextId(done.context().unwrap_or(ContextId::ALL.0)),
+            Some(done) => done.context().unwrap_or(ContextId::ALL),
             None => ContextId::ALL,
         },
     }

@@ -39,10 +39,12 @@ fn chosen_at(chosen: Option<ChosenRefusal>, place: usize) -> Option<Refusal>
 }
 
 /// Whether a line is among those that left.
-fn is_among(gone: &[u32], line: LineNo) -> bool
-    ensures { result ≡ is_among gone.now line.0 }
+fn is_among(gone: &[LineNo], line: LineNo) -> bool
+    ensures { result ≡ is_among (map (λ l. l.0) gone.now) line.0 }
 {
-    gone.iter().any(|number| line.0 == *number)
+    gone.iter()
+        .map(|left| left.0)
+        .any(|number| line.0 == number)
 }
 
 /// Whether a command replaces the Events descriptor of a line.
@@ -58,10 +60,10 @@ fn rearms(described: &Option<(LineNo, &LineDescriptors)>, line: LineNo) -> bool
 /// Keeps the notes whose descriptor still stands.
 fn keep_standing(
     notes: &mut Vec<LineNote>,
-    gone: &[u32],
+    gone: &[LineNo],
     described: &Option<(LineNo, &LineDescriptors)>,
 )
-    ensures { line_notes notes.new.items ≡ notes_left gone.now (line_described described.now) (line_notes notes.old.items) }
+    ensures { line_notes notes.new.items ≡ notes_left (map (λ l. l.0) gone.now) (line_described described.now) (line_notes notes.old.items) }
 {
     notes.retain(|note| !(is_among(gone, note.line) || rearms(described, note.line)));
 }

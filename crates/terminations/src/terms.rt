@@ -1,7 +1,7 @@
 //! The table of terminations.
-ghost use Rattle.std.specs.Prelude.{◌≡◌, ℕ, ◌<◌, Bool, true, false, Some, None, Err, IsTrue, IfOk, IfSome, OnOk, OnErr, is_some, option_map, ◌↔◌};
+ghost use Rattle.std.specs.Prelude.{◌≡◌, ℕ, ◌<◌, Bool, true, false, Some, None, Err, IsTrue, IfOk, IfSome, OnOk, OnErr, is_some, option_map, ◌↔◌, Contains, map};
 ghost use Rattle.mg_names.specs.declared.identifiers.TermId.TheVariants.{Line, Eph};
-ghost use Rattle.mg_model.specs.Items.{is_ephemeral_number};
+ghost use Rattle.mg_model.specs.Items.{is_ephemeral_number, IsRising};
 ghost use Rattle.terminations.specs.declared.faults.AddLineFault.TheVariants as AddLineFault;
 ghost use Rattle.terminations.specs.declared.faults.CreateFault.TheVariants as CreateFault;
 
@@ -59,6 +59,24 @@ impl Terms {
             TermId::Line(line) => rows::row_at(&self.lines, line.0),
             TermId::Eph(number) => rows::row_at(&self.ephemerals, number),
         }
+    }
+
+    /// The lines that exist, in rising order.
+    pub fn lines(&self, alloc: Global) -> Result<Vec<LineNo>, AllocError>
+        ensures rising { IfOk result (λ found. IsRising (map (λ l. l.0) found.items)) }
+        ensures exactly { IfOk result (λ found. (n : ℕ) → Contains (map (λ l. l.0) found.items) n ↔ IsTrue (is_some (row_of self.now (Line (record { 0 = n }))))) }
+    {
+        let found: Vec<LineNo> = rising_keys::names(alloc, &self.lines)?;
+        Ok(found)
+    }
+
+    /// The numbers of the ephemerals that exist, in rising order.
+    pub fn ephemerals(&self, alloc: Global) -> Result<Vec<u32>, AllocError>
+        ensures rising { IfOk result (λ found. IsRising found.items) }
+        ensures exactly { IfOk result (λ found. (n : ℕ) → Contains found.items n ↔ IsTrue (is_some (row_of self.now (Eph n)))) }
+    {
+        let found = rising_keys::numbers(alloc, &self.ephemerals)?;
+        Ok(found)
     }
 
     /// Adds a line in the null context, Inactive (H.248.1 section 6.2: a physical termination always exists). `Known` where it

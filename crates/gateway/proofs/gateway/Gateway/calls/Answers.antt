@@ -3,4 +3,4 @@ use Rattle.gateway.proofs.gateway.Gateway.calls.Goals as goal
 
 pub returns : goal.returns
 unfolding is_open
-returns c = rw (c.in_ok-calls.ensures, c.as_slice.ensures.value, ← c.self.view_is) c.in_ok-numbers.ensures
+returns c = rw (← c.self.view_is) c.in_ok-calls.ensures

@@ -1,0 +1,5 @@
+use Rattle.rising_keys.proofs.KeyLemmas.{lists_keys}
+use Rattle.rising_keys.proofs.numbers.Goals as goal
+
+pub returns : goal.returns
+returns g c = rw c.in_ok-found.ensures.keys (lists_keys c.args.from.now c.in_ok-found.ensures.ordered)

@@ -1,0 +1,50 @@
+//! The numbers under which an ordered map keeps something, in rising order, bare or as names of lines, contexts and calls.
+#![tactic(auto)]
+
+ghost use Rattle.std.specs.Prelude.{◌≡◌, IfOk, OnOk, map};
+ghost use Rattle.std.specs.BTreeMap.{IsOrdered, keys};
+ghost use Rattle.std.specs.Ordering.{nat_cmp};
+ghost use Rattle.mg_model.specs.Items.{Lists};
+ghost use Rattle.rising_keys.specs.Kept.{is_kept};
+
+mod numbered;
+
+pub use numbered::Numbered;
+use std::alloc::{AllocError, Global};
+use std::collections::BTreeMap;
+
+/// The keys of a map, as it goes over them.
+fn copied<V>(alloc: Global, from: &BTreeMap<u32, V>) -> Result<Vec<u32>, AllocError>
+    ensures keys { IfOk result (λ found. found.items ≡ keys from.now) }
+    ensures ordered { OnOk result (IsOrdered nat_cmp from.now) }
+{
+    from.keys().copied().collect(alloc)
+}
+
+/// The numbers under which a map keeps something, in rising order.
+pub fn numbers<V>(alloc: Global, from: &BTreeMap<u32, V>) -> Result<Vec<u32>, AllocError>
+    ensures { IfOk result (λ found. Lists (is_kept from.now.entries) found.items) }
+{
+    let found = copied(alloc, from)?;
+    Ok(found)
+}
+
+/// What these numbers name, in their order.
+pub fn named<N: Numbered>(alloc: Global, numbers: &[u32]) -> Result<Vec<N>, AllocError>
+    ensures { IfOk result (λ found. map N.number_of found.items ≡ numbers.now) }
+{
+    let mut found = Vec::new(alloc);
+    for number in numbers {
+        found.push(N::named(*number))?;
+    }
+    Ok(found)
+}
+
+/// What is named by the numbers under which a map keeps something, in rising order of these numbers.
+pub fn names<N: Numbered, V>(alloc: Global, from: &BTreeMap<u32, V>) -> Result<Vec<N>, AllocError>
+    ensures { IfOk result (λ found. Lists (is_kept from.now.entries) (map N.number_of found.items)) }
+{
+    let numbers = numbers(alloc, from)?;
+    let found = named(alloc, numbers.as_slice())?;
+    Ok(found)
+}
