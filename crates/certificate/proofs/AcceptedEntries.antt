@@ -1,12 +1,12 @@
 -- The entries of a certificate that is read for an accepted script list the link, and each thing of each name that the script declares.
-use Rattle.std.proofs.Common.{◌≡◌, ℕ, List, Bool, true, false, length, Option, Some, None, Ok, Err, refl, sym, ap, subst, true≢false}
+use Rattle.std.proofs.Common.{◌≡◌, ℕ, List, Result, Bool, true, false, length, Option, Some, None, Ok, Err, refl, sym, ap, subst, true≢false}
 use Rattle.std.specs.Prelude.{Contains, if◌then◌else◌}
 use Rattle.std.specs.List.{All, list_any}
 use Rattle.std.specs.Result.{is_ok, result_unwrap_or}
 use Rattle.mg_model.specs.Accepted.{IsScript, IsEntryOf, HasOne}
 use Rattle.mg_model.specs.Script.{Script}
 use Rattle.script_table.specs.Table.{state_named}
-use Rattle.certificate.specs.Certificate.{are_known, listed_meant, checked_or, resolved_or, has_empty, has_crowd, is_large}
+use Rattle.certificate.specs.Certificate.{are_known, listed_meant, checked_or, resolved_or, unless_old, has_empty, has_crowd, is_large}
 use Rattle.mg_model.specs.Entries.{Component}
 use Rattle.certificate.specs.Components.{component_meant, keys_of}
 use Rattle.certificate.specs.Document.{document_meant}
@@ -14,6 +14,7 @@ use Rattle.certificate.specs.Laws.{AcceptedCertificates}
 use Rattle.entry_table.specs.Listed.{Listed}
 use Rattle.typed_values.specs.Shape.{each, only_if, ◌>>=◌}
 use Rattle.certificate.specs.Written as written
+use Rattle.certificate.specs.declared.fault.CertFault.{CertFault}
 use Rattle.certificate.specs.declared.fault.CertFault.TheVariants.{EmptySet, TooManyEntries, TooManyPoints}
 use Rattle.certificate.specs.declared.key.Key.{Key}
 use Rattle.certificate.proofs.Members.{some_is, none_is_some, each_read, each_is}
@@ -87,10 +88,17 @@ module _ (script : Script) (accepted : IsScript script) where
   checked_entries (Some entries) out e =
       ap (λ l. Some l) (passed (list_any has_empty entries) (has_crowd script entries) (list_any is_large entries) entries out e)
 
-  resolved_entries : (meant : Option (List written.Entry)) (out : List Listed) → resolved_or script meant ≡ Ok out → All (IsEntryOf script) out
+  -- a document of the version before has no entries
+  not_old : (is_old : Bool) (answer : Result (List Listed) CertFault) (out : List Listed) → unless_old is_old answer ≡ Ok out → answer ≡ Ok out
+  not_old true (Ok entries) out e = absurd (true≢false (sym (ap is_ok e)))
+  not_old true (Err fault) out e = absurd (true≢false (sym (ap is_ok e)))
+  not_old false answer out e = e
+
+  resolved_entries : (meant : Option written.Document) (out : List Listed) → resolved_or script meant ≡ Ok out → All (IsEntryOf script) out
   resolved_entries None out e = absurd (true≢false (sym (ap is_ok e)))
-  resolved_entries (Some entries) out e =
-      each_is (listed_meant script) (IsEntryOf script) entry_of entries out (checked_entries (each (listed_meant script) entries) out e)
+  resolved_entries (Some document) out e =
+      each_is (listed_meant script) (IsEntryOf script) entry_of document.entries out (checked_entries (each (listed_meant script) document.entries) out
+      (not_old document.is_old (checked_or script (each (listed_meant script) document.entries)) out e))
 
 pub accepted_entries : AcceptedCertificates
 accepted_entries script accepted bytes entries read = resolved_entries script accepted (document_meant read.0) entries read.2

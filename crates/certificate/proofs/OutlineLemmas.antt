@@ -12,7 +12,7 @@ use Rattle.certificate.specs.Outlines.{outline_of, outline_meant, limit_passed, 
 use Rattle.typed_values.specs.Shape.{each, ◌>>=◌}
 use Rattle.certificate.specs.Written as written
 use Rattle.certificate.specs.declared.fault.CertFault.{CertFault}
-use Rattle.certificate.specs.declared.fault.CertFault.TheVariants.{NotJson, BadKey, Unknown, EmptySet, TooManyEntries, TooManyPoints, NoMemory}
+use Rattle.certificate.specs.declared.fault.CertFault.TheVariants.{NotJson, BadKey, Unknown, EmptySet, TooManyEntries, TooManyPoints, OldVersion, NoMemory}
 use Rattle.certificate.specs.Naming.{Lacks}
 use Rattle.certificate.specs.declared.outline.Outline.{Outline}
 
@@ -79,6 +79,7 @@ itself entries Unknown e = e
 itself entries EmptySet e = e
 itself entries TooManyEntries e = e
 itself entries TooManyPoints e = e
+itself entries OldVersion e = e
 itself entries NoMemory e = tt
 
 module _ (script : Script) where
@@ -122,3 +123,4 @@ module _ (script : Script) where
   unknown meant EmptySet e = absurd e
   unknown meant TooManyEntries e = absurd e
   unknown meant TooManyPoints e = absurd e
+  unknown meant OldVersion e = absurd e

@@ -1,6 +1,6 @@
 -- A certificate: what a document's entries are, given a script, and its faults in the order of their numbers. A reader
 -- should check the limits, and that each fault is looked for in the whole document before the next.
-use Rattle.std.specs.Prelude.{◌≡◌, ℕ, zero, suc, ◌==◌, ◌||◌, ◌&&◌, Bool, false, List, length, count_by, nat_lt, if◌then◌else◌, Option, Some, None, is_some, Result, Ok, Err}
+use Rattle.std.specs.Prelude.{◌≡◌, ℕ, zero, suc, ◌==◌, ◌||◌, ◌&&◌, Bool, true, false, List, length, count_by, nat_lt, if◌then◌else◌, Option, Some, None, is_some, Result, Ok, Err}
 use Rattle.std.specs.List.{list_all, list_any}
 use Rattle.std.specs.Str.{IsUtf8}
 use Rattle.serde_json.specs.Data.{Data}
@@ -14,7 +14,7 @@ use Rattle.certificate.specs.Document.{document_meant}
 use Rattle.entry_table.specs.Listed.{Listed, choices_of, size_of}
 use Rattle.certificate.specs.Written as written
 use Rattle.certificate.specs.declared.fault.CertFault.{CertFault}
-use Rattle.certificate.specs.declared.fault.CertFault.TheVariants.{NotJson, BadKey, Unknown, EmptySet, TooManyEntries, TooManyPoints, NoMemory}
+use Rattle.certificate.specs.declared.fault.CertFault.TheVariants.{NotJson, BadKey, Unknown, EmptySet, TooManyEntries, TooManyPoints, OldVersion, NoMemory}
 
 -- whether each key that is a name stands for what its place asks for
 abbrev pub are_known : Script → written.Entry → Bool
@@ -64,9 +64,15 @@ abbrev pub checked_or : Script → Option (List Listed) → Result (List Listed)
 checked_or script None = Err Unknown
 checked_or script (Some entries) = checked script entries
 
-abbrev pub resolved_or : Script → Option (List written.Entry) → Result (List Listed) CertFault
+-- that a document is of the version before is the last fault: one that it has besides goes before
+abbrev pub unless_old : Bool → Result (List Listed) CertFault → Result (List Listed) CertFault
+unless_old true (Ok entries) = Err OldVersion
+unless_old true (Err fault) = Err fault
+unless_old false answer = answer
+
+abbrev pub resolved_or : Script → Option written.Document → Result (List Listed) CertFault
 resolved_or script None = Err BadKey
-resolved_or script (Some entries) = checked_or script (each (listed_meant script) entries)
+resolved_or script (Some document) = unless_old document.is_old (checked_or script (each (listed_meant script) document.entries))
 
 -- what a document says
 abbrev pub document_read : Script → Data → Result (List Listed) CertFault

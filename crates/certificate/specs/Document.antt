@@ -1,11 +1,11 @@
 -- The keys of a certificate and the kinds of their values. A reader should compare this with the table of the page on
 -- formats.
-use Rattle.std.specs.Prelude.{ℕ, List, [], ◌∷◌, ◌==◌, Option, Some, codes}
+use Rattle.std.specs.Prelude.{ℕ, List, [], ◌∷◌, ◌==◌, ◌||◌, Option, Some, codes}
 use Rattle.serde_json.specs.Data.{Data}
 use Rattle.serde_json.specs.Find.{as_str, as_number, as_u64}
 use Rattle.typed_values.specs.Shape.{◌>>=◌, only_if}
 use Rattle.certificate.specs.Keys.{list_of, needed, optional, tabled, has_only}
-use Rattle.certificate.specs.Written.{Text, Line, Ephemeral, Entry}
+use Rattle.certificate.specs.Written.{Text, Line, Ephemeral, Entry, Document}
 
 -- a list of words
 abbrev pub words_meant : Data → Option (List Text)
@@ -52,8 +52,9 @@ document_keys = codes "version" ∷ codes "entries" ∷ []
 abbrev pub whole_meant : Data → Option ℕ
 whole_meant d = as_number d >>= as_u64
 
--- the version has to be 1
-abbrev pub document_meant : Data → Option (List Entry)
+-- the version is 2, or 1, which was the one before: another one is a bad key
+abbrev pub document_meant : Data → Option Document
 document_meant d =
     only_if (has_only document_keys d) (needed whole_meant (codes "version") d >>= λ version.
-    only_if (version == 1) (needed (list_of entry_meant) (codes "entries") d))
+    only_if (version == 1 || version == 2) (needed (list_of entry_meant) (codes "entries") d >>= λ entries.
+    Some (record { is_old = version == 1; entries = entries })))

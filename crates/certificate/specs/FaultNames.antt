@@ -1,7 +1,7 @@
 -- The faults of a certificate: their numbers, which are their order of precedence, and their names.
 use Rattle.std.specs.Prelude.{ℕ, Bool, true, false, List, codes}
 use Rattle.certificate.specs.declared.fault.CertFault.{CertFault}
-use Rattle.certificate.specs.declared.fault.CertFault.TheVariants.{NotJson, BadKey, Unknown, EmptySet, TooManyEntries, TooManyPoints, NoMemory}
+use Rattle.certificate.specs.declared.fault.CertFault.TheVariants.{NotJson, BadKey, Unknown, EmptySet, TooManyEntries, TooManyPoints, OldVersion, NoMemory}
 
 abbrev pub number_of : CertFault → ℕ
 number_of NoMemory = 0
@@ -11,6 +11,7 @@ number_of Unknown = 3
 number_of EmptySet = 4
 number_of TooManyEntries = 5
 number_of TooManyPoints = 6
+number_of OldVersion = 7
 
 abbrev pub name_of : CertFault → List ℕ
 name_of NoMemory = codes "NoMemory"
@@ -20,6 +21,7 @@ name_of Unknown = codes "Unknown"
 name_of EmptySet = codes "EmptySet"
 name_of TooManyEntries = codes "TooManyEntries"
 name_of TooManyPoints = codes "TooManyPoints"
+name_of OldVersion = codes "OldVersion"
 
 -- the fault says that memory ran out
 abbrev pub is_memory : CertFault → Bool
@@ -30,3 +32,4 @@ is_memory Unknown = false
 is_memory EmptySet = false
 is_memory TooManyEntries = false
 is_memory TooManyPoints = false
+is_memory OldVersion = false

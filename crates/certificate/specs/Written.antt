@@ -1,5 +1,5 @@
 -- A certificate as it is written: texts, before any name in it is looked up.
-use Rattle.std.specs.Prelude.{ℕ, List, Option}
+use Rattle.std.specs.Prelude.{ℕ, Bool, List, Option}
 
 abbrev pub Text : Type 0
 Text = List ℕ
@@ -25,3 +25,8 @@ pub record Entry : Type 0 where
   pub contexts : List (Text × List Text)
   pub ephemerals : List (Text × Ephemeral)
   pub cuts : List (Text × List Text)
+
+-- the whole: its entries, and whether it is written by the version before
+pub record Document : Type 0 where
+  pub is_old : Bool
+  pub entries : List Entry

@@ -5,19 +5,21 @@ ghost use Rattle.typed_values.specs.Shape.{Gives};
 ghost use Rattle.certificate.specs.Document.{document_meant};
 
 use crate::reads::{expect_only, needed};
-use crate::written::WrittenEntry;
+use crate::written::WrittenDocument;
 use serde_json::Value;
 use std::alloc::Global;
 use typed_values::Missing;
 
-/// The entries of a document, as they are written. Its version has to be 1.
-pub(crate) fn read_document(alloc: Global, value: &Value) -> Result<Vec<WrittenEntry>, Missing>
-    ensures { Gives (λ v. v.items) result (document_meant (view value.now)) }
+/// A document as it is written. Its version is 2, or 1, which was the one before.
+pub(crate) fn read_document(alloc: Global, value: &Value) -> Result<WrittenDocument, Missing>
+    ensures { Gives (λ d. d) result (document_meant (view value.now)) }
 {
     expect_only(value, &["version", "entries"])?;
     let version: u64 = needed(alloc, value, "version")?;
-    if version != 1 {
+    let is_old = version == 1;
+    if !is_old && version != 2 {
         return Err(Missing::Nothing);
     }
-    needed(alloc, value, "entries")
+    let entries = needed(alloc, value, "entries")?;
+    Ok(WrittenDocument { is_old, entries })
 }

@@ -26,6 +26,9 @@ pub enum CertFault {
     /// An entry with a product of more than 65,536.
     #[error("too many points in an entry")]
     TooManyPoints,
+    /// A document of version 1, whose entries were made for identifiers that are never given again.
+    #[error("an old version")]
+    OldVersion,
     /// Memory ran out.
     #[error("out of memory")]
     NoMemory,
@@ -43,6 +46,7 @@ impl CertFault {
             CertFault::EmptySet => 4,
             CertFault::TooManyEntries => 5,
             CertFault::TooManyPoints => 6,
+            CertFault::OldVersion => 7,
             CertFault::NoMemory => 0,
         }
     }
@@ -58,6 +62,7 @@ impl CertFault {
             CertFault::EmptySet => "EmptySet",
             CertFault::TooManyEntries => "TooManyEntries",
             CertFault::TooManyPoints => "TooManyPoints",
+            CertFault::OldVersion => "OldVersion",
             CertFault::NoMemory => "NoMemory",
         }
     }

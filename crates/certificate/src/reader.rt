@@ -1,9 +1,9 @@
 //! The whole reading of a certificate: bytes, document, entries.
-ghost use Rattle.std.specs.Prelude.{◌≡◌};
+ghost use Rattle.std.specs.Prelude.{◌≡◌, Some};
 ghost use Rattle.serde_json.specs.View.{view};
 ghost use Rattle.mg_model.specs.Memory.{Answers};
 ghost use Rattle.certificate.specs.FaultNames.{is_memory};
-ghost use Rattle.certificate.specs.Certificate.{Parses, ReadsCertificate, checked_or, document_read, listed_meant};
+ghost use Rattle.certificate.specs.Certificate.{Parses, ReadsCertificate, checked_or, document_read, listed_meant, resolved_or};
 ghost use Rattle.typed_values.specs.Shape.{each};
 
 use crate::document::read_document;
@@ -11,7 +11,7 @@ use crate::draft::{drafts, entries};
 use crate::fault::CertFault;
 use crate::key::keys;
 use crate::outline::{limit_passed, outlines};
-use crate::written::WrittenEntry;
+use crate::written::{WrittenDocument, WrittenEntry};
 use entry_table::{Cert, Entry};
 use script_table::Script;
 use serde_json::Value;
@@ -37,12 +37,27 @@ fn resolve(
     }
 }
 
+/// The entries of what is written, which has to be of the version of today.
+fn read_written(
+    alloc: Global,
+    script: &Script,
+    written: &WrittenDocument,
+) -> Result<Vec<Entry>, CertFault>
+    ensures { Answers is_memory (λ v. v.items) result (resolved_or script.now (Some written.now)) }
+{
+    let entries = resolve(alloc, script, written.entries.as_slice())?;
+    if written.is_old {
+        return Err(CertFault::OldVersion);
+    }
+    Ok(entries)
+}
+
 /// The entries of a document.
 fn read_value(alloc: Global, script: &Script, value: &Value) -> Result<Vec<Entry>, CertFault>
     ensures { Answers is_memory (λ v. v.items) result (document_read script.now (view value.now)) }
 {
     match read_document(alloc, value) {
-        Ok(written) => resolve(alloc, script, written.as_slice()),
+        Ok(written) => read_written(alloc, script, &written),
         Err(Missing::Nothing) => Err(CertFault::BadKey),
         Err(Missing::Memory) => Err(CertFault::NoMemory),
     }

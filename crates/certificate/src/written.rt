@@ -58,6 +58,21 @@ impl Model for WrittenEntry {
     ghost view = { λ w. record { state = w.state; link = w.link; lines = map (λ r. (r.name, r.value)) w.lines.items; contexts = map (λ r. (r.name, r.value)) w.contexts.items; ephemerals = map (λ r. (r.name, r.value)) w.ephemerals.items; cuts = map (λ r. (r.name, r.value)) w.cuts.items } };
 }
 
+/// The whole of what is written.
+#[derive(Drop)]
+pub(crate) struct WrittenDocument {
+    pub(crate) is_old: bool,
+    pub(crate) entries: Vec<WrittenEntry>,
+}
+
+impl Model for WrittenDocument {
+    ghost use Rattle.certificate.specs.Written.{Document};
+
+    ghost Value = { Document };
+
+    ghost view = { λ w. record { is_old = w.is_old; entries = w.entries.items } };
+}
+
 impl Reads for WrittenLine {
     ghost use Rattle.certificate.specs.Document.{line_meant};
     ghost use Rattle.certificate.specs.Written.{Line};

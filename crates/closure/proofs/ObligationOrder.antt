@@ -8,9 +8,9 @@ use Rattle.mg_model.specs.Script.{Script}
 use Rattle.mg_model.specs.Configuration.{Configuration}
 use Rattle.mg_model.specs.Steps.{Step, steps_of, opening, reset}
 use Rattle.mg_model.specs.Entries.{Entry, IsPointOf, IsCovered, numbered}
-use Rattle.mg_model.specs.Obligations.{JoinedAreMarked, EndedIsCleared, CreatedAreUnbound, Claim, OpeningCovered, ResetCovered, Marked, Cleared, Unbound, StepCovered, AtPoint, Holds, KeyBefore, ComesBefore, key_of, NoneBroken, IsFirstFault}
+use Rattle.mg_model.specs.Obligations.{JoinedAreMarked, EndedIsCleared, CreatedAreUnbound, NamesAreLive, Claim, OpeningCovered, ResetCovered, Marked, Cleared, Unbound, Live, StepCovered, AtPoint, Holds, KeyBefore, ComesBefore, key_of, NoneBroken, IsFirstFault}
 use Rattle.closure.specs.declared.first_fault.Broken.{Broken}
-use Rattle.closure.specs.declared.first_fault.Broken.TheVariants.{JoinedLines, EndedCall, CreatedNames, UncoveredStep}
+use Rattle.closure.specs.declared.first_fault.Broken.TheVariants.{JoinedLines, EndedCall, CreatedNames, DeadNames, UncoveredStep}
 use Rattle.closure.specs.Answer.{IsAnswer}
 use Rattle.closure.specs.Findings.{AreCoveredBelow, AreKeptBelow, EntriesAreKeptBelow, IsFirstBroken, IsFirstEntry, IsKept, PointsFinding, fault_at, whole_fault}
 
@@ -31,6 +31,7 @@ none_before_opening ResetCovered h = later_part 1 0 (omega arith) h
 none_before_opening (Marked e p) h = later_part 2 0 (omega arith) h
 none_before_opening (Cleared e p) h = later_part 2 0 (omega arith) h
 none_before_opening (Unbound e p) h = later_part 2 0 (omega arith) h
+none_before_opening (Live e p) h = later_part 2 0 (omega arith) h
 none_before_opening (StepCovered e p s) h = later_part 2 0 (omega arith) h
 
 pub opening_broken : (script : Script) (entries : List Entry) → (IsCovered entries (opening script) → ⊥)
@@ -52,6 +53,7 @@ opening_before_reset script entries opened ResetCovered h = absurd (not_before_i
 opening_before_reset script entries opened (Marked e p) h = absurd (later_part 2 1 (omega arith) h)
 opening_before_reset script entries opened (Cleared e p) h = absurd (later_part 2 1 (omega arith) h)
 opening_before_reset script entries opened (Unbound e p) h = absurd (later_part 2 1 (omega arith) h)
+opening_before_reset script entries opened (Live e p) h = absurd (later_part 2 1 (omega arith) h)
 opening_before_reset script entries opened (StepCovered e p s) h = absurd (later_part 2 1 (omega arith) h)
 
 pub reset_broken : (script : Script) (entries : List Entry) → IsCovered entries (opening script)
@@ -76,6 +78,7 @@ module _ (script : Script) (entries : List Entry) (opened : IsCovered entries (o
   none_broken kept (Marked e p) = λ entry at c is. (kept e entry at p c is).marked
   none_broken kept (Cleared e p) = λ entry at c is. (kept e entry at p c is).cleared
   none_broken kept (Unbound e p) = λ entry at c is. (kept e entry at p c is).unbound
+  none_broken kept (Live e p) = λ entry at c is. (kept e entry at p c is).live
   none_broken kept (StepCovered e p s) = λ entry at c is. (kept e entry at p c is).covered s
 
 -- ---- the first that is broken
@@ -108,12 +111,12 @@ by_point e' p' r' s' e p r s (inr h) at_point at_rank = elim h.1 [
 ]
 
 -- only the obligations on steps have steps
-lower_rank : (r' r s : ℕ) → r' < 3 → (r < 3 → s ≡ 0) → IsEarlierRank r' 0 r s → r' < r
+lower_rank : (r' r s : ℕ) → r' < 4 → (r < 4 → s ≡ 0) → IsEarlierRank r' 0 r s → r' < r
 lower_rank r' r s small alone (inl less) = less
 lower_rank r' r s small alone (inr h) =
     let none : s ≡ 0 = alone (omega (arith, h.0, small)) in absurd (omega (arith, none, h.1))
 
-earlier_step : (t r s : ℕ) → r ≤ 3 → IsEarlierRank 3 t r s → t < s
+earlier_step : (t r s : ℕ) → r ≤ 4 → IsEarlierRank 4 t r s → t < s
 earlier_step t r s small (inl less) = absurd (omega (arith, less, small))
 earlier_step t r s small (inr h) = h.1
 
@@ -134,29 +137,34 @@ module _ (script : Script) (entries : List Entry) (opened : IsCovered entries (o
       subst P (sym (is.1 ∙ ap₂ numbered (same_entry e other same_place at) same_number ∙ sym is_point.1)) holds
 
   -- what comes before the obligation of this rank and step holds
-  earlier_hold : (r s : ℕ) → r ≤ 3 → (r < 3 → s ≡ 0)
-      → (0 < r → JoinedAreMarked script c) → (1 < r → EndedIsCleared script c) → (2 < r → CreatedAreUnbound script c)
+  earlier_hold : (r s : ℕ) → r ≤ 4 → (r < 4 → s ≡ 0)
+      → (0 < r → JoinedAreMarked script c) → (1 < r → EndedIsCleared script c) → (2 < r → CreatedAreUnbound script c) → (3 < r → NamesAreLive c)
       → AreCoveredBelow entries (steps_of script c) s
       → (o : Claim) → KeyBefore (key_of o) (2 ∷ place ∷ number ∷ r ∷ s ∷ []) → Holds script entries o
-  earlier_hold r s small alone marked cleared unbound covered OpeningCovered h = opened
-  earlier_hold r s small alone marked cleared unbound covered ResetCovered h = restarted
-  earlier_hold r s small alone marked cleared unbound covered (Marked e p) h =
+  earlier_hold r s small alone marked cleared unbound live covered OpeningCovered h = opened
+  earlier_hold r s small alone marked cleared unbound live covered ResetCovered h = restarted
+  earlier_hold r s small alone marked cleared unbound live covered (Marked e p) h =
       by_point e p 0 0 place number r s h
       (λ earlier other at d is. (earlier_is_kept e p earlier other at d is).marked)
       (λ same_place same_number rank.
       here (JoinedAreMarked script) e p (marked (lower_rank 0 r s (omega arith) alone rank)) same_place same_number)
-  earlier_hold r s small alone marked cleared unbound covered (Cleared e p) h =
+  earlier_hold r s small alone marked cleared unbound live covered (Cleared e p) h =
       by_point e p 1 0 place number r s h
       (λ earlier other at d is. (earlier_is_kept e p earlier other at d is).cleared)
       (λ same_place same_number rank.
       here (EndedIsCleared script) e p (cleared (lower_rank 1 r s (omega arith) alone rank)) same_place same_number)
-  earlier_hold r s small alone marked cleared unbound covered (Unbound e p) h =
+  earlier_hold r s small alone marked cleared unbound live covered (Unbound e p) h =
       by_point e p 2 0 place number r s h
       (λ earlier other at d is. (earlier_is_kept e p earlier other at d is).unbound)
       (λ same_place same_number rank.
       here (CreatedAreUnbound script) e p (unbound (lower_rank 2 r s (omega arith) alone rank)) same_place same_number)
-  earlier_hold r s small alone marked cleared unbound covered (StepCovered e p t) h =
-      by_point e p 3 t place number r s h
+  earlier_hold r s small alone marked cleared unbound live covered (Live e p) h =
+      by_point e p 3 0 place number r s h
+      (λ earlier other at d is. (earlier_is_kept e p earlier other at d is).live)
+      (λ same_place same_number rank.
+      here NamesAreLive e p (live (lower_rank 3 r s (omega arith) alone rank)) same_place same_number)
+  earlier_hold r s small alone marked cleared unbound live covered (StepCovered e p t) h =
+      by_point e p 4 t place number r s h
       (λ earlier other at d is. (earlier_is_kept e p earlier other at d is).covered t)
       (λ same_place same_number rank.
       here (λ (d : Configuration). (step : Step) → slice_get (steps_of script d) t ≡ Some step → IsCovered entries step.1)
@@ -167,7 +175,7 @@ module _ (script : Script) (entries : List Entry) (opened : IsCovered entries (o
   point_broken JoinedLines h = record {
     claim = Marked place number;
     broken = λ holds. h (holds entry at_place c is_point);
-    before = earlier_hold 0 0 (omega arith) (λ l. refl) (λ l. absurd (omega arith)) (λ l. absurd (omega arith)) (λ l. absurd (omega arith))
+    before = earlier_hold 0 0 (omega arith) (λ l. refl) (λ l. absurd (omega arith)) (λ l. absurd (omega arith)) (λ l. absurd (omega arith)) (λ l. absurd (omega arith))
         (λ t l. absurd (omega arith));
     obligation = refl;
     entry = refl;
@@ -177,7 +185,7 @@ module _ (script : Script) (entries : List Entry) (opened : IsCovered entries (o
   point_broken EndedCall h = record {
     claim = Cleared place number;
     broken = λ holds. h.1 (holds entry at_place c is_point);
-    before = earlier_hold 1 0 (omega arith) (λ l. refl) (λ l. h.0) (λ l. absurd (omega arith)) (λ l. absurd (omega arith))
+    before = earlier_hold 1 0 (omega arith) (λ l. refl) (λ l. h.0) (λ l. absurd (omega arith)) (λ l. absurd (omega arith)) (λ l. absurd (omega arith))
         (λ t l. absurd (omega arith));
     obligation = refl;
     entry = refl;
@@ -187,7 +195,17 @@ module _ (script : Script) (entries : List Entry) (opened : IsCovered entries (o
   point_broken CreatedNames h = record {
     claim = Unbound place number;
     broken = λ holds. h.2 (holds entry at_place c is_point);
-    before = earlier_hold 2 0 (omega arith) (λ l. refl) (λ l. h.0) (λ l. h.1) (λ l. absurd (omega arith))
+    before = earlier_hold 2 0 (omega arith) (λ l. refl) (λ l. h.0) (λ l. h.1) (λ l. absurd (omega arith)) (λ l. absurd (omega arith))
+        (λ t l. absurd (omega arith));
+    obligation = refl;
+    entry = refl;
+    point = refl;
+    step = refl;
+  }
+  point_broken DeadNames h = record {
+    claim = Live place number;
+    broken = λ holds. h.3 (holds entry at_place c is_point);
+    before = earlier_hold 3 0 (omega arith) (λ l. refl) (λ l. h.0) (λ l. h.1) (λ l. h.2) (λ l. absurd (omega arith))
         (λ t l. absurd (omega arith));
     obligation = refl;
     entry = refl;
@@ -195,13 +213,13 @@ module _ (script : Script) (entries : List Entry) (opened : IsCovered entries (o
     step = refl;
   }
   point_broken (UncoveredStep name) h = record {
-    claim = StepCovered place number h.3.place;
-    broken = λ holds. h.3.uncovered (holds entry at_place c is_point h.3.step h.3.at_place);
-    before = earlier_hold 3 h.3.place (omega arith) (λ l. absurd (omega arith)) (λ l. h.0) (λ l. h.1) (λ l. h.2) h.3.before;
+    claim = StepCovered place number h.4.place;
+    broken = λ holds. h.4.uncovered (holds entry at_place c is_point h.4.step h.4.at_place);
+    before = earlier_hold 4 h.4.place (omega arith) (λ l. absurd (omega arith)) (λ l. h.0) (λ l. h.1) (λ l. h.2) (λ l. h.3) h.4.before;
     obligation = refl;
     entry = refl;
     point = refl;
-    step = (entry, at_place, (c, is_point, (h.3.step, h.3.at_place, ap (λ n. Some n) h.3.named)));
+    step = (entry, at_place, (c, is_point, (h.4.step, h.4.at_place, ap (λ n. Some n) h.4.named)));
   }
 
 -- ---- the answer

@@ -1,16 +1,16 @@
 -- What is found at one configuration, at one entry and at the entries together. No public clause speaks of these words.
 use Rattle.std.specs.Prelude.{◌≡◌, ℕ, ◌<◌, List, Option, Some, None, slice_get}
 use Rattle.mg_names.specs.declared.obligations.Obligation.{Obligation}
-use Rattle.mg_names.specs.declared.obligations.Obligation.TheVariants.{JoinedMarked, EndedCleared, CreatedUnbound, StepsCovered}
+use Rattle.mg_names.specs.declared.obligations.Obligation.TheVariants.{JoinedMarked, EndedCleared, CreatedUnbound, NamesLive, StepsCovered}
 use Rattle.mg_model.specs.declared.faults.Fault.{Fault}
 use Rattle.mg_model.specs.declared.steps.StepName.{StepName}
 use Rattle.mg_model.specs.Script.{Script}
 use Rattle.mg_model.specs.Configuration.{Configuration}
 use Rattle.mg_model.specs.Steps.{Step, steps_of}
 use Rattle.mg_model.specs.Entries.{Entry, IsPointOf, IsCovered, Includes}
-use Rattle.mg_model.specs.Obligations.{JoinedAreMarked, EndedIsCleared, CreatedAreUnbound}
+use Rattle.mg_model.specs.Obligations.{JoinedAreMarked, EndedIsCleared, CreatedAreUnbound, NamesAreLive}
 use Rattle.closure.specs.declared.first_fault.Broken.{Broken}
-use Rattle.closure.specs.declared.first_fault.Broken.TheVariants.{JoinedLines, EndedCall, CreatedNames, UncoveredStep}
+use Rattle.closure.specs.declared.first_fault.Broken.TheVariants.{JoinedLines, EndedCall, CreatedNames, DeadNames, UncoveredStep}
 
 -- the entry at a place has the configuration
 abbrev pub PlaceIncludes : List Entry → Configuration → ℕ → Type 0
@@ -47,6 +47,7 @@ pub record IsKept (script : Script) (entries : List Entry) (c : Configuration) :
   pub marked : JoinedAreMarked script c
   pub cleared : EndedIsCleared script c
   pub unbound : CreatedAreUnbound script c
+  pub live : NamesAreLive c
   pub covered : AreCovered entries (steps_of script c)
 
 -- this obligation of a configuration is broken, and those before it hold
@@ -55,8 +56,10 @@ IsFirstBroken script entries c JoinedLines = JoinedAreMarked script c → ⊥
 IsFirstBroken script entries c EndedCall = JoinedAreMarked script c × (EndedIsCleared script c → ⊥)
 IsFirstBroken script entries c CreatedNames =
     JoinedAreMarked script c × EndedIsCleared script c × (CreatedAreUnbound script c → ⊥)
+IsFirstBroken script entries c DeadNames =
+    JoinedAreMarked script c × EndedIsCleared script c × CreatedAreUnbound script c × (NamesAreLive c → ⊥)
 IsFirstBroken script entries c (UncoveredStep name) =
-    JoinedAreMarked script c × EndedIsCleared script c × CreatedAreUnbound script c
+    JoinedAreMarked script c × EndedIsCleared script c × CreatedAreUnbound script c × NamesAreLive c
     × IsFirstUncovered entries (steps_of script c) name
 
 abbrev pub ConfigurationFinding : Script → List Entry → Configuration → Option Broken → Type 0
@@ -96,6 +99,7 @@ abbrev pub obligation_broken : Broken → Obligation
 obligation_broken JoinedLines = JoinedMarked
 obligation_broken EndedCall = EndedCleared
 obligation_broken CreatedNames = CreatedUnbound
+obligation_broken DeadNames = NamesLive
 obligation_broken (UncoveredStep name) = StepsCovered
 
 abbrev pub step_broken : Broken → Option StepName

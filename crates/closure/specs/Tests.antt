@@ -1,6 +1,10 @@
 -- Words of the tests that the obligations of a configuration are made of. No public clause speaks of them.
-use Rattle.std.specs.Prelude.{◌≡◌, ℕ, ◌<◌, Bool, not, ◌&&◌, ◌||◌, nat_lt, IsTrue}
+use Rattle.std.specs.Prelude.{◌≡◌, ℕ, ◌<◌, Bool, true, false, not, ◌&&◌, ◌||◌, nat_lt, IsTrue}
+use Rattle.mg_names.specs.declared.context_values.ContextValue.{ContextValue}
+use Rattle.mg_names.specs.declared.context_values.ContextValue.TheVariants.{Free, Live, Stale}
 use Rattle.mg_model.specs.declared.commands.Termination.TheVariants.{Line, Ephemeral}
+use Rattle.mg_model.specs.declared.components.Remote.{Remote}
+use Rattle.mg_model.specs.declared.components.Remote.TheVariants.{Unset, Gone, To}
 use Rattle.mg_model.specs.Script.{Script}
 use Rattle.mg_model.specs.Tables.{state_of, items_of, is_armed_list, is_marked}
 use Rattle.mg_model.specs.Configuration.{Configuration, is_null, is_present}
@@ -20,3 +24,21 @@ line_is_cleared script c lines i =
 
 abbrev pub ephemeral_is_absent : Configuration → ℕ → Bool
 ephemeral_is_absent c k = not (is_present (c.spot (Ephemeral k)))
+
+-- a context that is bound and deleted
+abbrev pub is_stale : ContextValue → Bool
+is_stale Stale = true
+is_stale Free = false
+is_stale Live = false
+
+-- a Remote that names what has been destroyed
+abbrev pub is_gone : Remote → Bool
+is_gone Gone = true
+is_gone Unset = false
+is_gone (To k) = false
+
+abbrev pub context_stands : Configuration → ℕ → Bool
+context_stands c j = not (is_stale (c.context j))
+
+abbrev pub remote_stands : Configuration → ℕ → Bool
+remote_stands c k = not (is_gone (c.remote k))

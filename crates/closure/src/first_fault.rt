@@ -8,7 +8,9 @@ ghost use Rattle.closure.specs.Answer.{IsAnswer};
 ghost use Rattle.closure.specs.Findings.{PlaceIncludes, StepsFinding, ConfigurationFinding, NumberFinding, EntryFinding, PointsFinding, fault_at, whole_fault};
 ghost use Rattle.closure.specs.Shown.{shown};
 
-use crate::obligations::{created_are_unbound, ended_is_cleared, joined_are_marked};
+use crate::obligations::{
+    created_are_unbound, ended_is_cleared, joined_are_marked, names_are_live,
+};
 use crate::steps::{opening, reset, steps};
 use configuration::config::Config;
 use configuration::step::Step;
@@ -28,6 +30,8 @@ enum Broken {
     EndedCall,
     /// A name that the state creates is bound.
     CreatedNames,
+    /// A name stands for what has been deleted or destroyed.
+    DeadNames,
     /// The result of this step is in no entry.
     UncoveredStep(StepName),
 }
@@ -101,6 +105,9 @@ fn configuration_fault(
     if !created_are_unbound(script, config) {
         return Ok(Some(Broken::CreatedNames));
     }
+    if !names_are_live(config) {
+        return Ok(Some(Broken::DeadNames));
+    }
     match uncovered_step(alloc, script, cert, config)? {
         Some(step) => Ok(Some(Broken::UncoveredStep(step))),
         None => Ok(None),
@@ -148,6 +155,7 @@ fn fault_at(place: usize, number: u32, broken: &Broken) -> Fault
         Broken::JoinedLines => (Obligation::JoinedMarked, None),
         Broken::EndedCall => (Obligation::EndedCleared, None),
         Broken::CreatedNames => (Obligation::CreatedUnbound, None),
+        Broken::DeadNames => (Obligation::NamesLive, None),
         Broken::UncoveredStep(step) => (Obligation::StepsCovered, Some(step)),
     };
     Fault {

@@ -3,9 +3,11 @@ ghost use Rattle.std.specs.Prelude.{◌≡◌, ℕ, ◌<◌, ◌≤◌, ◌↔�
 ghost use Rattle.std.specs.List.{list_all};
 ghost use Rattle.mg_model.specs.Tables.{state_of, items_of, is_armed_list, is_marked};
 ghost use Rattle.mg_model.specs.Steps.{names_unbound};
-ghost use Rattle.mg_model.specs.Obligations.{JoinedAreMarked, IsCleared, EndedIsCleared, CreatedAreUnbound};
+ghost use Rattle.mg_model.specs.Obligations.{JoinedAreMarked, IsCleared, EndedIsCleared, CreatedAreUnbound, IsLive, NamesAreLive};
+ghost use Rattle.mg_names.specs.declared.context_values.ContextValue.TheVariants as ContextValue;
+ghost use Rattle.mg_model.specs.declared.components.Remote.TheVariants as Remote;
 ghost use Rattle.configuration.specs.Config.{configuration_of};
-ghost use Rattle.closure.specs.Tests.{PairIsMarked, PairBelowIsMarked, line_is_cleared, ephemeral_is_absent};
+ghost use Rattle.closure.specs.Tests.{PairIsMarked, PairBelowIsMarked, line_is_cleared, ephemeral_is_absent, context_stands, remote_stands};
 
 use crate::requests::are_names_unbound;
 use configuration::config::Config;
@@ -13,7 +15,9 @@ use configuration::config::paths::are_joined;
 use configuration::spots;
 use configuration::well_formed::at_rest;
 use mg_model::commands::Termination;
+use mg_model::components::Remote;
 use mg_model::transitions::{EventItem, Pair};
+use mg_names::context_values::ContextValue;
 use mg_names::phases::LinkPhase;
 use mg_names::slots::Slot;
 use mg_names::strictness::Strict;
@@ -173,4 +177,71 @@ pub fn created_are_unbound(script: &Script, config: &Config) -> bool
         return true;
     }
     are_names_unbound(script, config)
+}
+
+/// Whether a context is not one that is bound and deleted.
+fn context_stands(config: &Config, context: Slot) -> bool
+    ensures value { result ≡ context_stands (configuration_of config.now) context }
+    ensures slots { (j : ℕ) → 4 ≤ j → (configuration_of config.now).context j ≡ ContextValue.Free }
+{
+    match config.context(context) {
+        ContextValue::Stale => false,
+        ContextValue::Free | ContextValue::Live => true,
+    }
+}
+
+/// Whether the Remote of an ephemeral does not name what has been destroyed.
+fn remote_stands(config: &Config, ephemeral: Slot) -> bool
+    ensures value { result ≡ remote_stands (configuration_of config.now) ephemeral }
+    ensures slots { (k : ℕ) → 4 ≤ k → (configuration_of config.now).remote k ≡ Remote.Unset }
+{
+    match config.remote(ephemeral) {
+        Remote::Gone => false,
+        Remote::Unset | Remote::To(_) => true,
+    }
+}
+
+/// Whether each context stands.
+fn contexts_stand(config: &Config) -> bool
+    ensures value { result ≡ list_all (context_stands (configuration_of config.now)) (0 ∷ 1 ∷ 2 ∷ 3 ∷ []) }
+    ensures slots { (j : ℕ) → 4 ≤ j → (configuration_of config.now).context j ≡ ContextValue.Free }
+{
+    let slots = Slot::all();
+    let first = context_stands(config, slots[0]);
+    let second = context_stands(config, slots[1]);
+    let third = context_stands(config, slots[2]);
+    let fourth = context_stands(config, slots[3]);
+    first && second && third && fourth
+}
+
+/// Whether each Remote stands.
+fn remotes_stand(config: &Config) -> bool
+    ensures value { result ≡ list_all (remote_stands (configuration_of config.now)) (0 ∷ 1 ∷ 2 ∷ 3 ∷ []) }
+    ensures slots { (k : ℕ) → 4 ≤ k → (configuration_of config.now).remote k ≡ Remote.Unset }
+{
+    let slots = Slot::all();
+    let first = remote_stands(config, slots[0]);
+    let second = remote_stands(config, slots[1]);
+    let third = remote_stands(config, slots[2]);
+    let fourth = remote_stands(config, slots[3]);
+    first && second && third && fourth
+}
+
+/// Whether no context that is bound has been deleted, and no Remote names what has been destroyed.
+fn is_live(config: &Config) -> bool
+    ensures { IsTrue result ↔ IsLive (configuration_of config.now) }
+{
+    let contexts = contexts_stand(config);
+    let remotes = remotes_stand(config);
+    contexts && remotes
+}
+
+/// Whether the names of a configuration stand for what exists, where its request is sent or the call rests.
+pub fn names_are_live(config: &Config) -> bool
+    ensures { IsTrue result ↔ NamesAreLive (configuration_of config.now) }
+{
+    match config.link() {
+        LinkPhase::Sent | LinkPhase::Resting => is_live(config),
+        _ => true,
+    }
 }

@@ -12,14 +12,14 @@ use Rattle.mg_model.specs.Entries.{Entry, numbered, IsCovered}
 use Rattle.mg_model.specs.Gateway.{restarted}
 use Rattle.mg_model.specs.LineEvents.{ListItem}
 use Rattle.mg_names.specs.declared.obligations.Obligation.TheVariants as obligation
-use Rattle.mg_model.specs.Obligations.{Claim, OpeningCovered, ResetCovered, Marked, Cleared, Unbound, StepCovered, Holds, obligation_of, JoinedAreMarked, CreatedAreUnbound}
+use Rattle.mg_model.specs.Obligations.{Claim, OpeningCovered, ResetCovered, Marked, Cleared, Unbound, Live, StepCovered, Holds, obligation_of, JoinedAreMarked, CreatedAreUnbound, NamesAreLive}
 use Rattle.mg_model.specs.Script.{Script}
 use Rattle.mg_model.specs.Steps.{opening, reset, with_link, steps_of}
 use Rattle.mg_model.specs.Tables.{is_empty}
 use Rattle.mg_model.specs.World.{World, Event, restart, hear, pass, Runs, IsGood, with_gateway, agent_steps}
 use Rattle.mg_examples.specs.Needed.{IsNeeded}
 use Rattle.mg_model.specs.Accepted.{IsScript, IsStateOf, IsEntryOf}
-use Rattle.mg_examples.proofs.PointFacts.{Below, EachPoint, at_points, EachCovered, steps_covered, none_joined}
+use Rattle.mg_examples.proofs.PointFacts.{Below, EachPoint, at_points, EachCovered, steps_covered, none_joined, none_bound}
 use Rattle.mg_examples.proofs.EntriesOfTwo.{null, entry_of, HasTwoLines, is_entry, none_below, point_formed, point_covered, unused_covered}
 use Rattle.mg_examples.specs.TwoLines.{idle}
 use Rattle.mg_examples.proofs.QuietStates.{done, no_command}
@@ -106,12 +106,27 @@ unbound : EachPoint (CreatedAreUnbound unarmed) entries
 unfolding Below EachPoint
 unbound = (((λ formed sent. refl), tt), (((λ formed sent. refl), ((λ formed sent. refl), tt)), tt))
 
+-- there is no context
+live : EachPoint NamesAreLive entries
+unfolding Below EachPoint
+live = (
+  ((λ formed. none_bound (numbered resting_idle 0) (λ j. refl) (λ k. refl)), tt),
+  (
+    (
+      (λ formed. none_bound (numbered ended 1) (λ j. refl) (λ k. refl)),
+      ((λ formed. none_bound (numbered ended 0) (λ j. refl) (λ k. refl)), tt),
+    ),
+    tt,
+  ),
+)
+
 others : (other : Claim) → (obligation_of other ≡ obligation.EndedCleared → ⊥) → Holds unarmed entries other
 others OpeningCovered differs = opening_covered
 others ResetCovered differs = reset_covered
 others (Marked e p) differs = at_points (JoinedAreMarked unarmed) entries marked e p
 others (Cleared e p) differs = absurd (differs refl)
 others (Unbound e p) differs = at_points (CreatedAreUnbound unarmed) entries unbound e p
+others (Live e p) differs = at_points NamesAreLive entries live e p
 others (StepCovered e p s) differs = steps_covered unarmed entries all_covered e p s
 
 -- ---- the one that is broken

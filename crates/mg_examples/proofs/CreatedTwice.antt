@@ -16,12 +16,12 @@ use Rattle.mg_model.specs.Configuration.{Configuration}
 use Rattle.mg_model.specs.Effects as effects
 use Rattle.mg_model.specs.Entries.{Entry, numbered, IsCovered}
 use Rattle.mg_names.specs.declared.obligations.Obligation.TheVariants as obligation
-use Rattle.mg_model.specs.Obligations.{Claim, OpeningCovered, ResetCovered, Marked, Cleared, Unbound, StepCovered, Holds, obligation_of, JoinedAreMarked, EndedIsCleared}
+use Rattle.mg_model.specs.Obligations.{Claim, OpeningCovered, ResetCovered, Marked, Cleared, Unbound, Live, StepCovered, Holds, obligation_of, JoinedAreMarked, EndedIsCleared, NamesAreLive}
 use Rattle.mg_model.specs.Script.{Script, State}
 use Rattle.mg_model.specs.Steps.{opening, reset, with_link, steps_of}
 use Rattle.mg_examples.specs.Needed.{BreaksOnly}
 use Rattle.mg_model.specs.Accepted.{IsScript, IsStateOf, IsCommandOf, IsEntryOf}
-use Rattle.mg_examples.proofs.PointFacts.{Below, EachPoint, at_points, EachCovered, steps_covered, plain_formed, none_joined}
+use Rattle.mg_examples.proofs.PointFacts.{Below, EachPoint, at_points, EachCovered, steps_covered, plain_formed, none_joined, first_stands}
 use Rattle.mg_examples.specs.TwoLines.{idle}
 use Rattle.mg_examples.proofs.QuietStates.{done, no_command}
 use Rattle.mg_examples.proofs.EntriesOfTwo.{null, alone, entry_of, HasTwoLines, is_entry, of_context, is_covered, pairs_uncut, point_of, is_free_live, is_first_live, is_first_settled, point_formed, point_covered, unused_covered}
@@ -214,12 +214,21 @@ cleared =
     no_end : false ≡ true → ⊥
     no_end e = true≢false (sym e)
 
+live : EachPoint NamesAreLive entries
+live =
+    each_point NamesAreLive
+    (first_stands (numbered at_idle 0) Free refl (λ j. refl) (λ k. refl)) (first_stands (numbered at_idle 1) Free refl (λ j. refl) (λ k. refl))
+    (first_stands (numbered before_first 0) Free refl (λ j. refl) (λ k. refl)) (first_stands (numbered before_first 1) Free refl (λ j. refl) (λ k. refl))
+    (first_stands (numbered after_first 0) Live refl (λ j. refl) (λ k. refl)) (first_stands (numbered before_second 0) Live refl (λ j. refl) (λ k. refl))
+    (first_stands (numbered at_lost 0) Free refl (λ j. refl) (λ k. refl)) (first_stands (numbered at_lost 1) Free refl (λ j. refl) (λ k. refl))
+
 others : (other : Claim) → (obligation_of other ≡ obligation.CreatedUnbound → ⊥) → Holds created_twice entries other
 others OpeningCovered differs = opening_covered
 others ResetCovered differs = reset_covered
 others (Marked e p) differs = at_points (JoinedAreMarked created_twice) entries marked e p
 others (Cleared e p) differs = at_points (EndedIsCleared created_twice) entries cleared e p
 others (Unbound e p) differs = absurd (differs refl)
+others (Live e p) differs = at_points NamesAreLive entries live e p
 others (StepCovered e p s) differs = steps_covered created_twice entries all_covered e p s
 
 -- ---- the one that is broken

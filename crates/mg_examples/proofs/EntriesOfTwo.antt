@@ -225,8 +225,8 @@ abbrev pub point_of : ℕ → LinkPhase → EventsName → Place → Place → O
 point_of state link list first second value = numbered (entry_of state (link ∷ []) list first second value) 0
 
 -- each context is live exactly where a line stands in it
-abbrev pub IsLive : Configuration → Type 0
-IsLive c = (j : ℕ) → is_live (c.context j) ≡ stands_in c.spot j
+abbrev pub LiveWhereStood : Configuration → Type 0
+LiveWhereStood c = (j : ℕ) → is_live (c.context j) ≡ stands_in c.spot j
 
 -- so it is where the context is free and no line stands in it
 pub is_free_live : (test : Bool) → is_live (if test then Free else Free) ≡ false
@@ -262,7 +262,7 @@ is_both_live j = at_once (j == 0) (0 == j) (same_turned 0 j)
     at_once false turned same = sym (ap (λ x. x || (x || false)) same)
 
 pub point_formed : (state : ℕ) (link : LinkPhase) (list : EventsName) (first second : Place) (value : Option ContextValue)
-    → IsLive (point_of state link list first second value) → IsWellFormed (point_of state link list first second value)
+    → LiveWhereStood (point_of state link list first second value) → IsWellFormed (point_of state link list first second value)
 point_formed state link list first second None live =
     plain_formed (point_of state link list first second None) live (record { mode = λ k. refl; remote = λ k. refl; uncut = pairs_uncut })
 point_formed state link list first second (Some value) live =
@@ -292,7 +292,7 @@ point_at state link list first second (Some value) = (refl, refl)
 
 -- it is covered by an entry that has its link among others
 pub point_covered : (entries : List Entry) (state : ℕ) (linked : List LinkPhase) (link : LinkPhase) (list : EventsName) (first second : Place) (value : Option ContextValue)
-    → Contains entries (entry_of state linked list first second value) → Contains linked link → IsLive (point_of state link list first second value)
+    → Contains entries (entry_of state linked list first second value) → Contains linked link → LiveWhereStood (point_of state link list first second value)
     → IsCovered entries (point_of state link list first second value)
 point_covered entries state linked link list first second value among in_them live =
     let at = point_at state link list first second value in

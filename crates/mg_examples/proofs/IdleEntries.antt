@@ -10,12 +10,12 @@ use Rattle.mg_model.specs.declared.transitions.Pair.{Pair}
 use Rattle.mg_model.specs.declared.transitions.Transition.{Transition}
 use Rattle.mg_model.specs.Configuration.{Configuration, IsWellFormed}
 use Rattle.mg_model.specs.Entries.{Entry, Includes, IsCovered, numbered}
-use Rattle.mg_model.specs.Obligations.{JoinedAreMarked, CreatedAreUnbound}
+use Rattle.mg_model.specs.Obligations.{JoinedAreMarked, CreatedAreUnbound, NamesAreLive}
 use Rattle.mg_model.specs.Script.{Script}
 use Rattle.mg_model.specs.Steps.{steps_of, opening, reset}
 use Rattle.mg_model.proofs.Single.{only_one}
 use Rattle.mg_examples.proofs.EntriesOfTwo.{null, entry_of, is_free_live, point_formed, point_covered, unused_covered}
-use Rattle.mg_examples.proofs.PointFacts.{Below, EachCovered, none_joined}
+use Rattle.mg_examples.proofs.PointFacts.{Below, EachCovered, none_joined, first_stands}
 use Rattle.mg_examples.specs.TwoLines.{two_lines}
 
 -- at rest in `idle`, armed: what a call opens in
@@ -80,6 +80,15 @@ module _ (marks : List Pair) (on : List Transition) (again : ℕ) where
 
 pub armed_formed : IsWellFormed (numbered idle_armed 0)
 armed_formed = point_formed 0 Resting Armed null null (Some Free) (λ j. is_free_live (j == 0))
+
+-- the one context is free
+pub unarmed_live : Below NamesAreLive idle_unarmed 2
+unfolding Below
+unarmed_live = ((λ formed. first_stands (numbered idle_unarmed 1) Free refl (λ j. refl) (λ k. refl)), ((λ formed. first_stands (numbered idle_unarmed 0) Free refl (λ j. refl) (λ k. refl)), tt))
+
+pub armed_live : Below NamesAreLive idle_armed 1
+unfolding Below
+armed_live = ((λ formed. first_stands (numbered idle_armed 0) Free refl (λ j. refl) (λ k. refl)), tt)
 
 -- with no transition the entry with armed lines has no step
 pub armed_stays : (marks : List Pair) (again : ℕ) (entries : List Entry) → Below (λ c. EachCovered entries (steps_of (two_lines marks [] again) c)) idle_armed 1

@@ -5,12 +5,12 @@ use Rattle.std.proofs.Common.{◌≡◌, [], refl, sym, ap, arith, true≢false,
 use Rattle.std.specs.Prelude.{◌==◌}
 use Rattle.mg_model.specs.Entries.{numbered}
 use Rattle.mg_names.specs.declared.obligations.Obligation.TheVariants as obligation
-use Rattle.mg_model.specs.Obligations.{Claim, OpeningCovered, ResetCovered, Marked, Cleared, Unbound, StepCovered, Holds, obligation_of, CreatedAreUnbound}
+use Rattle.mg_model.specs.Obligations.{Claim, OpeningCovered, ResetCovered, Marked, Cleared, Unbound, Live, StepCovered, Holds, obligation_of, CreatedAreUnbound, NamesAreLive}
 use Rattle.mg_examples.specs.Needed.{IsNeeded}
 use Rattle.mg_examples.specs.TwoLines.{to_talk_off_hook, calling}
 use Rattle.mg_examples.proofs.CallingRun.{calling_ends_badly}
 use Rattle.mg_examples.proofs.PointFacts.{at_points, steps_covered, nothing_ends}
-use Rattle.mg_examples.proofs.TalkEntries.{both, both_formed, reachable, all_listed, all_stepped, all_unbound}
+use Rattle.mg_examples.proofs.TalkEntries.{both, both_formed, reachable, all_listed, all_stepped, all_unbound, all_live, all_live}
 use Rattle.mg_examples.proofs.IdleEntries.{opening_covered, reset_covered}
 use Rattle.mg_examples.proofs.TwoLines.{is_script, none_ends}
 
@@ -28,6 +28,7 @@ others_hold ResetCovered differ = reset_covered [] to_talk_off_hook reachable (0
 others_hold (Marked e p) differ = absurd (differ refl)
 others_hold (Cleared e p) differ = nothing_ends (calling []) reachable (none_ends [] to_talk_off_hook 0) e p
 others_hold (Unbound e p) differ = at_points (CreatedAreUnbound (calling [])) reachable (all_unbound []) e p
+others_hold (Live e p) differ = at_points NamesAreLive reachable all_live e p
 others_hold (StepCovered e p s) differ = steps_covered (calling []) reachable (all_stepped []) e p s
 
 pub mark_needed : IsNeeded obligation.JoinedMarked

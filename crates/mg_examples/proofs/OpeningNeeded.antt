@@ -8,14 +8,14 @@ use Rattle.mg_model.specs.declared.commands.EventsName.{EventsName}
 use Rattle.mg_model.specs.declared.commands.EventsName.TheVariants.{Empty, Armed, Own}
 use Rattle.mg_model.specs.Entries.{Entry, links, IsCovered}
 use Rattle.mg_names.specs.declared.obligations.Obligation.TheVariants as obligation
-use Rattle.mg_model.specs.Obligations.{Claim, OpeningCovered, ResetCovered, Marked, Cleared, Unbound, StepCovered, Holds, obligation_of, JoinedAreMarked, CreatedAreUnbound}
+use Rattle.mg_model.specs.Obligations.{Claim, OpeningCovered, ResetCovered, Marked, Cleared, Unbound, Live, StepCovered, Holds, obligation_of, JoinedAreMarked, CreatedAreUnbound, NamesAreLive}
 use Rattle.mg_model.specs.Steps.{opening}
 use Rattle.mg_examples.specs.Needed.{IsNeeded}
 use Rattle.mg_model.specs.Accepted.{IsEntryOf}
 use Rattle.mg_model.proofs.Single.{only_one}
 use Rattle.mg_examples.specs.TwoLines.{to_talk_off_hook, calling}
 use Rattle.mg_examples.proofs.CallingRun.{calling_ends_badly}
-use Rattle.mg_examples.proofs.IdleEntries.{idle_unarmed, reset_covered, sole_included, unarmed_marked, unarmed_unbound, unarmed_steps}
+use Rattle.mg_examples.proofs.IdleEntries.{idle_unarmed, reset_covered, sole_included, unarmed_marked, unarmed_unbound, unarmed_live, unarmed_steps}
 use Rattle.mg_examples.proofs.PointFacts.{EachPoint, at_points, steps_covered, nothing_ends}
 use Rattle.mg_examples.proofs.EntriesOfTwo.{null}
 use Rattle.mg_examples.proofs.TwoLines.{is_script, is_entry, none_ends}
@@ -42,6 +42,7 @@ others_hold ResetCovered differ = reset_covered [] to_talk_off_hook after_a_rest
 others_hold (Marked e p) differ = at_points (JoinedAreMarked (calling [])) after_a_restart (unarmed_marked [] to_talk_off_hook 0, tt) e p
 others_hold (Cleared e p) differ = nothing_ends (calling []) after_a_restart (none_ends [] to_talk_off_hook 0) e p
 others_hold (Unbound e p) differ = at_points (CreatedAreUnbound (calling [])) after_a_restart (unarmed_unbound [] to_talk_off_hook 0, tt) e p
+others_hold (Live e p) differ = at_points NamesAreLive after_a_restart (unarmed_live, tt) e p
 others_hold (StepCovered e p s) differ =
     steps_covered (calling []) after_a_restart (unarmed_steps [] to_talk_off_hook 0 after_a_restart (0, omega (arith), refl), tt) e p s
 

@@ -3,6 +3,8 @@
 use Rattle.std.proofs.Common.{eqb-true, ◌≡◌, ◌∙◌, ◌<◌, ◌==◌, ℕ, zero, suc, Bool, true, false, if◌then◌else◌, List, [], ◌∷◌, length, Option, Some, is_some, refl, sym, ap, subst, arith, true≢false, inl, inr}
 use Rattle.std.proofs.lemmas.Grind.{common_steps}
 use Rattle.std.specs.Prelude.{◌⊎◌, slice_get, not, ◌&&◌, IsTrue, unwrap_or}
+use Rattle.mg_names.specs.declared.context_values.ContextValue.{ContextValue}
+use Rattle.mg_names.specs.declared.context_values.ContextValue.TheVariants.{Free, Live, Stale}
 use Rattle.mg_names.specs.declared.modes.Mode.TheVariants.{Inactive}
 use Rattle.mg_names.specs.declared.phases.LinkPhase.{LinkPhase}
 use Rattle.mg_model.specs.declared.commands.Termination.{Termination}
@@ -14,7 +16,7 @@ use Rattle.mg_model.specs.declared.components.Spot.TheVariants.{Absent, Null, In
 use Rattle.mg_model.specs.Configuration.{Configuration, IsWellFormed, is_same, is_live, is_in, stands_in}
 use Rattle.mg_model.specs.Entries.{Entry, IsCovered, numbered, size_of}
 use Rattle.mg_model.specs.Effects.{with_pair}
-use Rattle.mg_model.specs.Obligations.{AtPoint, JoinedAreMarked, Holds, Cleared, StepCovered}
+use Rattle.mg_model.specs.Obligations.{AtPoint, JoinedAreMarked, NamesAreLive, Holds, Cleared, StepCovered}
 use Rattle.mg_model.specs.Steps.{Step, steps_of}
 use Rattle.mg_model.specs.Tables.{state_of}
 use Rattle.mg_model.specs.Paths.{hops, goes_over, is_shared, passes_in, passes_out, crosses, HasPath}
@@ -144,6 +146,37 @@ none_joined script c two null i j first second joined =
     either (inl path) one = no_path c (Line i) (Line j) path.crossings one path.goes
     either (inr path) (inl e) = no_path c (Line j) (Line i) path.crossings (inr e) path.goes
     either (inr path) (inr e) = no_path c (Line j) (Line i) path.crossings (inl e) path.goes
+
+-- ---- names
+
+abbrev is_stale : ContextValue → Bool
+is_stale Stale = true
+is_stale Free = false
+is_stale Live = false
+
+abbrev is_gone : Remote → Bool
+is_gone Gone = true
+is_gone Unset = false
+is_gone (To i) = false
+
+one_of_two : (first : Bool) (value : ContextValue) → is_stale value ≡ false → is_stale (if first then value else Free) ≡ false
+one_of_two true value e = e
+one_of_two false value e = refl
+
+-- where the first context has a value that is not stale, no other is bound, and no ephemeral has a Remote
+pub first_stands : (c : Configuration) (value : ContextValue) → is_stale value ≡ false → ((j : ℕ) → c.context j ≡ (if j == 0 then value else Free))
+    → ((k : ℕ) → c.remote k ≡ Unset) → NamesAreLive c
+first_stands c value stands contexts unset link = record {
+  contexts = λ j stale. absurd (true≢false (sym (ap is_stale stale) ∙ ap is_stale (contexts j) ∙ one_of_two (j == 0) value stands));
+  remotes = λ k gone. absurd (true≢false (sym (ap is_gone gone) ∙ ap is_gone (unset k)));
+}
+
+-- where no context is bound
+pub none_bound : (c : Configuration) → ((j : ℕ) → c.context j ≡ Free) → ((k : ℕ) → c.remote k ≡ Unset) → NamesAreLive c
+none_bound c contexts unset link = record {
+  contexts = λ j stale. absurd (true≢false (sym (ap is_stale stale) ∙ ap is_stale (contexts j)));
+  remotes = λ k gone. absurd (true≢false (sym (ap is_gone gone) ∙ ap is_gone (unset k)));
+}
 
 -- ---- steps
 

@@ -8,11 +8,11 @@ use Rattle.mg_names.specs.declared.phases.LinkPhase.TheVariants.{Resting}
 use Rattle.mg_model.specs.declared.commands.EventsName.TheVariants.{Armed}
 use Rattle.mg_model.specs.Entries.{Entry, IsCovered}
 use Rattle.mg_names.specs.declared.obligations.Obligation.TheVariants as obligation
-use Rattle.mg_model.specs.Obligations.{Claim, OpeningCovered, ResetCovered, Marked, Cleared, Unbound, StepCovered, Holds, obligation_of, JoinedAreMarked, CreatedAreUnbound}
+use Rattle.mg_model.specs.Obligations.{Claim, OpeningCovered, ResetCovered, Marked, Cleared, Unbound, Live, StepCovered, Holds, obligation_of, JoinedAreMarked, CreatedAreUnbound, NamesAreLive}
 use Rattle.mg_model.specs.Steps.{reset}
 use Rattle.mg_examples.specs.Needed.{IsNeeded}
 use Rattle.mg_model.specs.Accepted.{IsEntryOf}
-use Rattle.mg_examples.proofs.IdleEntries.{idle_armed, opening_covered, sole_included, armed_marked, armed_unbound, armed_stays}
+use Rattle.mg_examples.proofs.IdleEntries.{idle_armed, opening_covered, sole_included, armed_marked, armed_unbound, armed_live, armed_stays}
 use Rattle.mg_examples.proofs.PointFacts.{EachPoint, at_points, steps_covered, nothing_ends}
 use Rattle.mg_examples.proofs.RecoveringRun.{recovering, recovering_ends_badly}
 use Rattle.mg_examples.proofs.EntriesOfTwo.{null}
@@ -33,6 +33,7 @@ others_hold ResetCovered differ = absurd (differ refl)
 others_hold (Marked e p) differ = at_points (JoinedAreMarked recovering) at_rest (armed_marked [] [] 1, tt) e p
 others_hold (Cleared e p) differ = nothing_ends recovering at_rest (none_ends [] [] 1) e p
 others_hold (Unbound e p) differ = at_points (CreatedAreUnbound recovering) at_rest (armed_unbound [] [] 1, tt) e p
+others_hold (Live e p) differ = at_points NamesAreLive at_rest (armed_live, tt) e p
 others_hold (StepCovered e p s) differ = steps_covered recovering at_rest (armed_stays [] 1 at_rest, tt) e p s
 
 pub reset_needed : IsNeeded obligation.ResetCovered

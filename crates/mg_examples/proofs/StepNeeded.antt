@@ -10,13 +10,13 @@ use Rattle.mg_model.specs.declared.commands.EventsName.TheVariants.{Empty, Armed
 use Rattle.mg_model.specs.declared.steps.StepName.TheVariants.{Observe}
 use Rattle.mg_model.specs.Entries.{Entry, numbered}
 use Rattle.mg_names.specs.declared.obligations.Obligation.TheVariants as obligation
-use Rattle.mg_model.specs.Obligations.{Claim, OpeningCovered, ResetCovered, Marked, Cleared, Unbound, StepCovered, Holds, obligation_of, JoinedAreMarked, CreatedAreUnbound}
+use Rattle.mg_model.specs.Obligations.{Claim, OpeningCovered, ResetCovered, Marked, Cleared, Unbound, Live, StepCovered, Holds, obligation_of, JoinedAreMarked, CreatedAreUnbound, NamesAreLive}
 use Rattle.mg_model.specs.Steps.{with_state}
 use Rattle.mg_examples.specs.Needed.{IsNeeded}
 use Rattle.mg_model.specs.Accepted.{IsEntryOf}
 use Rattle.mg_examples.specs.TwoLines.{to_talk_off_hook, calling}
 use Rattle.mg_examples.proofs.CallingRun.{calling_ends_badly}
-use Rattle.mg_examples.proofs.IdleEntries.{idle_armed, idle_unarmed, opening_covered, reset_covered, unarmed_marked, unarmed_unbound, armed_marked, armed_unbound, armed_formed}
+use Rattle.mg_examples.proofs.IdleEntries.{idle_armed, idle_unarmed, opening_covered, reset_covered, unarmed_marked, unarmed_unbound, unarmed_live, armed_marked, armed_unbound, armed_live, armed_formed}
 use Rattle.mg_examples.proofs.PointFacts.{EachPoint, at_points, nothing_ends}
 use Rattle.mg_examples.proofs.EntriesOfTwo.{null}
 use Rattle.mg_examples.proofs.TwoLines.{is_script, is_entry, none_ends}
@@ -46,6 +46,7 @@ others_hold (Marked e p) differ =
 others_hold (Cleared e p) differ = nothing_ends (calling []) in_idle (none_ends [] to_talk_off_hook 0) e p
 others_hold (Unbound e p) differ =
     at_points (CreatedAreUnbound (calling [])) in_idle (unarmed_unbound [] to_talk_off_hook 0, (armed_unbound [] to_talk_off_hook 0, tt)) e p
+others_hold (Live e p) differ = at_points NamesAreLive in_idle (unarmed_live, (armed_live, tt)) e p
 others_hold (StepCovered e p s) differ = absurd (differ refl)
 
 pub step_needed : IsNeeded obligation.StepsCovered

@@ -17,15 +17,15 @@ use Rattle.mg_model.specs.Accepted.{IsEntryOf}
 use Rattle.mg_model.specs.Configuration.{Configuration, IsWellFormed, is_live, value_of}
 use Rattle.mg_model.specs.Effects.{effect}
 use Rattle.mg_model.specs.Entries.{Entry, IsCovered, numbered}
-use Rattle.mg_model.specs.Obligations.{CreatedAreUnbound}
+use Rattle.mg_model.specs.Obligations.{CreatedAreUnbound, NamesAreLive}
 use Rattle.mg_model.specs.Script.{Script}
 use Rattle.mg_model.specs.Steps.{steps_of, with_link}
 use Rattle.mg_model.specs.declared.transitions.Pair.{Pair}
 use Rattle.mg_examples.specs.TwoLines.{to_talk_off_hook, calling}
-use Rattle.mg_examples.proofs.IdleEntries.{idle_armed, idle_unarmed, unarmed_unbound, unarmed_steps, armed_unbound}
+use Rattle.mg_examples.proofs.IdleEntries.{idle_armed, idle_unarmed, unarmed_unbound, unarmed_live, unarmed_steps, armed_unbound, armed_live}
 use Rattle.mg_model.proofs.Cases.{same_turned}
 use Rattle.mg_examples.proofs.EntriesOfTwo.{Place, null, talking, entry_of, is_covered, pairs_uncut, point_of, is_free_live, is_first_settled, is_both_live, point_formed, point_covered}
-use Rattle.mg_examples.proofs.PointFacts.{plain_formed, Below, EachPoint, EachCovered, still_formed}
+use Rattle.mg_examples.proofs.PointFacts.{plain_formed, Below, EachPoint, EachCovered, still_formed, first_stands}
 use Rattle.mg_examples.proofs.TwoLines.{is_entry}
 
 -- ---- entries
@@ -184,3 +184,21 @@ module _ (marks : List Pair) where
     unarmed_unbound marks to_talk_off_hook 0,
     (armed_unbound marks to_talk_off_hook 0, (sent_unbound, (half_unbound, (both_unbound, tt)))),
   )
+
+-- ---- names
+
+sent_live : Below NamesAreLive sent 2
+unfolding Below
+sent_live = ((λ formed. first_stands (numbered sent 1) Free refl (λ j. refl) (λ k. refl)), ((λ formed. first_stands (numbered sent 0) Free refl (λ j. refl) (λ k. refl)), tt))
+
+half_live : Below NamesAreLive half 1
+unfolding Below
+half_live = ((λ formed. first_stands (numbered half 0) Live refl (λ j. refl) (λ k. refl)), tt)
+
+both_live : Below NamesAreLive both 2
+unfolding Below
+both_live = ((λ formed. first_stands (numbered both 1) Live refl (λ j. refl) (λ k. refl)), ((λ formed. first_stands (numbered both 0) Live refl (λ j. refl) (λ k. refl)), tt))
+
+pub all_live : EachPoint NamesAreLive reachable
+unfolding EachPoint
+all_live = (unarmed_live, (armed_live, (sent_live, (half_live, (both_live, tt)))))

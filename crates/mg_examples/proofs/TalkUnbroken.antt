@@ -4,7 +4,7 @@ use Rattle.std.proofs.Common.{◌≡◌, ◌∙◌, ◌<◌, ℕ, zero, suc, tru
 use Rattle.mg_model.specs.declared.transitions.Pair.{Pair}
 use Rattle.mg_model.specs.Configuration.{Configuration}
 use Rattle.mg_model.specs.Entries.{numbered}
-use Rattle.mg_model.specs.Obligations.{OpeningCovered, ResetCovered, Marked, Cleared, Unbound, StepCovered, JoinedAreMarked, CreatedAreUnbound, NoneBroken}
+use Rattle.mg_model.specs.Obligations.{OpeningCovered, ResetCovered, Marked, Cleared, Unbound, Live, StepCovered, JoinedAreMarked, CreatedAreUnbound, NamesAreLive, NoneBroken}
 use Rattle.mg_model.specs.Paths.{AreJoined}
 use Rattle.mg_model.specs.Script.{Script}
 use Rattle.mg_model.specs.Tables.{is_marked, state_of}
@@ -12,7 +12,7 @@ use Rattle.mg_examples.specs.TwoLines.{to_talk_off_hook, calling}
 use Rattle.mg_examples.specs.TwoTalks.{both_lines}
 use Rattle.mg_examples.proofs.IdleEntries.{armed_marked, unarmed_marked, opening_covered, reset_covered}
 use Rattle.mg_examples.proofs.PointFacts.{Below, EachPoint, at_points, steps_covered, nothing_ends, none_joined}
-use Rattle.mg_examples.proofs.TalkEntries.{sent, half, both, reachable, all_stepped, all_unbound}
+use Rattle.mg_examples.proofs.TalkEntries.{sent, half, both, reachable, all_stepped, all_unbound, all_live}
 use Rattle.mg_examples.proofs.TwoLines.{none_ends}
 
 -- ---- marks
@@ -61,4 +61,5 @@ none_broken ResetCovered = reset_covered both_lines to_talk_off_hook reachable (
 none_broken (Marked e p) = at_points (JoinedAreMarked (calling both_lines)) reachable all_marked e p
 none_broken (Cleared e p) = nothing_ends (calling both_lines) reachable (none_ends both_lines to_talk_off_hook 0) e p
 none_broken (Unbound e p) = at_points (CreatedAreUnbound (calling both_lines)) reachable (all_unbound both_lines) e p
+none_broken (Live e p) = at_points NamesAreLive reachable all_live e p
 none_broken (StepCovered e p s) = steps_covered (calling both_lines) reachable (all_stepped both_lines) e p s

@@ -4,8 +4,10 @@
 use Rattle.std.specs.Prelude.{◌≡◌, ℕ, ◌<◌, false, IsTrue, List, [], ◌∷◌, length, slice_get, Option, Some, None, ◌⊎◌}
 use Rattle.mg_names.specs.declared.obligations.Obligation.{Obligation}
 use Rattle.mg_names.specs.declared.obligations.Obligation.TheVariants as obligation
+use Rattle.mg_names.specs.declared.context_values.ContextValue.TheVariants.{Stale}
 use Rattle.mg_names.specs.declared.phases.LinkPhase.TheVariants.{Sent, Resting}
 use Rattle.mg_model.specs.declared.commands.Termination.TheVariants.{Line, Ephemeral}
+use Rattle.mg_model.specs.declared.components.Remote.TheVariants.{Gone}
 use Rattle.mg_model.specs.declared.components.Spot.TheVariants.{Absent, Null}
 use Rattle.mg_model.specs.declared.faults.Fault.{Fault}
 use Rattle.mg_model.specs.declared.steps.StepName.{StepName}
@@ -37,6 +39,16 @@ EndedIsCleared script c =
 abbrev pub CreatedAreUnbound : Script → Configuration → Type 0
 CreatedAreUnbound script c = c.link ≡ Sent → IsTrue (names_unbound script c)
 
+-- no context that is bound has been deleted, and no Remote names an ephemeral that has been destroyed
+pub record IsLive (c : Configuration) : Type 0 where
+  pub contexts : (j : ℕ) → c.context j ≡ Stale → ⊥
+  pub remotes : (k : ℕ) → c.remote k ≡ Gone → ⊥
+
+-- so it is while the request is sent, when names are used, and at rest. While a reply is awaited what was just deleted may still be
+-- bound; nothing is executed then
+abbrev pub NamesAreLive : Configuration → Type 0
+NamesAreLive c = (c.link ≡ Sent) ⊎ (c.link ≡ Resting) → IsLive c
+
 -- what an obligation asks, place by place: of the certificate as a whole, of a point of an entry, or of a step of a point
 pub data Claim : Type 0 where
   OpeningCovered : Claim
@@ -44,6 +56,7 @@ pub data Claim : Type 0 where
   Marked : (entry point : ℕ) → Claim
   Cleared : (entry point : ℕ) → Claim
   Unbound : (entry point : ℕ) → Claim
+  Live : (entry point : ℕ) → Claim
   StepCovered : (entry point step : ℕ) → Claim
 
 -- a fact of the point with this number in the entry at this place, where there is such a point
@@ -57,18 +70,20 @@ Holds script entries ResetCovered = IsCovered entries (reset script)
 Holds script entries (Marked e p) = AtPoint entries e p (JoinedAreMarked script)
 Holds script entries (Cleared e p) = AtPoint entries e p (EndedIsCleared script)
 Holds script entries (Unbound e p) = AtPoint entries e p (CreatedAreUnbound script)
+Holds script entries (Live e p) = AtPoint entries e p NamesAreLive
 Holds script entries (StepCovered e p s) =
     AtPoint entries e p (λ c. (step : Step) → slice_get (steps_of script c) s ≡ Some step → IsCovered entries step.1)
 
 -- the order in which obligations are named: the opening, the reset, then by entry and point, and in a point joined
--- lines, ended calls, created names, then the steps in their order
+-- lines, ended calls, created names, names that are live, then the steps in their order
 abbrev pub rank_in_point : Claim → ℕ
 rank_in_point OpeningCovered = 0
 rank_in_point ResetCovered = 0
 rank_in_point (Marked e p) = 0
 rank_in_point (Cleared e p) = 1
 rank_in_point (Unbound e p) = 2
-rank_in_point (StepCovered e p s) = 3
+rank_in_point (Live e p) = 3
+rank_in_point (StepCovered e p s) = 4
 
 abbrev pub step_in_point : Claim → ℕ
 step_in_point (StepCovered e p s) = s
@@ -78,6 +93,7 @@ abbrev pub point_of : Claim → ℕ × ℕ
 point_of (Marked e p) = (e, p)
 point_of (Cleared e p) = (e, p)
 point_of (Unbound e p) = (e, p)
+point_of (Live e p) = (e, p)
 point_of (StepCovered e p s) = (e, p)
 point_of _ = (0, 0)
 
@@ -88,6 +104,7 @@ part_of ResetCovered = 1
 part_of (Marked e p) = 2
 part_of (Cleared e p) = 2
 part_of (Unbound e p) = 2
+part_of (Live e p) = 2
 part_of (StepCovered e p s) = 2
 
 abbrev pub key_of : Claim → List ℕ
@@ -109,6 +126,7 @@ obligation_of ResetCovered = obligation.ResetCovered
 obligation_of (Marked e p) = obligation.JoinedMarked
 obligation_of (Cleared e p) = obligation.EndedCleared
 obligation_of (Unbound e p) = obligation.CreatedUnbound
+obligation_of (Live e p) = obligation.NamesLive
 obligation_of (StepCovered e p s) = obligation.StepsCovered
 
 abbrev pub entry_named : Claim → Option ℕ
@@ -117,6 +135,7 @@ entry_named ResetCovered = None
 entry_named (Marked e p) = Some e
 entry_named (Cleared e p) = Some e
 entry_named (Unbound e p) = Some e
+entry_named (Live e p) = Some e
 entry_named (StepCovered e p s) = Some e
 
 abbrev pub point_named : Claim → Option ℕ
@@ -125,6 +144,7 @@ point_named ResetCovered = None
 point_named (Marked e p) = Some p
 point_named (Cleared e p) = Some p
 point_named (Unbound e p) = Some p
+point_named (Live e p) = Some p
 point_named (StepCovered e p s) = Some p
 
 -- the fault names the step that breaks its obligation, and none for the other obligations

@@ -16,10 +16,12 @@ pub enum Obligation {
     CreatedUnbound,
     /// The configuration that a call has once it heard of a restart is in an entry.
     ResetCovered,
+    /// While a request is sent, and at rest, no context that is bound has been deleted, and no Remote names what has been destroyed.
+    NamesLive,
 }
 
 impl Obligation {
-    /// The number by which the answer `no` names it, 1 to 6.
+    /// The number by which the answer `no` names it, 1 to 7.
     pub fn number(self) -> u8
         ensures { result ≡ obligation_number self }
     {
@@ -30,6 +32,7 @@ impl Obligation {
             Obligation::EndedCleared => 4,
             Obligation::CreatedUnbound => 5,
             Obligation::ResetCovered => 6,
+            Obligation::NamesLive => 7,
         }
     }
 
@@ -44,6 +47,7 @@ impl Obligation {
             Obligation::EndedCleared => "EndedCleared",
             Obligation::CreatedUnbound => "CreatedUnbound",
             Obligation::ResetCovered => "ResetCovered",
+            Obligation::NamesLive => "NamesLive",
         }
     }
 }

@@ -53,7 +53,7 @@ const REST: &str =
 /// A certificate whose one entry has these links and all values of the other components.
 fn certificate(alloc: Global, script: &Script, links: &str) -> Result<Cert, CertFault> {
     let text = format!(in alloc;
-        "{{\"version\":1,\"entries\":[{{\"state\":\"done\",\"link\":[{links}],{REST}"
+        "{{\"version\":2,\"entries\":[{{\"state\":\"done\",\"link\":[{links}],{REST}"
     )?;
     read_cert(alloc, text.as_bytes(), script)
 }

@@ -1,5 +1,5 @@
 -- The first number whose point breaks an obligation is the entry's first.
-use Rattle.std.proofs.Common.{ℕ, below_more}
+use Rattle.std.proofs.Common.{ℕ, arith, below_more}
 use Rattle.mg_model.specs.Configuration.{Configuration}
 use Rattle.mg_model.specs.Entries.{IsPointOf}
 use Rattle.closure.specs.Findings.{IsKept}
@@ -19,3 +19,7 @@ pub loop-number-preserved : goal.loop-number-preserved
 loop-number-preserved c =
     below_more (λ (n : ℕ). (d : Configuration) → IsPointOf c.args.entry.now n d → IsKept c.args.script.now c.args.cert.now d)
     c.loop-number.number c.loop-number.invariant (rw c.in_default.is at c.in_ok-broken.ensures)
+
+pub returns : goal.returns
+returns c =
+    λ number d point. c.loop-number.invariant number (omega (arith, point.0, c.loop-number-test.false, c.size-number-end.ensures.size)) d point

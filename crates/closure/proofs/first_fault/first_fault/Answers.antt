@@ -6,8 +6,16 @@ use Rattle.mg_model.specs.Obligations.{IsFirstFault}
 use Rattle.closure.specs.Answer.{IsAnswer}
 use Rattle.closure.specs.Findings.{PointsFinding}
 use Rattle.closure.proofs.FindingLemmas.{refuted}
-use Rattle.closure.proofs.ObligationOrder.{reset_broken, points_answer}
+use Rattle.closure.proofs.ObligationOrder.{opening_broken, reset_broken, points_answer}
 use Rattle.closure.proofs.first_fault.first_fault.Goals as goal
+
+pub returns-then-not-covers : goal.returns-then-not-covers
+returns-then-not-covers c =
+    let script = c.args.script.now in
+    let entries = c.args.cert.now in
+    subst (IsFirstFault script entries) (sym c.whole_fault.ensures)
+    (opening_broken script entries
+    (λ covered. refuted c.covers.result c.if-not-covers.true (c.covers.ensures.1 (subst (IsCovered entries) (sym c.opening.ensures) covered))))
 
 pub returns-then-not-covers-2 : goal.returns-then-not-covers-2
 returns-then-not-covers-2 c =
