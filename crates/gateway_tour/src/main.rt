@@ -33,6 +33,27 @@ fn executed(gateway: &mut Gateway, request: &Request) -> Result<Reply, Failure> 
     }
 }
 
+/// A request with its reply.
+fn ask(rt: &HostRuntime, gateway: &mut Gateway) -> Result<(), Failure> {
+    let request = question::request(rt.alloc(), CALL, gateway.association())?;
+    let reply = executed(gateway, &request)?;
+    pages::reply(rt, &reply)
+}
+
+/// What can be read of a gateway.
+fn read(rt: &HostRuntime, gateway: &Gateway) -> Result<(), Failure> {
+    pages::calls(rt, gateway)?;
+    pages::lines(rt, gateway)?;
+    pages::contexts(rt, gateway.board())
+}
+
+/// A line that is picked up, and its note.
+fn pick_up(rt: &HostRuntime, gateway: &mut Gateway) -> Result<(), Failure> {
+    let note = off_hook(gateway)?;
+    pages::note(rt, &note)?;
+    pages::line(rt, gateway, LineNo(1))
+}
+
 /// The note of line 1 going off hook.
 fn off_hook(gateway: &mut Gateway) -> Result<SentNote, Failure> {
     match gateway.happen(LineNo(1), LineEvent::Hook(Hook::Off)) {
@@ -42,18 +63,10 @@ fn off_hook(gateway: &mut Gateway) -> Result<SentNote, Failure> {
 }
 
 fn tour(rt: &HostRuntime) -> Result<(), Failure> {
-    let alloc = rt.alloc();
-    let mut gateway = opened(alloc)?;
-    let request = question::request(alloc, CALL, gateway.association())?;
-    let reply = executed(&mut gateway, &request)?;
-    pages::reply(rt, &reply)?;
-    pages::calls(rt, &gateway)?;
-    pages::lines(rt, &gateway)?;
-    pages::contexts(rt, gateway.board())?;
-    let note = off_hook(&mut gateway)?;
-    pages::note(rt, &note)?;
-    pages::line(rt, &gateway, LineNo(1))?;
-    Ok(())
+    let mut gateway = opened(rt.alloc())?;
+    ask(rt, &mut gateway)?;
+    read(rt, &gateway)?;
+    pick_up(rt, &mut gateway)
 }
 
 fn main(rt: HostRuntime) -> ExitCode {
