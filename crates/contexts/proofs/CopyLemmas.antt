@@ -8,7 +8,7 @@ use Rattle.std.proofs.lemmas.Map.Entries.{lookup_clone}
 use Rattle.contexts.specs.Groups.{group_at, items_in}
 
 module _ {X Z : Type 0} where
-  by_found : (D : Vec X Z → Vec X Z → Type 0) → ((v w : Vec X Z) → D v w → w.items ≡ v.items) → (a b : Option (Vec X Z)) →
+  pub by_found : (D : Vec X Z → Vec X Z → Type 0) → ((v w : Vec X Z) → D v w → w.items ≡ v.items) → (a b : Option (Vec X Z)) →
       MatchOption a (b ≡ None) (λ v. IsSomeAnd b (D v)) → items_in b ≡ items_in a
   by_found D same None b h = rw h refl
   by_found D same (Some v) None h = absurd (search rules)

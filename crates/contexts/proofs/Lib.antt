@@ -1,6 +1,7 @@
 pub mod TermLemmas
 pub mod OnceLemmas
 pub mod TieLemmas
+pub mod StockLemmas
 pub mod PathLemmas
 pub mod FoundLemmas
 pub mod CountLemmas
@@ -8,7 +9,6 @@ pub mod RowLemmas
 pub mod CutLemmas
 pub mod MoveLemmas
 pub mod ClearLemmas
-pub mod NumberLemmas
 pub mod ExecLemmas
 pub mod AddLemmas
 pub mod ListsLemmas

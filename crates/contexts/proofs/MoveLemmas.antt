@@ -8,13 +8,13 @@ use Rattle.mg_model.specs.declared.items.Settings.{Settings}
 use Rattle.mg_model.specs.declared.rows.Row.{Row}
 use Rattle.mg_model.specs.Board.{same_term, place_in}
 use Rattle.mg_model.specs.Items.{without_cuts, is_ephemeral_number, given}
-use Rattle.terminations.specs.Table.{Table, row_of, given_of, left, IsCreated}
+use Rattle.terminations.specs.Table.{Table, row_of, used_of, class_of, left, IsCreated}
 use Rattle.mg_model.specs.Board.{row_with, null_row}
 use Rattle.contexts.specs.declared.cuts.Cut.{Cut}
 use Rattle.contexts.specs.Groups.{kept, has_member, with_member, without_member, without_cuts_of}
 use Rattle.contexts.specs.Rows.{row_in}
 use Rattle.contexts.specs.BoardValue.{cut_of, IsTied}
-use Rattle.contexts.proofs.TermLemmas.{same_itself, same_back, by_value}
+use Rattle.contexts.proofs.TermLemmas.{same_itself, same_back, same_is, by_value}
 use Rattle.contexts.proofs.TieLemmas.{Leaves, tied_left, cut_left, Enters, tied_entered, cut_entered}
 use Rattle.contexts.proofs.RowLemmas.{row_with_here, changes_twice}
 
@@ -104,46 +104,16 @@ cut_moved rows between after m e n k j t one two from to moves tied =
     ∙ cut_left _ _ _ _ _ _ _ _ _ (moves_leaves rows between after m e n k j t one two from to moves) tied
     ∙ ap (λ (f : TermId → Bool). without_cuts f (cut_of rows k)) (same_turned t)
 
--- ---- a member that was added and is taken out again
-
-pub filter_none : (t : TermId) (xs : List TermId) → list_any (same_term t) xs ≡ false → filter (λ u. not (same_term u t)) (xs ++ t ∷ []) ≡ xs
-filter_none t [] h = rw (same_itself t) refl
-filter_none t (x ∷ xs) h = by_test (same_term t x) refl h (filter_none t xs)
-  where
-    by_test : (b : Bool) → same_term t x ≡ b → (same_term t x || list_any (same_term t) xs) ≡ false →
-        (list_any (same_term t) xs ≡ false → filter (λ u. not (same_term u t)) (xs ++ t ∷ []) ≡ xs) → filter (λ u. not (same_term u t)) (x ∷ (xs ++ t ∷ [])) ≡ x ∷ xs
-    by_test true e h more = let bad : (true || list_any (same_term t) xs) ≡ false = rw e at h in absurd (search rules)
-    by_test false e h more =
-        let rest : list_any (same_term t) xs ≡ false = rw e at h in
-        let turned : same_term x t ≡ false = same_back x t ∙ e in rw turned (ap (λ (ys : List TermId). x ∷ ys) (more rest))
-
-pub undone : (t : TermId) (g : Option (List TermId)) → has_member g t ≡ false → (g ≡ Some [] → ⊥) → without_member t (with_member t g) ≡ g
-undone t None h full = rw (same_itself t) refl
-undone t (Some []) h full = absurd (full refl)
-undone t (Some (x ∷ xs)) h full = ap kept (filter_none t (x ∷ xs) h)
-
-pub tied_undone : (rows : TermId → Option Row) (m e n : ℕ → Option (List TermId)) (k : ℕ → Option (List Cut)) (t : TermId) (c : ℕ) → has_member (m c) t ≡ false →
-    ((d : ℕ) → e d ≡ (if d == c then with_member t (m c) else m d)) → ((d : ℕ) → n d ≡ (if d == c then without_member t (e c) else e d)) → IsTied rows m k → IsTied rows n k
-tied_undone rows m e n k t c absent entered left tied = record {
-  stands = λ d u. ap (λ (g : Option (List TermId)). has_member g u) (same d) ∙ tied.stands d u;
-  not_empty = λ d h. tied.not_empty d (sym (same d) ∙ h);
-  once = λ d. rw (same d) (tied.once d);
-  inside = tied.inside;
-}
-  where
-    same : (d : ℕ) → n d ≡ m d
-    same d = left d ∙ by_value (d == c)
-        (λ here. let is = is_number d c here in rw (is, is_same_number c, entered c, is_same_number c) (undone t (m c) absent (tied.not_empty c)))
-        (λ there. rw (there, entered d, there) refl)
-
 -- ---- the ephemeral that was created
 
 pub record CreatedAt (old new : Table) (number : ℕ) : Type 0 where
   pub fits : is_ephemeral_number number
-  pub fresh : given_of old number ≡ false
+  pub of_class : IsTrue (class_of old number)
+  pub fresh : used_of old number ≡ false
   pub absent : row_of old (Eph number) ≡ None
   pub rows : row_of new ≡ row_with (row_of old) (Eph number) (Some null_row)
-  pub numbers : given_of new ≡ given true number (given_of old)
+  pub used : used_of new ≡ given true number (used_of old)
+  pub class : new.ephemerals.class ≡ old.ephemerals.class
 
 pub same_number : (i j : ℕ) → Eph i ≡ Eph j → i ≡ j
 same_number i j e = cc
@@ -152,15 +122,31 @@ pub created_at : (old new : Table) (t : TermId) (number : ℕ) → t ≡ Eph num
 created_at old new t number is created =
     let same : created.number ≡ number = same_number created.number number (sym created.is ∙ is) in record {
       fits = rw (← same) created.fits;
+      of_class = rw (← same) created.of_class;
       fresh = rw (← same) created.fresh;
       absent = rw (← is) created.absent;
       rows = rw (← is) created.rows;
-      numbers = rw (← same) created.numbers;
+      used = rw (← same) created.used;
+      class = created.class;
     }
-
-pub some_same : (t : TermId) (number : ℕ) (next : Option ℕ) → next ≡ Some number → option_map Eph next ≡ Some t → t ≡ Eph number
-some_same t number next is same = let at : option_map Eph (Some number) ≡ Some t = rw is at same in cc
 
 pub changed_new : (rows between after : TermId → Option Row) (t : TermId) (c : ℕ) (settings : Settings) → between ≡ row_with rows t (Some null_row) →
     after ≡ row_with between t (row_in c settings (between t)) → after ≡ row_with rows t (row_in c settings (Some null_row))
 changed_new rows between after t c settings first second = changes_twice rows between after t (λ o. Some null_row) (row_in c settings) first second
+
+-- an ephemeral that was created and is taken back leaves nothing
+pub rows_back : (rows created back : TermId → Option Row) (k : ℕ) → rows (Eph k) ≡ None → created ≡ row_with rows (Eph k) (Some null_row) → back ≡ row_with created (Eph k) None → back ≡ rows
+rows_back rows created back k absent made taken = taken ∙ (λ i t. (at t) i)
+  where
+    at : (t : TermId) → row_with created (Eph k) None t ≡ rows t
+    at t = by_value (same_term t (Eph k))
+        (λ e. let is = same_is t (Eph k) e in rw (e, is) (sym absent))
+        (λ e. rw (e, made, e) refl)
+
+pub used_back : (used created back : ℕ → Bool) (k : ℕ) → used k ≡ false → created ≡ given true k used → back ≡ (λ n. if n == k then false else created n) → back ≡ used
+used_back used created back k fresh made taken = taken ∙ (λ i n. (at n) i)
+  where
+    at : (n : ℕ) → (if n == k then false else created n) ≡ used n
+    at n = by_value (n == k)
+        (λ e. let is : n ≡ k = grind (arith, common_steps) in rw (e, is) (sym fresh))
+        (λ e. rw (e, made, e) refl)

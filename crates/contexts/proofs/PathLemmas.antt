@@ -1,18 +1,20 @@
--- The search for a path: what it finds is a path, and what it doesn't find isn't there; a trail can't be longer than the list of the
--- ephemerals that exist.
-use Rattle.std.proofs.Common.{◌≡◌, ℕ, ◌≤◌, zero, suc, ◌==◌, nat_eq, Bool, true, false, not, ◌&&◌, ◌||◌, IsTrue, IsSome, is_some, refl, ap, sym, ◌∙◌, arith, rules, List, [], ◌∷◌, length, drop, Option, Some, None, ◌⊎◌, inl, inr, nat_cmp}
+-- The search for a path: what it finds is a path, and what it doesn't find isn't there; a trail can't be longer than there are
+-- numbers of ephemerals.
+use Rattle.std.proofs.Common.{◌≡◌, ℕ, ◌≤◌, ◌<◌, ◌+◌, leb, zero, suc, ◌==◌, nat_eq, Bool, true, false, not, ◌&&◌, ◌||◌, IsTrue, is_some, refl, ap, sym, ◌∙◌, arith, rules, List, [], ◌∷◌, length, drop, Option, Some, None, ◌⊎◌, inl, inr}
 use Rattle.std.proofs.lemmas.Grind.{common_steps}
-use Rattle.std.proofs.lemmas.Cmp.{nat_eq_equiv}
-use Rattle.std.proofs.lemmas.Map.Steps.{length-le_from_keys}
-use Rattle.std.specs.BTreeMap.{is_at}
+use Rattle.std.proofs.Math.Nat.{mul-le-mul_right}
+use Rattle.std.proofs.lemmas.List.{get_or_past}
+use Rattle.std.proofs.lemmas.Map.Steps.{length-le_from_distinct_below}
 use Rattle.std.specs.List.{list_any, IsDistinct, AllByRecursion}
-use Rattle.std.specs.Map.{lookup}
 use Rattle.mg_names.specs.declared.identifiers.TermId.{TermId}
 use Rattle.mg_names.specs.declared.identifiers.TermId.TheVariants.{Line, Eph}
 use Rattle.mg_model.specs.declared.rows.Row.{Row}
 use Rattle.mg_model.specs.Board.{Board, same_term, exists, place_of, remote_of}
 use Rattle.mg_model.specs.Media.{share_context, hops, is_number, crosses, goes_over}
-use Rattle.terminations.specs.Table.{row_at}
+use Rattle.identifiers.specs.Class as class
+use Rattle.identifiers.specs.Class.{key_of, number_at, skipped}
+use Rattle.identifiers.specs.Stock.{Stock, slot_at, value_in, at}
+use Rattle.identifiers.proofs.ClassLemmas.{number_at-key_of}
 use Rattle.contexts.specs.BoardValue.{stands_in}
 use Rattle.contexts.specs.Paths.{is_trail, avoids, Leads, crossed, arrival, LeadsBy, LeadsByOne}
 use Rattle.mg_model.specs.Members.{is_among}
@@ -162,9 +164,6 @@ trail_grows b trail from t i sound h =
 
 -- ---- a trail is no longer than the list of the ephemerals
 
-at_number : (q k : ℕ) → is_at (nat_cmp q) k ≡ nat_eq q k
-at_number q k = grind (arith, common_steps)
-
 none_equal : (i : ℕ) (before : List ℕ) → is_among before i ≡ false → AllByRecursion (λ y. nat_eq i y ≡ false) before
 none_equal i [] h = tt
 none_equal i (j ∷ before) h = by_value (nat_eq i j)
@@ -188,18 +187,36 @@ on_trail b (i ∷ before) q h k =
     (λ e. let same : q ≡ i = same_number q i e in rw same inner.1)
     (λ e. let more : list_any (nat_eq q) before ≡ true = rw e at k in on_trail b before q outer.1 more)
 
-pub trail_fits : (b : Board) (ephemerals : List (ℕ × Row)) (trail : List ℕ) → ((k : ℕ) → b.row (Eph k) ≡ row_at ephemerals k) → is_trail b trail ≡ true → length trail ≤ length ephemerals
-trail_fits b ephemerals trail rows h = length-le_from_keys nat_eq_equiv trail ephemerals (distinct b trail h) (λ q k. kept q (on_trail b trail q h k))
-  where
-    is_kept : (row : Option Row) → is_some row ≡ true → IsSome row
-    is_kept None e = absurd (search rules)
-    is_kept (Some row) e = search rules
+-- no ephemeral has a number past that of the last key
+abbrev pub most : Stock Row → ℕ
+most ephemerals = number_at ephemerals.class (length ephemerals.slots) + 1
 
-    kept : (q : ℕ) → exists b (Eph q) ≡ true → IsSome (lookup (nat_eq q) ephemerals)
-    kept q e =
-        let at : is_some (row_at ephemerals q) ≡ true = ap is_some (sym (rows q)) ∙ e in
-        let same : lookup (is_at (nat_cmp q)) ephemerals ≡ lookup (nat_eq q) ephemerals = ap (λ (p : ℕ → Bool). lookup p ephemerals) (λ i k. at_number q k i) in
-        is_kept (lookup (nat_eq q) ephemerals) (ap is_some (sym same) ∙ at)
+pub trail_fits : (b : Board) (ephemerals : Stock Row) (trail : List ℕ) → ((k : ℕ) → b.row (Eph k) ≡ at ephemerals k) → is_trail b trail ≡ true → length trail ≤ most ephemerals
+trail_fits b ephemerals trail rows h = length-le_from_distinct_below trail (most ephemerals) (distinct b trail h) (λ q k. below q (ap is_some (sym (rows q)) ∙ on_trail b trail q h k))
+  where
+    slot : (o : Option (Option Row)) → is_some (value_in o) ≡ true → o ≡ None → ⊥
+    slot None e none = absurd (search rules)
+    slot (Some o) e none = cc
+
+    within : (q : ℕ) → class.is_number ephemerals.class q ≡ true → is_some (at ephemerals q) ≡ true → (length ephemerals.slots ≤ key_of ephemerals.class q) → ⊥
+    within q is e past =
+        let found : is_some (value_in (slot_at ephemerals.slots (key_of ephemerals.class q))) ≡ true = rw is at e in
+        slot _ found (get_or_past ephemerals.slots (key_of ephemerals.class q) None past)
+
+    rises : (q : ℕ) → key_of ephemerals.class q ≤ length ephemerals.slots → number_at ephemerals.class (key_of ephemerals.class q) ≤ number_at ephemerals.class (length ephemerals.slots)
+    rises q h =
+        let keys : key_of ephemerals.class q + skipped ephemerals.class.first ≤ length ephemerals.slots + skipped ephemerals.class.first = omega (arith, h) in
+        let more = mul-le-mul_right ephemerals.class.stride keys in
+        omega (arith, more)
+
+    below : (q : ℕ) → is_some (at ephemerals q) ≡ true → q < most ephemerals
+    below q e = by_value (class.is_number ephemerals.class q)
+        (λ is. let key : key_of ephemerals.class q ≤ length ephemerals.slots = not_above _ _ (within q is e) in
+        let more = rises q key in let same = number_at-key_of ephemerals.class q is in omega (arith, more, same))
+        (λ is. let bad : false ≡ true = rw is at e in absurd (search rules))
+      where
+        not_above : (k n : ℕ) → (n ≤ k → ⊥) → k ≤ n
+        not_above k n h = by_value (leb k n) (λ e. grind (arith, common_steps)) (λ e. absurd (h (grind (arith, common_steps))))
 
 pub none_left : (b : Board) (trail : List ℕ) (from to : TermId) (group : List TermId) (k : ℕ) → length group ≤ k → LeadsByOne b trail from to (drop k group) → ⊥
 none_left b trail from to [] zero h by = by

@@ -28,8 +28,8 @@ cuts_viewed {Z} (e ∷ es) c = by_test (is_at (nat_cmp c) e.0) (cuts_viewed es c
     by_test false more = more
 
 -- boards are equal by their parts
-pub same_boards : (b d : Board) → b.row ≡ d.row → b.cut ≡ d.cut → b.given_context ≡ d.given_context → b.given_ephemeral ≡ d.given_ephemeral → b ≡ d
-same_boards b d r k g h = λ i. record { row = r i; cut = k i; given_context = g i; given_ephemeral = h i }
+pub same_boards : (b d : Board) → b.row ≡ d.row → b.cut ≡ d.cut → b.used_context ≡ d.used_context → b.used_ephemeral ≡ d.used_ephemeral → b.class ≡ d.class → b ≡ d
+same_boards b d r k g h l = λ i. record { row = r i; cut = k i; used_context = g i; used_ephemeral = h i; class = l i }
 
 -- what is read off rows and cuts, where the rows and the cuts are equal
 pub cut_of_same : (rows : TermId → Option Row) (k j : ℕ → Option (List Cut)) → ((c : ℕ) → k c ≡ j c) → cut_of rows k ≡ cut_of rows j

@@ -1,7 +1,6 @@
--- What a board shows: the table of terminations, the cuts of each context, and the last number that a context was given; from
--- them the pointwise board. A reader should check that media is cut between two terminations where the context of the first
+-- What a board shows: the table of terminations, and of each context its members and its cuts; from them the pointwise board. A reader should check that media is cut between two terminations where the context of the first
 -- one lists the pair.
-use Rattle.std.specs.Prelude.{◌≡◌, ℕ, ◌==◌, Bool, true, false, not, ◌&&◌, if◌then◌else◌, List, [], length, Contains, Option, Some, None, ◌↔◌}
+use Rattle.std.specs.Prelude.{◌≡◌, ℕ, ◌==◌, Bool, true, false, not, ◌&&◌, if◌then◌else◌, List, [], Option, Some, None, ◌⊎◌}
 use Rattle.std.specs.Ordering.{nat_cmp}
 use Rattle.std.specs.BTreeMap.{is_at}
 use Rattle.std.specs.List.{list_any, IsDistinct}
@@ -9,11 +8,12 @@ use Rattle.std.specs.Map.{lookup}
 use Rattle.mg_names.specs.declared.identifiers.LineNo.{LineNo}
 use Rattle.mg_names.specs.declared.identifiers.TermId.{TermId}
 use Rattle.mg_names.specs.declared.identifiers.TermId.TheVariants.{Line, Eph}
-use Rattle.mg_model.specs.Numbers.{null}
+use Rattle.mg_model.specs.Numbers.{null, last_context}
 use Rattle.mg_model.specs.declared.rows.Row.{Row}
-use Rattle.mg_model.specs.Board.{Board, place_in, same_term}
-use Rattle.mg_model.specs.Items.{IsRising}
-use Rattle.terminations.specs.Table.{Table, row_of, given_of, is_given}
+use Rattle.mg_model.specs.Board.{Board, ContextExists, place_in, same_term}
+use Rattle.identifiers.specs.declared.class.Class.{Class}
+use Rattle.identifiers.specs.Stock.{Stock, is_used, IsGiven}
+use Rattle.terminations.specs.Table.{Table, row_of, used_of, class_of}
 use Rattle.mg_model.specs.Board.{null_row}
 use Rattle.contexts.specs.declared.cuts.Cut.{Cut}
 use Rattle.contexts.specs.Groups.{listed, has_member, has_cut}
@@ -21,8 +21,7 @@ use Rattle.contexts.specs.Groups.{listed, has_member, has_cut}
 pub record BoardValue : Type 0 where
   pub table : Table
   pub cuts : List (ℕ × List Cut)
-  -- the last number that a context was given, or 0
-  pub last : ℕ
+  pub members : Stock (List TermId)
 
 abbrev pub cuts_at : List (ℕ × List Cut) → ℕ → Option (List Cut)
 cuts_at cuts c = lookup (is_at (nat_cmp c)) cuts
@@ -34,8 +33,9 @@ unfoldable pub board_of : BoardValue → Board
 board_of board_value = record {
   row = row_of board_value.table;
   cut = cut_of (row_of board_value.table) (cuts_at board_value.cuts);
-  given_context = is_given board_value.last;
-  given_ephemeral = given_of board_value.table;
+  used_context = is_used board_value.members;
+  used_ephemeral = used_of board_value.table;
+  class = class_of board_value.table;
 }
 
 -- a termination stands in a context other than the null context
@@ -49,6 +49,16 @@ pub record IsTied (rows : TermId → Option Row) (members : ℕ → Option (List
   pub once : (c : ℕ) → IsDistinct same_term (listed (members c))
   pub inside : (c : ℕ) (t u : TermId) → has_cut (cuts c) t u ≡ true → (stands_in rows c t ≡ true) × (stands_in rows c u ≡ true)
 
+-- contexts are given numbers of the class of which ephemerals are
+pub record IsOneClass (ephemerals contexts : Class) : Type 0 where
+  pub first : contexts.first ≡ ephemerals.first
+  pub stride : contexts.stride ≡ ephemerals.stride
+  pub last : contexts.last ≡ last_context
+
+-- a context in which a termination can come to stand: it is there, or has the number that is given next
+abbrev pub CanEnter : BoardValue → ℕ → Type 0
+CanEnter board_value c = ContextExists (board_of board_value) c ⊎ IsGiven board_value.members c
+
 -- ---- a gateway that starts
 
 abbrev pub names_line : List LineNo → ℕ → Bool
@@ -58,16 +68,9 @@ abbrev pub started : List LineNo → TermId → Option Row
 started lines (Line l) = if names_line lines l.0 then Some null_row else None
 started lines (Eph k) = None
 
--- rows, with nothing cut and no number given
-abbrev pub opened : (TermId → Option Row) → Board
-opened rows = record { row = rows; cut = λ t u. false; given_context = λ n. false; given_ephemeral = λ n. false }
-
--- how many numbers have a property
-pub record IsCount (has : ℕ → Type 0) (count : ℕ) : Type 0 where
-  pub numbers : List ℕ
-  pub rising : IsRising numbers
-  pub exactly : (n : ℕ) → Contains numbers n ↔ has n
-  pub is : count ≡ length numbers
+-- rows, with nothing cut and no number used; numbers of this class are given
+abbrev pub opened : (ℕ → Bool) → (TermId → Option Row) → Board
+opened class rows = record { row = rows; cut = λ t u. false; used_context = λ n. false; used_ephemeral = λ n. false; class = class }
 
 -- a line that is there stays
 abbrev pub or_idle : Option Row → Row

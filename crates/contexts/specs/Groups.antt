@@ -1,18 +1,27 @@
 -- What a board keeps beside the rows, by context: its members, and the pairs of terminations between which media is cut. A reader
 -- should check that a context without members is not kept, and that a pair is cut the way in which it is listed.
-use Rattle.std.specs.Prelude.{ℕ, Bool, not, ◌&&◌, ◌||◌, if◌then◌else◌, List, [], ◌∷◌, ◌++◌, Option, Some, None, filter, Vec}
+use Rattle.std.specs.Prelude.{ℕ, Bool, not, ◌&&◌, ◌||◌, if◌then◌else◌, List, [], ◌∷◌, ◌++◌, map, Option, Some, None, option_map, filter, Vec}
 use Rattle.std.specs.Ordering.{nat_cmp}
 use Rattle.std.specs.BTreeMap.{is_at}
 use Rattle.std.specs.List.{list_any}
 use Rattle.std.specs.Map.{lookup}
 use Rattle.mg_names.specs.declared.identifiers.TermId.{TermId}
 use Rattle.mg_model.specs.Board.{same_term}
+use Rattle.identifiers.specs.Stock.{Stock, at}
 use Rattle.contexts.specs.declared.cuts.Cut.{Cut}
 
 module _ {X Z : Type 0} where
   abbrev pub items_in : Option (Vec X Z) → Option (List X)
   items_in None = None
   items_in (Some listed) = Some listed.items
+
+  -- the list under the number of a context
+  abbrev pub members_at : Stock (Vec X Z) → ℕ → Option (List X)
+  members_at members c = items_in (at members c)
+
+  -- the lists as a board shows them
+  abbrev pub items_of : Stock (Vec X Z) → Stock (List X)
+  items_of members = record { slots = map (option_map (option_map (λ (v : Vec X Z). v.items))) members.slots; vacant = members.vacant; class = members.class }
 
   -- the list at a context
   abbrev pub group_at : List (ℕ × Vec X Z) → ℕ → Option (List X)

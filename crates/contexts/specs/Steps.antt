@@ -1,5 +1,5 @@
 -- What a step of a command does to the board.
-use Rattle.std.specs.Prelude.{◌≡◌, ℕ, false, true, ◌⊎◌, Option, Some, None, List, []}
+use Rattle.std.specs.Prelude.{◌≡◌, ℕ, false, true, IsTrue, ◌⊎◌, Option, Some, None, List, []}
 use Rattle.std.specs.List.{list_any}
 use Rattle.mg_names.specs.declared.identifiers.TermId.{TermId}
 use Rattle.mg_names.specs.declared.identifiers.TermId.TheVariants.{Line, Eph}
@@ -15,8 +15,9 @@ use Rattle.contexts.specs.BoardValue.{stands_in}
 -- a new ephemeral stands in a context, and its number was not given
 pub record IsEntered (old new : Board) (context : ℕ) (settings : Settings) (number : ℕ) : Type 0 where
   pub fits : is_ephemeral_number number
-  pub fresh : old.given_ephemeral number ≡ false
-  pub board : new ≡ record (with_ephemeral old number context settings) { given_ephemeral = given true number old.given_ephemeral }
+  pub fresh : old.used_ephemeral number ≡ false
+  pub of_class : IsTrue (old.class number)
+  pub board : new ≡ record (with_ephemeral old number context settings) { used_ephemeral = given true number old.used_ephemeral }
 
 -- a context doesn't exist; another one may be named
 abbrev pub IsUnknown : Board → ℕ → Type 0
@@ -31,6 +32,10 @@ NoneLeftFor b c added = ((c ≡ choose) × NoContextLeft b) ⊎ EphemeralsUsedUp
 -- what a command tells that takes nothing out of its context
 abbrev pub created : Option ℕ → Option ℕ → Done
 created context ephemeral = record { context = context; ephemeral = ephemeral; lines = []; ephemerals = [] }
+
+-- the board with the number of a context used, as that of each context that is there is already
+abbrev pub entered : Board → ℕ → Board
+entered b c = record b { used_context = given true c b.used_context }
 
 -- what is added stands in the null context, or can be created
 abbrev pub CanBeAdded : Board → Added → Settings → Type 0

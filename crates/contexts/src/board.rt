@@ -17,30 +17,30 @@ pub struct Board {
     pub(crate) terms: Terms,
     pub(crate) members: Members,
     pub(crate) cuts: Cuts,
-    pub(crate) last: u32,
 }
 
 impl Model for Board {
     ghost use Rattle.std.specs.Prelude.{map};
     ghost use Rattle.terminations.specs.Table.{row_of};
-    ghost use Rattle.contexts.specs.Groups.{group_at};
-    ghost use Rattle.contexts.specs.BoardValue.{BoardValue, IsTied};
+    ghost use Rattle.contexts.specs.Groups.{group_at, members_at, items_of};
+    ghost use Rattle.contexts.specs.BoardValue.{BoardValue, IsTied, IsOneClass};
 
     ghost Value = { BoardValue };
 
-    ghost view = { λ b. record { table = b.terms; cuts = map (λ e. (e.0, e.1.items)) b.cuts.entries; last = b.last } };
+    ghost view = { λ b. record { table = b.terms; cuts = map (λ e. (e.0, e.1.items)) b.cuts.entries; members = items_of b.members } };
 
-    ghost invariant = { λ b. IsTied (row_of b.terms) (group_at b.members.entries) (group_at b.cuts.entries) };
+    ghost invariant = { λ b. IsTied (row_of b.terms) (members_at b.members) (group_at b.cuts.entries) × IsOneClass b.terms.ephemerals.class b.members.class };
 }
 
 impl Board {
     ghost use Rattle.mg_names.specs.declared.identifiers.TermId.{TermId};
     ghost use Rattle.mg_names.specs.declared.identifiers.TermId.TheVariants.{Line, Eph};
     ghost use Rattle.std.specs.List.{list_any, IsDistinct};
-    ghost use Rattle.mg_model.specs.Board.{ContextExists, exists, same_term};
+    ghost use Rattle.mg_model.specs.Board.{ContextExists, IsSettled, exists, same_term};
     ghost use Rattle.mg_model.specs.Items.{IsRising};
     ghost use Rattle.terminations.specs.Table.{cleared};
-    ghost use Rattle.contexts.specs.BoardValue.{board_of, stands_in, IsCount};
+    ghost use Rattle.identifiers.specs.Count.{IsCount};
+    ghost use Rattle.contexts.specs.BoardValue.{board_of, stands_in};
 
     /// The row of a termination; `None` where it doesn't exist.
     #[tactic(auto, unfolding(crate::specs::BoardValue::board_of))]
@@ -84,7 +84,8 @@ impl Board {
         ensures rising { IfOk result (λ found. IsRising (map (λ c. c.0) found.items)) }
         ensures exactly { IfOk result (λ found. (n : ℕ) → Contains (map (λ c. c.0) found.items) n ↔ ContextExists (board_of self.now) n) }
     {
-        let found: Vec<ContextId> = rising_keys::names(self.alloc, &self.members)?;
+        let numbers = self.members.numbers(self.alloc)?;
+        let found: Vec<ContextId> = rising_keys::named(self.alloc, numbers.as_slice())?;
         Ok(found)
     }
 
@@ -106,14 +107,22 @@ impl Board {
         self.terms.ephemerals(self.alloc)
     }
 
-    /// Every line goes to the null context and is Inactive; no context, no ephemeral and no cut is left, and numbers may be given
+    /// A request ends: from now on the numbers of contexts and ephemerals that are no more may be given again (this profile's own).
+    /// This takes no memory.
+    pub fn settle(&mut self)
+        ensures { IsSettled (board_of self.old) (board_of self.new) }
+    {
+        self.terms.settle();
+        self.members.settle();
+    }
+
+    /// Every line goes to the null context and is Inactive; no context, no ephemeral and no cut is left, and each number may be given
     /// again, as in a new association (this profile's own).
     pub fn reset(&mut self)
-        ensures { board_of self.new ≡ opened (λ t. cleared t ((board_of self.old).row t)) }
+        ensures { board_of self.new ≡ opened (board_of self.old).class (λ t. cleared t ((board_of self.old).row t)) }
     {
         self.terms.reset();
         self.members.clear();
         self.cuts.clear();
-        self.last = 0;
     }
 }

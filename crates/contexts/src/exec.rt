@@ -47,11 +47,12 @@ impl Board {
         ensures ok { IfOk result (IsExecuted (board_of self.old) (item.Move context t settings.now) (board_of self.new)) }
         ensures err { OnErr result (board_of self.new ≡ board_of self.old) }
     {
+        let alloc = self.alloc;
         let from = self.place_of(t);
         let Ok(_) = self.move_to(from, context, t, settings) else {
             return Err(AllocError);
         };
-        Ok(created(self.alloc, None, None))
+        Ok(created(alloc, None, None))
     }
 
     /// A Topology descriptor.

@@ -1,10 +1,10 @@
 //! Add on a board on which it is legal.
-ghost use Rattle.std.specs.Prelude.{◌≡◌, ◌≢◌, ◌+◌, ◌<◌, true, OnErr, IfOk};
-ghost use Rattle.mg_model.specs.Numbers.{choose, last_context};
-ghost use Rattle.mg_model.specs.Items.{IsLegal, IsExecuted, given};
+ghost use Rattle.std.specs.Prelude.{◌≡◌, ◌≢◌, OnErr, IfOk};
+ghost use Rattle.mg_model.specs.Numbers.{choose};
+ghost use Rattle.mg_model.specs.Items.{IsLegal, IsExecuted};
 ghost use Rattle.mg_model.specs.declared.items.Item.TheVariants as item;
-ghost use Rattle.contexts.specs.BoardValue.{board_of};
-ghost use Rattle.contexts.specs.Steps.{IsAdded, CanBeAdded};
+ghost use Rattle.contexts.specs.BoardValue.{board_of, CanEnter};
+ghost use Rattle.contexts.specs.Steps.{IsAdded, CanBeAdded, entered};
 
 use crate::board::Board;
 use crate::done::Done;
@@ -22,9 +22,9 @@ impl Board {
         settings: &Settings,
     ) -> Result<Option<u32>, AllocError>
         requires to_context { context.0 ≢ 0 }
+        requires can_enter { CanEnter self.old context.0 }
         requires can { CanBeAdded (board_of self.old) added.now settings.now }
-        ensures ok { IfOk result (IsAdded (board_of self.old) (board_of self.new) context.0 added.now settings.now) }
-        ensures last { self.new.last ≡ self.old.last }
+        ensures ok { IfOk result (IsAdded (entered (board_of self.old) context.0) (board_of self.new) context.0 added.now settings.now) }
         ensures err { OnErr result (board_of self.new ≡ board_of self.old) }
     {
         match *added {
@@ -43,15 +43,6 @@ impl Board {
         }
     }
 
-    /// Gives the next number to a context.
-    #[tactic(auto, unfolding(crate::specs::BoardValue::board_of), using(crate::proofs::NumberLemmas::next_given))]
-    fn give(&mut self, number: u32)
-        requires { number ≡ self.old.last + 1 }
-        ensures { board_of self.new ≡ record (board_of self.old) { given_context = given true number (board_of self.old).given_context } }
-    {
-        self.last = number;
-    }
-
     /// Add to a context that exists.
     pub(crate) fn exec_add_to(
         &mut self,
@@ -64,10 +55,11 @@ impl Board {
         ensures ok { IfOk result (IsExecuted (board_of self.old) (item.Add context added.now settings.now) (board_of self.new)) }
         ensures err { OnErr result (board_of self.new ≡ board_of self.old) }
     {
+        let alloc = self.alloc;
         let Ok(number) = self.add_to(context, added, settings) else {
             return Err(AllocError);
         };
-        Ok(created(self.alloc, None, number))
+        Ok(created(alloc, None, number))
     }
 
     /// Add to a new context.
@@ -79,15 +71,15 @@ impl Board {
     ) -> Result<Done, AllocError>
         requires legal { IsLegal (board_of self.old) (item.Add context added.now settings.now) }
         requires chooses { context.0 ≡ choose }
-        requires left { self.old.last < last_context }
         ensures ok { IfOk result (IsExecuted (board_of self.old) (item.Add context added.now settings.now) (board_of self.new)) }
         ensures err { OnErr result (board_of self.new ≡ board_of self.old) }
     {
-        let target = self.last + 1;
+        let Ok(target) = self.members.next() else {
+            return Err(AllocError);
+        };
         let Ok(number) = self.add_to(ContextId(target), added, settings) else {
             return Err(AllocError);
         };
-        self.give(target);
         Ok(created(self.alloc, Some(target), number))
     }
 }

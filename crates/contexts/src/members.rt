@@ -1,27 +1,29 @@
-//! The members of each context. A context is kept as long as it has one.
-ghost use Rattle.std.specs.Prelude.{◌≡◌, ℕ, ◌==◌, not, None, [], ◌∷◌, ◌++◌, filter, IfOk, OnOk, OnErr, is_some, if◌then◌else◌};
+//! The members of each context. A context is kept as long as it has one, under the number that it has.
+ghost use Rattle.std.specs.Prelude.{◌≡◌, ℕ, ◌==◌, ◌⊎◌, not, true, None, [], ◌∷◌, ◌++◌, filter, IsTrue, IfOk, OnOk, OnErr, is_some, if◌then◌else◌};
 ghost use Rattle.mg_model.specs.Board.{same_term};
-ghost use Rattle.contexts.specs.Groups.{group_at, listed, with_member, without_member};
+ghost use Rattle.mg_model.specs.Items.{given};
+ghost use Rattle.identifiers.specs.Stock.{is_held, is_used, IsGiven};
+ghost use Rattle.contexts.specs.Groups.{members_at, listed, with_member, without_member};
 
 use crate::same::is_same;
+use identifiers::Identifiers;
 use mg_names::identifiers::TermId;
 use std::alloc::{AllocError, Global};
-use std::collections::BTreeMap;
 
-pub(crate) type Members = BTreeMap<u32, Vec<TermId>>;
+pub(crate) type Members = Identifiers<Vec<TermId>>;
 
 /// Whether a context has members.
 pub(crate) fn has_any(members: &Members, context: u32) -> bool
-    ensures { result ≡ is_some (group_at members.now.entries context) }
+    ensures { result ≡ is_some (members_at members.now context) }
 {
-    members.contains_key(&context)
+    members.get(context).is_some()
 }
 
 /// The members of a context.
 pub(crate) fn of_context(members: &Members, context: u32) -> &[TermId]
-    ensures { result.now ≡ listed (group_at members.now.entries context) }
+    ensures { result.now ≡ listed (members_at members.now context) }
 {
-    match members.get(&context) {
+    match members.get(context) {
         Some(group) => group.as_slice(),
         None => &[],
     }
@@ -44,21 +46,41 @@ fn append(group: &mut Vec<TermId>, t: TermId) -> Result<(), AllocError>
     group.extend_from_slice(&[t])
 }
 
-/// Adds a member to a context.
+/// Opens the context of the next number, with one member.
+fn open(members: &mut Members, alloc: Global, context: u32, t: TermId) -> Result<(), AllocError>
+    requires { IsGiven members.old context }
+    ensures ok { OnOk result ((c : ℕ) → members_at members.new c ≡ (if c == context then with_member t (members_at members.old context) else members_at members.old c)) }
+    ensures used { OnOk result ((c : ℕ) → is_used members.new c ≡ given true context (is_used members.old) c) }
+    ensures class { members.new.class ≡ members.old.class }
+    ensures err { OnErr result (members.new ≡ members.old) }
+{
+    let group = alone(alloc, t)?;
+    let Ok(_) = members.create(group) else {
+        return Err(AllocError);
+    };
+    Ok(())
+}
+
+/// Adds a member to a context, which is there or has the next number.
 pub(crate) fn enter(
     members: &mut Members,
     alloc: Global,
     context: u32,
     t: TermId,
 ) -> Result<(), AllocError>
-    ensures ok { OnOk result ((c : ℕ) → group_at members.new.entries c ≡ (if c == context then with_member t (group_at members.old.entries context) else group_at members.old.entries c)) }
-    ensures err { OnErr result ((c : ℕ) → group_at members.new.entries c ≡ group_at members.old.entries c) }
+    requires { IsTrue (is_held members.old context) ⊎ IsGiven members.old context }
+    ensures ok { OnOk result ((c : ℕ) → members_at members.new c ≡ (if c == context then with_member t (members_at members.old context) else members_at members.old c)) }
+    ensures used { OnOk result ((c : ℕ) → is_used members.new c ≡ given true context (is_used members.old) c) }
+    ensures class { members.new.class ≡ members.old.class }
+    ensures err { OnErr result ((c : ℕ) → members_at members.new c ≡ members_at members.old c) }
+    ensures err_used { OnErr result ((c : ℕ) → is_used members.new c ≡ is_used members.old c) }
 {
-    if let Some(group) = members.get_mut(&context) {
-        return append(group, t);
-    }
-    members.insert(context, alone(alloc, t)?)?;
-    Ok(())
+    let Some(mut group) = members.replace(context, Vec::new(alloc)) else {
+        return open(members, alloc, context, t);
+    };
+    let appended = append(&mut group, t);
+    let _ = members.replace(context, group);
+    appended
 }
 
 /// Takes a member out of a list.
@@ -69,29 +91,37 @@ fn drop_member(group: &mut Vec<TermId>, t: TermId)
 }
 
 /// Takes a member out of a context, which ends with its last one.
-pub(crate) fn leave(members: &mut Members, context: u32, t: TermId)
-    ensures { (c : ℕ) → group_at members.new.entries c ≡ (if c == context then without_member t (group_at members.old.entries context) else group_at members.old.entries c) }
+pub(crate) fn leave(members: &mut Members, alloc: Global, context: u32, t: TermId)
+    ensures members { (c : ℕ) → members_at members.new c ≡ (if c == context then without_member t (members_at members.old context) else members_at members.old c) }
+    ensures used { (c : ℕ) → is_used members.new c ≡ is_used members.old c }
+    ensures class { members.new.class ≡ members.old.class }
 {
-    let Some(group) = members.get_mut(&context) else {
+    let Some(mut group) = members.replace(context, Vec::new(alloc)) else {
         return;
     };
-    drop_member(group, t);
+    drop_member(&mut group, t);
     if group.is_empty() {
-        members.remove(&context);
+        let _ = members.free(context);
+        return;
     }
+    let _ = members.replace(context, group);
 }
 
 /// Takes all members out of a context.
 pub(crate) fn clear(members: &mut Members, context: u32)
-    ensures { (c : ℕ) → group_at members.new.entries c ≡ (if c == context then None else group_at members.old.entries c) }
+    ensures members { (c : ℕ) → members_at members.new c ≡ (if c == context then None else members_at members.old c) }
+    ensures used { (c : ℕ) → is_used members.new c ≡ is_used members.old c }
+    ensures class { members.new.class ≡ members.old.class }
 {
-    members.remove(&context);
+    let _ = members.free(context);
 }
 
-/// An equal value.
+/// The same members in the same contexts.
 pub(crate) fn copy(members: &Members) -> Result<Members, AllocError>
-    ensures { IfOk result (λ copied. (c : ℕ) → group_at copied.entries c ≡ group_at members.now.entries c) }
+    ensures members { IfOk result (λ copied. (c : ℕ) → members_at copied c ≡ members_at members.now c) }
+    ensures used { IfOk result (λ copied. (c : ℕ) → is_used copied c ≡ is_used members.now c) }
+    ensures class { IfOk result (λ copied. copied.class ≡ members.now.class) }
 {
-    let copied = members.clone()?;
+    let copied = members.copy()?;
     Ok(copied)
 }

@@ -1,6 +1,6 @@
 //! Move (H.248.1 section 7.2.4).
 ghost use Rattle.std.specs.Prelude.{◌≡◌, ◌≢◌, true, OnOk, OnErr};
-ghost use Rattle.mg_model.specs.Board.{same_term, place_of, exists};
+ghost use Rattle.mg_model.specs.Board.{ContextExists, same_term, place_of, exists};
 ghost use Rattle.mg_model.specs.Items.{placed, without_cuts};
 ghost use Rattle.contexts.specs.Rows.{fits};
 ghost use Rattle.contexts.specs.BoardValue.{board_of};
@@ -25,6 +25,7 @@ impl Board {
         requires other { from ≢ context.0 }
         requires not_null { from ≢ 0 }
         requires to_context { context.0 ≢ 0 }
+        requires can_enter { ContextExists (board_of self.old) context.0 }
         requires fits { fits t settings.now.remote ≡ true }
         ensures ok { OnOk result (board_of self.new ≡ placed (record (board_of self.old) { cut = without_cuts (same_term t) (board_of self.old).cut }) t context.0 settings.now) }
         ensures err { OnErr result (board_of self.new ≡ board_of self.old) }
@@ -32,7 +33,7 @@ impl Board {
         let Ok(_) = members::enter(&mut self.members, self.alloc, context.0, t) else {
             return Err(AllocError);
         };
-        members::leave(&mut self.members, from, t);
+        members::leave(&mut self.members, self.alloc, from, t);
         cuts::forget(&mut self.cuts, from, t);
         let _ = self.terms.leave(t);
         rows::place(&mut self.terms, t, context, settings);

@@ -11,9 +11,6 @@ use mg_model::items::{Added, Item, RemoteSetting};
 use mg_names::codes::Code;
 use mg_names::identifiers::{ContextId, TermId};
 
-/// The last number that a context may have.
-const LAST_CONTEXT: u32 = ContextId::CHOOSE.0 - 1;
-
 impl Board {
     /// Whether a context doesn't exist.
     fn is_unknown(&self, context: ContextId) -> bool
@@ -170,22 +167,19 @@ impl Board {
         }
     }
 
-    /// Whether each number of a context was given.
+    /// Whether the number of each context is used.
     fn has_no_context_left(&self) -> bool
         ensures { IsTrue result ↔ NoContextLeft (board_of self.now) }
     {
-        self.last >= LAST_CONTEXT
+        self.members.is_full()
     }
 
-    /// Whether each number of an ephemeral was given.
+    /// Whether the number of each ephemeral is used.
     #[tactic(auto, unfolding(crate::specs::BoardValue::board_of))]
     fn has_no_ephemeral_left(&self) -> bool
         ensures { IsTrue result ↔ NoEphemeralLeft (board_of self.now) }
     {
-        match self.terms.next() {
-            Some(_) => false,
-            None => true,
-        }
+        self.terms.is_full()
     }
 
     /// Whether no number is left for a new ephemeral.

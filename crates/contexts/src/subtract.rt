@@ -15,7 +15,7 @@ impl Board {
         requires stands { place_of (board_of self.old) t ≡ context }
         ensures { board_of self.new ≡ without (board_of self.old) (λ u. same_term u t) }
     {
-        members::leave(&mut self.members, context, t);
+        members::leave(&mut self.members, self.alloc, context, t);
         cuts::forget(&mut self.cuts, context, t);
         rows::release(&mut self.terms, t);
     }

@@ -4,7 +4,7 @@ ghost use Rattle.std.specs.List.{list_any};
 ghost use Rattle.mg_names.specs.declared.identifiers.TermId.{TermId};
 ghost use Rattle.mg_model.specs.Board.{same_term, place_of};
 ghost use Rattle.mg_model.specs.Items.{without};
-ghost use Rattle.terminations.specs.Table.{row_of, given_of, cleared};
+ghost use Rattle.terminations.specs.Table.{row_of, SameNumbers, cleared};
 ghost use Rattle.contexts.specs.BoardValue.{board_of};
 
 use crate::board::Board;
@@ -15,7 +15,7 @@ use terminations::Terms;
 /// Takes terminations out of their context for good.
 fn release_all(terms: &mut Terms, group: &[TermId])
     ensures rows { (u : TermId) → row_of terms.new u ≡ (if list_any (same_term u) group.now then cleared u (row_of terms.old u) else row_of terms.old u) }
-    ensures given { given_of terms.new ≡ given_of terms.old }
+    ensures numbers { SameNumbers terms.old terms.new }
 {
     for t in group {
         rows::release(terms, *t);

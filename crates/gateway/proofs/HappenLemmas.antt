@@ -11,6 +11,7 @@ use Rattle.line_events.specs.Raising.{is_raised}
 use Rattle.requests.specs.Connected.{Connected, board_in, line_in, has_line, answer_where, lines_after}
 use Rattle.gateway.specs.Answers.{CannotOccur, IsSame, SameOpen}
 use Rattle.gateway.specs.Calls.{OpenCall, call_in, line_entry, link_of, holder_of, with_call, counting}
+use Rattle.gateway.specs.Creators.{creator_on}
 use Rattle.gateway.specs.GatewayValue.{GatewayValue, AreTied, gateway_of, holder_in, is_open}
 
 some_is : {X : Type 0} (a b : X) → Some a ≡ Some b → a ≡ b
@@ -31,11 +32,11 @@ open_held w tied l call e closed =
 
 pub cannot_unheld : (w : GatewayValue) (l : ℕ) (event : LineEvent) → None ≡ holder_in w l → CannotOccur w l event
 unfolding gateway_of
-cannot_unheld w l event e creator after notes h = let k : None ≡ Some h.call = e ∙ h.held in cc
+cannot_unheld w l event e after notes h = let k : None ≡ Some h.call = e ∙ h.held in cc
 
 pub cannot_none : (w : GatewayValue) (l : ℕ) (event : LineEvent) → outcome_of (line_in w.connected l) event ≡ None → CannotOccur w l event
 unfolding gateway_of
-cannot_none w l event e creator after notes h = let k : None ≡ Some h.outcome = sym e ∙ h.happens in cc
+cannot_none w l event e after notes h = let k : None ≡ Some h.outcome = sym e ∙ h.happens in cc
 
 one_note : (g : Gateway) (call l : ℕ) (note : Option Note) → is_some note ≡ true → length (notes_from g call l note) ≡ 1
 one_note g call l None e = absurd (search rules)
@@ -44,8 +45,8 @@ one_note g call l (Some note) e = refl
 pub cannot_full : (w : GatewayValue) (l : ℕ) (event : LineEvent) (call : ℕ) → Some call ≡ holder_in w l → last_number ≤ (link_of (call_in w.calls call)).notes
     → is_raised (outcome_of (line_in w.connected l) event) ≡ true → CannotOccur w l event
 unfolding gateway_of
-cannot_full w l event call e full raised creator after notes h =
-    let g : Gateway = gateway_of creator w in
+cannot_full w l event call e full raised after notes h =
+    let g : Gateway = gateway_of w in
     let same : call ≡ h.call = some_is call h.call (e ∙ h.held) in
     let noted : is_some h.outcome.note ≡ true = sym (ap is_raised h.happens) ∙ raised in
     let one : length notes ≡ 1 = ap length h.notes_are ∙ one_note g h.call l h.outcome.note noted in
@@ -66,7 +67,7 @@ none_after rows l true other = by_test (other == l) refl
     by_test false e = refl
 
 abbrev connected_to : GatewayValue → Connected → GatewayValue
-connected_to w c = record { association = w.association; connected = c; holders = w.holders; calls = w.calls }
+connected_to w c = record { association = w.association; connected = c; holders = w.holders; calls = w.calls; creators = w.creators }
 
 pub cannot_answered : (w : GatewayValue) (new : Connected) (l : ℕ) (event : LineEvent) (call : ℕ) (fault : LineFault) → AreTied w → Some call ≡ holder_in w l
     → Err fault ≡ answer_where (has_line (board_in w.connected) l) (outcome_of (line_in w.connected l) event)
@@ -80,7 +81,7 @@ cannot_answered w new l event call fault tied held answered board lines =
     let rows : line_in new ≡ line_in w.connected =
     lines ∙ ap (λ (o : Option Outcome). lines_after (has_line (board_in w.connected) l) (line_in w.connected) l o) nothing
     ∙ (λ i other. none_after (line_in w.connected) l (has_line (board_in w.connected) l) other i) in
-    (cannot_none w l event nothing, (λ creator. λ i. record (gateway_of creator w) { board = board i; line = rows i }, λ c. refl))
+    (cannot_none w l event nothing, (λ i. record (gateway_of w) { board = board i; line = rows i; creator = creator_on (board i) w.creators }, λ c. refl))
 
 -- ---- what happens
 
@@ -100,18 +101,18 @@ raised_answered there o found note e h =
 
 -- the gateway after: the row of the line and the link of the call changed
 abbrev with_both : GatewayValue → Connected → List (ℕ × OpenCall) → GatewayValue
-with_both w c calls = record { association = w.association; connected = c; holders = w.holders; calls = calls }
+with_both w c calls = record { association = w.association; connected = c; holders = w.holders; calls = calls; creators = w.creators }
 
 happens_is : (w : GatewayValue) (new : Connected) (calls : List (ℕ × OpenCall)) (l : ℕ) (event : LineEvent) (call : ℕ) (note : Option Note) (sent : List SentNote)
     → Some call ≡ holder_in w l
     → Ok note ≡ answer_where (has_line (board_in w.connected) l) (outcome_of (line_in w.connected l) event)
     → board_in new ≡ board_in w.connected
     → line_in new ≡ lines_after (has_line (board_in w.connected) l) (line_in w.connected) l (outcome_of (line_in w.connected l) event)
-    → (creator : ℕ → Option ℕ) → sent ≡ notes_from (gateway_of creator w) call l note → (link_of (call_in w.calls call)).notes + length sent ≤ last_number
+    → sent ≡ notes_from (gateway_of w) call l note → (link_of (call_in w.calls call)).notes + length sent ≤ last_number
     → ((n : ℕ) → link_of (call_in calls n) ≡ (if n == call then record { last = (link_of (call_in w.calls call)).last; notes = (link_of (call_in w.calls call)).notes + length sent } else link_of (call_in w.calls n)))
-    → Happens (gateway_of creator w) l event (gateway_of creator (with_both w new calls)) sent
+    → Happens (gateway_of w) l event (gateway_of (with_both w new calls)) sent
 unfolding gateway_of
-happens_is w new calls l event call note sent held answered board lines creator sent_are room links =
+happens_is w new calls l event call note sent held answered board lines sent_are room links =
     let found = outcome_answered _ _ note answered in
     let outcome : Outcome = found.1.0 in
     let rows : line_in new ≡ lines_after true (line_in w.connected) l (Some outcome) =
@@ -122,9 +123,9 @@ happens_is w new calls l event call note sent held answered board lines creator 
       outcome = outcome;
       held = sym held;
       happens = found.1.1.0;
-      notes_are = sent_are ∙ ap (notes_from (gateway_of creator w) call l) (sym found.1.1.1);
+      notes_are = sent_are ∙ ap (notes_from (gateway_of w) call l) (sym found.1.1.1);
       room = room;
-      after_is = λ i. record (gateway_of creator w) { board = board i; line = rows i; link = λ n. links n i };
+      after_is = λ i. record (gateway_of w) { board = board i; line = rows i; creator = creator_on (board i) w.creators; link = λ n. links n i };
     }
 
 links_same : (calls : ℕ → Option OpenCall) (call n : ℕ) (same : Bool) → (n == call) ≡ same
@@ -138,10 +139,10 @@ pub silent_event : (w : GatewayValue) (new : Connected) (l : ℕ) (event : LineE
     → board_in new ≡ board_in w.connected
     → line_in new ≡ lines_after (has_line (board_in w.connected) l) (line_in w.connected) l (outcome_of (line_in w.connected l) event)
     → (link_of (call_in w.calls call)).notes ≤ last_number
-    → ((creator : ℕ → Option ℕ) → Happens (gateway_of creator w) l event (gateway_of creator (connected_to w new)) []) × SameOpen w (connected_to w new)
+    → (Happens (gateway_of w) l event (gateway_of (connected_to w new)) []) × SameOpen w (connected_to w new)
 unfolding is_open
 silent_event w new l event call found nothing held answered board lines few = (
-  λ creator. happens_is w new w.calls l event call found [] held answered board lines creator (ap (notes_from (gateway_of creator w) call l) (sym nothing)) (omega arith)
+  happens_is w new w.calls l event call found [] held answered board lines (ap (notes_from (gateway_of w) call l) (sym nothing)) (omega arith)
       (λ n. links_same (call_in w.calls) call n (n == call) refl),
   λ c. refl,
 )
@@ -164,13 +165,13 @@ pub noted_event : (w : GatewayValue) (new : Connected) (calls : List (ℕ × Ope
     → call_in w.calls call ≡ Some state → last ≡ state.notes → last + 1 ≤ last_number
     → sent ≡ record { call = call; association = w.association; number = last + 1; line = l; note = note }
     → ((n : ℕ) → call_in calls n ≡ with_call (call_in w.calls) call (counting (last + 1)) n)
-    → ((creator : ℕ → Option ℕ) → Happens (gateway_of creator w) l event (gateway_of creator (with_both w new calls)) (sent ∷ []))
+    → (Happens (gateway_of w) l event (gateway_of (with_both w new calls)) (sent ∷ []))
 unfolding gateway_of
-noted_event w new calls l event call state last found note sent found_is held answered board lines is_state last_is room sent_is changed creator =
+noted_event w new calls l event call state last found note sent found_is held answered board lines is_state last_is room sent_is changed =
     let last_link : last ≡ (link_of (call_in w.calls call)).notes = last_is ∙ ap (λ (o : Option OpenCall). (link_of o).notes) (sym is_state) in
-    happens_is w new calls l event call found (sent ∷ []) held answered board lines creator
+    happens_is w new calls l event call found (sent ∷ []) held answered board lines
     (ap (λ (x : SentNote). x ∷ []) sent_is
     ∙ ap (λ (n : ℕ). record { call = call; association = w.association; number = n + 1; line = l; note = note } ∷ []) last_link
-    ∙ ap (notes_from (gateway_of creator w) call l) (sym found_is))
+    ∙ ap (notes_from (gateway_of w) call l) (sym found_is))
     (omega arith)
     (λ n. ap link_of (changed n) ∙ links_counted (call_in w.calls) call state last n (n == call) is_state last_is)

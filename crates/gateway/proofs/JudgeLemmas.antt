@@ -10,12 +10,11 @@ use Rattle.mg_model.specs.Gateway.{IsKept, IsDiscarded, offer_to, sent_notes}
 use Rattle.mg_model.specs.Messages.{Request, Reply, SentNote}
 use Rattle.mg_model.specs.Items.{Done}
 use Rattle.requests.specs.declared.outcome.LineNote.{LineNote}
-use Rattle.requests.specs.Connected.{Connected, start_in, end_in}
+use Rattle.requests.specs.Connected.{Connected, line_in, start_in, Ends}
 use Rattle.requests.specs.Views.{line_notes}
 use Rattle.gateway.specs.Answers.{IsAddressed, HasNoRoom}
 use Rattle.gateway.specs.Calls.{OpenCall, call_in, delivery_link, link_of}
 use Rattle.gateway.specs.Execution.{IsNew, IsRun}
-use Rattle.gateway.specs.Standby.{IsEnd}
 use Rattle.gateway.specs.GatewayValue.{GatewayValue, gateway_of, is_open}
 use Rattle.gateway.proofs.NoteLemmas.{notes_at_most}
 use Rattle.gateway.proofs.OfferLemmas.{offer_is}
@@ -38,20 +37,20 @@ module _ (w : GatewayValue) (call : ℕ) (request : Request) (state : OpenCall) 
   by_link P h = subst P (sym found_request) h
 
   -- the model's link says the same of the request
-  asked : (creator : ℕ → Option ℕ) → offer_to (gateway_of creator w) request ≡ offer (delivery_link state) request.association request.number
-  asked creator = offer_is w request state found_request of_association creator
+  asked : offer_to (gateway_of w) request ≡ offer (delivery_link state) request.association request.number
+  asked = offer_is w request state found_request of_association
 
-  pub is_discarded : offer (delivery_link state) request.association request.number ≡ discard → (creator : ℕ → Option ℕ) → IsDiscarded (gateway_of creator w) request
-  is_discarded e creator = asked creator ∙ e
+  pub is_discarded : offer (delivery_link state) request.association request.number ≡ discard → IsDiscarded (gateway_of w) request
+  is_discarded e = asked ∙ e
 
-  pub is_kept : (reply : Reply) → offer (delivery_link state) request.association request.number ≡ kept_again reply → (creator : ℕ → Option ℕ) → IsKept (gateway_of creator w) request reply
-  is_kept reply e creator = asked creator ∙ e
+  pub is_kept : (reply : Reply) → offer (delivery_link state) request.association request.number ≡ kept_again reply → IsKept (gateway_of w) request reply
+  is_kept reply e = asked ∙ e
 
   pub has_no_room : offer (delivery_link state) request.association request.number ≡ fresh → last_number < state.notes + length request.commands
-      → (creator : ℕ → Option ℕ) → HasNoRoom (gateway_of creator w) request
+      → HasNoRoom (gateway_of w) request
   unfolding gateway_of
-  has_no_room e full creator = record {
-    is_fresh = asked creator ∙ e;
+  has_no_room e full = record {
+    is_fresh = asked ∙ e;
     full = by_link (λ (o : Option OpenCall). last_number < (link_of o).notes + length request.commands) full;
   }
 
@@ -59,16 +58,16 @@ module _ (w : GatewayValue) (call : ℕ) (request : Request) (state : OpenCall) 
 
 -- there is room for the notes that it raises
 pub room_for : (w : GatewayValue) (request : Request) (last : ℕ) (start ended : Connected) (refusal : Option ChosenRefusal) (results : List Done) (notes : List LineNote)
-    (failure : Option Failure) → IsNew w request last → IsEnd start request refusal ended results (line_notes notes) failure → last + length notes ≤ last_number
+    (failure : Option Failure) → IsNew w request last → Ends start request refusal ended results (line_notes notes) failure → last + length notes ≤ last_number
 room_for w request last start ended refusal results notes failure new runs =
     let most : length (line_notes notes) ≤ 0 + length request.commands =
-    notes_at_most request.number refusal (start_in start) 0 request.commands (end_in ended results (line_notes notes)) failure runs in
+    notes_at_most request.number refusal (start_in start) 0 request.commands (record { board = runs.board; line = line_in ended; results = results; notes = line_notes notes }) failure runs.runs in
     let same : length (line_notes notes) ≡ length notes = rw length-map refl in
     let room : last + length request.commands ≤ last_number = new.room in
     omega arith
 
 pub run_made : (start : Connected) (request : Request) (refusal : Option ChosenRefusal) (last : ℕ) (ended : Connected) (results : List Done) (raised : List RaisedNote)
-    (failure : Option Failure) (reply kept : Reply) (notes : List SentNote) (last_after : ℕ) → IsEnd start request refusal ended results raised failure
+    (failure : Option Failure) (reply kept : Reply) (notes : List SentNote) (last_after : ℕ) → Ends start request refusal ended results raised failure
     → reply ≡ record { call = request.call; association = request.association; number = request.number; results = results; failure = failure }
     → kept ≡ reply → notes ≡ sent_notes request.call request.association last raised → last_after ≡ last + length raised
     → IsRun start request refusal last ended reply kept notes last_after
@@ -77,7 +76,7 @@ run_made start request refusal last ended results raised failure reply kept note
     record {
       raised = raised;
       failure = failure;
-      is_end = subst (λ (rs : List Done). IsEnd start request refusal ended rs raised failure) (sym results_are) runs;
+      is_end = subst (λ (rs : List Done). Ends start request refusal ended rs raised failure) (sym results_are) runs;
       reply_is = reply_is ∙ ap (λ (rs : List Done). record { call = request.call; association = request.association; number = request.number; results = rs; failure = failure }) (sym results_are);
       kept_is = kept_is;
       notes_are = notes_are;

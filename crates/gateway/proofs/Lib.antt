@@ -6,3 +6,4 @@ pub mod TieLemmas
 pub mod JudgeLemmas
 pub mod HappenLemmas
 pub mod StartLemmas
+pub mod CreatorLemmas

@@ -19,6 +19,7 @@ use Rattle.gateway.specs.declared.fault.OpenFault.TheVariants.{NoMemory, Unknown
 use Rattle.gateway.specs.Calls.{OpenCall, call_in, line_entry, link_of, holder_of, new_call}
 use Rattle.gateway.specs.Openings.{first_gateway, inactive_row, rows_opened, board_opened, lines_opened, opened, is_free, are_there, has_twice, opening_on, is_memory}
 use Rattle.gateway.specs.Standby.{rows_idled, board_idled, lines_armed, ShowsOpened}
+use Rattle.gateway.specs.Creators.{creator_on}
 use Rattle.gateway.specs.GatewayValue.{GatewayValue, AreTied, gateway_of, holder_in, is_open}
 
 -- ---- a gateway that starts
@@ -33,9 +34,9 @@ no_call_in calls e n = ap (λ (cs : List (ℕ × OpenCall)). call_in cs n) e ∙
 abbrev free_entry : Bool → Option (Option ℕ)
 free_entry among = if among then Some None else None
 
-started_there : (lines : List LineNo) (l : ℕ) (among : Bool) → names_line lines l ≡ among → has_line (board_value.opened (started lines)) l ≡ is_some (free_entry among)
-started_there lines l true e = rw e refl
-started_there lines l false e = rw e refl
+started_there : (class : ℕ → Bool) (lines : List LineNo) (l : ℕ) (among : Bool) → names_line lines l ≡ among → has_line (board_value.opened class (started lines)) l ≡ is_some (free_entry among)
+started_there class lines l true e = rw e refl
+started_there class lines l false e = rw e refl
 
 nobody_holds : (among : Bool) → holder_of (free_entry among) ≡ None
 nobody_holds true = refl
@@ -45,24 +46,25 @@ not_held : (among : Bool) (call : ℕ) → free_entry among ≡ Some (Some call)
 not_held true call e = cc
 not_held false call e = cc
 
-pub starts_tied : (w : GatewayValue) (lines : List LineNo) → board_in w.connected ≡ board_value.opened (started lines) → w.calls ≡ []
+pub starts_tied : (w : GatewayValue) (class : ℕ → Bool) (lines : List LineNo) → board_in w.connected ≡ board_value.opened class (started lines) → w.calls ≡ []
     → ((l : ℕ) → line_entry w.holders l ≡ (if names_line lines l then Some None else None)) → AreTied w
-starts_tied w lines board calls entries = record {
+starts_tied w class lines board calls entries = record {
   links = λ n c e. let k : None ≡ Some c = sym (no_call_in w.calls calls n) ∙ e in cc;
-  lines = λ l. ap (λ (b : Board). has_line b l) board ∙ started_there lines l (names_line lines l) refl ∙ ap is_some (sym (entries l));
+  lines = λ l. ap (λ (b : Board). has_line b l) board ∙ started_there class lines l (names_line lines l) refl ∙ ap is_some (sym (entries l));
   holders = λ l call e. absurd (not_held (names_line lines l) call (sym (entries l) ∙ e));
+  settled = λ k. rw board refl;
 }
 
-pub first_is : (w : GatewayValue) (lines : List LineNo) → w.association ≡ 1 → board_in w.connected ≡ board_value.opened (started lines) → line_in w.connected ≡ (λ l. new_line)
+pub first_is : (w : GatewayValue) (class : ℕ → Bool) (lines : List LineNo) → w.association ≡ 1 → board_in w.connected ≡ board_value.opened class (started lines) → line_in w.connected ≡ (λ l. new_line)
     → w.calls ≡ [] → ((l : ℕ) → line_entry w.holders l ≡ (if names_line lines l then Some None else None))
-    → (creator : ℕ → Option ℕ) → gateway_of creator w ≡ first_gateway lines creator
+    → gateway_of w ≡ first_gateway class lines
 unfolding gateway_of
-first_is w lines association board rows calls entries creator = λ i. record {
+first_is w class lines association board rows calls entries = λ i. record {
   association = association i;
   board = board i;
   line = rows i;
   holder = λ l. (ap holder_of (entries l) ∙ nobody_holds (names_line lines l)) i;
-  creator = creator;
+  creator = creator_on (board i) w.creators;
   link = λ call. ap link_of (no_call_in w.calls calls call) i;
 }
 
@@ -166,9 +168,9 @@ pub opened_is : (w new : GatewayValue) (call : ℕ) (lines : List LineNo) → Ar
     → ShowsOpened w.connected lines new.connected
     → ((l : ℕ) → line_entry new.holders l ≡ (if names_line lines l && is_some (line_entry w.holders l) then Some (Some call) else line_entry w.holders l))
     → ((n : ℕ) → call_in new.calls n ≡ (if n == call then Some (new_call w.association) else call_in w.calls n))
-    → (creator : ℕ → Option ℕ) → gateway_of creator new ≡ opened (gateway_of creator w) call lines
+    → new.creators ≡ w.creators → gateway_of new ≡ opened (gateway_of w) call lines
 unfolding gateway_of
-opened_is w new call lines tied answer association shows holders calls creator =
+opened_is w new call lines tied answer association shows holders calls creators =
     let can : CanOpen (board_in w.connected) (holder_in w) (is_open w call) lines = can_open (board_in w.connected) (holder_in w) (is_open w call) lines answer in
     let idled : board_idled lines (board_in w.connected) ≡ board_opened lines (board_in w.connected) =
     λ i. record (board_in w.connected) { row = λ t. idled_is (board_in w.connected) (holder_in w) lines can.free t i } in
@@ -181,7 +183,7 @@ opened_is w new call lines tied answer association shows holders calls creator =
       board = board i;
       line = rows i;
       holder = λ l. (ap holder_of (holders l) ∙ held_is w tied lines can.there call l) i;
-      creator = creator;
+      creator = creator_on (board i) (creators i);
       link = λ c. (ap link_of (calls c) ∙ link_opened w.association (call_in w.calls c) (c == call)) i;
     }
 

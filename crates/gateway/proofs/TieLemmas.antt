@@ -2,16 +2,23 @@
 use Rattle.std.proofs.Common.{◌≡◌, ◌∙◌, ℕ, ◌==◌, ◌+◌, ◌<◌, ◌≤◌, Bool, true, false, if◌then◌else◌, List, length, Option, Some, None, is_some, option_map, refl, sym, ap, subst, arith}
 use Rattle.std.proofs.lemmas.Bool.{eqb-true}
 use Rattle.mg_model.specs.declared.failures.ChosenRefusal.{ChosenRefusal}
+use Rattle.mg_names.specs.declared.identifiers.TermId.{TermId}
+use Rattle.mg_names.specs.declared.identifiers.TermId.TheVariants.{Line, Eph}
+use Rattle.mg_model.specs.declared.rows.Row.{Row}
+use Rattle.mg_model.specs.Board.{Board, IsSettled, exists}
+use Rattle.mg_model.specs.Items.{Done}
 use Rattle.mg_model.specs.Numbers.{last_number, last_association}
-use Rattle.mg_model.specs.Gateway.{Gateway, CallLink, after_request, reply_of, sent_notes, restarted, link_restarted, board_restarted}
+use Rattle.mg_model.specs.Gateway.{Gateway, CallLink, after_request, reply_of, sent_notes, restarted, link_restarted, board_restarted, row_restarted, creator_after}
 use Rattle.mg_model.specs.LineEvents.{cleared}
 use Rattle.mg_model.specs.Messages.{Request, Reply, SentNote}
 use Rattle.mg_model.specs.RequestRun.{Running}
-use Rattle.requests.specs.Connected.{Connected, board_in, line_in, has_line, end_in}
+use Rattle.requests.specs.Connected.{Connected, board_in, line_in, has_line, start_in}
 use Rattle.gateway.specs.Answers.{IsAddressed, IsExecution, IsNext, SameOpen}
 use Rattle.gateway.specs.Calls.{OpenCall, call_in, line_entry, link_of, holder_of, with_call, keeping, restarting}
 use Rattle.gateway.specs.Execution.{IsNew, IsRun}
+use Rattle.gateway.specs.Creators.{creator_at, creator_on, any_created}
 use Rattle.gateway.specs.GatewayValue.{GatewayValue, AreTied, gateway_of, is_open}
+use Rattle.gateway.proofs.CreatorLemmas.{creator_put}
 use Rattle.gateway.proofs.OfferLemmas.{offer_is}
 
 -- by a look-up, with its value
@@ -50,13 +57,27 @@ module _ (old new : ℕ → Option OpenCall) (call : ℕ) (change : OpenCall →
 pub tied_still : (old new : GatewayValue) (call : ℕ) (change : OpenCall → OpenCall) → new.association ≡ old.association → new.holders ≡ old.holders
     → ((c : OpenCall) → (change c).association ≡ c.association)
     → ((l : ℕ) → has_line (board_in new.connected) l ≡ has_line (board_in old.connected) l)
-    → ((n : ℕ) → call_in new.calls n ≡ with_call (call_in old.calls) call change n) → AreTied old → AreTied new
-tied_still old new call change association holders keeps there changed tied = record {
+    → ((n : ℕ) → call_in new.calls n ≡ with_call (call_in old.calls) call change n)
+    → ((k : ℕ) → (board_in new.connected).used_ephemeral k ≡ exists (board_in new.connected) (Eph k)) → AreTied old → AreTied new
+tied_still old new call change association holders keeps there changed settled tied = record {
   links = λ n c e. same_links (call_in old.calls) (call_in new.calls) call change changed old.association keeps tied.links n c e ∙ sym association;
   lines = λ l. there l ∙ tied.lines l ∙ ap (λ (hs : List (ℕ × Option ℕ)). is_some (line_entry hs l)) (sym holders);
   holders = λ l n e. same_open (call_in old.calls) (call_in new.calls) call change changed n
       ∙ tied.holders l n (ap (λ (hs : List (ℕ × Option ℕ)). line_entry hs l) (sym holders) ∙ e);
+  settled = settled;
 }
+
+-- who created an ephemeral is tied to nothing else
+pub tied_but_creators : (v old : GatewayValue) (creators : List (ℕ × ℕ)) → v ≡ record old { creators = creators } → AreTied v → AreTied old
+tied_but_creators v old creators same tied =
+    let there : AreTied (record old { creators = creators }) = subst AreTied same tied in
+    record { links = there.links; lines = there.lines; holders = there.holders; settled = there.settled }
+
+pub settled_line : (b settled : Board) → IsSettled b settled → (l : ℕ) → has_line settled l ≡ has_line b l
+settled_line b settled is l = ap (λ (rows : TermId → Option Row). is_some (rows (Line (record { 0 = l })))) is.row
+
+pub settled_ephemeral : (b settled : Board) → IsSettled b settled → (k : ℕ) → settled.used_ephemeral k ≡ exists settled (Eph k)
+settled_ephemeral b settled is k = is.ephemerals k ∙ ap (λ (rows : TermId → Option Row). is_some (rows (Eph k))) (sym is.row)
 
 pub open_still : (old new : GatewayValue) (call : ℕ) (change : OpenCall → OpenCall)
     → ((n : ℕ) → call_in new.calls n ≡ with_call (call_in old.calls) call change n) → SameOpen old new
@@ -77,64 +98,72 @@ links_put : (calls : ℕ → Option OpenCall) (call : ℕ) (state : OpenCall) (k
 links_put calls call state kept reply last count e k n c true = link_put (calls call) state kept reply last count e k n
 links_put calls call state kept reply last count e k n c false = refl
 
-pub executed_put : (old : GatewayValue) (request : Request) (refusal : Option ChosenRefusal) (last : ℕ) (ended : Connected) (reply kept : Reply) (notes : List SentNote)
-    (last_after : ℕ) (calls : List (ℕ × OpenCall)) → IsNew old request last → IsRun old.connected request refusal last ended reply kept notes last_after
-    → ((n : ℕ) → call_in calls n ≡ with_call (call_in old.calls) request.call (keeping kept last_after) n)
-    → IsExecution old request refusal (record { association = old.association; connected = ended; holders = old.holders; calls = calls }) reply notes
+-- where the request is put in place: its end, the reply that is kept, and its call as the creator of what it created
+pub record IsPut (old new : GatewayValue) (request : Request) (results : List Done) (kept : Reply) (last : ℕ) (ended : Connected) : Type 0 where
+  pub association : new.association ≡ old.association
+  pub connected : new.connected ≡ ended
+  pub holders : new.holders ≡ old.holders
+  pub calls : (n : ℕ) → call_in new.calls n ≡ with_call (call_in old.calls) request.call (keeping kept last) n
+  pub creators : (k : ℕ) → creator_at new.creators k ≡ (if any_created results k then Some request.call else creator_at old.creators k)
+
+pub executed_put : (old new : GatewayValue) (request : Request) (refusal : Option ChosenRefusal) (last : ℕ) (ended : Connected) (reply kept : Reply) (notes : List SentNote)
+    (last_after : ℕ) → AreTied old → IsNew old request last → IsRun old.connected request refusal last ended reply kept notes last_after
+    → IsPut old new request reply.results kept last_after ended → IsExecution old request refusal new reply notes
 unfolding gateway_of
-executed_put old request refusal last ended reply kept notes last_after calls new run changed creator =
-    let g : Gateway = gateway_of creator old in
-    let end : Running = end_in ended reply.results run.raised in
-    let after : Gateway = after_request g request end run.failure in
-    let state : OpenCall = new.state in
-    let link_is : g.link request.call ≡ link_of (Some state) = ap link_of new.is_state in
-    let last_is : last ≡ (g.link request.call).notes = new.last_is ∙ ap (λ (x : CallLink). x.notes) (sym link_is) in
+executed_put old new request refusal last ended reply kept notes last_after tied asked run put =
+    let ends = run.is_end in
+    let g : Gateway = gateway_of old in
+    let end : Running = record { board = ends.board; line = line_in ended; results = reply.results; notes = run.raised } in
+    let after : Gateway = after_request g request end (board_in ended) run.failure in
+    let state : OpenCall = asked.state in
+    let link_is : g.link request.call ≡ link_of (Some state) = ap link_of asked.is_state in
+    let last_is : last ≡ (g.link request.call).notes = asked.last_is ∙ ap (λ (x : CallLink). x.notes) (sym link_is) in
     let kept_is : kept ≡ reply_of request end run.failure = run.kept_is ∙ run.reply_is in
-    let count_is : last_after ≡ (g.link request.call).notes + length run.raised = run.last_is ∙ ap (λ (n : ℕ). n + length run.raised) last_is in (
-      after,
-      (
-        record {
-          end = end;
-          failure = run.failure;
-          is_fresh = offer_is old request state new.is_state new.of_association creator ∙ new.is_fresh;
-          room = subst (λ (n : ℕ). n + length request.commands ≤ last_number) last_is new.room;
-          runs = run.is_end;
-          after_is = refl;
-          reply_is = run.reply_is;
-          notes_are = run.notes_are ∙ ap (λ (n : ℕ). sent_notes request.call request.association n run.raised) last_is;
-        },
-        λ i. record after {
-          link = λ c. (links_put (call_in old.calls) request.call state kept (reply_of request end run.failure) last_after ((g.link request.call).notes + length run.raised)
-              new.is_state kept_is count_is c (c == request.call) ∙ ap link_of (sym (changed c))) i;
-        },
-      ),
-    )
+    let count_is : last_after ≡ (g.link request.call).notes + length run.raised = run.last_is ∙ ap (λ (n : ℕ). n + length run.raised) last_is in
+    let creators : (k : ℕ) → creator_on (board_in new.connected) new.creators k ≡ creator_after g request end k =
+    λ k. ap (λ (c : Connected). creator_on (board_in c) new.creators k) put.connected
+    ∙ creator_put request.number refusal (start_in old.connected) request.commands end run.failure ends.runs refl (board_in ended) ends.is_settled tied.settled request.call
+    old.creators new.creators put.creators k in
+    record {
+      end = end;
+      settled = board_in ended;
+      failure = run.failure;
+      is_fresh = offer_is old request state asked.is_state asked.of_association ∙ asked.is_fresh;
+      room = subst (λ (n : ℕ). n + length request.commands ≤ last_number) last_is asked.room;
+      runs = ends.runs;
+      is_settled = ends.is_settled;
+      after_is = λ i. record {
+        association = put.association i;
+        board = board_in (put.connected i);
+        line = line_in (put.connected i);
+        holder = λ l. holder_of (line_entry (put.holders i) l);
+        creator = λ k. creators k i;
+        link = λ c. (ap link_of (put.calls c) ∙ sym (links_put (call_in old.calls) request.call state kept (reply_of request end run.failure) last_after ((g.link request.call).notes + length run.raised)
+            asked.is_state kept_is count_is c (c == request.call))) i;
+      };
+      reply_is = run.reply_is;
+      notes_are = run.notes_are ∙ ap (λ (n : ℕ). sent_notes request.call request.association n run.raised) last_is;
+    }
 
-abbrev placed_in : GatewayValue → Connected → List (ℕ × OpenCall) → GatewayValue
-placed_in w connected calls = record { association = w.association; connected = connected; holders = w.holders; calls = calls }
-
--- `v` is the gateway as the code has it, part by part
-pub put_is : (v now : GatewayValue) → v ≡ now → (request : Request) (refusal : Option ChosenRefusal) (last : ℕ) (connected ended : Connected) → connected ≡ ended
-    → (reply kept : Reply) (notes : List SentNote) (last_after : ℕ) (calls : List (ℕ × OpenCall)) → IsNew now request last
-    → IsRun now.connected request refusal last ended reply kept notes last_after
-    → ((n : ℕ) → call_in calls n ≡ with_call (call_in v.calls) request.call (keeping kept last_after) n)
-    → IsAddressed now request.call request
-    × (IsExecution now request refusal (placed_in v connected calls) reply notes × SameOpen now (placed_in v connected calls))
+pub put_is : (old new : GatewayValue) (request : Request) (refusal : Option ChosenRefusal) (last : ℕ) (ended : Connected) (reply kept : Reply) (notes : List SentNote) (last_after : ℕ)
+    → AreTied old → IsNew old request last → IsRun old.connected request refusal last ended reply kept notes last_after
+    → IsPut old new request reply.results kept last_after ended
+    → IsAddressed old request.call request × (IsExecution old request refusal new reply notes × SameOpen old new)
 unfolding is_open
-put_is v now e request refusal last connected ended placed reply kept notes last_after calls new run changed =
-    let executed : IsExecution v request refusal (placed_in v ended calls) reply notes =
-    executed_put v request refusal last ended reply kept notes last_after calls (subst (λ (w : GatewayValue). IsNew w request last) (sym e) new)
-    (subst (λ (w : GatewayValue). IsRun w.connected request refusal last ended reply kept notes last_after) (sym e) run) changed in (
-      (ap is_some new.is_state, refl),
-      (
-        subst (λ (w : GatewayValue). IsExecution w request refusal (placed_in v connected calls) reply notes) e
-            (subst (λ (x : Connected). IsExecution v request refusal (placed_in v x calls) reply notes) (sym placed) executed),
-        subst (λ (w : GatewayValue). SameOpen w (placed_in v connected calls)) e
-            (open_still v (placed_in v connected calls) request.call (keeping kept last_after) changed),
-      ),
-    )
+put_is old new request refusal last ended reply kept notes last_after tied asked run put = (
+  (ap is_some asked.is_state, refl),
+  (executed_put old new request refusal last ended reply kept notes last_after tied asked run put, open_still old new request.call (keeping kept last_after) put.calls),
+)
 
 -- ---- a restart
+
+-- of what was no more nobody is the creator
+nobody_created : (b : Board) (creators : List (ℕ × ℕ)) (k : ℕ) → creator_on (board_restarted b) creators k ≡ None
+nobody_created b creators k = by_row (b.row (Eph k))
+  where
+    by_row : (row : Option Row) → (if is_some (row_restarted (Eph k) row) then creator_at creators k else None) ≡ None
+    by_row None = refl
+    by_row (Some row) = refl
 
 link_restarted_is : (association : ℕ) (o : Option OpenCall) → link_of (option_map (restarting association) o) ≡ link_restarted (link_of o)
 link_restarted_is association None = refl
@@ -143,14 +172,14 @@ link_restarted_is association (Some c) = refl
 pub restarted_is : (old new : GatewayValue) → new.association ≡ old.association + 1 → board_in new.connected ≡ board_restarted (board_in old.connected)
     → line_in new.connected ≡ (λ l. cleared (line_in old.connected l)) → new.holders ≡ old.holders
     → ((n : ℕ) → call_in new.calls n ≡ option_map (restarting new.association) (call_in old.calls n))
-    → (creator : ℕ → Option ℕ) → gateway_of (λ k. None) new ≡ restarted (gateway_of creator old)
+    → gateway_of new ≡ restarted (gateway_of old)
 unfolding gateway_of
-restarted_is old new association board lines holders calls creator = λ i. record {
+restarted_is old new association board lines holders calls = λ i. record {
   association = association i;
   board = board i;
   line = lines i;
   holder = λ l. holder_of (line_entry (holders i) l);
-  creator = λ k. None;
+  creator = λ k. (ap (λ (b : Board). creator_on b new.creators k) board ∙ nobody_created (board_in old.connected) new.creators k) i;
   link = λ call. (ap link_of (calls call) ∙ link_restarted_is new.association (call_in old.calls call)) i;
 }
 

@@ -17,9 +17,9 @@ use Rattle.gateway.specs.GatewayValue.{GatewayValue, gateway_of, is_open}
 abbrev pub SameOpen : GatewayValue → GatewayValue → Type 0
 SameOpen old new = (call : ℕ) → is_open new call ≡ is_open old call
 
--- the gateway of the model is the same, whoever created the ephemerals, and the same calls are open
+-- the gateway of the model is the same, and the same calls are open
 abbrev pub IsSame : GatewayValue → GatewayValue → Type 0
-IsSame old new = ((creator : ℕ → Option ℕ) → gateway_of creator new ≡ gateway_of creator old) × SameOpen old new
+IsSame old new = (gateway_of new ≡ gateway_of old) × SameOpen old new
 
 -- ---- a request
 
@@ -27,11 +27,9 @@ IsSame old new = ((creator : ℕ → Option ℕ) → gateway_of creator new ≡ 
 abbrev pub IsAddressed : GatewayValue → ℕ → Request → Type 0
 IsAddressed old call request = (is_open old call ≡ true) × (request.call ≡ call)
 
--- whoever created the ephemerals, the request is executed
+-- the request is executed
 abbrev pub IsExecution : GatewayValue → Request → Option ChosenRefusal → GatewayValue → Reply → List SentNote → Type 0
-IsExecution old request refusal new reply notes =
-    (creator : ℕ → Option ℕ)
-    → (after : Gateway) × (IsExecutedBy (gateway_of creator old) request refusal after reply notes × (after ≡ gateway_of after.creator new))
+IsExecution old request refusal new reply notes = IsExecutedBy (gateway_of old) request refusal (gateway_of new) reply notes
 
 -- it would be executed, but the numbers of notes could run out
 pub record HasNoRoom (g : Gateway) (request : Request) : Type 0 where
@@ -42,12 +40,12 @@ abbrev pub IsAnswered : GatewayValue → ℕ → Request → Option ChosenRefusa
 IsAnswered old call request refusal new (Executed reply notes) =
     IsAddressed old call request × (IsExecution old request refusal new reply notes.items × SameOpen old new)
 IsAnswered old call request refusal new (Kept reply) =
-    IsAddressed old call request × (((creator : ℕ → Option ℕ) → IsKept (gateway_of creator old) request reply) × (new ≡ old))
+    IsAddressed old call request × (IsKept (gateway_of old) request reply × (new ≡ old))
 IsAnswered old call request refusal new Discarded =
-    ((IsAddressed old call request → ⊥) ⊎ ((creator : ℕ → Option ℕ) → IsDiscarded (gateway_of creator old) request)) × (new ≡ old)
+    ((IsAddressed old call request → ⊥) ⊎ IsDiscarded (gateway_of old) request) × (new ≡ old)
 IsAnswered old call request refusal new CannotHappen =
-    IsAddressed old call request × (((creator : ℕ → Option ℕ) → HasNoRoom (gateway_of creator old) request) × (new ≡ old))
-IsAnswered old call request refusal new NoMemory = new ≡ old
+    IsAddressed old call request × (HasNoRoom (gateway_of old) request × (new ≡ old))
+IsAnswered old call request refusal new NoMemory = IsSame old new
 
 -- ---- an event of a line
 
@@ -57,19 +55,19 @@ note_listed (Some note) = note ∷ []
 
 abbrev pub CannotOccur : GatewayValue → ℕ → LineEvent → Type 0
 CannotOccur old line event =
-    (creator : ℕ → Option ℕ) (after : Gateway) (notes : List SentNote) → Happens (gateway_of creator old) line event after notes → ⊥
+    (after : Gateway) (notes : List SentNote) → Happens (gateway_of old) line event after notes → ⊥
 
 -- it happens, or it can't
 abbrev pub IsHappened : GatewayValue → ℕ → LineEvent → GatewayValue → Result (Option SentNote) fault.CannotHappen → Type 0
 IsHappened old line event new (Ok note) =
-    ((creator : ℕ → Option ℕ) → Happens (gateway_of creator old) line event (gateway_of creator new) (note_listed note)) × SameOpen old new
+    Happens (gateway_of old) line event (gateway_of new) (note_listed note) × SameOpen old new
 IsHappened old line event new (Err _) = CannotOccur old line event × IsSame old new
 
 -- ---- a restart
 
 -- the next association begins; only after the last one none can
 pub record IsNext (old new : GatewayValue) (association : ℕ) : Type 0 where
-  pub restarts : (creator : ℕ → Option ℕ) → gateway_of (λ k. None) new ≡ restarted (gateway_of creator old)
+  pub restarts : gateway_of new ≡ restarted (gateway_of old)
   pub answered : association ≡ new.association
   pub room : old.association < last_association
   pub open_calls : SameOpen old new

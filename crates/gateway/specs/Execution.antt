@@ -1,6 +1,8 @@
 -- What is found of a request before it runs, and what its run leaves to be put in place. A reader should check each variant against
 -- the answer that it leads to.
-use Rattle.std.specs.Prelude.{◌≡◌, ℕ, ◌+◌, ◌≤◌, List, length, Option, Some, ◌⊎◌}
+use Rattle.std.specs.Prelude.{◌≡◌, ℕ, ◌+◌, ◌≤◌, true, false, if◌then◌else◌, List, length, Option, Some, ◌⊎◌}
+use Rattle.mg_model.specs.Board.{Board}
+use Rattle.mg_model.specs.Items.{Done}
 use Rattle.mg_model.specs.RequestRun.{RaisedNote}
 use Rattle.mg_model.specs.declared.failures.ChosenRefusal.{ChosenRefusal}
 use Rattle.mg_model.specs.declared.failures.Failure.{Failure}
@@ -8,12 +10,12 @@ use Rattle.mg_model.specs.Delivery.{offer, fresh}
 use Rattle.mg_model.specs.Numbers.{last_number}
 use Rattle.mg_model.specs.Gateway.{IsKept, IsDiscarded, reply_of, sent_notes}
 use Rattle.mg_model.specs.Messages.{Request, Reply, SentNote}
-use Rattle.requests.specs.Connected.{Connected, end_in}
+use Rattle.requests.specs.Connected.{Connected, Ends, end_in}
 use Rattle.gateway.specs.declared.execute.Judged.{Judged}
 use Rattle.gateway.specs.declared.execute.Judged.TheVariants.{New, Again, Nothing, Full, NoMemory}
 use Rattle.gateway.specs.Answers.{IsAddressed, HasNoRoom}
+use Rattle.gateway.specs.Creators.{creator_at, any_created}
 use Rattle.gateway.specs.Calls.{OpenCall, call_in, delivery_link}
-use Rattle.gateway.specs.Standby.{IsEnd}
 use Rattle.gateway.specs.GatewayValue.{GatewayValue, gateway_of}
 
 -- the request is new to its call, whose last note has this number, and there is room for its notes
@@ -27,10 +29,10 @@ pub record IsNew (w : GatewayValue) (request : Request) (last : ℕ) : Type 0 wh
 
 abbrev pub IsJudged : GatewayValue → ℕ → Request → Judged → Type 0
 IsJudged w call request (New last) = IsNew w request last × (request.call ≡ call)
-IsJudged w call request (Again reply) = IsAddressed w call request × ((creator : ℕ → Option ℕ) → IsKept (gateway_of creator w) request reply)
+IsJudged w call request (Again reply) = IsAddressed w call request × IsKept (gateway_of w) request reply
 IsJudged w call request Nothing =
-    (IsAddressed w call request → ⊥) ⊎ ((creator : ℕ → Option ℕ) → IsDiscarded (gateway_of creator w) request)
-IsJudged w call request Full = IsAddressed w call request × ((creator : ℕ → Option ℕ) → HasNoRoom (gateway_of creator w) request)
+    (IsAddressed w call request → ⊥) ⊎ IsDiscarded (gateway_of w) request
+IsJudged w call request Full = IsAddressed w call request × HasNoRoom (gateway_of w) request
 IsJudged w call request NoMemory = Unit {0}
 
 -- where a request ended that ran from a start, with its reply twice, its notes and the number of the last one
@@ -38,8 +40,17 @@ pub record IsRun (start : Connected) (request : Request) (refusal : Option Chose
     (notes : List SentNote) (last_after : ℕ) : Type 0 where
   pub raised : List RaisedNote
   pub failure : Option Failure
-  pub is_end : IsEnd start request refusal ended reply.results raised failure
+  pub is_end : Ends start request refusal ended reply.results raised failure
   pub reply_is : reply ≡ reply_of request (end_in ended reply.results raised) failure
   pub kept_is : kept ≡ reply
   pub notes_are : notes ≡ sent_notes request.call request.association last raised
   pub last_is : last_after ≡ last + length raised
+
+-- what commands created had numbers that weren't used
+abbrev pub AreNew : Board → List Done → Type 0
+AreNew b results = (k : ℕ) → any_created results k ≡ true → b.used_ephemeral k ≡ false
+
+-- a call is noted as the creator of what commands created, and nothing else is changed
+pub record IsNoted (call : ℕ) (results : List Done) (old new : GatewayValue) : Type 0 where
+  pub rest : new ≡ record old { creators = new.creators }
+  pub creators : (k : ℕ) → creator_at new.creators k ≡ (if any_created results k then Some call else creator_at old.creators k)

@@ -1,4 +1,5 @@
 pub mod Calls
+pub mod Creators
 pub mod GatewayValue
 pub mod Standby
 pub mod Openings

@@ -17,15 +17,16 @@ use Rattle.requests.specs.Connected.{has_line, is_idle, opened_line}
 use Rattle.gateway.specs.declared.fault.OpenFault.{OpenFault}
 use Rattle.gateway.specs.declared.fault.OpenFault.TheVariants.{NoMemory, UnknownLine, Taken}
 
--- ---- a gateway that starts: association 1, each line in the null context, Inactive, on hook, silent, with an empty descriptor
+-- ---- a gateway that starts: association 1, each line in the null context, Inactive, on hook, silent, with an empty descriptor; it gives
+-- numbers of this class
 
-abbrev pub first_gateway : List LineNo → (ℕ → Option ℕ) → Gateway
-first_gateway lines creator = record {
+abbrev pub first_gateway : (ℕ → Bool) → List LineNo → Gateway
+first_gateway class lines = record {
   association = first_association;
-  board = board_value.opened (started lines);
+  board = board_value.opened class (started lines);
   line = λ l. new_line;
   holder = λ l. None;
-  creator = creator;
+  creator = λ k. None;
   link = λ call. record { last = None; notes = 0 };
 }
 

@@ -11,9 +11,9 @@ use Rattle.mg_model.specs.Board.{Board}
 use Rattle.mg_model.specs.Items.{Done}
 use Rattle.mg_model.specs.LineEvents.{LineRow}
 use Rattle.mg_model.specs.Messages.{Request}
-use Rattle.mg_model.specs.RequestRun.{RaisedNote, RunsFrom}
+use Rattle.mg_model.specs.RequestRun.{RaisedNote}
 use Rattle.contexts.specs.BoardValue.{names_line}
-use Rattle.requests.specs.Connected.{Connected, board_in, line_in, has_line, start_in, end_in, opened_line}
+use Rattle.requests.specs.Connected.{Connected, board_in, line_in, has_line, opened_line, Ends}
 use Rattle.requests.specs.Idle.{idle_row}
 
 pub record ShowsSame (one other : Connected) : Type 0 where
@@ -26,15 +26,11 @@ IsStandby (Some standby) active = ShowsSame standby active
 
 -- ---- where a request ends that runs from a start
 
-abbrev pub IsEnd : Connected → Request → Option ChosenRefusal → Connected → List Done → List RaisedNote → Option Failure → Type 0
-IsEnd start request refusal ended results notes failure =
-    RunsFrom request.number refusal (start_in start) 0 request.commands (end_in ended results notes) failure
-
 -- it ends there with these results
 pub record HasEnd (start : Connected) (request : Request) (refusal : Option ChosenRefusal) (ended : Connected) (results : List Done) : Type 0 where
   pub notes : List RaisedNote
   pub failure : Option Failure
-  pub is_end : IsEnd start request refusal ended results notes failure
+  pub is_end : Ends start request refusal ended results notes failure
 
 -- ---- where lines are opened
 

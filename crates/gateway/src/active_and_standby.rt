@@ -1,12 +1,13 @@
 //! The connections of a gateway with a standby.
-ghost use Rattle.std.specs.Prelude.{◌≡◌, IfOk, OnOk, option_map};
+ghost use Rattle.std.specs.Prelude.{◌≡◌, ◌<◌, IfOk, OnOk, option_map};
 ghost use Rattle.mg_model.specs.Gateway.{outcome_of, board_restarted};
 ghost use Rattle.mg_model.specs.LineEvents.{new_line, cleared};
 ghost use Rattle.contexts.specs.BoardValue.{opened, started};
 ghost use Rattle.line_events.specs.Raising.{is_raised};
-ghost use Rattle.requests.specs.Connected.{board_in, line_in, line_there, has_line, is_idle, answer_where, lines_after};
+ghost use Rattle.requests.specs.Connected.{board_in, line_in, line_there, has_line, is_idle, answer_where, lines_after, Ends};
 ghost use Rattle.requests.specs.Views.{line_notes};
-ghost use Rattle.gateway.specs.Standby.{ShowsSame, ShowsOpened, IsEnd, HasEnd};
+ghost use Rattle.identifiers.specs.Class.{is_of_class};
+ghost use Rattle.gateway.specs.Standby.{ShowsSame, ShowsOpened, HasEnd};
 
 use contexts::{Board, Done};
 use line_events::{LineFault, LineRow, Note};
@@ -50,13 +51,20 @@ fn open_lines(connections: &mut Connections, lines: &[LineNo]) -> Result<(), All
 }
 
 impl ActiveAndStandby {
-    /// These lines, each in the null context, Inactive, on hook, silent and with an empty Events descriptor.
-    pub(crate) fn new(alloc: Global, lines: &[LineNo]) -> Result<ActiveAndStandby, AllocError>
-        ensures board { IfOk result (λ c. board_in c ≡ opened (started lines.now)) }
+    /// These lines, each in the null context, Inactive, on hook, silent and with an empty Events descriptor; contexts and ephemerals are
+    /// given numbers that leave `first` where they are divided by `stride`.
+    pub(crate) fn with_ids(
+        alloc: Global,
+        lines: &[LineNo],
+        first: u32,
+        stride: u32,
+    ) -> Result<ActiveAndStandby, AllocError>
+        requires { first < stride }
+        ensures board { IfOk result (λ c. board_in c ≡ opened (is_of_class first stride) (started lines.now)) }
         ensures lines { IfOk result (λ c. line_in c ≡ (λ l. new_line)) }
     {
         Ok(ActiveAndStandby {
-            active: Connections::new(alloc, lines)?,
+            active: Connections::with_ids(alloc, lines, first, stride)?,
             standby: None,
         })
     }
@@ -113,7 +121,7 @@ impl ActiveAndStandby {
         request: &Request,
         chosen: Option<ChosenRefusal>,
     ) -> Result<(Connections, Outcome), AllocError>
-        ensures runs { IfOk result (λ ended. IsEnd self.old request.now chosen ended.0 ended.1.results.items (line_notes ended.1.notes.items) ended.1.failure) }
+        ensures runs { IfOk result (λ ended. Ends self.old request.now chosen ended.0 ended.1.results.items (line_notes ended.1.notes.items) ended.1.failure) }
         ensures unchanged { self.new ≡ self.old }
     {
         let standby = self.take_standby()?;

@@ -1,11 +1,13 @@
 //! A request reaches the gateway.
 ghost use Rattle.std.specs.Prelude.{◌≡◌, IfOk, OnOk, OnErr};
-ghost use Rattle.gateway.specs.Answers.{IsAnswered, IsExecution, SameOpen};
-ghost use Rattle.gateway.specs.Execution.{IsJudged, IsNew, IsRun};
+ghost use Rattle.requests.specs.Connected.{board_in};
+ghost use Rattle.gateway.specs.Answers.{IsAnswered, IsSame};
+ghost use Rattle.gateway.specs.Execution.{IsJudged, IsNew, IsRun, AreNew, IsNoted};
 
 use crate::answer::Answer;
 use crate::gateway::Gateway;
-use crate::{calls, numbering};
+use crate::{calls, creators, numbering};
+use contexts::Done;
 use delivery::Offer;
 use mg_model::failures::ChosenRefusal;
 use mg_names::identifiers::{CallNo, LAST_NUMBER};
@@ -95,7 +97,16 @@ impl Gateway {
         })
     }
 
-    /// Where a request ended is put in place.
+    /// Notes the request's call as the creator of the ephemerals that it created. Nothing shows it before the request is put in place.
+    fn note_creators(&mut self, request: &Request, results: &[Done]) -> Result<(), AllocError>
+        requires { AreNew (board_in self.old.connected) results.now }
+        ensures noted { OnOk result (IsNoted request.now.call results.now self.old self.new) }
+        ensures unchanged { IsSame self.old self.new }
+    {
+        creators::note(&mut self.creators, results, request.call().0)
+    }
+
+    /// Where a request ended is put in place, unless memory runs out.
     fn put(
         &mut self,
         request: &Request,
@@ -107,6 +118,9 @@ impl Gateway {
         requires runs { IsRun self.old.connected request.now chosen last ended.connections ended.reply ended.kept ended.notes.items ended.last }
         ensures { IsAnswered self.old request.now.call request.now chosen self.new result }
     {
+        let Ok(()) = self.note_creators(request, ended.reply.results()) else {
+            return Answer::NoMemory;
+        };
         let Ended {
             connections,
             reply,

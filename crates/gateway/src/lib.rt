@@ -8,6 +8,7 @@ mod active_and_standby;
 mod answer;
 mod call;
 mod calls;
+mod creators;
 mod execute;
 mod fault;
 mod gateway;

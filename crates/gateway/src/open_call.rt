@@ -1,5 +1,5 @@
 //! The opening of a call.
-ghost use Rattle.std.specs.Prelude.{◌≡◌, ℕ, ◌==◌, ◌||◌, Option, Ok, OnOk, OnErr};
+ghost use Rattle.std.specs.Prelude.{◌≡◌, ℕ, ◌==◌, ◌||◌, Ok, OnOk, OnErr};
 ghost use Rattle.std.specs.List.{list_all};
 ghost use Rattle.contexts.specs.BoardValue.{names_line};
 ghost use Rattle.requests.specs.Connected.{board_in};
@@ -88,7 +88,7 @@ impl Gateway {
     /// Opens a call on lines that are free; only running out of memory keeps it from that.
     fn open_free(&mut self, call: CallNo, lines: &[LineNo]) -> Result<(), AllocError>
         requires { opening_on (board_in self.old.connected) (holder_in self.old) (is_open self.old call.0) lines.now ≡ Ok tt }
-        ensures opened { OnOk result ((creator : ℕ → Option ℕ) → gateway_of creator self.new ≡ opened (gateway_of creator self.old) call.0 lines.now) }
+        ensures opened { OnOk result (gateway_of self.new ≡ opened (gateway_of self.old) call.0 lines.now) }
         ensures open_calls { OnOk result ((other : ℕ) → is_open self.new other ≡ ((other == call.0) || is_open self.old other)) }
         ensures unchanged { OnErr result (self.new ≡ self.old) }
     {
@@ -107,8 +107,8 @@ impl Gateway {
     /// RequestID 0, and held by the call; no reply is kept and no note was sent. The fault of the lowest number that applies is answered,
     /// or `NoMemory` in its place.
     pub fn open_call(&mut self, call: CallNo, lines: &[LineNo]) -> Result<(), OpenFault>
-        ensures answer { (creator : ℕ → Option ℕ) → IsOrNoMemory is_memory result (opening (gateway_of creator self.old) (is_open self.old call.0) lines.now) }
-        ensures opened { OnOk result ((creator : ℕ → Option ℕ) → gateway_of creator self.new ≡ opened (gateway_of creator self.old) call.0 lines.now) }
+        ensures answer { IsOrNoMemory is_memory result (opening (gateway_of self.old) (is_open self.old call.0) lines.now) }
+        ensures opened { OnOk result (gateway_of self.new ≡ opened (gateway_of self.old) call.0 lines.now) }
         ensures open_calls { OnOk result ((other : ℕ) → is_open self.new other ≡ ((other == call.0) || is_open self.old other)) }
         ensures unchanged { OnErr result (self.new ≡ self.old) }
     {

@@ -2,12 +2,12 @@
 ghost use Rattle.std.specs.Prelude.{◌≡◌, IfOk, option_map, map};
 ghost use Rattle.mg_model.specs.Items.{Lists};
 ghost use Rattle.requests.specs.Connected.{board_in, line_there, has_line};
-ghost use Rattle.gateway.specs.GatewayValue.{holder_in, is_open};
+ghost use Rattle.gateway.specs.GatewayValue.{gateway_of, holder_in, is_open};
 
 use crate::gateway::Gateway;
-use crate::{calls, holders};
+use crate::{calls, creators, holders};
 use line_events::LineRow;
-use mg_names::identifiers::{CallNo, LineNo};
+use mg_names::identifiers::{CallNo, LineNo, TermId};
 use std::alloc::AllocError;
 
 impl Gateway {
@@ -31,6 +31,18 @@ impl Gateway {
         ensures { option_map (λ call. call.0) result ≡ holder_in self.now line.0 }
     {
         match holders::holder(&self.holders, line.0) {
+            Some(call) => Some(CallNo(call)),
+            None => None,
+        }
+    }
+
+    /// The call of which a request created an ephemeral; `None` where there is no such ephemeral.
+    #[tactic(auto, unfolding(crate::specs::GatewayValue::gateway_of))]
+    pub fn creator(&self, ephemeral: u32) -> Option<CallNo>
+        ensures { option_map (λ call. call.0) result ≡ (gateway_of self.now).creator ephemeral }
+    {
+        self.board().get(TermId::Eph(ephemeral))?;
+        match creators::creator(&self.creators, ephemeral) {
             Some(call) => Some(CallNo(call)),
             None => None,
         }

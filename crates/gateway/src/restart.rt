@@ -20,6 +20,7 @@ impl Gateway {
         self.association = association;
         self.connections.restart();
         calls::restart(&mut self.calls, association);
+        self.creators.clear();
         Ok(association)
     }
 }

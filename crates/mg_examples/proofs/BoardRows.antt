@@ -35,8 +35,9 @@ abbrev start : Board
 start = record {
   row = λ t. known (is_line t);
   cut = λ t u. false;
-  given_context = λ n. false;
-  given_ephemeral = λ n. false;
+  used_context = λ n. false;
+  used_ephemeral = λ n. false;
+  class = λ n. true;
 }
 
 abbrev by : Option Mode → Option RemoteSetting → Settings

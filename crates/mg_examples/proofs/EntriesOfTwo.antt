@@ -1,9 +1,9 @@
 -- Entries for scripts of two lines without ephemerals and with at most one context, in which each component but the link has one value:
--- each line stands at a place, and both have one events list and are silent. They are entries of such a script; a configuration that
+-- each line stands at a place, and both are silent and have one events list, but for one whose place has a list of its own. They are entries of such a script; a configuration that
 -- reads so is in such an entry, and so is each point of one, where its link is listed.
 use Rattle.std.proofs.Common.{◌≡◌, ◌<◌, ◌==◌, ◌++◌, ℕ, zero, suc, Bool, true, false, if◌then◌else◌, List, [], ◌∷◌, length, Option, Some, None, refl, sym, ap, subst, arith, true≢false}
 use Rattle.std.proofs.lemmas.List.Elements.{All-append, All-cons, All-nil, All-from_recursion}
-use Rattle.std.specs.Prelude.{◌||◌, Contains}
+use Rattle.std.specs.Prelude.{◌||◌, Contains, unwrap_or}
 use Rattle.std.specs.List.{All}
 use Rattle.mg_names.specs.declared.context_values.ContextValue.{ContextValue}
 use Rattle.mg_names.specs.declared.context_values.ContextValue.TheVariants.{Free, Live}
@@ -11,6 +11,7 @@ use Rattle.mg_names.specs.declared.modes.Mode.{Mode}
 use Rattle.mg_names.specs.declared.modes.Mode.TheVariants.{Inactive, SendReceive}
 use Rattle.mg_names.specs.declared.phases.LinkPhase.{LinkPhase}
 use Rattle.mg_model.specs.declared.commands.EventsName.{EventsName}
+use Rattle.mg_model.specs.declared.commands.EventsName.TheVariants.{Empty}
 use Rattle.mg_model.specs.declared.commands.Termination.{Termination}
 use Rattle.mg_model.specs.declared.commands.Termination.TheVariants.{Line, Ephemeral}
 use Rattle.mg_model.specs.declared.components.Spot.{Spot}
@@ -29,25 +30,33 @@ abbrev pub contexts_of : Option ContextValue → List Component
 contexts_of None = []
 contexts_of (Some value) = contexts 0 (value ∷ []) ∷ []
 
--- where a line stands, and its mode
+-- where a line stands, its mode, and its events list where that isn't the one of both lines
 pub record Place : Type 0 where
   pub spot : Spot
   pub mode : Mode
+  pub own : Option EventsName
 
 -- in the null context, and in the first context: with nothing set, and in talk
 abbrev pub null : Place
-null = record { spot = Null; mode = Inactive }
+null = record { spot = Null; mode = Inactive; own = None }
 
 abbrev pub alone : Place
-alone = record { spot = In 0; mode = Inactive }
+alone = record { spot = In 0; mode = Inactive; own = None }
 
 abbrev pub talking : Place
-talking = record { spot = In 0; mode = SendReceive }
+talking = record { spot = In 0; mode = SendReceive; own = None }
+
+-- in the null context after it was subtracted: its list is empty
+abbrev pub subtracted : Place
+subtracted = record { spot = Null; mode = Inactive; own = Some Empty }
+
+abbrev list_at : Place → EventsName → EventsName
+list_at place list = unwrap_or place.own list
 
 -- the components of a line, and those of the two cuts
 abbrev pub line_of : ℕ → EventsName → Place → List Component
 line_of i list place =
-    spots (Line i) (place.spot ∷ []) ∷ modes (Line i) (place.mode ∷ []) ∷ events i (list ∷ []) ∷ plays i (false ∷ []) ∷ []
+    spots (Line i) (place.spot ∷ []) ∷ modes (Line i) (place.mode ∷ []) ∷ events i (list_at place list ∷ []) ∷ plays i (false ∷ []) ∷ []
 
 abbrev pub no_cuts : List Component
 no_cuts = cuts (Line 0) (Line 1) (false ∷ []) ∷ cuts (Line 1) (Line 0) (false ∷ []) ∷ []
@@ -77,8 +86,8 @@ module _ (state : ℕ) (link : List LinkPhase) (list : EventsName) (first second
       (modes (Line 1) (second.mode ∷ []), (6, omega (arith), refl), refl)
 
   line_events : (i : ℕ) → i < 2 → HasOne entry (is_events i)
-  line_events = below_two (λ i. HasOne entry (is_events i)) (events 0 (list ∷ []), (3, omega (arith), refl), refl)
-      (events 1 (list ∷ []), (7, omega (arith), refl), refl)
+  line_events = below_two (λ i. HasOne entry (is_events i)) (events 0 (list_at first list ∷ []), (3, omega (arith), refl), refl)
+      (events 1 (list_at second list ∷ []), (7, omega (arith), refl), refl)
 
   line_plays : (i : ℕ) → i < 2 → HasOne entry (is_plays i)
   line_plays = below_two (λ i. HasOne entry (is_plays i)) (plays 0 (false ∷ []), (4, omega (arith), refl), refl)
@@ -163,7 +172,7 @@ abbrev values_at : ℕ → Configuration → LineValues
 values_at i c = record { spot = c.spot (Line i); mode = c.mode (Line i); event = c.events i; play = c.plays i }
 
 abbrev pub LineReads : ℕ → EventsName → Place → Configuration → Type 0
-LineReads i list place c = values_at i c ≡ record { spot = place.spot; mode = place.mode; event = list; play = false }
+LineReads i list place c = values_at i c ≡ record { spot = place.spot; mode = place.mode; event = list_at place list; play = false }
 
 -- the context has the value, where the script has a context
 abbrev pub HasValue : Option ContextValue → Configuration → Type 0
@@ -185,7 +194,7 @@ line_allowed : (i : ℕ) (list : EventsName) (place : Place) (c : Configuration)
 line_allowed i list place c reads =
     let spot = is_alone place.spot (c.spot (Line i)) (ap (λ (x : LineValues). x.spot) reads) in
     let mode = is_alone place.mode (c.mode (Line i)) (ap (λ (x : LineValues). x.mode) reads) in
-    let event = is_alone list (c.events i) (ap (λ (x : LineValues). x.event) reads) in
+    let event = is_alone (list_at place list) (c.events i) (ap (λ (x : LineValues). x.event) reads) in
     let play = is_alone false (c.plays i) (ap (λ (x : LineValues). x.play) reads) in
     All-from_recursion (Allows c) (line_of i list place) (spot, (mode, (event, (play, tt))))
 

@@ -21,8 +21,13 @@ pub mod TalkUnbroken
 pub mod TwoTalksRun
 pub mod OpeningNeeded
 pub mod ResetNeeded
+pub mod Settled
 pub mod StepNeeded
 pub mod MarkNeeded
 pub mod ClearNeeded
 pub mod CreatedTwice
 pub mod UnboundNeeded
+pub mod NamesKept
+pub mod OneCommand
+pub mod NumberReused
+pub mod LiveNeeded

@@ -3,7 +3,7 @@ use Rattle.std.proofs.Common.{◌≡◌, ◌≤◌, ℕ, [], None, refl, ap, ari
 use Rattle.mg_model.proofs.Offered.{is_fresh_at}
 use Rattle.mg_model.specs.Gateway.{number_of}
 use Rattle.mg_model.specs.World.{World, IsFirst, Opened}
-use Rattle.mg_examples.proofs.TwoLinesJoined.{IsReady, to_talk, r2, runs_through, all_done, talking_gateway, talking_world}
+use Rattle.mg_examples.proofs.TwoLinesJoined.{IsReady, with_both, both_settled, to_talk, r2, runs_through, all_done, talking_gateway, talking_world}
 
 module _ (w : World) (one : Opened) (context : ℕ) (ready : IsReady w.gateway.board one context) where
   pub executes : (w.gateway.link one.call).last ≡ None → (w.gateway.link one.call).notes ≤ 1
@@ -14,11 +14,13 @@ module _ (w : World) (one : Opened) (context : ℕ) (ready : IsReady w.gateway.b
     sent = [];
     executed = record {
       end = r2 w one context ready None;
+      settled = with_both w.gateway.board one context;
       failure = None;
       is_fresh = is_fresh_at w.gateway (to_talk one w.gateway.association) refl
           (let last : number_of (w.gateway.link one.call).last ≡ 0 = ap number_of none in omega (arith, last));
       room = omega (arith, few);
       runs = runs_through w one context ready None;
+      is_settled = both_settled w.gateway.board one context ready;
       after_is = refl;
       reply_is = refl;
       notes_are = refl;

@@ -11,8 +11,8 @@ use Rattle.mg_model.specs.World.{World, AgentSteps, agent_steps, IsFirst, Runs, 
 use Rattle.mg_examples.specs.Basic.{basic}
 use Rattle.mg_examples.specs.Talk.{call, off_hook, to_talk, all_done, hang, to_a_talk, LeadsToATalk}
 use Rattle.mg_model.proofs.Single.{first_in}
-use Rattle.mg_examples.proofs.TwoLinesJoined.{IsReady, r2, runs_through, joined}
-use Rattle.mg_examples.proofs.TwoLinesOpening.{agent, opened_world, opens, one_call, off_hook_world, goes_off}
+use Rattle.mg_examples.proofs.TwoLinesJoined.{IsReady, r2, runs_through, joined, with_both, both_settled}
+use Rattle.mg_examples.proofs.TwoLinesOpening.{agent, opened_world, opens, one_call, off_hook_world, goes_off, opening_settled}
 
 abbrev w0 : World
 w0 = opened_world (basic []) (call ∷ [])
@@ -40,13 +40,13 @@ sends = refl
 -- ---- the request is executed
 
 ready : IsReady w2.gateway.board call 1
-ready = record { differ = λ e. omega (arith, e); first_row = refl; second_row = refl; uncut = refl; is_number = (omega (arith), omega (arith)); not_given = refl }
+ready = record { differ = λ e. omega (arith, e); first_row = refl; second_row = refl; uncut = refl; is_number = (omega (arith), omega (arith)); not_given = refl; in_class = refl; exact = opening_settled (call ∷ []) }
 
 abbrev end : Running
 end = r2 w2 call 1 ready hang
 
 abbrev g3 : Gateway
-g3 = after_request w2.gateway (to_talk call hang) end None
+g3 = after_request w2.gateway (to_talk call hang) end (with_both w2.gateway.board call 1) None
 
 abbrev w3 : World
 w3 = record (with_gateway w2 g3) { replies = all_done call 1 ∷ [] }
@@ -58,10 +58,12 @@ is_executed = record {
   sent = [];
   executed = record {
     end = end;
+    settled = with_both w2.gateway.board call 1;
     failure = None;
     is_fresh = refl;
     room = omega (arith);
     runs = runs_through w2 call 1 ready hang;
+    is_settled = both_settled w2.gateway.board call 1 ready;
     after_is = refl;
     reply_is = refl;
     notes_are = refl;

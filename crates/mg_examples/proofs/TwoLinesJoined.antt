@@ -8,7 +8,8 @@ use Rattle.mg_names.specs.declared.identifiers.TermId.TheVariants.{Line}
 use Rattle.mg_names.specs.declared.modes.Mode.TheVariants.{SendReceive}
 use Rattle.mg_model.specs.declared.rows.Row.{Row}
 use Rattle.mg_model.specs.declared.transitions.Pair.{Pair}
-use Rattle.mg_model.specs.Board.{Board, null_row, mode_in, place_in, remote_of}
+use Rattle.mg_model.specs.Board.{Board, null_row, mode_in, place_in, remote_of, row_with, same_term, IsSettled}
+use Rattle.mg_examples.proofs.Settled.{still_settled, given_or, given_still, given_here}
 use Rattle.mg_model.specs.Gateway.{Gateway, after_request, start_of}
 use Rattle.mg_model.specs.Numbers.{choose, null}
 use Rattle.mg_model.specs.Items.{Done, IsExecuted, IsLegal, effect, is_context_number}
@@ -53,7 +54,10 @@ pub record IsReady (b : Board) (one : Opened) (context : ℕ) : Type 0 where
   pub second_row : b.row (line_at one 1) ≡ Some null_row
   pub uncut : b.cut (line_at one 0) (line_at one 1) ≡ false
   pub is_number : is_context_number context
-  pub not_given : b.given_context context ≡ false
+  pub not_given : b.used_context context ≡ false
+  pub in_class : IsTrue (b.class context)
+  -- no number is barred but those of what stands
+  pub exact : IsSettled b b
 
 abbrev pub with_first : Board → Opened → ℕ → Board
 with_first b one context = created b (one.lines 0) (Some SendReceive) None context
@@ -106,7 +110,7 @@ module _ (b : Board) (one : Opened) (context : ℕ) (ready : IsReady b one conte
   first_executed : IsExecuted b (item_at [] (first one None)) (with_first b one context) (made context)
   first_executed =
       creation_executed b (one.lines 0) (Some SendReceive) None context
-      (record { row = ready.first_row; is_number = ready.is_number; not_given = ready.not_given })
+      (record { row = ready.first_row; is_number = ready.is_number; not_given = ready.not_given; in_class = ready.in_class })
 
   second_executed : IsExecuted (with_first b one context) (item_at (made context ∷ []) (second one)) (with_both b one context) nothing
   second_executed = record {
@@ -140,6 +144,38 @@ module _ (b : Board) (one : Opened) (context : ℕ) (ready : IsReady b one conte
   second_added =
       where_true (one.lines 1 == one.lines 1) (Some (second_row named)) ((with_first b one context).row (line_at one 1)) (is_itself 1)
       ∙ ap (λ (n : ℕ). Some (second_row n)) named_is
+
+  -- what is in use is what stands
+  elsewhere : (rows : TermId → Option Row) (row : Option Row) (u t : TermId) → same_term t u ≡ false → row_with rows u row t ≡ rows t
+  elsewhere rows row u t e = where_false (same_term t u) row (rows t) e
+
+  first_settled : IsSettled (with_first b one context) (with_first b one context)
+  first_settled = still_settled b (with_first b one context) (one.lines 0) context (record {
+    row = talking_row context (remote_of b (line_at one 0));
+    was = ready.first_row;
+    at = first_added;
+    place = refl;
+    not_null = not_null;
+    elsewhere = elsewhere b.row (Some (talking_row context (remote_of b (line_at one 0)))) (line_at one 0);
+    used = given_or true context b.used_context;
+    used_here = given_here context b.used_context;
+    used_still = given_still true context b.used_context;
+    ephemerals = λ k. refl;
+  }) ready.exact
+
+  pub both_settled : IsSettled (with_both b one context) (with_both b one context)
+  both_settled = still_settled (with_first b one context) (with_both b one context) (one.lines 1) context (record {
+    row = second_row context;
+    was = second_waits;
+    at = second_added;
+    place = refl;
+    not_null = not_null;
+    elsewhere = elsewhere (with_first b one context).row (Some (second_row named)) (line_at one 1);
+    used = given_or (context == choose) context (with_first b one context).used_context;
+    used_here = given_still (context == choose) context (with_first b one context).used_context context (given_here context b.used_context);
+    used_still = given_still (context == choose) context (with_first b one context).used_context;
+    ephemerals = λ k. refl;
+  }) first_settled
 
   pub joined : AreJoined (with_both b one context) (one.lines 0) (one.lines 1)
   joined = inl (record {
@@ -196,7 +232,8 @@ module _ (w : World) (one : Opened) (context : ℕ) (ready : IsReady w.gateway.b
 
 module _ (w : World) (one : Opened) (context : ℕ) (ready : IsReady w.gateway.board one context) where
   abbrev pub talking_gateway : Gateway
-  talking_gateway = after_request w.gateway (to_talk one w.gateway.association) (r2 w one context ready None) None
+  talking_gateway =
+      after_request w.gateway (to_talk one w.gateway.association) (r2 w one context ready None) (with_both w.gateway.board one context) None
 
   abbrev pub all_done : Reply
   all_done = record { call = one.call; association = w.gateway.association; number = 1; results = made context ∷ nothing ∷ []; failure = None }

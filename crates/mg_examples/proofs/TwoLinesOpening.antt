@@ -1,6 +1,6 @@
 -- The world that opens with these calls of a script of two lines, on lines that differ; and a world after the first line of a call went off
 -- hook.
-use Rattle.std.proofs.Common.{eqb-true, eq-eqb, ◌≡◌, ◌∙◌, ◌+◌, ◌<◌, ◌==◌, ℕ, Bool, true, false, List, [], ◌∷◌, length, Option, Some, None, option_map, refl, sym, ap, arith, inl, inr}
+use Rattle.std.proofs.Common.{eqb-true, eq-eqb, ◌≡◌, ◌∙◌, ◌+◌, ◌<◌, ◌==◌, ℕ, Bool, true, false, List, [], ◌∷◌, length, Option, Some, None, option_map, refl, sym, ap, arith, inl, inr, true≢false}
 use Rattle.std.proofs.lemmas.Bool.{or_left, or_right}
 use Rattle.std.proofs.lemmas.Grind.{common_steps}
 use Rattle.std.specs.Prelude.{◌⊎◌, ◌||◌, Contains, find}
@@ -9,9 +9,10 @@ use Rattle.mg_names.specs.declared.identifiers.TermId.TheVariants.{Line, Eph}
 use Rattle.mg_model.specs.declared.rows.Row.{Row}
 use Rattle.mg_model.specs.declared.line_events.Hook.TheVariants as hooks
 use Rattle.mg_model.specs.Agent.{Agent, opened}
-use Rattle.mg_model.specs.Board.{Board, null_row}
+use Rattle.mg_model.specs.Board.{Board, null_row, place_in, place_of, IsSettled}
+use Rattle.mg_model.specs.Numbers.{null}
 use Rattle.mg_model.specs.declared.line_events.LineEvent.TheVariants as event
-use Rattle.mg_model.specs.Gateway.{Gateway, with_line, with_notes, outcome_of}
+use Rattle.mg_model.specs.Gateway.{Gateway, with_line, with_notes, outcome_of, row_restarted, board_restarted}
 use Rattle.mg_model.specs.LineEvents.{LineRow, new_line}
 use Rattle.mg_model.specs.Script.{Script}
 use Rattle.mg_model.specs.World.{World, LineOccurs, Opened, IsOpening, AreDistinct, armed_line, with_gateway}
@@ -47,7 +48,42 @@ rows calls (Line l) = row_if (user_of calls l.0)
 rows calls (Eph k) = None
 
 abbrev pub board : List Opened → Board
-board calls = record { row = rows calls; cut = λ t u. false; given_context = λ n. false; given_ephemeral = λ n. false }
+board calls = record { row = rows calls; cut = λ t u. false; used_context = λ n. false; used_ephemeral = λ n. false; class = λ n. true }
+
+in_null : (o : Option Opened) → place_in (row_if o) ≡ null
+in_null None = refl
+in_null (Some one) = refl
+
+pub all_null : (calls : List Opened) (t : TermId) → place_of (board calls) t ≡ null
+all_null calls (Line l) = in_null (user_of calls l.0)
+all_null calls (Eph k) = refl
+
+-- nothing stands, and no number is barred
+pub opening_settled : (calls : List Opened) → IsSettled (board calls) (board calls)
+opening_settled calls = record {
+  row = refl;
+  cut = refl;
+  class = refl;
+  contexts = λ n. (λ h. absurd (true≢false (sym h)), λ there. absurd (there.0 (sym there.1.1 ∙ all_null calls there.1.0)));
+  ephemerals = λ k. refl;
+}
+
+null_again : (l : ℕ) (o : Option Opened) → place_in (row_restarted (Line (record { 0 = l })) (row_if o)) ≡ null
+null_again l None = refl
+null_again l (Some one) = refl
+
+all_null_again : (calls : List Opened) (t : TermId) → place_of (board_restarted (board calls)) t ≡ null
+all_null_again calls (Line l) = null_again l.0 (user_of calls l.0)
+all_null_again calls (Eph k) = refl
+
+pub restart_settled : (calls : List Opened) → IsSettled (board_restarted (board calls)) (board_restarted (board calls))
+restart_settled calls = record {
+  row = refl;
+  cut = refl;
+  class = refl;
+  contexts = λ n. (λ h. absurd (true≢false (sym h)), λ there. absurd (there.0 (sym there.1.1 ∙ all_null_again calls there.1.0)));
+  ephemerals = λ k. refl;
+}
 
 abbrev pub gateway : List Opened → Gateway
 gateway calls = record {

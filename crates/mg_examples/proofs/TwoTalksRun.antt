@@ -1,6 +1,6 @@
 -- The run of two calls at once, world by world: line 1 and line 3 go off hook, each call enters `talk`, both requests are executed, and
 -- both replies are taken.
-use Rattle.std.proofs.Common.{◌≡◌, ◌+◌, ◌<◌, ℕ, List, [], ◌∷◌, None, refl, arith, inl}
+use Rattle.std.proofs.Common.{◌≡◌, ◌+◌, ◌<◌, ℕ, List, [], ◌∷◌, length, None, refl, arith, inl}
 use Rattle.std.specs.Prelude.{unwrap_or, Contains}
 use Rattle.mg_model.specs.declared.line_events.Hook.TheVariants as hooks
 use Rattle.mg_model.specs.declared.line_events.LineEvent.TheVariants as event
@@ -16,13 +16,13 @@ use Rattle.mg_examples.proofs.TalkEntries.{reachable, all_listed}
 use Rattle.mg_examples.proofs.TalkUnbroken.{none_broken}
 use Rattle.mg_examples.proofs.TwoLines.{is_script}
 use Rattle.mg_examples.proofs.TalkExecuted.{executes}
-use Rattle.mg_examples.proofs.TwoLinesJoined.{IsReady, talking_world, joined}
-use Rattle.mg_examples.proofs.TwoLinesOpening.{agent, opened_world, opens, IsWaiting, off_hook_world, goes_off}
+use Rattle.mg_examples.proofs.TwoLinesJoined.{IsReady, talking_world, joined, both_settled}
+use Rattle.mg_examples.proofs.TwoLinesOpening.{agent, opened_world, opens, IsWaiting, off_hook_world, goes_off, opening_settled}
 
 abbrev script : Script
 script = calling both_lines
 
-abbrev calls : List Opened
+abbrev pub calls : List Opened
 calls = call ∷ other_call ∷ []
 
 -- ---- the calls differ, and so do their lines
@@ -45,10 +45,11 @@ all_differ one other there too =
     apart_back : Differ other_call call
     apart_back = ((λ same. absurd (omega (arith, same))), (λ i j within inside same. absurd (omega (arith, within, inside, same))))
 
-distinct : AreDistinct script calls
-distinct = record {
+pub distinct : (any : Script) → length any.lines ≡ 2 → AreDistinct any calls
+distinct any two = record {
   calls_differ = λ one other there too. (all_differ one other there too).0;
-  lines_differ = λ one other there too. (all_differ one other there too).1;
+  lines_differ = λ one other there too i j within inside same.
+      (all_differ one other there too).1 i j (omega (arith, within, two)) (omega (arith, inside, two)) same;
 }
 
 -- ---- the agents of a call: in `talk` with its request sent, and at rest in `talk`
@@ -84,6 +85,8 @@ ready = record {
   uncut = refl;
   is_number = (omega (arith), omega (arith));
   not_given = refl;
+  in_class = refl;
+  exact = opening_settled (call ∷ other_call ∷ []);
 }
 
 abbrev w5 : World
@@ -97,6 +100,8 @@ also_ready = record {
   uncut = refl;
   is_number = (omega (arith), omega (arith));
   not_given = refl;
+  in_class = refl;
+  exact = both_settled w4.gateway.board call 1 ready;
 }
 
 abbrev w6 : World
@@ -172,7 +177,7 @@ two_calls_talk = record {
   none_broken = none_broken;
   opening = w0;
   end = w8;
-  opens = opens script refl calls distinct;
+  opens = opens script refl calls (distinct script refl);
   runs = run;
   joined = inl (record { another = λ e. omega (arith, e); crossings = []; goes = refl });
   also_joined = joined w5.gateway.board other_call 2 also_ready;

@@ -6,7 +6,7 @@ use Rattle.mg_names.specs.declared.identifiers.TermId.TheVariants.{Line}
 use Rattle.mg_names.specs.declared.modes.Mode.TheVariants.{Inactive}
 use Rattle.mg_names.specs.declared.obligations.Obligation.TheVariants as obligation
 use Rattle.mg_model.specs.Agent.{Agent, timed, replied, passed}
-use Rattle.mg_model.specs.Board.{Board, place_in}
+use Rattle.mg_model.specs.Board.{Board, place_in, IsSettled}
 use Rattle.mg_model.specs.Gateway.{Gateway, after_request, start_of}
 use Rattle.mg_model.specs.Items.{IsExecuted}
 use Rattle.mg_model.specs.Messages.{Request, Reply, RequestCommand}
@@ -16,8 +16,8 @@ use Rattle.mg_examples.specs.Needed.{IsNeeded}
 use Rattle.mg_examples.proofs.CreatedTwice.{created_twice, entries, accepted, listed, breaks}
 use Rattle.mg_examples.specs.Talk.{call}
 use Rattle.mg_model.proofs.Single.{first_in}
-use Rattle.mg_examples.proofs.Creations.{creates, made, created, creation_executed}
-use Rattle.mg_examples.proofs.TwoLinesOpening.{board, agent, opened_world, opens, one_call}
+use Rattle.mg_examples.proofs.Creations.{creates, made, created, creation_executed, created_settled}
+use Rattle.mg_examples.proofs.TwoLinesOpening.{board, agent, opened_world, opens, one_call, opening_settled}
 
 -- ---- messages
 
@@ -56,7 +56,7 @@ abbrev r1 : Running
 r1 = after_command (start_of w1.gateway) (adds 1) (item_at [] (adds 1)) b1 (made 1) 1
 
 first_executed : IsExecuted (board (call ∷ [])) (item_at [] (adds 1)) b1 (made 1)
-first_executed = creation_executed (board (call ∷ [])) 1 None None 1 (record { row = refl; is_number = (omega (arith), omega (arith)); not_given = refl })
+first_executed = creation_executed (board (call ∷ [])) 1 None None 1 (record { row = refl; is_number = (omega (arith), omega (arith)); not_given = refl; in_class = refl })
 
 first_at_end : RunsFrom 1 None r1 1 [] r1 None
 unfolding RunsFrom
@@ -66,8 +66,12 @@ first_runs : RunsFrom 1 None (start_of w1.gateway) 0 (adds 1 ∷ []) r1 None
 unfolding RunsFrom
 first_runs = inl (r1, record { board = b1; done = made 1; not_chosen = refl; executed = first_executed; next_is = refl }, first_at_end)
 
+first_settled : IsSettled b1 b1
+first_settled = created_settled (board (call ∷ [])) 1 None None 1 (record { row = refl; is_number = (omega (arith), omega (arith)); not_given = refl; in_class = refl })
+    (opening_settled (call ∷ []))
+
 abbrev g2 : Gateway
-g2 = after_request w1.gateway (asks 1) r1 None
+g2 = after_request w1.gateway (asks 1) r1 b1 None
 
 abbrev w2 : World
 w2 = record (with_gateway w1 g2) { replies = answer 1 ∷ [] }
@@ -79,10 +83,12 @@ first_is_executed = record {
   sent = [];
   executed = record {
     end = r1;
+    settled = b1;
     failure = None;
     is_fresh = refl;
     room = omega (arith);
     runs = first_runs;
+    is_settled = first_settled;
     after_is = refl;
     reply_is = refl;
     notes_are = refl;
@@ -110,7 +116,7 @@ abbrev r2 : Running
 r2 = after_command (start_of w3.gateway) (adds 2) (item_at [] (adds 2)) b2 (made 2) 2
 
 second_executed : IsExecuted b1 (item_at [] (adds 2)) b2 (made 2)
-second_executed = creation_executed b1 2 None None 2 (record { row = refl; is_number = (omega (arith), omega (arith)); not_given = refl })
+second_executed = creation_executed b1 2 None None 2 (record { row = refl; is_number = (omega (arith), omega (arith)); not_given = refl; in_class = refl })
 
 second_at_end : RunsFrom 2 None r2 1 [] r2 None
 unfolding RunsFrom
@@ -120,8 +126,11 @@ second_runs : RunsFrom 2 None (start_of w3.gateway) 0 (adds 2 ∷ []) r2 None
 unfolding RunsFrom
 second_runs = inl (r2, record { board = b2; done = made 2; not_chosen = refl; executed = second_executed; next_is = refl }, second_at_end)
 
+second_settled : IsSettled b2 b2
+second_settled = created_settled b1 2 None None 2 (record { row = refl; is_number = (omega (arith), omega (arith)); not_given = refl; in_class = refl }) first_settled
+
 abbrev g4 : Gateway
-g4 = after_request w3.gateway (asks 2) r2 None
+g4 = after_request w3.gateway (asks 2) r2 b2 None
 
 abbrev w4 : World
 w4 = record (with_gateway w3 g4) { replies = answer 2 ∷ answer 1 ∷ [] }
@@ -133,10 +142,12 @@ second_is_executed = record {
   sent = [];
   executed = record {
     end = r2;
+    settled = b2;
     failure = None;
     is_fresh = refl;
     room = omega (arith);
     runs = second_runs;
+    is_settled = second_settled;
     after_is = refl;
     reply_is = refl;
     notes_are = refl;

@@ -28,4 +28,5 @@ pub fn each_obligation_is_needed()
     ensures cleared { IsNeeded Obligation.EndedCleared }
     ensures unbound { IsNeeded Obligation.CreatedUnbound }
     ensures reset { IsNeeded Obligation.ResetCovered }
+    ensures live { IsNeeded Obligation.NamesLive }
 {}

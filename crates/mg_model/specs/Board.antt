@@ -1,8 +1,8 @@
 -- The gateway's connection model: which terminations exist, where each stands, its mode and its Remote, what is cut, and
--- which identifiers were given out in this association (H.248.1 section 6). Functions over all identifiers, so what a
+-- which identifiers can't be given by the present request (H.248.1 section 6). Functions over all identifiers, so what a
 -- command leaves alone is plain to see. A reader should check that a context has no existence of its own: it exists
 -- exactly where a termination stands in it.
-use Rattle.std.specs.Prelude.{◌≡◌, ℕ, ◌==◌, Bool, false, if◌then◌else◌, Option, Some, None, is_some}
+use Rattle.std.specs.Prelude.{◌≡◌, ℕ, ◌==◌, Bool, false, if◌then◌else◌, IsTrue, Option, Some, None, is_some, ◌↔◌}
 use Rattle.mg_names.specs.declared.identifiers.TermId.{TermId}
 use Rattle.mg_names.specs.declared.identifiers.TermId.TheVariants.{Line, Eph}
 use Rattle.mg_names.specs.declared.modes.Mode.{Mode}
@@ -15,9 +15,12 @@ pub record Board : Type 0 where
   pub row : TermId → Option Row
   -- whether media from the one to the other is cut
   pub cut : TermId → TermId → Bool
-  -- whether a number was given to a context, or to an ephemeral, in this association
-  pub given_context : ℕ → Bool
-  pub given_ephemeral : ℕ → Bool
+  -- whether a number can't be given to a context, or to an ephemeral, by the present request: what has it stood when the request began, or
+  -- it was given since. So what a request frees isn't given again before it has ended
+  pub used_context : ℕ → Bool
+  pub used_ephemeral : ℕ → Bool
+  -- the numbers that this gateway gives at all: gateways that share them have a class each (this profile's own)
+  pub class : ℕ → Bool
 
 -- whether two terminations are one
 abbrev pub same_term : TermId → TermId → Bool
@@ -63,3 +66,11 @@ remote_of b t = remote_in (b.row t)
 -- a context other than the null context, in which a termination stands
 abbrev pub ContextExists : Board → ℕ → Type 0
 ContextExists b c = (c ≡ null → ⊥) × ((t : TermId) × (place_of b t ≡ c))
+
+-- where a request ends, at an opening and at a restart: the numbers of what no longer stands may be given again (this profile's own)
+pub record IsSettled (b after : Board) : Type 0 where
+  pub row : after.row ≡ b.row
+  pub cut : after.cut ≡ b.cut
+  pub class : after.class ≡ b.class
+  pub contexts : (c : ℕ) → IsTrue (after.used_context c) ↔ ContextExists b c
+  pub ephemerals : (k : ℕ) → after.used_ephemeral k ≡ exists b (Eph k)

@@ -3,12 +3,13 @@
 -- Annex D.1.1), that messages of another association do nothing, and what a restart takes away.
 use Rattle.std.specs.Prelude.{◌≡◌, ℕ, ◌+◌, ◌≤◌, ◌==◌, false, if◌then◌else◌, List, [], ◌∷◌, length, Option, Some, None}
 use Rattle.mg_names.specs.declared.identifiers.TermId.{TermId}
+use Rattle.mg_names.specs.declared.identifiers.TermId.TheVariants.{Eph}
 use Rattle.mg_model.specs.declared.failures.ChosenRefusal.{ChosenRefusal}
 use Rattle.mg_model.specs.declared.failures.Failure.{Failure}
 use Rattle.mg_model.specs.declared.line_events.LineEvent.{LineEvent}
 use Rattle.mg_model.specs.declared.line_events.LineEvent.TheVariants.{Hook, Flash, Digit, Pause, SignalEnd}
 use Rattle.mg_model.specs.declared.rows.Row.{Row}
-use Rattle.mg_model.specs.Board.{Board}
+use Rattle.mg_model.specs.Board.{Board, exists, IsSettled}
 use Rattle.mg_model.specs.Delivery.{Link, Offer, fresh, kept, discard, offer}
 use Rattle.mg_model.specs.Items.{subtracted}
 use Rattle.mg_model.specs.LineEvents.{LineRow, Note, Outcome, cleared, hooked, flashed, dialled, paused, signal_ended}
@@ -70,24 +71,26 @@ abbrev pub reply_of : Request → Running → Option Failure → Reply
 reply_of request end failure =
     record { call = request.call; association = request.association; number = request.number; results = end.results; failure = failure }
 
--- whose an ephemeral is after a request: what was not given out before is of its call
+-- whose an ephemeral is after a request: one that the request created is of its call. What doesn't exist is nobody's
 abbrev pub creator_after : Gateway → Request → Running → ℕ → Option ℕ
 creator_after g request end k =
-    if end.board.given_ephemeral k then (if g.board.given_ephemeral k then g.creator k else Some request.call) else g.creator k
+    if exists end.board (Eph k) then (if g.board.used_ephemeral k then g.creator k else Some request.call) else None
 
-abbrev pub after_request : Gateway → Request → Running → Option Failure → Gateway
-after_request g request end failure =
-    with_link (record g { board = end.board; line = end.line; creator = creator_after g request end }) request.call
+abbrev pub after_request : Gateway → Request → Running → Board → Option Failure → Gateway
+after_request g request end settled failure =
+    with_link (record g { board = settled; line = end.line; creator = creator_after g request end }) request.call
     (record { last = Some (reply_of request end failure); notes = (g.link request.call).notes + length end.notes })
 
 -- a request whose number is fresh is executed. Where the numbers of notes could run out it can't happen (this profile's own)
 pub record IsExecutedBy (g : Gateway) (request : Request) (chosen : Option ChosenRefusal) (after : Gateway) (reply : Reply) (notes : List SentNote) : Type 0 where
   pub end : Running
+  pub settled : Board
   pub failure : Option Failure
   pub is_fresh : offer_to g request ≡ fresh
   pub room : (g.link request.call).notes + length request.commands ≤ last_number
   pub runs : RunsFrom request.number chosen (start_of g) 0 request.commands end failure
-  pub after_is : after ≡ after_request g request end failure
+  pub is_settled : IsSettled end.board settled
+  pub after_is : after ≡ after_request g request end settled failure
   pub reply_is : reply ≡ reply_of request end failure
   pub notes_are : notes ≡ sent_notes request.call request.association (g.link request.call).notes end.notes
 
@@ -141,8 +144,9 @@ abbrev pub board_restarted : Board → Board
 board_restarted b = record {
   row = λ t. row_restarted t (b.row t);
   cut = λ t u. false;
-  given_context = λ n. false;
-  given_ephemeral = λ n. false;
+  used_context = λ n. false;
+  used_ephemeral = λ n. false;
+  class = b.class;
 }
 
 abbrev pub link_restarted : CallLink → CallLink

@@ -80,10 +80,10 @@ is_ephemeral_number n = (0 < n) × (n ≤ last_ephemeral)
 
 -- no number is left for what the command creates (this profile's own)
 abbrev pub NoContextLeft : Board → Type 0
-NoContextLeft b = (n : ℕ) → is_context_number n → IsTrue (b.given_context n)
+NoContextLeft b = (n : ℕ) → is_context_number n → IsTrue (b.class n) → IsTrue (b.used_context n)
 
 abbrev pub NoEphemeralLeft : Board → Type 0
-NoEphemeralLeft b = (n : ℕ) → is_ephemeral_number n → IsTrue (b.given_ephemeral n)
+NoEphemeralLeft b = (n : ℕ) → is_ephemeral_number n → IsTrue (b.class n) → IsTrue (b.used_ephemeral n)
 
 abbrev pub EphemeralsUsedUp : Board → Added → Type 0
 EphemeralsUsedUp b (added.Line l) = ⊥
@@ -135,10 +135,10 @@ abbrev pub creates_ephemeral : Item → Bool
 creates_ephemeral (Add context added.NewEphemeral settings) = true
 creates_ephemeral item = false
 
--- what is chosen was not given out in this association
+-- what is chosen may be given by the present request
 pub record IsFresh (b : Board) (item : Item) (chosen : Chosen) : Type 0 where
-  pub context : IsTrue (creates_context item) → is_context_number chosen.context × (b.given_context chosen.context ≡ false)
-  pub ephemeral : IsTrue (creates_ephemeral item) → is_ephemeral_number chosen.ephemeral × (b.given_ephemeral chosen.ephemeral ≡ false)
+  pub context : IsTrue (creates_context item) → is_context_number chosen.context × (b.used_context chosen.context ≡ false) × IsTrue (b.class chosen.context)
+  pub ephemeral : IsTrue (creates_ephemeral item) → is_ephemeral_number chosen.ephemeral × (b.used_ephemeral chosen.ephemeral ≡ false) × IsTrue (b.class chosen.ephemeral)
 
 abbrev pub remote_set : Option RemoteSetting → Option ℕ → Option ℕ
 remote_set None was = was
@@ -225,8 +225,8 @@ moved b item chosen = without b (subtracts b item)
 -- the board after a command that is legal
 abbrev pub effect : Board → Item → Chosen → Board
 effect b item chosen = record (moved b item chosen) {
-  given_context = given (creates_context item) chosen.context b.given_context;
-  given_ephemeral = given (creates_ephemeral item) chosen.ephemeral b.given_ephemeral;
+  used_context = given (creates_context item) chosen.context b.used_context;
+  used_ephemeral = given (creates_ephemeral item) chosen.ephemeral b.used_ephemeral;
 }
 
 -- ---- the result

@@ -144,8 +144,8 @@ pub record IsNewGateway (g : Gateway) : Type 0 where
   pub association : g.association ≡ first_association
   pub no_ephemeral : (k : ℕ) → g.board.row (Eph k) ≡ None
   pub nothing_cut : g.board.cut ≡ (λ t u. false)
-  pub no_context_given : g.board.given_context ≡ (λ n. false)
-  pub no_ephemeral_given : g.board.given_ephemeral ≡ (λ n. false)
+  pub no_context_given : g.board.used_context ≡ (λ n. false)
+  pub no_ephemeral_given : g.board.used_ephemeral ≡ (λ n. false)
   pub no_creator : g.creator ≡ (λ k. None)
   pub no_reply_kept : g.link ≡ (λ call. record { last = None; notes = 0 })
 

@@ -1,5 +1,6 @@
 -- The events of the gateway and what they leave to other calls: executes, events of lines, restarts; and openings.
 pub mod Others
+pub mod StayApart
 pub mod RowAfterEvent
 pub mod LineEventsSound
 pub mod Executing

@@ -5,4 +5,6 @@ pub mod RunLines
 pub mod RunCarried
 pub mod RunNotes
 pub mod RunSteps
+pub mod Starting
+pub mod Ending
 pub mod Run

@@ -96,13 +96,13 @@ effect_same : (b : Board) (item : Item) (x y : Chosen) → only_if (creates_cont
     only_if (creates_ephemeral item) x.ephemeral ≡ only_if (creates_ephemeral item) y.ephemeral → effect b item x ≡ effect b item y
 effect_same b (Add c (added.Line l) settings) x y e f i =
     record (placed b (Line l) (target_same (c.0 == choose) x.context y.context c.0 e i) settings) {
-      given_context = given_same (c.0 == choose) x.context y.context b.given_context e i;
-      given_ephemeral = b.given_ephemeral;
+      used_context = given_same (c.0 == choose) x.context y.context b.used_context e i;
+      used_ephemeral = b.used_ephemeral;
     }
 effect_same b (Add c added.NewEphemeral settings) x y e f i =
     record (with_ephemeral b (some_is x.ephemeral y.ephemeral f i) (target_same (c.0 == choose) x.context y.context c.0 e i) settings) {
-      given_context = given_same (c.0 == choose) x.context y.context b.given_context e i;
-      given_ephemeral = given_same true x.ephemeral y.ephemeral b.given_ephemeral f i;
+      used_context = given_same (c.0 == choose) x.context y.context b.used_context e i;
+      used_ephemeral = given_same true x.ephemeral y.ephemeral b.used_ephemeral f i;
     }
 effect_same b (Modify c t settings) x y e f i = effect b (Modify c t settings) x
 effect_same b (Move c t settings) x y e f i = effect b (Move c t settings) x

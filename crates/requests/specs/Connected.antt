@@ -3,10 +3,13 @@
 -- should check that a line that isn't there is read as a new one, and that only the line that is named changes.
 use Rattle.std.specs.Prelude.{◌≡◌, ℕ, ◌==◌, Bool, true, false, ◌&&◌, if◌then◌else◌, List, [], Option, Some, None, unwrap_or, is_some, Err}
 use Rattle.mg_names.specs.declared.identifiers.TermId.TheVariants.{Line}
-use Rattle.mg_model.specs.Board.{Board, exists, place_of}
+use Rattle.mg_model.specs.declared.failures.ChosenRefusal.{ChosenRefusal}
+use Rattle.mg_model.specs.declared.failures.Failure.{Failure}
+use Rattle.mg_model.specs.Board.{Board, IsSettled, exists, place_of}
 use Rattle.mg_model.specs.Items.{Done}
 use Rattle.mg_model.specs.LineEvents.{LineRow, Outcome, new_line}
-use Rattle.mg_model.specs.RequestRun.{RaisedNote, Running}
+use Rattle.mg_model.specs.Messages.{Request}
+use Rattle.mg_model.specs.RequestRun.{RaisedNote, Running, RunsFrom}
 use Rattle.mg_model.specs.World.{armed_line}
 use Rattle.contexts.specs.BoardValue.{BoardValue, board_of}
 use Rattle.line_events.specs.declared.fault.LineFault.TheVariants.{UnknownLine}
@@ -47,6 +50,12 @@ start_in c = record { board = board_in c; line = line_in c; results = []; notes 
 
 abbrev pub end_in : Connected → List Done → List RaisedNote → Running
 end_in c results notes = record { board = board_in c; line = line_in c; results = results; notes = notes }
+
+-- a request that ran from a start ended here, with these results and notes: the board is the one that it left, settled
+pub record Ends (start : Connected) (request : Request) (refusal : Option ChosenRefusal) (ended : Connected) (results : List Done) (notes : List RaisedNote) (failure : Option Failure) : Type 0 where
+  pub board : Board
+  pub runs : RunsFrom request.number refusal (start_in start) 0 request.commands (record { board = board; line = line_in ended; results = results; notes = notes }) failure
+  pub is_settled : IsSettled board (board_in ended)
 
 -- ---- what happens on a line
 

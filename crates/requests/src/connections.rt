@@ -1,8 +1,10 @@
 //! The connections of a gateway.
-ghost use Rattle.std.specs.Prelude.{◌≡◌, ℕ, Some, option_map, unwrap_or, map, IfOk, OnOk, IfErr, OnErr};
+ghost use Rattle.std.specs.Prelude.{◌≡◌, ℕ, ◌<◌, Some, option_map, unwrap_or, map, IfOk, OnOk, IfErr, OnErr};
 ghost use Rattle.mg_model.specs.Items.{IsExecuted};
 ghost use Rattle.mg_model.specs.LineEvents.{new_line};
 ghost use Rattle.mg_model.specs.RequestRun.{IsRefusedWith};
+ghost use Rattle.mg_model.specs.Board.{IsSettled};
+ghost use Rattle.identifiers.specs.Class.{is_of_class};
 ghost use Rattle.contexts.specs.Faults.{IsFault};
 ghost use Rattle.contexts.specs.BoardValue.{opened, started};
 ghost use Rattle.line_events.specs.Rows.{row_of};
@@ -68,10 +70,24 @@ impl Connections {
     /// These lines, each in the null context, Inactive, on hook, silent and with an empty Events descriptor, and nothing else. A
     /// line that is named twice is one line.
     pub fn new(alloc: Global, lines: &[LineNo]) -> Result<Connections, AllocError>
-        ensures board { IfOk result (λ c. board_in c ≡ opened (started lines.now)) }
+        ensures board { IfOk result (λ c. board_in c ≡ opened (is_of_class 0 1) (started lines.now)) }
         ensures lines { IfOk result (λ c. line_in c ≡ (λ l. new_line)) }
     {
-        let board = Board::new(alloc, lines)?;
+        Connections::with_ids(alloc, lines, 0, 1)
+    }
+
+    /// The same, where contexts and ephemerals are given numbers that leave `first` where they are divided by `stride`, and no others.
+    pub fn with_ids(
+        alloc: Global,
+        lines: &[LineNo],
+        first: u32,
+        stride: u32,
+    ) -> Result<Connections, AllocError>
+        requires { first < stride }
+        ensures board { IfOk result (λ c. board_in c ≡ opened (is_of_class first stride) (started lines.now)) }
+        ensures lines { IfOk result (λ c. line_in c ≡ (λ l. new_line)) }
+    {
+        let board = Board::with_ids(alloc, lines, first, stride)?;
         let mut rows = LineSet::new(alloc);
         add_lines(&mut rows, lines)?;
         Ok(Connections {
@@ -136,6 +152,14 @@ impl Connections {
         ensures lines { line_in self.new ≡ line_in self.old }
     {
         self.board.exec(item)
+    }
+
+    /// A request has ended: from now on the numbers of contexts and ephemerals that are no more may be given again.
+    pub(crate) fn settle(&mut self)
+        ensures board { IsSettled (board_in self.old) (board_in self.new) }
+        ensures lines { line_in self.new ≡ line_in self.old }
+    {
+        self.board.settle();
     }
 
     /// The code of a command for which a refusal is chosen: its own code, unless the chosen one goes before it. Want of numbers, 510, goes

@@ -1,9 +1,10 @@
 //! The run of a request.
 ghost use Rattle.std.specs.Prelude.{◌≡◌, IsTrue, Option, map, IfOk, IfSome};
+ghost use Rattle.mg_model.specs.Board.{Board, IsSettled};
 ghost use Rattle.mg_model.specs.RequestRun.{Running, RunsFrom};
 ghost use Rattle.mg_model.specs.declared.failures.Failure.{Failure};
 ghost use Rattle.requests.specs.Commands.{created};
-ghost use Rattle.requests.specs.Connected.{board_in, line_in, start_in, end_in};
+ghost use Rattle.requests.specs.Connected.{board_in, line_in, start_in, Ends};
 ghost use Rattle.requests.specs.Views.{line_notes};
 
 use crate::connections::Connections;
@@ -41,16 +42,18 @@ fn are_same_created(one: &[Done], other: &[Done]) -> bool
 
 impl Connections {
     /// The commands of a request in their order, up to the chosen refusal, the first command that is refused, or the end
-    /// (H.248.1 section 8.2.1); what was done before a failure stays (this profile's own). Where memory runs out the value is gone.
+    /// (H.248.1 section 8.2.1); what was done before a failure stays (this profile's own). Then the numbers of what is no more may be
+    /// given again. Where memory runs out the value is gone.
     pub fn run(
         self,
         request: &Request,
         chosen: Option<ChosenRefusal>,
     ) -> Result<(Connections, Outcome), AllocError>
-        ensures { IfOk result (λ ended. RunsFrom request.now.number chosen (start_in self) 0 request.now.commands (end_in ended.0 ended.1.results.items (line_notes ended.1.notes.items)) ended.1.failure) }
+        ensures { IfOk result (λ ended. Ends self request.now chosen ended.0 ended.1.results.items (line_notes ended.1.notes.items) ended.1.failure) }
     {
         let mut progress = Progress::start(self);
         let failure = progress.run(request.commands(), chosen, request.number())?;
+        progress.connections.settle();
         Ok((
             progress.connections,
             Outcome {
@@ -69,7 +72,7 @@ impl Connections {
         chosen: Option<ChosenRefusal>,
         results: &[Done],
     ) -> Option<Connections>
-        ensures { IfSome result (λ c. (e : Running) (failure : Option Failure) → RunsFrom request.now.number chosen (start_in self) 0 request.now.commands e failure → e.results ≡ results.now → (board_in c ≡ e.board) × (line_in c ≡ e.line)) }
+        ensures { IfSome result (λ c. (e : Running) (failure : Option Failure) (settled : Board) → RunsFrom request.now.number chosen (start_in self) 0 request.now.commands e failure → e.results ≡ results.now → IsSettled e.board settled → (board_in c ≡ settled) × (line_in c ≡ e.line)) }
     {
         let Ok((connections, again)) = self.run(request, chosen) else {
             return None;

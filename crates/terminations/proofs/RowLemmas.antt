@@ -4,9 +4,7 @@ use Rattle.mg_model.specs.declared.rows.Row.{Row}
 use Rattle.std.specs.Map.{lookup}
 use Rattle.mg_names.specs.declared.identifiers.TermId.{TermId}
 use Rattle.mg_names.specs.declared.identifiers.TermId.TheVariants.{Eph}
-use Rattle.std.proofs.Common.{◌+◌, IsTrue, arith}
-use Rattle.std.proofs.lemmas.Grind.{common_steps}
-use Rattle.terminations.specs.Table.{overwritten, with_remote, is_given}
+use Rattle.terminations.specs.Table.{overwritten, with_remote}
 use Rattle.mg_model.specs.Board.{null_row}
 
 -- what a look-up finds in rows that were all made null_row
@@ -23,7 +21,3 @@ lookup-idle test (e ∷ rows) = by_test (test e.0) (lookup-idle test rows)
 pub remote_overwritten : (t : TermId) (k : ℕ) → t ≡ Eph k → (old : Option Row) (row : Row) (remote : Option ℕ) → old ≡ Some row →
     overwritten (record row { remote = remote }) old ≡ with_remote t remote old
 remote_overwritten t k is old row remote there = rw is (rw there refl)
-
--- the number after the last one wasn't given
-pub next_not_given : (last : ℕ) → IsTrue (is_given last (last + 1)) → ⊥
-next_not_given last h = grind (arith, common_steps)

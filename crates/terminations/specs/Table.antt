@@ -1,7 +1,6 @@
--- What a table of terminations shows: lists of rows by number, and the last number that an ephemeral was given; from them the
--- row of a termination, and which numbers were given. A reader should check that each change speaks of the one row that it
--- names, and that a number counts as given from 1 to the last.
-use Rattle.std.specs.Prelude.{◌≡◌, ℕ, ◌+◌, ◌<◌, ◌==◌, nat_lt, nat_le, Bool, true, false, ◌&&◌, if◌then◌else◌, List, Option, Some, None, Result, Ok, Err, IfSome}
+-- What a table of terminations shows: the rows of lines by number, and ephemerals with their identifiers; from them the row of a
+-- termination, and which numbers are used. A reader should check that each change speaks of the one row that it names.
+use Rattle.std.specs.Prelude.{◌≡◌, ℕ, ◌==◌, Bool, true, false, if◌then◌else◌, IsTrue, List, Option, Some, None, Result, Ok, Err, IfSome}
 use Rattle.std.specs.Ordering.{nat_cmp}
 use Rattle.std.specs.BTreeMap.{is_at}
 use Rattle.std.specs.Map.{lookup}
@@ -15,12 +14,12 @@ use Rattle.mg_model.specs.declared.rows.Row.{Row}
 use Rattle.mg_model.specs.Numbers.{null, last_ephemeral}
 use Rattle.mg_model.specs.Board.{row_with, null_row}
 use Rattle.mg_model.specs.Items.{given, is_ephemeral_number}
+use Rattle.identifiers.specs.Class.{is_of_class}
+use Rattle.identifiers.specs.Stock.{Stock, at, is_used}
 
 pub record Table : Type 0 where
   pub lines : List (ℕ × Row)
-  pub ephemerals : List (ℕ × Row)
-  -- the last number that an ephemeral was given, or 0
-  pub last : ℕ
+  pub ephemerals : Stock Row
 
 -- the row at a number
 abbrev pub row_at : List (ℕ × Row) → ℕ → Option Row
@@ -29,18 +28,20 @@ row_at rows n = lookup (is_at (nat_cmp n)) rows
 -- the row of a termination; nothing where it doesn't exist
 unfoldable pub row_of : Table → TermId → Option Row
 row_of table (Line l) = row_at table.lines l.0
-row_of table (Eph k) = row_at table.ephemerals k
+row_of table (Eph k) = at table.ephemerals k
 
--- whether an ephemeral was given this number
-abbrev pub is_given : ℕ → ℕ → Bool
-is_given last n = nat_lt 0 n && nat_le n last
+-- whether a number is used: its ephemeral is there, or was destroyed and this isn't settled
+unfoldable pub used_of : Table → ℕ → Bool
+used_of table n = is_used table.ephemerals n
 
-unfoldable pub given_of : Table → ℕ → Bool
-given_of table n = is_given table.last n
+-- the numbers that are given at all
+abbrev pub class_of : Table → ℕ → Bool
+class_of table = is_of_class table.ephemerals.class.first table.ephemerals.class.stride
 
--- the number of the ephemeral that is created next
-abbrev pub next_of : Table → Option ℕ
-next_of table = if nat_lt table.last last_ephemeral then Some (table.last + 1) else None
+-- no number is used or free that wasn't so before
+pub record SameNumbers (old new : Table) : Type 0 where
+  pub used : used_of new ≡ used_of old
+  pub class : new.ephemerals.class ≡ old.ephemerals.class
 
 -- ---- how a row changes; a row that isn't there stays so
 
@@ -97,10 +98,6 @@ known_ephemeral (Eph k) row = known row
 
 -- ---- what is so of every table
 
--- nothing stands at a number that wasn't given
-abbrev pub NoneAbove : List (ℕ × Row) → ℕ → Type 0
-NoneAbove rows last = (n : ℕ) → last < n → row_at rows n ≡ None
-
 abbrev pub NoRemotes : List (ℕ × Row) → Type 0
 NoRemotes rows = (n : ℕ) → IfSome (row_at rows n) (λ row. row.remote ≡ None)
 
@@ -109,16 +106,22 @@ abbrev pub LineHasNoRemote : TermId → Row → Type 0
 LineHasNoRemote (Line l) row = row.remote ≡ None
 LineHasNoRemote (Eph k) row = Unit {0}
 
-pub record IsSound (lines ephemerals : List (ℕ × Row)) (last : ℕ) : Type 0 where
-  pub above : NoneAbove ephemerals last
+pub record IsSound (lines : List (ℕ × Row)) (ephemerals : Stock Row) : Type 0 where
   pub lines_bare : NoRemotes lines
+  pub last : ephemerals.class.last ≡ last_ephemeral
 
--- t is an ephemeral with a number that wasn't given, and it is the one thing that is new
+-- each number is used
+abbrev pub IsUsedUp : Table → Type 0
+IsUsedUp table = (n : ℕ) → is_ephemeral_number n → IsTrue (class_of table n) → IsTrue (used_of table n)
+
+-- t is an ephemeral with a number that may be given, and it is the one thing that is new
 pub record IsCreated (old new : Table) (t : TermId) : Type 0 where
   pub number : ℕ
   pub is : t ≡ Eph number
   pub fits : is_ephemeral_number number
-  pub fresh : given_of old number ≡ false
+  pub of_class : IsTrue (class_of old number)
+  pub fresh : used_of old number ≡ false
   pub absent : row_of old t ≡ None
   pub rows : row_of new ≡ row_with (row_of old) t (Some null_row)
-  pub numbers : given_of new ≡ given true number (given_of old)
+  pub used : used_of new ≡ given true number (used_of old)
+  pub class : new.ephemerals.class ≡ old.ephemerals.class

@@ -1,6 +1,6 @@
 //! Why a table of terminations does not grow.
 ghost use Rattle.std.specs.Prelude.{◌≡◌};
-ghost use Rattle.terminations.specs.Faults.{line_number, line_name, create_number, create_name};
+ghost use Rattle.terminations.specs.Faults.{line_number, line_name};
 
 use thiserror::Error;
 
@@ -33,39 +33,6 @@ impl AddLineFault {
         match self {
             AddLineFault::NoMemory => "NoMemory",
             AddLineFault::Known => "Known",
-        }
-    }
-}
-
-/// Why no ephemeral is created.
-#[derive(Clone, Copy, Debug, PartialEq, Eq, Error)]
-pub enum CreateFault {
-    /// Each number from 1 to 0xFFFFFFFF was given.
-    #[error("no identifier is left")]
-    Full,
-    /// Memory ran out.
-    #[error("out of memory")]
-    NoMemory,
-}
-
-impl CreateFault {
-    /// The fault's number, or 0 where memory ran out.
-    pub fn number(&self) -> u8
-        ensures { result ≡ create_number self.now }
-    {
-        match self {
-            CreateFault::NoMemory => 0,
-            CreateFault::Full => 1,
-        }
-    }
-
-    /// The variant's name.
-    pub fn name(&self) -> &'static str
-        ensures { result.now ≡ create_name self.now }
-    {
-        match self {
-            CreateFault::NoMemory => "NoMemory",
-            CreateFault::Full => "Full",
         }
     }
 }

@@ -6,5 +6,6 @@ mod faults;
 mod rows;
 mod terms;
 
-pub use faults::{AddLineFault, CreateFault};
+pub use faults::AddLineFault;
+pub use identifiers::CreateFault;
 pub use terms::Terms;

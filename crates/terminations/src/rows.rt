@@ -1,4 +1,4 @@
-//! Rows by number.
+//! Rows of lines by number.
 ghost use Rattle.std.specs.Prelude.{◌≡◌, ℕ, ◌==◌, Some, None, OnOk, OnErr, IfOk, if◌then◌else◌};
 ghost use Rattle.std.specs.BTreeMap.{IsUnchanged};
 ghost use Rattle.terminations.specs.Table.{row_at, overwritten};
@@ -35,7 +35,7 @@ pub(crate) fn overwrite(rows: &mut Rows, number: u32, row: Row)
     }
 }
 
-/// Writes an null_row row at a number.
+/// Writes an idle row at a number.
 pub(crate) fn insert_idle(rows: &mut Rows, number: u32) -> Result<(), AllocError>
     ensures ok { OnOk result ((n : ℕ) → row_at rows.new.entries n ≡ (if n == number then Some null_row else row_at rows.old.entries n)) }
     ensures err { OnErr result (rows.new.entries ≡ rows.old.entries) }
@@ -44,14 +44,7 @@ pub(crate) fn insert_idle(rows: &mut Rows, number: u32) -> Result<(), AllocError
     Ok(())
 }
 
-/// Takes the row at a number away.
-pub(crate) fn remove(rows: &mut Rows, number: u32)
-    ensures { (n : ℕ) → row_at rows.new.entries n ≡ (if n == number then None else row_at rows.old.entries n) }
-{
-    rows.remove(&number);
-}
-
-/// Makes every row null_row.
+/// Makes every row idle.
 pub(crate) fn make_idle(rows: &mut Rows)
     ensures { (n : ℕ) → row_at rows.new.entries n ≡ overwritten null_row (row_at rows.old.entries n) }
 {

@@ -1,12 +1,13 @@
 //! The table of terminations.
-ghost use Rattle.std.specs.Prelude.{◌≡◌, ℕ, ◌<◌, Bool, true, false, Some, None, Err, IsTrue, IfOk, IfSome, OnOk, OnErr, is_some, option_map, ◌↔◌, Contains, map};
+ghost use Rattle.std.specs.Prelude.{◌≡◌, ℕ, ◌<◌, ◌==◌, if◌then◌else◌, Bool, true, false, Some, None, Err, IsTrue, IfOk, IfSome, OnOk, OnErr, is_some, ◌↔◌, Contains, map};
 ghost use Rattle.mg_names.specs.declared.identifiers.TermId.TheVariants.{Line, Eph};
-ghost use Rattle.mg_model.specs.Items.{is_ephemeral_number, IsRising};
+ghost use Rattle.mg_model.specs.Items.{IsRising};
 ghost use Rattle.terminations.specs.declared.faults.AddLineFault.TheVariants as AddLineFault;
-ghost use Rattle.terminations.specs.declared.faults.CreateFault.TheVariants as CreateFault;
+ghost use Rattle.identifiers.specs.declared.fault.CreateFault.TheVariants as CreateFault;
 
-use crate::faults::{AddLineFault, CreateFault};
-use crate::rows::{self, Rows};
+use crate::faults::AddLineFault;
+use crate::rows::{self, IDLE, Rows};
+use identifiers::{CreateFault, Identifiers};
 use mg_model::rows::Row;
 use mg_names::codes::Code;
 use mg_names::identifiers::{ContextId, LineNo, TermId};
@@ -19,34 +20,48 @@ use std::marker::Model;
 #[derive(Drop)]
 pub struct Terms {
     lines: Rows,
-    ephemerals: Rows,
-    last: u32,
+    ephemerals: Identifiers<Row>,
 }
+
+/// The greatest number of an ephemeral (this profile's own).
+const LAST_EPHEMERAL: u32 = u32::MAX;
 
 impl Model for Terms {
     ghost use Rattle.terminations.specs.Table.{Table, IsSound};
 
     ghost Value = { Table };
 
-    ghost view = { λ t. record { lines = t.lines.entries; ephemerals = t.ephemerals.entries; last = t.last } };
+    ghost view = { λ t. record { lines = t.lines.entries; ephemerals = t.ephemerals } };
 
-    ghost invariant = { λ t. IsSound t.lines.entries t.ephemerals.entries t.last };
+    ghost invariant = { λ t. IsSound t.lines.entries t.ephemerals };
 }
 
-#[tactic(auto, unfolding(crate::specs::Table::row_of, crate::specs::Table::given_of))]
+#[tactic(auto, unfolding(crate::specs::Table::row_of, crate::specs::Table::used_of))]
 impl Terms {
-    ghost use Rattle.terminations.specs.Table.{row_of, given_of, put, left, destroyed, with_mode, with_remote, cleared, known, unless_taken, known_ephemeral, overwritten, LineHasNoRemote, IsCreated, next_of};
+    ghost use Rattle.mg_model.specs.Numbers.{last_ephemeral};
+    ghost use Rattle.terminations.specs.Table.{row_of, used_of, put, left, destroyed, with_mode, with_remote, cleared, known, unless_taken, known_ephemeral, overwritten, LineHasNoRemote, SameNumbers, IsUsedUp, IsCreated};
     ghost use Rattle.mg_model.specs.Board.{row_with, null_row};
 
-    /// No termination, and no number given.
+    /// No termination, and no number used.
     pub fn new(alloc: Global) -> Terms
         ensures rows { row_of result ≡ (λ t. None) }
-        ensures given { given_of result ≡ (λ n. false) }
+        ensures used { used_of result ≡ (λ n. false) }
+        ensures class { result.ephemerals.class ≡ record { first = 0; stride = 1; last = last_ephemeral } }
+    {
+        Terms::with_ids(alloc, 0, 1)
+    }
+
+    /// No termination, and no number used. Numbers are given that leave `first` where they are divided by `stride`, and no others, so that
+    /// several tables never give the same one (this profile's own).
+    pub fn with_ids(alloc: Global, first: u32, stride: u32) -> Terms
+        requires { first < stride }
+        ensures rows { row_of result ≡ (λ t. None) }
+        ensures used { used_of result ≡ (λ n. false) }
+        ensures class { result.ephemerals.class ≡ record { first = first; stride = stride; last = last_ephemeral } }
     {
         Terms {
             lines: BTreeMap::new(alloc),
-            ephemerals: BTreeMap::new(alloc),
-            last: 0,
+            ephemerals: Identifiers::new(alloc, first, stride, LAST_EPHEMERAL),
         }
     }
 
@@ -57,7 +72,7 @@ impl Terms {
     {
         match t {
             TermId::Line(line) => rows::row_at(&self.lines, line.0),
-            TermId::Eph(number) => rows::row_at(&self.ephemerals, number),
+            TermId::Eph(number) => self.ephemerals.get(number).copied(),
         }
     }
 
@@ -75,8 +90,7 @@ impl Terms {
         ensures rising { IfOk result (λ found. IsRising found.items) }
         ensures exactly { IfOk result (λ found. (n : ℕ) → Contains found.items n ↔ IsTrue (is_some (row_of self.now (Eph n)))) }
     {
-        let found = rising_keys::numbers(alloc, &self.ephemerals)?;
-        Ok(found)
+        self.ephemerals.numbers(alloc)
     }
 
     /// Adds a line in the null context, Inactive (H.248.1 section 6.2: a physical termination always exists). `Known` where it
@@ -85,7 +99,7 @@ impl Terms {
         ensures known { result ≡ Err AddLineFault.Known → IsTrue (is_some (row_of self.old (Line line))) }
         ensures new { OnOk result (row_of self.old (Line line) ≡ None) }
         ensures rows { OnOk result (row_of self.new ≡ row_with (row_of self.old) (Line line) (Some null_row)) }
-        ensures given { OnOk result (given_of self.new ≡ given_of self.old) }
+        ensures numbers { OnOk result (SameNumbers self.old self.new) }
         ensures unchanged { OnErr result (self.new ≡ self.old) }
     {
         if rows::row_at(&self.lines, line.0).is_some() {
@@ -97,31 +111,21 @@ impl Terms {
         }
     }
 
-    /// The number that the next `create` gives, at which nothing is; `None` where no number is left.
-    pub fn next(&self) -> Option<u32>
-        ensures next { result ≡ next_of self.now }
-        ensures absent { IfSome result (λ number. row_of self.now (Eph number) ≡ None) }
-        ensures none { result ≡ None ↔ ((n : ℕ) → is_ephemeral_number n → IsTrue (given_of self.now n)) }
+    /// Whether the number of each ephemeral is used.
+    pub fn is_full(&self) -> bool
+        ensures { IsTrue result ↔ IsUsedUp self.now }
     {
-        let next = self.last.checked_add(1)?;
-        Some(next)
+        self.ephemerals.is_full()
     }
 
-    /// Creates an ephemeral in the null context, Inactive and with no Remote. Its number wasn't given before; `Full` where each
-    /// was. This profile's own, as is every number.
+    /// Creates an ephemeral in the null context, Inactive and with no Remote. `Full` where each number is
+    /// used: its ephemeral is there, or was destroyed since the last `settle`. This profile's own, as is every number.
     pub fn create(&mut self) -> Result<TermId, CreateFault>
-        ensures full { result ≡ Err CreateFault.Full → (n : ℕ) → is_ephemeral_number n → IsTrue (given_of self.old n) }
-        ensures fresh { IfOk result (λ t. IsCreated self.old self.new t) }
-        ensures next { IfOk result (λ t. option_map Eph (next_of self.old) ≡ Some t) }
+        ensures full { result ≡ Err CreateFault.Full ↔ IsUsedUp self.old }
+        ensures created { IfOk result (IsCreated self.old self.new) }
         ensures unchanged { OnErr result (self.new ≡ self.old) }
     {
-        let Some(number) = self.last.checked_add(1) else {
-            return Err(CreateFault::Full);
-        };
-        let Ok(_) = rows::insert_idle(&mut self.ephemerals, number) else {
-            return Err(CreateFault::NoMemory);
-        };
-        self.last = number;
+        let number = self.ephemerals.create(IDLE)?;
         Ok(TermId::Eph(number))
     }
 
@@ -129,11 +133,13 @@ impl Terms {
     fn overwrite(&mut self, t: TermId, row: Row)
         requires { LineHasNoRemote t row }
         ensures rows { row_of self.new ≡ row_with (row_of self.old) t (overwritten row (row_of self.old t)) }
-        ensures given { given_of self.new ≡ given_of self.old }
+        ensures numbers { SameNumbers self.old self.new }
     {
         match t {
             TermId::Line(line) => rows::overwrite(&mut self.lines, line.0, row),
-            TermId::Eph(number) => rows::overwrite(&mut self.ephemerals, number, row),
+            TermId::Eph(number) => {
+                let _ = self.ephemerals.replace(number, row);
+            }
         }
     }
 
@@ -142,7 +148,7 @@ impl Terms {
     pub fn put(&mut self, t: TermId, context: ContextId) -> Result<(), Code>
         ensures answer { result ≡ unless_taken (row_of self.old t) }
         ensures rows { row_of self.new ≡ row_with (row_of self.old) t (put context (row_of self.old t)) }
-        ensures given { given_of self.new ≡ given_of self.old }
+        ensures numbers { SameNumbers self.old self.new }
         ensures unchanged { OnErr result (self.new ≡ self.old) }
     {
         let Some(row) = self.get(t) else {
@@ -165,7 +171,7 @@ impl Terms {
     pub fn leave(&mut self, t: TermId) -> Result<(), Code>
         ensures answer { result ≡ known (row_of self.old t) }
         ensures rows { row_of self.new ≡ row_with (row_of self.old) t (left (row_of self.old t)) }
-        ensures given { given_of self.new ≡ given_of self.old }
+        ensures numbers { SameNumbers self.old self.new }
         ensures unchanged { OnErr result (self.new ≡ self.old) }
     {
         let Some(row) = self.get(t) else {
@@ -181,21 +187,21 @@ impl Terms {
         Ok(())
     }
 
-    /// Destroys an ephemeral, in whichever context it stands (H.248.1 section 7.2.3 on Subtract). 430 where it doesn't exist,
-    /// and for a line.
+    /// Destroys an ephemeral, in whichever context it stands (H.248.1 section 7.2.3 on Subtract). Its number stays used until `settle`.
+    /// 430 where it doesn't exist, and for a line.
     pub fn destroy(&mut self, t: TermId) -> Result<(), Code>
         ensures answer { result ≡ known_ephemeral t (row_of self.old t) }
         ensures rows { row_of self.new ≡ row_with (row_of self.old) t (destroyed t (row_of self.old t)) }
-        ensures given { given_of self.new ≡ given_of self.old }
+        ensures numbers { SameNumbers self.old self.new }
         ensures unchanged { OnErr result (self.new ≡ self.old) }
     {
         let TermId::Eph(number) = t else {
             return Err(Code::UnknownTermination);
         };
-        if rows::row_at(&self.ephemerals, number).is_none() {
+        if self.ephemerals.get(number).is_none() {
             return Err(Code::UnknownTermination);
         }
-        rows::remove(&mut self.ephemerals, number);
+        let _ = self.ephemerals.free(number);
         Ok(())
     }
 
@@ -203,7 +209,7 @@ impl Terms {
     pub fn set_mode(&mut self, t: TermId, mode: Mode) -> Result<(), Code>
         ensures answer { result ≡ known (row_of self.old t) }
         ensures rows { row_of self.new ≡ row_with (row_of self.old) t (with_mode mode (row_of self.old t)) }
-        ensures given { given_of self.new ≡ given_of self.old }
+        ensures numbers { SameNumbers self.old self.new }
         ensures unchanged { OnErr result (self.new ≡ self.old) }
     {
         let Some(row) = self.get(t) else {
@@ -218,7 +224,7 @@ impl Terms {
     pub fn set_remote(&mut self, t: TermId, remote: Option<u32>) -> Result<(), Code>
         ensures answer { result ≡ known_ephemeral t (row_of self.old t) }
         ensures rows { row_of self.new ≡ row_with (row_of self.old) t (with_remote t remote (row_of self.old t)) }
-        ensures given { given_of self.new ≡ given_of self.old }
+        ensures numbers { SameNumbers self.old self.new }
         ensures unchanged { OnErr result (self.new ≡ self.old) }
     {
         let TermId::Eph(_) = t else {
@@ -231,26 +237,42 @@ impl Terms {
         Ok(())
     }
 
-    /// An equal value.
-    pub fn copy(&self) -> Result<Terms, AllocError>
-        ensures { IfOk result (λ copied. copied ≡ self.now) }
+    /// Takes back an ephemeral that is there, as if it had not been created: its number isn't used any more.
+    pub fn withdraw(&mut self, number: u32)
+        requires { IsTrue (is_some (row_of self.old (Eph number))) }
+        ensures rows { row_of self.new ≡ row_with (row_of self.old) (Eph number) None }
+        ensures used { used_of self.new ≡ (λ n. if n == number then false else used_of self.old n) }
+        ensures class { self.new.ephemerals.class ≡ self.old.ephemerals.class }
     {
-        let lines = rows::copy(&self.lines)?;
-        let ephemerals = rows::copy(&self.ephemerals)?;
-        Ok(Terms {
-            lines,
-            ephemerals,
-            last: self.last,
-        })
+        self.ephemerals.withdraw(number);
     }
 
-    /// Every line goes to the null context and is Inactive, no ephemeral is left, and numbers may be given again.
+    /// From now on the numbers of what was destroyed may be given again. This takes no memory.
+    pub fn settle(&mut self)
+        ensures rows { row_of self.new ≡ row_of self.old }
+        ensures used { used_of self.new ≡ (λ n. is_some (row_of self.old (Eph n))) }
+        ensures class { self.new.ephemerals.class ≡ self.old.ephemerals.class }
+    {
+        self.ephemerals.settle();
+    }
+
+    /// The same rows, with the same numbers used. Which number comes next is not said.
+    pub fn copy(&self) -> Result<Terms, AllocError>
+        ensures rows { IfOk result (λ copied. row_of copied ≡ row_of self.now) }
+        ensures numbers { IfOk result (SameNumbers self.now) }
+    {
+        let lines = rows::copy(&self.lines)?;
+        let ephemerals = self.ephemerals.copy()?;
+        Ok(Terms { lines, ephemerals })
+    }
+
+    /// Every line goes to the null context and is Inactive, no ephemeral is left, and each number may be given again.
     pub fn reset(&mut self)
         ensures rows { row_of self.new ≡ (λ t. cleared t (row_of self.old t)) }
-        ensures given { given_of self.new ≡ (λ n. false) }
+        ensures used { used_of self.new ≡ (λ n. false) }
+        ensures class { self.new.ephemerals.class ≡ self.old.ephemerals.class }
     {
         rows::make_idle(&mut self.lines);
         self.ephemerals.clear();
-        self.last = 0;
     }
 }

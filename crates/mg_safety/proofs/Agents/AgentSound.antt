@@ -16,7 +16,7 @@ use Rattle.std.specs.List.{flat_map}
 use Rattle.mg_model.specs.Tables.{state_of, line_places}
 use Rattle.mg_model.specs.World.{World, pass, timer}
 use Rattle.mg_model.proofs.Cases.{none_is_some}
-use Rattle.mg_safety.proofs.Invariant.Shown.{naming, Shown, LinesShown}
+use Rattle.mg_safety.proofs.Invariant.Shown.{naming, Seen, LinesShown}
 use Rattle.mg_safety.proofs.Invariant.Sound.{owned_in, IsPassing, IsResting, IsAt, IsCurrent, IsLost, CallIsSound}
 use Rattle.mg_safety.proofs.Invariant.Statements.{IsClosed, KeepsSound}
 use Rattle.mg_safety.proofs.Agents.Entering.{not_passing, not_resting, IsBetween}
@@ -32,8 +32,8 @@ between_of script entries g a e k effective call association next above = record
   association = association ∙ k.association;
   next = subst (λ n. last_executed g n < e.next) (sym call) (omega (arith, next, above));
   of_script = k.stands.of_script;
-  shown = subst (λ n. Shown script (owned_in g n) (naming e) g.board k.c) (sym call)
-      (subst (λ (x : Agent). Shown script (owned_in g a.call) (naming x) g.board k.c) effective k.shown);
+  shown = subst (λ n. Seen script (owned_in g n) (naming e) g.board k.c) (sym call)
+      (subst (λ (x : Agent). Seen script (owned_in g a.call) (naming x) g.board k.c) effective k.shown);
   lines_shown = subst (λ (x : Agent). LinesShown script x g.line k.c) effective k.lines_shown;
 }
 

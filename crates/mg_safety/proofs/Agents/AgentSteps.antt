@@ -114,7 +114,8 @@ module _ (script : Script) (entries : List Entry) (w : World) (call : ℕ) (a b 
   gateway_after : GatewayIsSound script (agent_steps w call b)
   gateway_after = let old = sound.gateway in record {
     accounted = old.accounted;
-    creator_given = old.creator_given;
+    creator_stands = old.creator_stands;
+    apart = old.apart;
     created = λ x stands.
         let was = old.created x stands in
         let now = agent_after was.0 was.1 was.3 in

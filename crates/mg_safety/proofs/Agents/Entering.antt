@@ -18,9 +18,9 @@ use Rattle.mg_model.specs.Steps as steps
 use Rattle.mg_model.specs.Steps.{request_in}
 use Rattle.mg_model.specs.Tables.{state_of, is_empty}
 use Rattle.mg_model.proofs.Cases.{none_is_some, the_some}
-use Rattle.mg_safety.proofs.Invariant.Shown.{naming, Shown, LinesShown}
+use Rattle.mg_safety.proofs.Invariant.Shown.{naming, Seen, LinesShown}
 use Rattle.mg_safety.proofs.Requests.RunKnown.{bound_agree}
-use Rattle.mg_safety.proofs.Requests.RunSteps.{shown_still}
+use Rattle.mg_safety.proofs.Requests.RunSteps.{seen_still}
 use Rattle.mg_safety.proofs.Invariant.Sound.{Stands, IsOfScript, owned_in, IsCurrent}
 
 -- ---- what an agent keeps as it goes on
@@ -89,7 +89,7 @@ pub record IsBetween (script : Script) (g : Gateway) (e : Agent) (c : Configurat
   pub association : e.association ≡ g.association
   pub next : last_executed g e.call < e.next
   pub of_script : IsOfScript script c
-  pub shown : Shown script (owned_in g e.call) (naming e) g.board c
+  pub shown : Seen script (owned_in g e.call) (naming e) g.board c
   pub lines_shown : LinesShown script e g.line c
 
 pub built_same : (script : Script) (g : Gateway) (e : Agent) (c : Configuration) (state : ℕ) → IsBetween script g e c
@@ -148,7 +148,7 @@ entered_current script entries g e c state b true between stands empty is = subs
         link_is = ap (λ (p : Bool). if p then Answered else Sent)
             (sym (ap is_empty (built_same script g e c state between)) ∙ empty);
       })));
-      shown = shown_still script (owned_in g e.call) (naming e) g.board c state (if is_empty (request_in script c state) then Answered else Sent)
+      shown = seen_still script (owned_in g e.call) (naming e) g.board c state (if is_empty (request_in script c state) then Answered else Sent)
           between.shown;
       lines_shown = lines_still script e g.line c awaits_pass state e.next e.accepted (if is_empty (request_in script c state) then Answered else Sent)
           between.lines_shown;
@@ -178,7 +178,7 @@ entered_current script entries g e c state b false between stands empty is = num
             link_is = ap (λ (p : Bool). if p then Answered else Sent)
                 (sym (ap is_empty (built_same script g e c state between)) ∙ empty);
           });
-          shown = shown_still script (owned_in g e.call) (naming e) g.board c state (if is_empty (request_in script c state) then Answered else Sent)
+          shown = seen_still script (owned_in g e.call) (naming e) g.board c state (if is_empty (request_in script c state) then Answered else Sent)
               between.shown;
           lines_shown = lines_still script e g.line c (awaits_reply (request_of script e state)) state (e.next + 1) e.accepted
               (if is_empty (request_in script c state) then Answered else Sent) between.lines_shown;
@@ -201,6 +201,6 @@ rests_current script entries g e c between state stands = record {
   stands = stands;
   state = state;
   at = inr (inr (inr (record { phase = refl; effective = refl; link_is = refl })));
-  shown = shown_still script (owned_in g e.call) (naming e) g.board c c.state Resting between.shown;
+  shown = seen_still script (owned_in g e.call) (naming e) g.board c c.state Resting between.shown;
   lines_shown = record { events = between.lines_shown.events; silent = between.lines_shown.silent; expected = between.lines_shown.expected };
 }

@@ -21,7 +21,7 @@ use Rattle.mg_model.specs.Steps as steps
 use Rattle.mg_model.specs.World.{World, hear}
 use Rattle.mg_model.specs.Accepted.{IsSlot}
 use Rattle.mg_model.proofs.Cases.{none_is_some}
-use Rattle.mg_safety.proofs.Invariant.Shown.{Naming, Shown, LinesShown, number_at, row_on, term_of, cut_on}
+use Rattle.mg_safety.proofs.Invariant.Shown.{Naming, Seen, LinesShown, number_at, row_on, term_of, cut_on}
 use Rattle.mg_safety.proofs.Invariant.Sound.{IsOfScript, is_call, owned_in, IsCurrent, IsLost, CallIsSound}
 use Rattle.mg_safety.proofs.Invariant.Statements.{IsClosed, KeepsSound}
 use Rattle.mg_safety.proofs.Agents.Entering.{enters_follows, enters_current}
@@ -94,7 +94,7 @@ module _ (script : Script) (g : Gateway) (a : Agent) (lost : IsLost script g a)
   cut (termination.Line i) (termination.Ephemeral k) first second = refl
   cut (termination.Ephemeral k) u first second = refl
 
-  fresh_shown : Shown script (owned_in g a.call) (unbound a.lines) g.board (fresh script)
+  fresh_shown : Seen script (owned_in g a.call) (unbound a.lines) g.board (fresh script)
   fresh_shown = record {
     stands = stands;
     place = place;
@@ -106,14 +106,14 @@ module _ (script : Script) (g : Gateway) (a : Agent) (lost : IsLost script g a)
     line_stands = λ i within. ap is_some (lost.rows i within);
     line_owned = λ i within. ap (λ (o : Option ℕ). is_call o a.call) (held i within) ∙ eq-eqb a.call a.call refl;
     line_once = once;
-    context_real = λ j x e. absurd (no_number x e);
+    context_number = λ j x e. absurd (no_number x e);
     context_once = λ i j x e. absurd (no_number x e);
-    members = λ j x t e. absurd (no_number x e);
+    members = λ v j x t slot at e. absurd (no_number x e);
     ephemeral_slot = λ k x e. absurd (no_number x e);
     ephemeral_stands = λ k x e. absurd (no_number x e);
     ephemeral_owned = λ k x e. absurd (no_number x e);
     ephemeral_once = λ k i x e. absurd (no_number x e);
-    ephemeral_named = λ x own there. absurd (lost.no_ephemeral x (creates (g.creator x) a.call (g.board.given_ephemeral x) own));
+    ephemeral_named = λ x own there. absurd (lost.no_ephemeral x (creates (g.creator x) a.call (g.board.used_ephemeral x) own));
   }
 
   -- an empty list, in or past the lines of the script

@@ -6,7 +6,7 @@ use Rattle.std.proofs.lemmas.List.Elements.{All-contains}
 use Rattle.std.proofs.lemmas.Option.{slice_get-get_or}
 use Rattle.mg_model.specs.Configuration.{Configuration}
 use Rattle.mg_model.specs.Entries.{Entry, IsPointOf}
-use Rattle.mg_model.specs.Obligations.{OpeningCovered, ResetCovered, Marked, Cleared, Unbound, StepCovered}
+use Rattle.mg_model.specs.Obligations.{OpeningCovered, ResetCovered, Marked, Cleared, Unbound, Live, StepCovered}
 use Rattle.mg_model.specs.Script.{Script}
 use Rattle.mg_model.specs.Steps.{steps_of}
 use Rattle.mg_model.specs.Accepted.{IsEntryOf}
@@ -47,6 +47,7 @@ closed script entries is of_entries none = record {
   marked = λ c stands. let p = point_in script entries of_entries c stands in none (Marked p.place p.number) p.entry p.at c p.point;
   cleared = λ c stands. let p = point_in script entries of_entries c stands in none (Cleared p.place p.number) p.entry p.at c p.point;
   unbound = λ c stands. let p = point_in script entries of_entries c stands in none (Unbound p.place p.number) p.entry p.at c p.point;
+  live = λ c stands. let p = point_in script entries of_entries c stands in none (Live p.place p.number) p.entry p.at c p.point;
   steps = λ c step stands among.
       let p = point_in script entries of_entries c stands in
       record {

@@ -1,5 +1,5 @@
 -- Add of an ephemeral carries over.
-use Rattle.std.proofs.Common.{◌≡◌, ◌∙◌, ◌<◌, ℕ, Bool, true, false, not, length, Option, Some, None, is_some, refl, sym, ap, subst, subst₂, inr}
+use Rattle.std.proofs.Common.{IsTrue, ◌≡◌, ◌∙◌, ◌<◌, ℕ, Bool, true, false, not, length, Option, Some, None, is_some, refl, sym, ap, subst, subst₂, inr}
 use Rattle.std.proofs.lemmas.Bool.{eqb-true, and_from}
 use Rattle.std.specs.Prelude.{if◌then◌else◌, ◌==◌}
 use Rattle.mg_names.specs.declared.codes.Code.TheVariants.{UnknownContext, UnknownTermination}
@@ -60,21 +60,21 @@ peer_still n m k x (Some (Peer i)) unbound peer = (peer.0, peer.1, go (i == k) r
 
 -- the board, with numbers that were given to contexts
 abbrev with_contexts : Board → (ℕ → Bool) → Board
-with_contexts b numbers = record b { given_context = numbers }
+with_contexts b numbers = record b { used_context = numbers }
 
 -- the board after a command that creates the ephemeral x in context p, by names m
 abbrev with_added_ephemeral : Board → (ℕ → Bool) → ℕ → ℕ → Naming → EphemeralOptions → Board
 with_added_ephemeral b numbers x p m o = record (with_ephemeral b x p (ephemeral_settings m o)) {
-  given_context = numbers;
-  given_ephemeral = given true x b.given_ephemeral;
+  used_context = numbers;
+  used_ephemeral = given true x b.used_ephemeral;
 }
 
 module _ (script : Script) (own : Owner) (n m built_by : Naming) (before : Board) (numbers after_numbers : ℕ → Bool) (c : Configuration)
     (create : Bool) (j k x p : ℕ) (o : EphemeralOptions)
     (shown : Shown script (owned_at own before) n (with_contexts before numbers) (with_live c j)) (accounted : IsAccounted (with_contexts before numbers))
-    (built : AreBuilt n m (with_contexts before numbers)) (slot : k < length script.ephemerals) (fresh : before.given_ephemeral x ≡ false)
-    (earlier : (y : ℕ) → own.before y ≡ true → before.given_ephemeral y ≡ true) (absent : is_present (c.spot (termination.Ephemeral k)) ≡ false)
-    (still : (y : ℕ) → before.given_context y ≡ true → numbers y ≡ true) (more : (y : ℕ) → numbers y ≡ true → after_numbers y ≡ true)
+    (built : AreBuilt n m (with_contexts before numbers)) (slot : k < length script.ephemerals) (fresh : before.used_ephemeral x ≡ false)
+    (earlier : (y : ℕ) → own.before y ≡ true → before.used_ephemeral y ≡ true) (absent : is_present (c.spot (termination.Ephemeral k)) ≡ false)
+    (still : (y : ℕ) → before.used_context y ≡ true → numbers y ≡ true) (more : (y : ℕ) → numbers y ≡ true → after_numbers y ≡ true)
     (bound : n.contexts j ≡ Some p) (entered : IsEntered own n m before numbers p) (peer : PeerInForce n built_by o.remote) where
   abbrev name : Termination
   name = termination.Ephemeral k
@@ -109,8 +109,8 @@ module _ (script : Script) (own : Owner) (n m built_by : Naming) (before : Board
   one : HasOneRow middle end (Eph x) row
   one = record {
     row = λ v. if_twice (same_term v (Eph x)) (Some row) (Some first_row) (before.row v);
-    given_context = more;
-    given_ephemeral = λ y e. e;
+    used_context = more;
+    used_ephemeral = λ y e. e;
   }
 
   row_read : middle.row (Eph x) ≡ Some first_row
@@ -133,8 +133,8 @@ module _ (script : Script) (own : Owner) (n m built_by : Naming) (before : Board
       (λ y. refl)
       (record {
         row = λ v. refl;
-        given_context = λ y e. more y (still y e);
-        given_ephemeral = λ y e. given_still true x before.given_ephemeral y e;
+        used_context = λ y e. more y (still y e);
+        used_ephemeral = λ y e. given_still true x before.used_ephemeral y e;
       })
       (inr (x, refl, fresh)) (cuts_outside before.cut (Eph x)) (owned_back (with_contexts before numbers) x fresh accounted own earlier)
       (λ real. record { was_given = entered.was_given; in_force = entered.in_force; stood = entered.stood })
@@ -157,7 +157,7 @@ add_ephemeral_named j k o script is_script own n m b c after done ready x =
     end : Board
     end = effect b (item_for m (AddEphemeral false j k o)) x.chosen
 
-    fresh : is_ephemeral_number made × (b.given_ephemeral made ≡ false)
+    fresh : is_ephemeral_number made × (b.used_ephemeral made ≡ false) × IsTrue (b.class made)
     fresh = x.fresh.ephemeral refl
 
     slot : k < length script.ephemerals
@@ -190,10 +190,10 @@ add_ephemeral_named j k o script is_script own n m b c after done ready x =
     existing = existing_context script is_script own n m b c j number.0 ready.shown ready.well_formed ready.accounted ready.built number.1 may
 
     moved : Carries script own (with_ephemeral_name n k made) (with_ephemeral_name m k made) b end next
-    moved = carried_created script own n m m b b.given_context (given (context_for m j == choose) x.chosen.context b.given_context) c false j k made
+    moved = carried_created script own n m m b b.used_context (given (context_for m j == choose) x.chosen.context b.used_context) c false j k made
         p o (shown_live script owned n b c j number.0 ready.shown existing.bound) ready.accounted ready.built slot fresh.1 ready.earlier absent
-        (λ y e. e) (given_still (context_for m j == choose) x.chosen.context b.given_context)
-        (existing.bound ∙ ap (λ y. Some y) (sym place_is)) (subst (IsEntered own n m b b.given_context) (sym place_is) existing.entered) peer
+        (λ y e. e) (given_still (context_for m j == choose) x.chosen.context b.used_context)
+        (existing.bound ∙ ap (λ y. Some y) (sym place_is)) (subst (IsEntered own n m b b.used_context) (sym place_is) existing.entered) peer
 
     told : Some made ≡ done.ephemeral
     told = sym x.result.ephemeral
@@ -231,10 +231,10 @@ add_ephemeral_created j k o script is_script own n m b c after done ready x =
     end : Board
     end = effect b (item_for m (AddEphemeral true j k o)) x.chosen
 
-    fresh : is_ephemeral_number made × (b.given_ephemeral made ≡ false)
+    fresh : is_ephemeral_number made × (b.used_ephemeral made ≡ false) × IsTrue (b.class made)
     fresh = x.fresh.ephemeral refl
 
-    fresh_context : is_context_number y × (b.given_context y ≡ false)
+    fresh_context : is_context_number y × (b.used_context y ≡ false) × IsTrue (b.class y)
     fresh_context = x.fresh.context refl
 
     slot : k < length script.ephemerals
@@ -251,10 +251,10 @@ add_ephemeral_created j k o script is_script own n m b c after done ready x =
     peer = peer_in_force n m b ready.built o.remote ready.known (x.legal UnknownTermination)
 
     moved : Carries script own (with_ephemeral_name (with_context n j y) k made) (with_ephemeral_name (with_context m j y) k made) b end next
-    moved = carried_created script own (with_context n j y) (with_context m j y) m b (given true y b.given_context) (given true y b.given_context) c
+    moved = carried_created script own (with_context n j y) (with_context m j y) m b (given true y b.used_context) (given true y b.used_context) c
         true j k made y o (shown_given n m b j y fresh_context.1 script owned c ready.shown free ready.accounted fresh_context.0)
         (accounted_given n m b j y fresh_context.1 ready.accounted) (built_given n m b j y fresh_context.1 ready.built fresh_context.0) slot fresh.1
-        ready.earlier absent (given_still true y b.given_context) (λ z e. e) (with_at_here n.contexts j (Some y))
+        ready.earlier absent (given_still true y b.used_context) (λ z e. e) (with_at_here n.contexts j (Some y))
         (entered_fresh own n m b j y ready.built fresh_context.1) (with_names o.remote peer)
       where
         with_names : (q : Option RemoteOption) → PeerInForce n m q → PeerInForce (with_context n j y) m q

@@ -68,7 +68,7 @@ shown_live script owned n b c j x shown bound = record {
 -- ---- a fresh number
 
 abbrev pub with_given : Board → ℕ → Board
-with_given b y = record b { given_context = given true y b.given_context }
+with_given b y = record b { used_context = given true y b.used_context }
 
 abbrev pub with_context : Naming → ℕ → ℕ → Naming
 with_context n j y = record n { contexts = with_at n.contexts j (Some y) }
@@ -83,10 +83,10 @@ given_still p y was x before = go (p && x == y)
     go true = refl
     go false = before
 
-module _ (n m : Naming) (b : Board) (j y : ℕ) (fresh : b.given_context y ≡ false) where
+module _ (n m : Naming) (b : Board) (j y : ℕ) (fresh : b.used_context y ≡ false) where
   -- a number that was given isn't the fresh one
-  pub not_fresh : (x : ℕ) → b.given_context x ≡ true → x ≡ y → ⊥
-  not_fresh x before same = true≢false (sym before ∙ ap b.given_context same ∙ fresh)
+  pub not_fresh : (x : ℕ) → b.used_context x ≡ true → x ≡ y → ⊥
+  not_fresh x before same = true≢false (sym before ∙ ap b.used_context same ∙ fresh)
 
   pub nobody_stands : IsAccounted b → (0 < y) → (t : TermId) → place_of b t ≡ y → ⊥
   nobody_stands accounted positive t at =
@@ -95,7 +95,7 @@ module _ (n m : Naming) (b : Board) (j y : ℕ) (fresh : b.given_context y ≡ f
   pub accounted_given : IsAccounted b → IsAccounted (with_given b y)
   accounted_given accounted = record {
     ephemerals = accounted.ephemerals;
-    contexts = λ t there. given_still true y b.given_context (place_of b t) (accounted.contexts t there);
+    contexts = λ t there. given_still true y b.used_context (place_of b t) (accounted.contexts t there);
   }
 
   pub built_given : AreBuilt n m b → is_context_number y → AreBuilt (with_context n j y) (with_context m j y) (with_given b y)
@@ -107,9 +107,9 @@ module _ (n m : Naming) (b : Board) (j y : ℕ) (fresh : b.given_context y ≡ f
     context_lost = λ i x bound lost there. with_at_some n.contexts j (Some y) i None ⊥ lost
         (λ same is. none_is_some y (sym is))
         (λ other before. built.context_lost i x (sym (with_at_kept m.contexts j (Some y) i other) ∙ bound) before there);
-    context_real = λ i x bound. with_at_some m.contexts j (Some y) i (Some x) (is_context_number x × (given true y b.given_context x ≡ true)) bound
-        (λ same is. subst (λ z. is_context_number z × (given true y b.given_context z ≡ true)) (the_some y x is) (real, given_new y b.given_context))
-        (λ other before. let was = built.context_real i x before in (was.0, given_still true y b.given_context x was.1));
+    context_real = λ i x bound. with_at_some m.contexts j (Some y) i (Some x) (is_context_number x × (given true y b.used_context x ≡ true)) bound
+        (λ same is. subst (λ z. is_context_number z × (given true y b.used_context z ≡ true)) (the_some y x is) (real, given_new y b.used_context))
+        (λ other before. let was = built.context_real i x before in (was.0, given_still true y b.used_context x was.1));
     ephemeral = built.ephemeral;
     ephemeral_lost = built.ephemeral_lost;
     ephemeral_given = built.ephemeral_given;
@@ -145,9 +145,9 @@ module _ (n m : Naming) (b : Board) (j y : ℕ) (fresh : b.given_context y ≡ f
       line_stands = shown.line_stands;
       line_owned = shown.line_owned;
       line_once = shown.line_once;
-      context_real = λ i x named. with_at_some n.contexts j (Some y) i (Some x) (is_context_number x × (given true y b.given_context x ≡ true)) named
-          (λ same is. subst (λ z. is_context_number z × (given true y b.given_context z ≡ true)) (the_some y x is) (real, given_new y b.given_context))
-          (λ other before. let was = shown.context_real i x before in (was.0, given_still true y b.given_context x was.1));
+      context_real = λ i x named. with_at_some n.contexts j (Some y) i (Some x) (is_context_number x × (given true y b.used_context x ≡ true)) named
+          (λ same is. subst (λ z. is_context_number z × (given true y b.used_context z ≡ true)) (the_some y x is) (real, given_new y b.used_context))
+          (λ other before. let was = shown.context_real i x before in (was.0, given_still true y b.used_context x was.1));
       context_once = once;
       members = λ i x t named at. with_at_some n.contexts j (Some y) i (Some x) ((u : Termination) × IsSlot script u × (term_of n u ≡ Some t)) named
           (λ same is. absurd (nobody_stands accounted real.0 t (at ∙ sym (the_some y x is))))

@@ -26,19 +26,19 @@ pub record Carries (script : Script) (own : Owner) (n m : Naming) (b after : Boa
 pub record IsEntered (own : Owner) (n m : Naming) (b : Board) (given : ℕ → Bool) (p : ℕ) : Type 0 where
   pub was_given : given p ≡ true
   pub in_force : (j : ℕ) → m.contexts j ≡ Some p → n.contexts j ≡ None → ⊥
-  pub stood : ((w : TermId) × (owned_at own b w ≡ true) × (place_of b w ≡ p)) ⊎ (b.given_context p ≡ false)
+  pub stood : ((w : TermId) × (owned_at own b w ≡ true) × (place_of b w ≡ p)) ⊎ (b.used_context p ≡ false)
 
 -- something owned stands in it
 pub entered_before : (own : Owner) (n m : Naming) (b : Board) (p : ℕ) (w : TermId) → IsAccounted b → AreBuilt n m b → (p ≡ 0 → ⊥)
-    → owned_at own b w ≡ true → place_of b w ≡ p → IsEntered own n m b b.given_context p
+    → owned_at own b w ≡ true → place_of b w ≡ p → IsEntered own n m b b.used_context p
 entered_before own n m b p w accounted built real mine at = record {
-  was_given = ap b.given_context (sym at) ∙ accounted.contexts w (λ null. real (sym at ∙ null));
+  was_given = ap b.used_context (sym at) ∙ accounted.contexts w (λ null. real (sym at ∙ null));
   in_force = λ j bound lost. built.context_lost j p bound lost (real, (w, at));
   stood = inl (w, mine, at);
 }
 
 -- owning goes by what was given of ephemerals alone
-owned_given : (own : Owner) (b after : Board) → ((x : ℕ) → after.given_ephemeral x ≡ b.given_ephemeral x) → (t : TermId)
+owned_given : (own : Owner) (b after : Board) → ((x : ℕ) → after.used_ephemeral x ≡ b.used_ephemeral x) → (t : TermId)
     → owned_at own after t ≡ owned_at own b t
 owned_given own b after same (Line l) = refl
 owned_given own b after same (Eph x) = ap (λ p. own.created x || (p && not (own.before x))) (same x)
@@ -77,19 +77,19 @@ owned_named script owned n b c shown (termination.Ephemeral k) u slot named =
 -- before is the board before the command, b the one on which what it creates was given out
 pub carried : (script : Script) (own : Owner) (n m : Naming) (before b after : Board) (c next : Configuration) (t : Termination) (u : TermId) (r : Row)
     → Shown script (owned_at own b) n b c → IsAccounted b → AreBuilt n m b → IsSlot script t → term_of n t ≡ Some u → exists b u ≡ true
-    → HasOneRow b after u r → HasOneName script n after c next t r → ((x : ℕ) → after.given_ephemeral x ≡ b.given_ephemeral x)
-    → HasOneRow before after u r → (exists before u ≡ true) ⊎ ((x : ℕ) × (u ≡ Eph x) × (before.given_ephemeral x ≡ false))
+    → HasOneRow b after u r → HasOneName script n after c next t r → ((x : ℕ) → after.used_ephemeral x ≡ b.used_ephemeral x)
+    → HasOneRow before after u r → (exists before u ≡ true) ⊎ ((x : ℕ) × (u ≡ Eph x) × (before.used_ephemeral x ≡ false))
     → ((v w : TermId) → same_term v u ≡ false → same_term w u ≡ false → after.cut v w ≡ before.cut v w)
     → ((v : TermId) → same_term v u ≡ false → owned_at own b v ≡ true → owned_at own before v ≡ true)
-    → ((r.place.0 ≡ 0 → ⊥) → IsEntered own n m before b.given_context r.place.0) → Carries script own n m before after next
+    → ((r.place.0 ≡ 0 → ⊥) → IsEntered own n m before b.used_context r.place.0) → Carries script own n m before after next
 carried script own n m before b after c next t u r shown accounted built slot named stood one changed same first existed cuts back entered =
     let owned : (v : TermId) → owned_at own after v ≡ owned_at own b v = owned_given own b after same in
     record {
       shown = shown_owned script (owned_at own b) (owned_at own after) n after next owned
           (placed_shown script (owned_at own b) n b after c next t u r shown slot named stood one changed);
       accounted = accounted_after b after u r one accounted
-          (λ x is. one.given_ephemeral x (accounted.ephemerals x (ap (λ v. exists b v) (sym is) ∙ stood)))
-          (λ real. one.given_context r.place.0 (entered real).was_given);
+          (λ x is. one.used_ephemeral x (accounted.ephemerals x (ap (λ v. exists b v) (sym is) ∙ stood)))
+          (λ real. one.used_context r.place.0 (entered real).was_given);
       built = built_as_before b after u r one n m built stood (λ real. (entered real).in_force);
       changes = changes_as_owned before after u r first own (owned u ∙ owned_named script (owned_at own b) n b c shown t u slot named) cuts
           (λ v other mine. back v other (sym (owned v) ∙ mine)) (λ real. (entered real).stood) existed;

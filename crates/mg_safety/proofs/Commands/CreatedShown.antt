@@ -24,7 +24,7 @@ use Rattle.mg_safety.proofs.Commands.Setting.{with_of_here, with_of_kept}
 use Rattle.mg_safety.proofs.Invariant.Shown.{Naming, eph_of, term_of, row_on, cut_on, number_at, RemoteReads, Shown, IsAccounted, Owner, owned_at}
 
 module _ (script : Script) (own : Owner) (n : Naming) (b : Board) (c : Configuration) (k x : ℕ) (shown : Shown script (owned_at own b) n b c)
-    (accounted : IsAccounted b) (fresh : b.given_ephemeral x ≡ false) (earlier : (y : ℕ) → own.before y ≡ true → b.given_ephemeral y ≡ true)
+    (accounted : IsAccounted b) (fresh : b.used_ephemeral x ≡ false) (earlier : (y : ℕ) → own.before y ≡ true → b.used_ephemeral y ≡ true)
     (slot : k < length script.ephemerals) (absent : is_present (c.spot (termination.Ephemeral k)) ≡ false) where
   abbrev after : Board
   after = with_created b x
@@ -111,7 +111,7 @@ module _ (script : Script) (own : Owner) (n : Naming) (b : Board) (c : Configura
     reads.0,
     reads.1,
     kept b x fresh accounted reads.0 (given_apart b x fresh accounted reads.0 reads.3) ∙ reads.2,
-    given_still true x b.given_ephemeral reads.0 reads.3,
+    given_still true x b.used_ephemeral reads.0 reads.3,
   )
   remote_still (To i) o reads = (reads.0, reads.1, bound_still i reads.0 reads.2)
     where

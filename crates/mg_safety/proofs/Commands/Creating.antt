@@ -26,7 +26,7 @@ abbrev pub with_created : Board → ℕ → Board
 with_created b x = record b {
   row = λ v. if same_term v (Eph x) then Some first_row else b.row v;
   cut = without_cuts (same_term (Eph x)) b.cut;
-  given_ephemeral = given true x b.given_ephemeral;
+  used_ephemeral = given true x b.used_ephemeral;
 }
 
 abbrev pub with_ephemeral_name : Naming → ℕ → ℕ → Naming
@@ -35,16 +35,16 @@ with_ephemeral_name n k x = record n { ephemerals = with_at n.ephemerals k (Some
 abbrev pub with_present : Configuration → ℕ → Configuration
 with_present c k = record c { spot = with_of c.spot (termination.Ephemeral k) Null }
 
-module _ (b : Board) (x : ℕ) (fresh : b.given_ephemeral x ≡ false) (accounted : IsAccounted b) where
+module _ (b : Board) (x : ℕ) (fresh : b.used_ephemeral x ≡ false) (accounted : IsAccounted b) where
   pub created_row : HasOneRow b (with_created b x) (Eph x) first_row
-  created_row = record { row = λ v. refl; given_context = λ y e. e; given_ephemeral = λ y e. given_still true x b.given_ephemeral y e }
+  created_row = record { row = λ v. refl; used_context = λ y e. e; used_ephemeral = λ y e. given_still true x b.used_ephemeral y e }
 
   -- what was given, or exists, isn't the fresh ephemeral
-  pub given_apart : (y : ℕ) → b.given_ephemeral y ≡ true → (y == x) ≡ false
+  pub given_apart : (y : ℕ) → b.used_ephemeral y ≡ true → (y == x) ≡ false
   given_apart y before = go (y == x) refl
     where
       go : (p : Bool) → (y == x) ≡ p → p ≡ false
-      go true same = absurd (true≢false (sym before ∙ ap b.given_ephemeral (eqb-true y x same) ∙ fresh))
+      go true same = absurd (true≢false (sym before ∙ ap b.used_ephemeral (eqb-true y x same) ∙ fresh))
       go false other = refl
 
   pub stands_apart : (y : ℕ) → exists b (Eph y) ≡ true → (y == x) ≡ false
@@ -55,7 +55,7 @@ module _ (b : Board) (x : ℕ) (fresh : b.given_ephemeral x ≡ false) (accounte
 
   pub accounted_created : IsAccounted (with_created b x)
   accounted_created = accounted_after b (with_created b x) (Eph x) first_row created_row accounted
-      (λ y same. ap (given true x b.given_ephemeral) (sym (ap number same)) ∙ given_new x b.given_ephemeral)
+      (λ y same. ap (given true x b.used_ephemeral) (sym (ap number same)) ∙ given_new x b.used_ephemeral)
       (λ real. absurd (real refl))
     where
       number : TermId → ℕ
@@ -76,9 +76,9 @@ module _ (b : Board) (x : ℕ) (fresh : b.given_ephemeral x ≡ false) (accounte
         (λ same is. absurd (none_is_some x (sym is)))
         (λ other before. let was : m.ephemerals i ≡ Some y = sym (with_at_kept m.ephemerals k (Some x) i other) ∙ bound in
         kept y (given_apart y (built.ephemeral_given i y was)) ∙ built.ephemeral_lost i y was before);
-    ephemeral_given = λ i y bound. with_at_some m.ephemerals k (Some x) i (Some y) (given true x b.given_ephemeral y ≡ true) bound
-        (λ same is. ap (given true x b.given_ephemeral) (sym (the_some x y is)) ∙ given_new x b.given_ephemeral)
-        (λ other before. given_still true x b.given_ephemeral y (built.ephemeral_given i y before));
+    ephemeral_given = λ i y bound. with_at_some m.ephemerals k (Some x) i (Some y) (given true x b.used_ephemeral y ≡ true) bound
+        (λ same is. ap (given true x b.used_ephemeral) (sym (the_some x y is)) ∙ given_new x b.used_ephemeral)
+        (λ other before. given_still true x b.used_ephemeral y (built.ephemeral_given i y before));
   }
     where
       lost_context : (j y : ℕ) → m.contexts j ≡ Some y → n.contexts j ≡ None → (y ≡ 0 → ⊥) → (t : TermId) (p : Bool)
@@ -91,17 +91,17 @@ module _ (b : Board) (x : ℕ) (fresh : b.given_ephemeral x ≡ false) (accounte
 
   -- ---- what is owned
 
-  module _ (own : Owner) (earlier : (y : ℕ) → own.before y ≡ true → b.given_ephemeral y ≡ true) where
+  module _ (own : Owner) (earlier : (y : ℕ) → own.before y ≡ true → b.used_ephemeral y ≡ true) where
     pub created_owned : owned_at own (with_created b x) (Eph x) ≡ true
     created_owned = go (own.created x) (own.before x) refl
       where
-        go : (p q : Bool) → own.before x ≡ q → (p || (given true x b.given_ephemeral x && not q)) ≡ true
+        go : (p q : Bool) → own.before x ≡ q → (p || (given true x b.used_ephemeral x && not q)) ≡ true
         go true q e = refl
         go false true e = absurd (true≢false (sym (earlier x e) ∙ fresh))
-        go false false e = ap (λ r. r && true) (given_new x b.given_ephemeral)
+        go false false e = ap (λ r. r && true) (given_new x b.used_ephemeral)
 
-    given_elsewhere : (y : ℕ) → (y == x) ≡ false → given true x b.given_ephemeral y ≡ b.given_ephemeral y
-    given_elsewhere y other = ap (λ p. p || b.given_ephemeral y) other
+    given_elsewhere : (y : ℕ) → (y == x) ≡ false → given true x b.used_ephemeral y ≡ b.used_ephemeral y
+    given_elsewhere y other = ap (λ p. p || b.used_ephemeral y) other
 
     pub owned_elsewhere : (y : ℕ) → (y == x) ≡ false → owned_at own (with_created b x) (Eph y) ≡ owned_at own b (Eph y)
     owned_elsewhere y other = ap (λ p. own.created y || (p && not (own.before y))) (given_elsewhere y other)

@@ -49,7 +49,7 @@ target_named x y real = go (x == choose) refl
 pub record IsExisting (own : Owner) (n m : Naming) (b : Board) (c : Configuration) (j x : ℕ) : Type 0 where
   pub bound : n.contexts j ≡ Some x
   pub live : is_live (c.context j) ≡ true
-  pub entered : IsEntered own n m b b.given_context x
+  pub entered : IsEntered own n m b b.used_context x
 
 pub existing_context : (script : Script) → IsScript script → (own : Owner) (n m : Naming) (b : Board) (c : Configuration) (j x : ℕ)
     → Shown script (owned_at own b) n b c → IsWellFormed c → IsAccounted b → AreBuilt n m b → m.contexts j ≡ Some x → MayExist b x
@@ -66,10 +66,10 @@ existing_context script is_script own n m b c j x shown well_formed accounted bu
 
 -- ---- a context that is created
 
-pub entered_fresh : (own : Owner) (n m : Naming) (b : Board) (j y : ℕ) → AreBuilt n m b → b.given_context y ≡ false
-    → IsEntered own (with_context n j y) (with_context m j y) b (with_given b y).given_context y
+pub entered_fresh : (own : Owner) (n m : Naming) (b : Board) (j y : ℕ) → AreBuilt n m b → b.used_context y ≡ false
+    → IsEntered own (with_context n j y) (with_context m j y) b (with_given b y).used_context y
 entered_fresh own n m b j y built fresh = record {
-  was_given = given_new y b.given_context;
+  was_given = given_new y b.used_context;
   in_force = λ i bound lost. with_at_some n.contexts j (Some y) i None ⊥ lost
       (λ same is. none_is_some y (sym is))
       (λ other before. not_fresh n m b j y fresh y

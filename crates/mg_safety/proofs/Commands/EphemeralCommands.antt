@@ -111,7 +111,7 @@ modify_ephemeral_carried place k o script is_script own n m b c after done ready
     end = after_modify b p u (ephemeral_settings m o) x.chosen
 
     one : HasOneRow b end u (row_with b u p (ephemeral_settings m o))
-    one = record { row = λ v. refl; given_context = λ y e. e; given_ephemeral = λ y e. e }
+    one = record { row = λ v. refl; used_context = λ y e. e; used_ephemeral = λ y e. e }
 
     moved : Carries script own n m b end next
     moved = carried_in_place script own n m b c next (termination.Ephemeral k) u p (ephemeral_settings m o) x.chosen ready.shown ready.accounted
@@ -192,7 +192,7 @@ move_ephemeral_carried j k o script is_script own n m b c after done ready x =
     end = effect b (item_for m (MoveEphemeral j k o)) x.chosen
 
     one : HasOneRow b end u (row_with b u p (ephemeral_settings m o))
-    one = record { row = λ v. refl; given_context = λ y e. e; given_ephemeral = λ y e. e }
+    one = record { row = λ v. refl; used_context = λ y e. e; used_ephemeral = λ y e. e }
 
     moved : Carries script own n m b end next
     moved = carried script own n m b b end (with_live c j) next (termination.Ephemeral k) u (row_with b u p (ephemeral_settings m o)) shown
@@ -204,7 +204,7 @@ move_ephemeral_carried j k o script is_script own n m b c after done ready x =
         (cuts_leave script owned n b end c ready.shown (termination.Ephemeral k) u slot named (λ v w. refl)))
         (λ s. refl) (λ i. free_as_before (with_at c.context j Live i) (stands_in (with_of c.spot (termination.Ephemeral k) (In j)) i)))
         (λ y. refl) one (inl stood) (cuts_outside b.cut u) (λ v other mine. mine)
-        (λ real. subst (IsEntered own n m b b.given_context) (sym context.2) existing.entered)
+        (λ real. subst (IsEntered own n m b b.used_context) (sym context.2) existing.entered)
 
     apart : is_elsewhere (c.spot (termination.Ephemeral k)) j ≡ true
     apart = elsewhere_named script owned n b c ready.shown (termination.Ephemeral k) u slot named j context.0 existing.bound

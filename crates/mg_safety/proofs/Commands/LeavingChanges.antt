@@ -22,7 +22,7 @@ accounted_left b gone accounted = record {
   ephemerals = λ x is. accounted.ephemerals x (exists_after b gone x is).1;
   contexts = λ t away.
       let was : place_of b t ≡ place_of (without b gone) t = (place_before b gone t away).1 in
-      ap b.given_context (sym was) ∙ accounted.contexts t (λ e. away (sym was ∙ e));
+      ap b.used_context (sym was) ∙ accounted.contexts t (λ e. away (sym was ∙ e));
 }
 
 -- a name that isn't in force any more names nothing
@@ -73,7 +73,7 @@ pub leaving_owned : (script : Script) (owned : TermId → Bool) (n : Naming) (co
     (gone : TermId → Bool) (left : Termination → Bool) (values : ℕ → ContextValue) → Shown script owned n b c
     → Leaves script n contexts ephemerals b c gone left values → (t : TermId) → gone t ≡ true → owned t ≡ true
 leaving_owned script owned n contexts ephemerals b c gone left values shown leaves t leaving =
-    let slot = leaves.slots t leaving in name_owned script owned n b c shown slot.0 slot.1 t slot.2
+    let slot = leaves.slots t leaving in name_owned script owned n shown.line_owned shown.ephemeral_owned slot.0 slot.1 t slot.2
 
 same_owner : (own : Owner) (b : Board) (gone : TermId → Bool) (t : TermId) → owned_at own (without b gone) t ≡ owned_at own b t
 same_owner own b gone (Line l) = refl
@@ -100,8 +100,8 @@ changes_left script own n contexts ephemerals b c gone left values shown leaves 
     record {
       row = λ t other. where_false (gone t) (subtracted t) (b.row t) (stays t other);
       cut = λ t u first second. rw (stays t first, stays u second) refl;
-      given_context = λ x is. is;
-      given_ephemeral = λ x is. is;
+      used_context = λ x is. is;
+      used_ephemeral = λ x is. is;
       place = λ t mine away. inl (t, sym (same_owner own b gone t) ∙ mine, (place_before b gone t away).1);
       line = λ l. line_same b gone l (λ leaving.
           let slot = leaves.slots (Line (record { 0 = l })) leaving in

@@ -1,5 +1,5 @@
 -- Modify, Add and Move of a line carry over.
-use Rattle.std.proofs.Common.{◌≡◌, ◌∙◌, ◌<◌, ℕ, Bool, true, false, not, length, Some, refl, sym, ap, subst, inl}
+use Rattle.std.proofs.Common.{IsTrue, ◌≡◌, ◌∙◌, ◌<◌, ℕ, Bool, true, false, not, length, Some, refl, sym, ap, subst, inl}
 use Rattle.std.proofs.lemmas.Bool.{eqb-true, eq-eqb, and_from}
 use Rattle.std.specs.Prelude.{if◌then◌else◌, ◌==◌, unwrap_or}
 use Rattle.mg_names.specs.declared.codes.Code.TheVariants.{UnknownContext, UnknownTermination, AlreadyInContext, NotInContext}
@@ -53,8 +53,8 @@ pub carried_in_place : (script : Script) (own : Owner) (n m : Naming) (b : Board
 carried_in_place script own n m b c next t u p settings chosen shown accounted built slot named stood at sets spots contexts =
     let one : HasOneRow b (after_modify b p u settings chosen) u (row_with b u p settings) = record {
       row = λ v. refl;
-      given_context = λ x e. e;
-      given_ephemeral = λ x e. e;
+      used_context = λ x e. e;
+      used_ephemeral = λ x e. e;
     } in
     carried script own n m b b (after_modify b p u settings chosen) c next t u (row_with b u p settings) shown accounted built slot named stood one
     (set_in_place script (owned_at own b) n b (after_modify b p u settings chosen) c next t u (row_with b u p settings) shown slot
@@ -120,10 +120,10 @@ pub carried_line_in : (script : Script) (own : Owner) (n m : Naming) (before b a
     (o : LineOptions) → Shown script (owned_at own b) n b c → IsAccounted b → AreBuilt n m b → i < length script.lines
     → term_of n (termination.Line i) ≡ Some u → exists b u ≡ true → exists before u ≡ true
     → HasOneRow b after u (row_with b u p (line_settings o)) → HasOneRow before after u (row_with b u p (line_settings o))
-    → ((x : ℕ) → after.given_ephemeral x ≡ b.given_ephemeral x)
+    → ((x : ℕ) → after.used_ephemeral x ≡ b.used_ephemeral x)
     → ((v w : TermId) → same_term v u ≡ false → same_term w u ≡ false → after.cut v w ≡ before.cut v w)
     → ((v : TermId) → same_term v u ≡ false → owned_at own b v ≡ true → owned_at own before v ≡ true)
-    → n.contexts j ≡ Some p → IsEntered own n m before b.given_context p
+    → n.contexts j ≡ Some p → IsEntered own n m before b.used_context p
     → ((s : Termination) → next.spot s ≡ with_of c.spot (termination.Line i) (In j) s)
     → ((k : ℕ) → is_free (next.context k) ≡ is_free (c.context k))
     → ((s : Termination) → next.mode s ≡ with_of c.mode (termination.Line i) (unwrap_or o.mode (c.mode (termination.Line i))) s)
@@ -180,12 +180,12 @@ move_line_carried j i o script is_script own n m b c after done ready x =
     shown = shown_live script owned n b c j number.0 ready.shown existing.bound
 
     one : HasOneRow b end u (row_with b u p (line_settings o))
-    one = record { row = λ v. refl; given_context = λ y e. e; given_ephemeral = λ y e. e }
+    one = record { row = λ v. refl; used_context = λ y e. e; used_ephemeral = λ y e. e }
 
     moved : Carries script own n m b end next
     moved = carried_line_in script own n m b b end (with_live c j) next i j p u o shown ready.accounted ready.built slot named stood stood one one
         (λ y. refl) (cuts_outside b.cut u) (λ v other mine. mine)
-        (existing.bound ∙ ap (λ y. Some y) (sym number.2)) (subst (IsEntered own n m b b.given_context) (sym number.2) existing.entered)
+        (existing.bound ∙ ap (λ y. Some y) (sym number.2)) (subst (IsEntered own n m b b.used_context) (sym number.2) existing.entered)
         (λ s. refl) (λ k. free_as_before (with_at c.context j Live k) (stands_in (with_of c.spot (termination.Line i) (In j)) k))
         (λ s. refl) (λ k. refl)
         (cuts_leave script owned n b end c ready.shown (termination.Line i) u slot named (λ v w. refl))
@@ -255,14 +255,14 @@ add_line_named j i o script is_script own n m b c after done ready x =
     one : HasOneRow b end u (row_with b u p (line_settings o))
     one = record {
       row = λ v. refl;
-      given_context = λ y e. given_still (context_for m j == choose) x.chosen.context b.given_context y e;
-      given_ephemeral = λ y e. e;
+      used_context = λ y e. given_still (context_for m j == choose) x.chosen.context b.used_context y e;
+      used_ephemeral = λ y e. e;
     }
 
     moved : Carries script own n m b end next
     moved = carried_line_in script own n m b b end (with_live c j) next i j p u o shown ready.accounted ready.built slot named stood stood one one
         (λ y. refl) (λ v w first second. refl) (λ v other mine. mine)
-        (existing.bound ∙ ap (λ y. Some y) (sym place_is)) (subst (IsEntered own n m b b.given_context) (sym place_is) existing.entered)
+        (existing.bound ∙ ap (λ y. Some y) (sym place_is)) (subst (IsEntered own n m b b.used_context) (sym place_is) existing.entered)
         (λ s. refl) (λ k. free_as_before (with_at c.context j Live k) (stands_in (with_of c.spot (termination.Line i) (In j)) k))
         (λ s. refl) (λ k. refl)
         (cuts_stay script owned n b end c ready.shown (λ v w. refl))
@@ -298,7 +298,7 @@ add_line_created j i o script is_script own n m b c after done ready x =
     y : ℕ
     y = x.chosen.context
 
-    fresh : is_context_number y × (b.given_context y ≡ false)
+    fresh : is_context_number y × (b.used_context y ≡ false) × IsTrue (b.class y)
     fresh = x.fresh.context refl
 
     slot : i < length script.lines
@@ -319,8 +319,8 @@ add_line_created j i o script is_script own n m b c after done ready x =
     moved : Carries script own (with_context n j y) (with_context m j y) b end next
     moved = carried_line_in script own (with_context n j y) (with_context m j y) b (with_given b y) end (with_live c j) next i j y u o shown
         (accounted_given n m b j y fresh.1 ready.accounted) (built_given n m b j y fresh.1 ready.built fresh.0) slot named stood stood
-        (record { row = λ v. refl; given_context = λ z e. e; given_ephemeral = λ z e. e })
-        (record { row = λ v. refl; given_context = λ z e. given_still true y b.given_context z e; given_ephemeral = λ z e. e })
+        (record { row = λ v. refl; used_context = λ z e. e; used_ephemeral = λ z e. e })
+        (record { row = λ v. refl; used_context = λ z e. given_still true y b.used_context z e; used_ephemeral = λ z e. e })
         (λ z. refl) (λ v w first second. refl) (λ v other mine. mine)
         (with_at_here n.contexts j (Some y)) (entered_fresh own n m b j y ready.built fresh.1)
         (λ s. refl) (λ k. free_as_before (with_at c.context j Live k) (stands_in (with_of c.spot (termination.Line i) (In j)) k))

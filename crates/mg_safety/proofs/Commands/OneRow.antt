@@ -15,8 +15,8 @@ use Rattle.mg_safety.proofs.Invariant.Shown.{Naming, IsAccounted, Owner, owned_a
 -- the row of u became r, and nothing that was given is taken back
 pub record HasOneRow (b after : Board) (u : TermId) (r : Row) : Type 0 where
   pub row : (v : TermId) → after.row v ≡ (if same_term v u then Some r else b.row v)
-  pub given_context : (x : ℕ) → b.given_context x ≡ true → after.given_context x ≡ true
-  pub given_ephemeral : (x : ℕ) → b.given_ephemeral x ≡ true → after.given_ephemeral x ≡ true
+  pub used_context : (x : ℕ) → b.used_context x ≡ true → after.used_context x ≡ true
+  pub used_ephemeral : (x : ℕ) → b.used_ephemeral x ≡ true → after.used_ephemeral x ≡ true
 
 module _ (b after : Board) (u : TermId) (r : Row) (one : HasOneRow b after u r) where
   pub row_here : (v : TermId) → same_term v u ≡ true → after.row v ≡ Some r
@@ -32,24 +32,24 @@ module _ (b after : Board) (u : TermId) (r : Row) (one : HasOneRow b after u r) 
       go true e = ap is_some (row_here v e) ∙ sym (ap (λ t. exists b t) (same_term_is v u e) ∙ stood)
       go false e = ap is_some (row_elsewhere v e)
 
-  pub accounted_after : IsAccounted b → ((x : ℕ) → u ≡ Eph x → after.given_ephemeral x ≡ true)
-      → ((r.place.0 ≡ 0 → ⊥) → after.given_context r.place.0 ≡ true) → IsAccounted after
+  pub accounted_after : IsAccounted b → ((x : ℕ) → u ≡ Eph x → after.used_ephemeral x ≡ true)
+      → ((r.place.0 ≡ 0 → ⊥) → after.used_context r.place.0 ≡ true) → IsAccounted after
   accounted_after accounted ephemeral context = record {
     ephemerals = λ x. ephemerals x (same_term (Eph x) u) refl;
     contexts = λ t. contexts t (same_term t u) refl;
   }
     where
-      ephemerals : (x : ℕ) (p : Bool) → same_term (Eph x) u ≡ p → exists after (Eph x) ≡ true → after.given_ephemeral x ≡ true
+      ephemerals : (x : ℕ) (p : Bool) → same_term (Eph x) u ≡ p → exists after (Eph x) ≡ true → after.used_ephemeral x ≡ true
       ephemerals x true e stands = ephemeral x (sym (same_term_is (Eph x) u e))
-      ephemerals x false e stands = one.given_ephemeral x (accounted.ephemerals x (sym (ap is_some (row_elsewhere (Eph x) e)) ∙ stands))
+      ephemerals x false e stands = one.used_ephemeral x (accounted.ephemerals x (sym (ap is_some (row_elsewhere (Eph x) e)) ∙ stands))
 
-      contexts : (t : TermId) (p : Bool) → same_term t u ≡ p → (place_of after t ≡ 0 → ⊥) → after.given_context (place_of after t) ≡ true
+      contexts : (t : TermId) (p : Bool) → same_term t u ≡ p → (place_of after t ≡ 0 → ⊥) → after.used_context (place_of after t) ≡ true
       contexts t true e stands =
           let at : place_of after t ≡ r.place.0 = ap place_in (row_here t e) in
-          ap after.given_context at ∙ context (λ null. stands (at ∙ null))
+          ap after.used_context at ∙ context (λ null. stands (at ∙ null))
       contexts t false e stands =
           let at : place_of after t ≡ place_of b t = ap place_in (row_elsewhere t e) in
-          ap after.given_context at ∙ one.given_context (place_of b t) (accounted.contexts t (λ null. stands (at ∙ null)))
+          ap after.used_context at ∙ one.used_context (place_of b t) (accounted.contexts t (λ null. stands (at ∙ null)))
 
   -- what a name that is in force no more names stays away, where the changed row stands in no such context
   pub built_as_before : (n m : Naming) → AreBuilt n m b → exists b u ≡ true
@@ -58,10 +58,10 @@ module _ (b after : Board) (u : TermId) (r : Row) (one : HasOneRow b after u r) 
     lines = built.lines;
     context = built.context;
     context_lost = λ j x bound lost there. lost_context j x bound lost there.0 there.1.0 (same_term there.1.0 u) refl there.1.1;
-    context_real = λ j x bound. let real = built.context_real j x bound in (real.0, one.given_context x real.1);
+    context_real = λ j x bound. let real = built.context_real j x bound in (real.0, one.used_context x real.1);
     ephemeral = built.ephemeral;
     ephemeral_lost = λ k x bound lost. exists_as_before stood (Eph x) ∙ built.ephemeral_lost k x bound lost;
-    ephemeral_given = λ k x bound. one.given_ephemeral x (built.ephemeral_given k x bound);
+    ephemeral_given = λ k x bound. one.used_ephemeral x (built.ephemeral_given k x bound);
   }
     where
       lost_context : (j x : ℕ) → m.contexts j ≡ Some x → n.contexts j ≡ None → (x ≡ 0 → ⊥) → (t : TermId) (p : Bool) → same_term t u ≡ p
@@ -75,13 +75,13 @@ module _ (b after : Board) (u : TermId) (r : Row) (one : HasOneRow b after u r) 
   pub changes_as_owned : (own : Owner) → owned_at own after u ≡ true
       → ((v w : TermId) → same_term v u ≡ false → same_term w u ≡ false → after.cut v w ≡ b.cut v w)
       → ((v : TermId) → same_term v u ≡ false → owned_at own after v ≡ true → owned_at own b v ≡ true)
-      → ((r.place.0 ≡ 0 → ⊥) → ((w : TermId) × (owned_at own b w ≡ true) × (place_of b w ≡ r.place.0)) ⊎ (b.given_context r.place.0 ≡ false))
-      → (exists b u ≡ true) ⊎ ((x : ℕ) × (u ≡ Eph x) × (b.given_ephemeral x ≡ false)) → ChangesOwned own b after
+      → ((r.place.0 ≡ 0 → ⊥) → ((w : TermId) × (owned_at own b w ≡ true) × (place_of b w ≡ r.place.0)) ⊎ (b.used_context r.place.0 ≡ false))
+      → (exists b u ≡ true) ⊎ ((x : ℕ) × (u ≡ Eph x) × (b.used_ephemeral x ≡ false)) → ChangesOwned own b after
   changes_as_owned own mine cuts back stood existed = record {
     row = λ t other. row_elsewhere t (another t other);
     cut = λ t v first second. cuts t v (another t first) (another v second);
-    given_context = one.given_context;
-    given_ephemeral = one.given_ephemeral;
+    used_context = one.used_context;
+    used_ephemeral = one.used_ephemeral;
     place = λ t. place t (same_term t u) refl;
     line = λ l. line l existed;
     ephemeral = λ x. ephemeral x (same_term (Eph x) u) refl existed;
@@ -95,23 +95,23 @@ module _ (b after : Board) (u : TermId) (r : Row) (one : HasOneRow b after u r) 
           go false e = refl
 
       place : (t : TermId) (p : Bool) → same_term t u ≡ p → owned_at own after t ≡ true → (place_of after t ≡ 0 → ⊥)
-          → ((w : TermId) × (owned_at own b w ≡ true) × (place_of b w ≡ place_of after t)) ⊎ (b.given_context (place_of after t) ≡ false)
+          → ((w : TermId) × (owned_at own b w ≡ true) × (place_of b w ≡ place_of after t)) ⊎ (b.used_context (place_of after t) ≡ false)
       place t true e owned there =
           let at : place_of after t ≡ r.place.0 = ap place_in (row_here t e) in
           elim (stood (λ null. there (at ∙ null))) [
             | inl w ↦ inl (w.0, w.1, w.2 ∙ sym at)
-            | inr fresh ↦ inr (ap b.given_context at ∙ fresh)
+            | inr fresh ↦ inr (ap b.used_context at ∙ fresh)
           ]
       place t false e owned there = inl (t, back t e owned, sym (ap place_in (row_elsewhere t e)))
 
-      line : (l : ℕ) → (exists b u ≡ true) ⊎ ((x : ℕ) × (u ≡ Eph x) × (b.given_ephemeral x ≡ false))
+      line : (l : ℕ) → (exists b u ≡ true) ⊎ ((x : ℕ) × (u ≡ Eph x) × (b.used_ephemeral x ≡ false))
           → exists after (Line (record { 0 = l })) ≡ exists b (Line (record { 0 = l }))
       line l (inl stands) = exists_as_before stands (Line (record { 0 = l }))
       line l (inr new) = ap is_some (row_elsewhere (Line (record { 0 = l })) (ap (same_term (Line (record { 0 = l }))) new.1))
 
-      ephemeral : (x : ℕ) (p : Bool) → same_term (Eph x) u ≡ p → (exists b u ≡ true) ⊎ ((y : ℕ) × (u ≡ Eph y) × (b.given_ephemeral y ≡ false))
-          → exists after (Eph x) ≡ true → (exists b (Eph x) ≡ true) ⊎ (b.given_ephemeral x ≡ false)
+      ephemeral : (x : ℕ) (p : Bool) → same_term (Eph x) u ≡ p → (exists b u ≡ true) ⊎ ((y : ℕ) × (u ≡ Eph y) × (b.used_ephemeral y ≡ false))
+          → exists after (Eph x) ≡ true → (exists b (Eph x) ≡ true) ⊎ (b.used_ephemeral x ≡ false)
       ephemeral x false e existed stands = inl (sym (ap is_some (row_elsewhere (Eph x) e)) ∙ stands)
       ephemeral x true e (inl before) stands = inl (sym (exists_as_before before (Eph x)) ∙ stands)
       ephemeral x true e (inr new) stands =
-          inr (ap b.given_ephemeral (eqb-true x new.0 (sym (ap (same_term (Eph x)) new.1) ∙ e)) ∙ new.2)
+          inr (ap b.used_ephemeral (eqb-true x new.0 (sym (ap (same_term (Eph x)) new.1) ∙ e)) ∙ new.2)

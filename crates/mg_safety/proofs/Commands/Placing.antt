@@ -111,7 +111,7 @@ module _ (script : Script) (owned : TermId → Bool) (n : Naming) (b after : Boa
 
   remote_as_before : (value : Remote) (o : Option ℕ) → RemoteReads b n value o → RemoteReads after n value o
   remote_as_before Unset o reads = reads
-  remote_as_before Gone o reads = (reads.0, reads.1, existing (Eph reads.0) ∙ reads.2, one.given_ephemeral reads.0 reads.3)
+  remote_as_before Gone o reads = (reads.0, reads.1, existing (Eph reads.0) ∙ reads.2, one.used_ephemeral reads.0 reads.3)
   remote_as_before (To i) o reads = reads
 
   remote : (k : ℕ) → k < length script.ephemerals → (p : Bool) → is_same (termination.Ephemeral k) t ≡ p
@@ -141,7 +141,7 @@ module _ (script : Script) (owned : TermId → Bool) (n : Naming) (b after : Boa
     line_stands = λ i named. existing (Line (record { 0 = n.lines i })) ∙ shown.line_stands i named;
     line_owned = shown.line_owned;
     line_once = shown.line_once;
-    context_real = λ j x bound. let real = shown.context_real j x bound in (real.0, one.given_context x real.1);
+    context_real = λ j x bound. let real = shown.context_real j x bound in (real.0, one.used_context x real.1);
     context_once = shown.context_once;
     members = λ j x v. members j x v (same_term v u) refl;
     ephemeral_slot = shown.ephemeral_slot;

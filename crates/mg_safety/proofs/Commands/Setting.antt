@@ -179,7 +179,7 @@ PeerInForce n m (Some (Peer k)) = (x : ℕ) × (m.ephemerals k ≡ Some x) × (n
 
 -- a Remote that reads as before where the same ephemerals exist and were given
 read_as_before : (n : Naming) (b after : Board) → ((y : ℕ) → exists after (Eph y) ≡ exists b (Eph y))
-    → ((y : ℕ) → after.given_ephemeral y ≡ b.given_ephemeral y) → (value : Remote) (o : Option ℕ) → RemoteReads b n value o
+    → ((y : ℕ) → after.used_ephemeral y ≡ b.used_ephemeral y) → (value : Remote) (o : Option ℕ) → RemoteReads b n value o
     → RemoteReads after n value o
 read_as_before n b after existing given Unset o reads = reads
 read_as_before n b after existing given Gone o reads = (reads.0, reads.1, existing reads.0 ∙ reads.2, given reads.0 ∙ reads.3)
@@ -196,7 +196,7 @@ remote_reads n m after (Some (Peer k)) value was peer reads = (peer.0, ap (λ o.
 pub ephemeral_set : (script : Script) (owned : TermId → Bool) (n m : Naming) (b after : Board) (c next : Configuration) (k x p : ℕ)
     (o : EphemeralOptions) (mode : Mode) (remote : Option ℕ) → Shown script owned n b c → k < length script.ephemerals → n.ephemerals k ≡ Some x
     → mode_of b (Eph x) ≡ mode → remote_of b (Eph x) ≡ remote → PeerInForce n m o.remote
-    → ((y : ℕ) → exists after (Eph y) ≡ exists b (Eph y)) → ((y : ℕ) → after.given_ephemeral y ≡ b.given_ephemeral y)
+    → ((y : ℕ) → exists after (Eph y) ≡ exists b (Eph y)) → ((y : ℕ) → after.used_ephemeral y ≡ b.used_ephemeral y)
     → ((s : Termination) → next.mode s ≡ with_of c.mode (termination.Ephemeral k) (unwrap_or o.mode (c.mode (termination.Ephemeral k))) s)
     → ((i : ℕ) → next.remote i ≡ with_at c.remote k (effects.remote_set o.remote (c.remote k)) i)
     → ((s v : Termination) → IsSlot script s → IsSlot script v → next.cut s v ≡ cut_on after (term_of n s) (term_of n v))

@@ -133,8 +133,8 @@ changes_after : (own : Owner) (b : Board) (v w : TermId) (forward backward : Boo
 changes_after own b v w forward backward first second = record {
   row = λ t other. refl;
   cut = λ t u other also. cut_unset own b v w forward backward first second t u (sym (same_owner own b v w forward backward t) ∙ other);
-  given_context = λ x is. is;
-  given_ephemeral = λ x is. is;
+  used_context = λ x is. is;
+  used_ephemeral = λ x is. is;
   place = λ t mine away. inl (t, sym (same_owner own b v w forward backward t) ∙ mine, refl);
   line = λ l. refl;
   ephemeral = λ x is. inl is;
@@ -169,8 +169,8 @@ topology_carried j t u topology script ok own n m b c after done ready executed 
     let owned : TermId → Bool = owned_at own b in
     let slot = ready.declared.1 in
     let slot_also = ready.declared.2 in
-    let mine : owned v ≡ true = name_owned script owned n b c ready.shown t slot v named in
-    let mine_also : owned w ≡ true = name_owned script owned n b c ready.shown u slot_also w named_also in
+    let mine : owned v ≡ true = name_owned script owned n ready.shown.line_owned ready.shown.ephemeral_owned t slot v named in
+    let mine_also : owned w ≡ true = name_owned script owned n ready.shown.line_owned ready.shown.ephemeral_owned u slot_also w named_also in
     let cuts : after ≡ set_both b v w (cuts_forward topology) (cuts_backward topology) = executed.effect_is
     ∙ ap (λ forward. set_both b v w forward (not (first_receives topology))) (forward_is topology)
     ∙ ap (set_both b v w (cuts_forward topology)) (backward_is topology) in

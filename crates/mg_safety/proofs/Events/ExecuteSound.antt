@@ -54,12 +54,12 @@ unfolding world_with
 first_sound run shown agree lost script entries is_script closed w request refusal after sound there f =
     let x = f.executed in
     let h = has_run run script entries is_script closed w request refusal f.gateway f.answer f.sent sound there x in
-    let is : after ≡ world_after w request x.end x.failure =
-    f.after_is ∙ same_world w f.gateway (after_request w.gateway request x.end x.failure) f.answer (reply_of request x.end x.failure) f.sent
+    let is : after ≡ world_after w request x.end x.settled x.failure =
+    f.after_is ∙ same_world w f.gateway (after_request w.gateway request x.end x.settled x.failure) f.answer (reply_of request x.end x.failure) f.sent
     (sent_notes request.call request.association (w.gateway.link request.call).notes x.end.notes) x.after_is x.reply_is x.notes_are in
     subst (IsSound script entries) (sym is) (record {
-      gateway = gateway_after script entries w request x.end x.failure sound h;
-      calls = calls_after script entries w request x.end x.failure sound h shown agree lost;
+      gateway = gateway_after script entries w request x.end x.settled x.failure sound h x.is_settled;
+      calls = calls_after script entries w request x.end x.settled x.failure sound h x.is_settled shown agree lost;
     })
 
 -- ---- its reply is sent once more
@@ -77,7 +77,8 @@ repeat_sound script entries w request after sound r =
     subst (IsSound script entries) (sym r.after_is) (record {
       gateway = record {
         accounted = g.accounted;
-        creator_given = g.creator_given;
+        creator_stands = g.creator_stands;
+        apart = g.apart;
         created = g.created;
         unheld = g.unheld;
         held = g.held;

@@ -1,14 +1,15 @@
 -- The gateway after a request was executed, and the messages that were sent: what was created is the call's, what its lines expect is bounded by
 -- the request's number, and its reply is the kept one.
-use Rattle.std.proofs.Common.{◌≡◌, ◌∙◌, ◌+◌, ◌<◌, ◌≤◌, ℕ, Bool, true, false, List, [], ◌∷◌, Option, Some, None, refl, sym, ap, subst, arith, inl, inr}
+use Rattle.std.proofs.Common.{◌≡◌, ◌∙◌, ◌+◌, ◌<◌, ◌≤◌, ℕ, Bool, true, false, List, [], ◌∷◌, Option, Some, None, is_some, refl, sym, ap, subst, arith, inl, inr}
 use Rattle.std.proofs.lemmas.Bool.{eqb-true, eqb-false}
 use Rattle.std.proofs.lemmas.List.Elements.{Contains-append_left, Contains-append_right, Contains-append_cases}
 use Rattle.std.specs.Prelude.{◌==◌, if◌then◌else◌, Contains, unwrap_or, ◌⊎◌}
 use Rattle.mg_model.specs.declared.failures.Failure.{Failure}
+use Rattle.mg_names.specs.declared.identifiers.TermId.{TermId}
 use Rattle.mg_names.specs.declared.identifiers.TermId.TheVariants.{Line, Eph}
 use Rattle.mg_model.specs.declared.rows.Row.{Row}
-use Rattle.mg_model.specs.Agent.{Agent}
-use Rattle.mg_model.specs.Board.{exists}
+use Rattle.mg_model.specs.Agent.{Agent, after_results, built_by}
+use Rattle.mg_model.specs.Board.{Board, exists, place_of, place_in, remote_of, remote_in, IsSettled}
 use Rattle.mg_model.specs.Entries.{Entry}
 use Rattle.mg_model.specs.Gateway.{CallLink, last_executed, number_of, reply_of, after_request, creator_after, sent_notes}
 use Rattle.mg_model.specs.LineEvents.{LineRow, Note}
@@ -18,11 +19,12 @@ use Rattle.mg_model.specs.Script.{Script}
 use Rattle.mg_model.specs.World.{World}
 use Rattle.mg_model.proofs.Single.{only_one}
 use Rattle.mg_safety.proofs.Events.Others.{is_call_of}
+use Rattle.mg_safety.proofs.Events.StayApart.{stay_apart}
 use Rattle.mg_model.proofs.Cases.{none_is_some}
-use Rattle.mg_safety.proofs.Invariant.Shown.{list_raises}
+use Rattle.mg_safety.proofs.Invariant.Shown.{naming, IsAccounted, list_raises}
 use Rattle.mg_safety.proofs.Invariant.Sound.{is_call, IsReplySound, IsNoteStanding, IsNoteSound, GatewayIsSound, IsSound}
-use Rattle.mg_safety.proofs.Invariant.Statements.{LineGoes}
-use Rattle.mg_safety.proofs.Events.Executing.{not_call_of, HasRun, link_own, link_other, executed_own, executed_other, executed_more}
+use Rattle.mg_safety.proofs.Invariant.Statements.{IsOwnChange, LineGoes}
+use Rattle.mg_safety.proofs.Events.Executing.{not_call_of, HasRun, link_own, link_other, executed_own, executed_other, executed_more, run_changes}
 use Rattle.mg_safety.proofs.Events.ExecutedCalls.{world_after}
 
 -- ---- notes that a request sends
@@ -64,20 +66,18 @@ sent_from call association count (n ∷ more) sent there =
 
 -- ---- ephemerals
 
--- whose an ephemeral is afterwards: its creator was that before, or it is new and of the call
-creator_cases : (before after : Bool) (was : Option ℕ) (call one : ℕ) → (if after then (if before then was else Some call) else was) ≡ Some one
-    → (was ≡ Some one) ⊎ (after ≡ true)
-creator_cases before true was call one e = inr refl
-creator_cases before false was call one e = inl e
+-- whose an ephemeral is afterwards: what doesn't stand is nobody's; what stood before is whose it was; else it is the call's
+stands_if : (stands before : Bool) (was : Option ℕ) (call one : ℕ) → (if stands then (if before then was else Some call) else None) ≡ Some one → stands ≡ true
+stands_if true before was call one e = refl
+stands_if false before was call one e = absurd (none_is_some one e)
 
-creator_old : (before after : Bool) (was : Option ℕ) (call one : ℕ) → was ≡ Some one → before ≡ true
-    → (if after then (if before then was else Some call) else was) ≡ Some one
-creator_old before true was call one is given = ap (λ (p : Bool). if p then was else Some call) given ∙ is
-creator_old before false was call one is given = is
+creator_old : (stands before : Bool) (was : Option ℕ) (call one : ℕ) → stands ≡ true → before ≡ true → was ≡ Some one
+    → (if stands then (if before then was else Some call) else None) ≡ Some one
+creator_old stands before was call one there given is = rw (there, given) is
 
-creator_new : (before after : Bool) (was : Option ℕ) (call : ℕ) → before ≡ false → after ≡ true
-    → (if after then (if before then was else Some call) else was) ≡ Some call
-creator_new before after was call fresh given = rw (fresh, given) refl
+creator_new : (stands before : Bool) (was : Option ℕ) (call : ℕ) → stands ≡ true → before ≡ false
+    → (if stands then (if before then was else Some call) else None) ≡ Some call
+creator_new stands before was call there fresh = rw (there, fresh) refl
 
 -- ---- what was sent before
 
@@ -98,65 +98,83 @@ bounded row after number q bound (inr (inl emptied)) is within above = absurd (n
 bounded row after number q bound (inr (inr stays)) is within above =
     let old : q ≤ bound = within (sym stays.1 ∙ is) in omega (arith, old, above)
 
-module _ (script : Script) (entries : List Entry) (w : World) (request : Request) (end : Running) (failure : Option Failure)
-    (sound : IsSound script entries w) (h : HasRun script entries w request end failure) where
+module _ (script : Script) (entries : List Entry) (w : World) (request : Request) (end : Running) (settled : Board) (failure : Option Failure)
+    (sound : IsSound script entries w) (h : HasRun script entries w request end failure) (is_settled : IsSettled end.board settled) where
   other_line : (l call : ℕ) → w.gateway.holder l ≡ Some call → (call ≡ request.call → ⊥) → end.line l ≡ w.gateway.line l
   other_line l call held apart = h.run.other_lines l (not_call_of (w.gateway.holder l) call h.agent.call held (λ e. apart (e ∙ h.call)))
 
   -- ---- ephemerals and lines
 
-  given_kept : (x : ℕ) → w.gateway.board.given_ephemeral x ≡ true → end.board.given_ephemeral x ≡ true
-  given_kept = h.run.changes.given_ephemeral
+  settled_row : (t : TermId) → settled.row t ≡ end.board.row t
+  settled_row t = ap (λ (rows : TermId → Option Row). rows t) is_settled.row
 
-  creator_given : (x call : ℕ) → creator_after w.gateway request end x ≡ Some call → end.board.given_ephemeral x ≡ true
-  creator_given x call is = elim (creator_cases (w.gateway.board.given_ephemeral x) (end.board.given_ephemeral x) (w.gateway.creator x) request.call call is) [
-    | inl was ↦ given_kept x (sound.gateway.creator_given x call was)
-    | inr given ↦ given
-  ]
+  settled_stands : (t : TermId) → exists settled t ≡ exists end.board t
+  settled_stands t = ap is_some (settled_row t)
 
-  created : (x : ℕ) → exists end.board (Eph x) ≡ true → (call : ℕ) × (a : Agent) × (creator_after w.gateway request end x ≡ Some call) × (w.agent call ≡ Some a)
-  created x stands = elim (h.run.changes.ephemeral x stands) [
+  creator_stands : (x call : ℕ) → creator_after w.gateway request end x ≡ Some call → exists settled (Eph x) ≡ true
+  creator_stands x call is = settled_stands (Eph x)
+      ∙ stands_if (exists end.board (Eph x)) (w.gateway.board.used_ephemeral x) (w.gateway.creator x) request.call call is
+
+  created : (x : ℕ) → exists settled (Eph x) ≡ true → (call : ℕ) × (a : Agent) × (creator_after w.gateway request end x ≡ Some call) × (w.agent call ≡ Some a)
+  created x there = let stands : exists end.board (Eph x) ≡ true = sym (settled_stands (Eph x)) ∙ there in elim (h.run.changes.ephemeral x stands) [
     | inl before ↦ (let was = sound.gateway.created x before in (
       was.0,
       was.1,
-      creator_old (w.gateway.board.given_ephemeral x) (end.board.given_ephemeral x) (w.gateway.creator x) request.call was.0 was.2
-          (sound.gateway.creator_given x was.0 was.2),
+      creator_old (exists end.board (Eph x)) (w.gateway.board.used_ephemeral x) (w.gateway.creator x) request.call was.0 stands
+          (sound.gateway.accounted.ephemerals x before) was.2,
       was.3,
     ))
     | inr fresh ↦ (
       request.call,
       h.agent,
-      creator_new (w.gateway.board.given_ephemeral x) (end.board.given_ephemeral x) (w.gateway.creator x) request.call
-          fresh (h.run.accounted.ephemerals x stands),
+      creator_new (exists end.board (Eph x)) (w.gateway.board.used_ephemeral x) (w.gateway.creator x) request.call stands fresh,
       h.open_call,
     )
   ]
 
-  unheld : (l : ℕ) (row : Row) → w.gateway.holder l ≡ None → end.board.row (Line (record { 0 = l })) ≡ Some row → row.place.0 ≡ 0
+  settled_accounted : IsAccounted settled
+  settled_accounted = record {
+    ephemerals = λ x there. is_settled.ephemerals x ∙ (sym (settled_stands (Eph x)) ∙ there);
+    contexts = λ t elsewhere.
+        let same : place_of settled t ≡ place_of end.board t = ap place_in (settled_row t) in
+        (is_settled.contexts (place_of settled t)).1 (elsewhere, (t, sym same));
+  }
+
+  apart_after : (x y one other : ℕ) → creator_after w.gateway request end x ≡ Some one → creator_after w.gateway request end y ≡ Some other → (one ≡ other → ⊥)
+      → remote_of settled (Eph x) ≡ Some y → remote_of settled (Eph y) ≡ Some x → ⊥
+  apart_after x y one other of_one of_other differ there back =
+      let own = subst (IsOwnChange w.gateway end.board (after_request w.gateway request end settled failure)) (sym h.call)
+      (run_changes script entries w request end settled failure sound.gateway h is_settled) in
+      let names = naming (after_results h.agent (built_by script h.agent h.agent.state) end.results request.number) in
+      stay_apart script w.gateway end.board (after_request w.gateway request end settled failure) h.agent.call own h.run.accounted names h.run.c h.run.shown
+      sound.gateway.apart x y one other (sym (settled_stands (Eph x)) ∙ creator_stands x one of_one) (sym (settled_stands (Eph y)) ∙ creator_stands y other of_other)
+      of_one of_other differ (ap remote_in (sym (settled_row (Eph x))) ∙ there) (ap remote_in (sym (settled_row (Eph y))) ∙ back)
+
+  unheld : (l : ℕ) (row : Row) → w.gateway.holder l ≡ None → settled.row (Line (record { 0 = l })) ≡ Some row → row.place.0 ≡ 0
   unheld l row free is = sound.gateway.unheld l row free
-      (sym (h.run.changes.row (Line (record { 0 = l })) (ap (λ (o : Option ℕ). is_call o h.agent.call) free)) ∙ is)
+      (sym (h.run.changes.row (Line (record { 0 = l })) (ap (λ (o : Option ℕ). is_call o h.agent.call) free)) ∙ (sym (settled_row (Line (record { 0 = l }))) ∙ is))
 
   request_ids : (l call q : ℕ) → w.gateway.holder l ≡ Some call → (end.line l).request ≡ Some q
-      → q ≤ last_executed (after_request w.gateway request end failure) call
+      → q ≤ last_executed (after_request w.gateway request end settled failure) call
   request_ids l call q held is = go (call == request.call) refl
     where
-      go : (same : Bool) → (call == request.call) ≡ same → q ≤ last_executed (after_request w.gateway request end failure) call
+      go : (same : Bool) → (call == request.call) ≡ same → q ≤ last_executed (after_request w.gateway request end settled failure) call
       go true e =
           let one : call ≡ request.call = eqb-true call request.call e in
-          let own : last_executed (after_request w.gateway request end failure) call ≡ request.number =
-          ap (last_executed (after_request w.gateway request end failure)) one ∙ executed_own w.gateway request end failure in
+          let own : last_executed (after_request w.gateway request end settled failure) call ≡ request.number =
+          ap (last_executed (after_request w.gateway request end settled failure)) one ∙ executed_own w.gateway request end settled failure in
           let below : q ≤ request.number = bounded (w.gateway.line l) (end.line l) request.number q (last_executed w.gateway request.call)
           (h.run.own_lines l) is (sound.gateway.request_ids l request.call q (held ∙ ap Some one)) h.newer in
           omega (arith, own, below)
       go false e =
           let apart = eqb-false call request.call e in
-          let same = executed_other w.gateway request end failure call apart in
+          let same = executed_other w.gateway request end settled failure call apart in
           let below = sound.gateway.request_ids l call q held (ap (λ (row : LineRow). row.request) (sym (other_line l call held apart)) ∙ is) in
           omega (arith, same, below)
 
   -- ---- replies
 
-  kept : (call : ℕ) (answer : Reply) → ((after_request w.gateway request end failure).link call).last ≡ Some answer
+  kept : (call : ℕ) (answer : Reply) → ((after_request w.gateway request end settled failure).link call).last ≡ Some answer
       → (answer.call ≡ call) × (answer.association ≡ w.gateway.association)
   kept call answer is = go (call == request.call) refl
     where
@@ -164,12 +182,12 @@ module _ (script : Script) (entries : List Entry) (w : World) (request : Request
       go true e =
           let one : call ≡ request.call = eqb-true call request.call e in
           let the_answer : reply_of request end failure ≡ answer = ap (λ (o : Option Reply). unwrap_or o answer)
-          (sym (ap (λ n. ((after_request w.gateway request end failure).link n).last) one ∙ link_own w.gateway request end failure) ∙ is) in
+          (sym (ap (λ n. ((after_request w.gateway request end settled failure).link n).last) one ∙ link_own w.gateway request end settled failure) ∙ is) in
           (sym (ap (λ (r : Reply). r.call) the_answer) ∙ sym one, sym (ap (λ (r : Reply). r.association) the_answer) ∙ h.association)
       go false e = sound.gateway.kept call answer
-          (ap (λ (x : CallLink). x.last) (sym (link_other w.gateway request end failure call (eqb-false call request.call e))) ∙ is)
+          (ap (λ (x : CallLink). x.last) (sym (link_other w.gateway request end settled failure call (eqb-false call request.call e))) ∙ is)
 
-  reply_after : (answer : Reply) → IsReplySound w.gateway answer → IsReplySound (after_request w.gateway request end failure) answer
+  reply_after : (answer : Reply) → IsReplySound w.gateway answer → IsReplySound (after_request w.gateway request end settled failure) answer
   reply_after answer old = record {
     association = old.association;
     kept = λ present. go (old.kept present) (answer.call == request.call) refl;
@@ -177,37 +195,37 @@ module _ (script : Script) (entries : List Entry) (w : World) (request : Request
     where
       go : ((w.gateway.link answer.call).last ≡ Some answer) ⊎ (answer.number < last_executed w.gateway answer.call)
           → (same : Bool) → (answer.call == request.call) ≡ same
-          → (((after_request w.gateway request end failure).link answer.call).last ≡ Some answer)
-          ⊎ (answer.number < last_executed (after_request w.gateway request end failure) answer.call)
+          → (((after_request w.gateway request end settled failure).link answer.call).last ≡ Some answer)
+          ⊎ (answer.number < last_executed (after_request w.gateway request end settled failure) answer.call)
       go (inl last) true e =
           let one : answer.call ≡ request.call = eqb-true answer.call request.call e in
-          let own : last_executed (after_request w.gateway request end failure) answer.call ≡ request.number =
-          ap (last_executed (after_request w.gateway request end failure)) one ∙ executed_own w.gateway request end failure in
+          let own : last_executed (after_request w.gateway request end settled failure) answer.call ≡ request.number =
+          ap (last_executed (after_request w.gateway request end settled failure)) one ∙ executed_own w.gateway request end settled failure in
           let number : last_executed w.gateway request.call ≡ answer.number = ap (last_executed w.gateway) (sym one) ∙ ap number_of last in
           let newer = h.newer in
           inr (omega (arith, own, number, newer))
       go (inl last) false e = inl (ap (λ (x : CallLink). x.last)
-          (link_other w.gateway request end failure answer.call (eqb-false answer.call request.call e)) ∙ last)
+          (link_other w.gateway request end settled failure answer.call (eqb-false answer.call request.call e)) ∙ last)
       go (inr older) same e =
-          let more = executed_more w.gateway request end failure h.newer answer.call in inr (omega (arith, older, more))
+          let more = executed_more w.gateway request end settled failure h.newer answer.call in inr (omega (arith, older, more))
 
-  reply_new : IsReplySound (after_request w.gateway request end failure) (reply_of request end failure)
+  reply_new : IsReplySound (after_request w.gateway request end settled failure) (reply_of request end failure)
   reply_new = record {
     association = let present = h.association in omega (arith, present);
-    kept = λ present. inl (link_own w.gateway request end failure);
+    kept = λ present. inl (link_own w.gateway request end settled failure);
   }
 
   -- ---- notes
 
   note_new : (sent : SentNote) → Contains (sent_notes request.call request.association (w.gateway.link request.call).notes end.notes) sent
-      → IsNoteSound (after_request w.gateway request end failure) sent
+      → IsNoteSound (after_request w.gateway request end settled failure) sent
   note_new sent there =
       let from : IsSentFrom request.call request.association end.notes sent =
       sent_from request.call request.association (w.gateway.link request.call).notes end.notes sent there in
       let raised = h.run.notes from.line from.note from.among in
       let number : sent.note.request ≡ request.number = ap (λ (n : Note). n.request) from.note_is ∙ raised.1 in
-      let own : last_executed (after_request w.gateway request end failure) sent.call ≡ request.number =
-      ap (last_executed (after_request w.gateway request end failure)) from.of_call ∙ executed_own w.gateway request end failure in
+      let own : last_executed (after_request w.gateway request end settled failure) sent.call ≡ request.number =
+      ap (last_executed (after_request w.gateway request end settled failure)) from.of_call ∙ executed_own w.gateway request end settled failure in
       record {
         association = let of = from.of_association in let present = h.association in omega (arith, of, present);
         standing = λ present. record {
@@ -220,13 +238,13 @@ module _ (script : Script) (entries : List Entry) (w : World) (request : Request
         };
       }
 
-  note_after : (sent : SentNote) → IsNoteSound w.gateway sent → IsNoteSound (after_request w.gateway request end failure) sent
+  note_after : (sent : SentNote) → IsNoteSound w.gateway sent → IsNoteSound (after_request w.gateway request end settled failure) sent
   note_after sent old = record {
     association = old.association;
     standing = λ present. record {
       held = (old.standing present).held;
       number = let below = (old.standing present).number in
-          let more = executed_more w.gateway request end failure h.newer sent.call in omega (arith, below, more);
+          let more = executed_more w.gateway request end settled failure h.newer sent.call in omega (arith, below, more);
       raised = λ is. go (old.standing present) is (sent.call == request.call) refl;
     };
   }
@@ -245,10 +263,11 @@ module _ (script : Script) (entries : List Entry) (w : World) (request : Request
           ap (λ (row : LineRow). list_raises row.list sent.note.kind) same
           ∙ was.raised (ap (λ (row : LineRow). row.request) (sym same) ∙ is)
 
-  pub gateway_after : GatewayIsSound script (world_after w request end failure)
+  pub gateway_after : GatewayIsSound script (world_after w request end settled failure)
   gateway_after = record {
-    accounted = h.run.accounted;
-    creator_given = creator_given;
+    accounted = settled_accounted;
+    creator_stands = creator_stands;
+    apart = apart_after;
     created = created;
     unheld = unheld;
     held = sound.gateway.held;
@@ -256,7 +275,7 @@ module _ (script : Script) (entries : List Entry) (w : World) (request : Request
     request_ids = request_ids;
     requests = sound.gateway.requests;
     replies = λ answer there. elim (Contains-append_cases (reply_of request end failure ∷ []) w.replies answer there) [
-      | inl new ↦ subst (IsReplySound (after_request w.gateway request end failure)) (only_one (reply_of request end failure) answer new) reply_new
+      | inl new ↦ subst (IsReplySound (after_request w.gateway request end settled failure)) (only_one (reply_of request end failure) answer new) reply_new
       | inr before ↦ reply_after answer (sound.gateway.replies answer before)
     ];
     notes = λ sent there. elim (Contains-append_cases

@@ -6,6 +6,7 @@ use Rattle.mg_model.specs.declared.failures.ChosenRefusal.{ChosenRefusal}
 use Rattle.mg_model.specs.declared.failures.Failure.{Failure}
 use Rattle.mg_names.specs.declared.phases.LinkPhase.TheVariants.{Sent}
 use Rattle.mg_model.specs.Agent.{Agent, awaits_reply}
+use Rattle.mg_model.specs.Board.{Board, IsSettled}
 use Rattle.mg_model.specs.Entries.{Entry}
 use Rattle.mg_model.specs.Gateway.{Gateway, CallLink, last_executed, number_of, start_of, reply_of, after_request}
 use Rattle.mg_model.specs.Messages.{Request, RequestCommand}
@@ -14,7 +15,7 @@ use Rattle.mg_model.specs.Script.{Script}
 use Rattle.mg_model.specs.World.{World}
 use Rattle.mg_model.specs.Accepted.{IsScript}
 use Rattle.mg_model.proofs.Cases.{at_another, at_one}
-use Rattle.mg_safety.proofs.Invariant.Shown.{naming, Shown, LinesShown, IsAccounted, ChangesOwned}
+use Rattle.mg_safety.proofs.Invariant.Shown.{naming, Seen, LinesShown, IsAccounted, ChangesOwned}
 use Rattle.mg_safety.proofs.Invariant.Sound.{is_call, owner_of, owned_in, IsOutstanding, IsAt, IsCurrent, IsLost, IsSentBy, CallIsSound, GatewayIsSound}
 use Rattle.mg_safety.proofs.Invariant.Statements.{IsClosed, IsRunOf, RequestsRun, IsOwnChange}
 use Rattle.mg_safety.proofs.Agents.Entering.{same_request}
@@ -81,7 +82,7 @@ pub due_runs : RequestsRun → (script : Script) (entries : List Entry) → IsSc
 due_runs run script entries is_script closed g a request refusal end failure due accounted runs =
     let k = due.k in
     run script entries is_script closed g a k.c k.stands due.link k.state
-    (subst (λ (x : Agent). Shown script (owned_in g a.call) (naming x) g.board k.c) due.effective k.shown)
+    (subst (λ (x : Agent). Seen script (owned_in g a.call) (naming x) g.board k.c) due.effective k.shown)
     (subst (λ (x : Agent). LinesShown script x g.line k.c) due.effective k.lines_shown)
     accounted request.number refusal end failure
     (subst (λ (commands : List RequestCommand). RunsFrom request.number refusal (start_of g) 0 commands end failure) due.outstanding.commands runs)
@@ -103,40 +104,41 @@ abbrev pub link_made : Gateway → Request → Running → Option Failure → Ca
 link_made g request end failure =
     record { last = Some (reply_of request end failure); notes = (g.link request.call).notes + length end.notes }
 
-module _ (g : Gateway) (request : Request) (end : Running) (failure : Option Failure) where
-  pub link_own : ((after_request g request end failure).link request.call).last ≡ Some (reply_of request end failure)
+module _ (g : Gateway) (request : Request) (end : Running) (settled : Board) (failure : Option Failure) where
+  pub link_own : ((after_request g request end settled failure).link request.call).last ≡ Some (reply_of request end failure)
   link_own = ap (λ (link : CallLink). link.last) (at_one request.call (link_made g request end failure) (g.link request.call))
 
-  pub link_other : (call : ℕ) → (call ≡ request.call → ⊥) → (after_request g request end failure).link call ≡ g.link call
+  pub link_other : (call : ℕ) → (call ≡ request.call → ⊥) → (after_request g request end settled failure).link call ≡ g.link call
   link_other call apart = at_another request.call call (link_made g request end failure) (g.link call) apart
 
-  pub executed_own : last_executed (after_request g request end failure) request.call ≡ request.number
+  pub executed_own : last_executed (after_request g request end settled failure) request.call ≡ request.number
   executed_own = ap number_of link_own
 
-  pub executed_other : (call : ℕ) → (call ≡ request.call → ⊥) → last_executed (after_request g request end failure) call ≡ last_executed g call
+  pub executed_other : (call : ℕ) → (call ≡ request.call → ⊥) → last_executed (after_request g request end settled failure) call ≡ last_executed g call
   executed_other call apart = ap (λ (link : CallLink). number_of link.last) (link_other call apart)
 
-  pub executed_more : last_executed g request.call < request.number → (call : ℕ) → last_executed g call ≤ last_executed (after_request g request end failure) call
+  pub executed_more : last_executed g request.call < request.number → (call : ℕ) → last_executed g call ≤ last_executed (after_request g request end settled failure) call
   executed_more newer call = go (call == request.call) refl
     where
-      go : (same : Bool) → (call == request.call) ≡ same → last_executed g call ≤ last_executed (after_request g request end failure) call
+      go : (same : Bool) → (call == request.call) ≡ same → last_executed g call ≤ last_executed (after_request g request end settled failure) call
       go true e =
           let one : call ≡ request.call = eqb-true call request.call e in
-          let own : last_executed (after_request g request end failure) call ≡ request.number =
-          ap (last_executed (after_request g request end failure)) one ∙ executed_own in
+          let own : last_executed (after_request g request end settled failure) call ≡ request.number =
+          ap (last_executed (after_request g request end settled failure)) one ∙ executed_own in
           let before : last_executed g call ≡ last_executed g request.call = ap (last_executed g) one in
           omega (arith, own, before, newer)
       go false e =
           let other = executed_other call (eqb-false call request.call e) in omega (arith, other)
 
 -- only what the call owns was changed
-pub run_changes : (script : Script) (entries : List Entry) (w : World) (request : Request) (end : Running) (failure : Option Failure)
-    → GatewayIsSound script w → HasRun script entries w request end failure
-    → IsOwnChange w.gateway (after_request w.gateway request end failure) request.call
-run_changes script entries w request end failure sound h = record {
+pub run_changes : (script : Script) (entries : List Entry) (w : World) (request : Request) (end : Running) (settled : Board) (failure : Option Failure)
+    → GatewayIsSound script w → HasRun script entries w request end failure → IsSettled end.board settled
+    → IsOwnChange w.gateway end.board (after_request w.gateway request end settled failure) request.call
+run_changes script entries w request end settled failure sound h is_settled = record {
   changes = subst (λ n. ChangesOwned (owner_of w.gateway n) w.gateway.board end.board) h.call h.run.changes;
+  settled = is_settled;
   holder = refl;
   creator = λ x. refl;
   accounted = sound.accounted;
-  creator_given = sound.creator_given;
+  creator_stands = sound.creator_stands;
 }

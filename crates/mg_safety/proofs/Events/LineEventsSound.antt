@@ -132,7 +132,8 @@ module _ (script : Script) (entries : List Entry) (w : World) (sound : IsSound s
   gateway_sound : GatewayIsSound script after
   gateway_sound = record {
     accounted = sound.gateway.accounted;
-    creator_given = sound.gateway.creator_given;
+    creator_stands = sound.gateway.creator_stands;
+    apart = sound.gateway.apart;
     created = sound.gateway.created;
     unheld = sound.gateway.unheld;
     held = sound.gateway.held;

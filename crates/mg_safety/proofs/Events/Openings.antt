@@ -27,7 +27,7 @@ use Rattle.mg_model.specs.Accepted.{IsSlot}
 use Rattle.mg_safety.proofs.Agents.Entering.{not_resting}
 use Rattle.mg_model.proofs.Cases.{none_is_some, where_true}
 use Rattle.mg_safety.proofs.SmallLaws.OpeningLaws.{all_in_null}
-use Rattle.mg_safety.proofs.Invariant.Shown.{Naming, naming, term_of, row_on, cut_on, number_at, Shown, LinesShown}
+use Rattle.mg_safety.proofs.Invariant.Shown.{Naming, naming, term_of, row_on, cut_on, number_at, Seen, LinesShown}
 use Rattle.mg_safety.proofs.Invariant.Sound.{IsCurrent, CallIsSound, GatewayIsSound, is_call, owned_in}
 use Rattle.mg_safety.proofs.Invariant.Statements.{IsClosed, OpeningsAreSound}
 
@@ -86,7 +86,7 @@ module _ (script : Script) (entries : List Entry) (closed : IsClosed script entr
     cut (termination.Line i) (termination.Ephemeral k) first second = refl
     cut (termination.Ephemeral k) u first second = refl
 
-    shown : Shown script (owned_in w.gateway one.call) names b (opening script)
+    shown : Seen script (owned_in w.gateway one.call) names b (opening script)
     shown = record {
       stands = stands;
       place = place;
@@ -98,9 +98,9 @@ module _ (script : Script) (entries : List Entry) (closed : IsClosed script entr
       line_stands = λ i within. ap is_some (row_is i within);
       line_owned = λ i within. ap (λ h. is_call h one.call) (o.lines.held one there i within) ∙ eq-eqb one.call one.call refl;
       line_once = λ i j first second e. (o.distinct.lines_differ one one there there i j first second e).1;
-      context_real = λ j x e. absurd (none_is_some x e);
+      context_number = λ j x e. absurd (none_is_some x e);
       context_once = λ i j x e other. absurd (none_is_some x e);
-      members = λ j x t e standing. absurd (none_is_some x e);
+      members = λ v j x t slot at e standing. absurd (none_is_some x e);
       ephemeral_slot = λ k x e. absurd (none_is_some x e);
       ephemeral_stands = λ k x e. absurd (none_is_some x e);
       ephemeral_owned = λ k x e. absurd (none_is_some x e);
@@ -179,7 +179,8 @@ module _ (script : Script) (entries : List Entry) (closed : IsClosed script entr
       ephemerals = λ x standing. absurd (true≢false (sym standing ∙ ap is_some (o.gateway.no_ephemeral x)));
       contexts = λ t elsewhere. absurd (elsewhere (all_in_null script calls w o t));
     };
-    creator_given = λ x call e. absurd (none_created x call e);
+    creator_stands = λ x call e. absurd (none_created x call e);
+    apart = λ x y one other e. absurd (none_created x one e);
     created = λ x standing. absurd (true≢false (sym standing ∙ ap is_some (o.gateway.no_ephemeral x)));
     unheld = λ l row free stands. ap (λ (r : Row). r.place.0) (o.lines.others_null l row stands);
     held = held;

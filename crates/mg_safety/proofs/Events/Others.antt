@@ -2,6 +2,7 @@
 use Rattle.std.proofs.Common.{◌≡◌, ◌∙◌, ◌<◌, ℕ, Bool, true, false, Option, Some, None, is_some, length, refl, sym, ap, subst, arith, inl, inr, true≢false, ◌⊎◌}
 use Rattle.std.specs.Prelude.{◌==◌, ◌&&◌, ◌||◌, not, if◌then◌else◌}
 use Rattle.std.proofs.lemmas.Bool.{eqb-true, eq-eqb, or_left, or_right, false_from_ne_true}
+use Rattle.mg_model.specs.declared.components.Spot.TheVariants.{In}
 use Rattle.mg_names.specs.declared.identifiers.TermId.{TermId}
 use Rattle.mg_names.specs.declared.identifiers.TermId.TheVariants.{Line, Eph}
 use Rattle.mg_model.specs.declared.commands.Termination.{Termination}
@@ -17,24 +18,36 @@ use Rattle.mg_model.specs.LineEvents.{LineRow}
 use Rattle.mg_model.specs.Script.{Script}
 use Rattle.mg_model.specs.Accepted.{IsSlot}
 use Rattle.mg_model.proofs.Cases.{not_both, different, some_is_none, the_some}
-use Rattle.mg_safety.proofs.Invariant.Shown.{Naming, Shown, RemoteReads, owned_at, row_on, cut_on, term_of, eph_of}
+use Rattle.mg_safety.proofs.Invariant.Shown.{Naming, Seen, RemoteSeen, owned_at, row_on, cut_on, term_of, eph_of}
 use Rattle.mg_safety.proofs.Invariant.Sound.{is_call, owner_of, owned_in, IsLost}
+use Rattle.mg_safety.proofs.Requests.Starting.{spot_used}
 use Rattle.mg_safety.proofs.Invariant.Statements.{IsOwnChange, OthersStayShown, OwnersAgree}
 
 -- ---- whose a termination is
 
--- the creator after: it is of the changing call if it is one of this request
-made_by : (was : Option ℕ) (call : ℕ) (now before : Bool) (after : Option ℕ)
-    → after ≡ (if now then (if before then was else Some call) else was)
-    → (is_call was call || (now && not before)) ≡ (is_call after call || (now && not now))
-made_by was call true true after e = rw e refl
-made_by was call true false after e = rw e (or_right (is_call was call) true refl ∙ sym (or_left (call == call) false (eq-eqb call call refl)))
-made_by was call false before after e = rw e refl
+-- what a call owns when no request runs it created
+pub created_only : (created given : Bool) → (created || (given && not given)) ≡ created
+created_only true given = refl
+created_only false true = refl
+created_only false false = refl
+
+or_nothing : (p : Bool) → p ≡ (p || false)
+or_nothing true = refl
+or_nothing false = refl
+
+-- whose one that exists is after: the changing call's if it is one of this request
+made_by : (was : Option ℕ) (call : ℕ) (stands now before : Bool) (after : Option ℕ) → after ≡ (if stands then (if before then was else Some call) else None)
+    → stands ≡ true → now ≡ true → is_call after call ≡ (is_call was call || (now && not before))
+made_by was call stands now true after e there used = rw (e, there, used) (or_nothing (is_call was call))
+made_by was call stands now false after e there used =
+    rw (e, there, used) (eq-eqb call call refl ∙ sym (or_right (is_call was call) true refl))
 
 pub owners_agree : OwnersAgree
-owners_agree g after call own (Line l) = ap (λ (h : ℕ → Option ℕ). is_call (h l.0) call) (sym own.holder)
-owners_agree g after call own (Eph x) =
-    made_by (g.creator x) call (after.board.given_ephemeral x) (g.board.given_ephemeral x) (after.creator x) (own.creator x)
+owners_agree g end after call accounted own (Line l) there = ap (λ (h : ℕ → Option ℕ). is_call (h l.0) call) own.holder
+owners_agree g end after call accounted own (Eph x) there =
+    created_only (is_call (after.creator x) call) (after.board.used_ephemeral x)
+    ∙ made_by (g.creator x) call (exists end (Eph x)) (end.used_ephemeral x) (g.board.used_ephemeral x) (after.creator x) (own.creator x) there
+    (accounted.ephemerals x there)
 
 -- a call's number and another's
 pub is_call_of : (o : Option ℕ) (call : ℕ) → is_call o call ≡ true → o ≡ Some call
@@ -45,54 +58,54 @@ of_one : (o : Option ℕ) (call other : ℕ) → (call ≡ other → ⊥) → is
 of_one o call other apart is = false_from_ne_true (is_call o call)
     (λ e. apart (the_some call other (sym (is_call_of o call e) ∙ is_call_of o other is)))
 
--- what a call owns when no request runs it created
-created_only : (created given : Bool) → (created || (given && not given)) ≡ created
-created_only true given = refl
-created_only false true = refl
-created_only false false = refl
-
 -- what another call owns
-apart_at : (g after : Gateway) (call other : ℕ) → IsOwnChange g after call → (call ≡ other → ⊥) → (t : TermId) → owned_in g other t ≡ true
-    → (b : Board) → owned_at (owner_of g call) b t ≡ false
-apart_at g after call other own apart (Line l) is b = of_one (g.holder l.0) call other apart is
-apart_at g after call other own apart (Eph x) is b =
-    let created : is_call (g.creator x) other ≡ true = sym (created_only (is_call (g.creator x) other) (g.board.given_ephemeral x)) ∙ is in
-    let given : g.board.given_ephemeral x ≡ true = own.creator_given x other (is_call_of (g.creator x) other created) in
-    rw (of_one (g.creator x) call other apart created, given) (never (b.given_ephemeral x))
+pub apart_at : (g : Gateway) (end : Board) (after : Gateway) (call other : ℕ) → IsOwnChange g end after call → (call ≡ other → ⊥) → (t : TermId)
+    → owned_in g other t ≡ true → (b : Board) → owned_at (owner_of g call) b t ≡ false
+apart_at g end after call other own apart (Line l) is b = of_one (g.holder l.0) call other apart is
+apart_at g end after call other own apart (Eph x) is b =
+    let created : is_call (g.creator x) other ≡ true = sym (created_only (is_call (g.creator x) other) (g.board.used_ephemeral x)) ∙ is in
+    let given : g.board.used_ephemeral x ≡ true = own.accounted.ephemerals x (own.creator_stands x other (is_call_of (g.creator x) other created)) in
+    rw (of_one (g.creator x) call other apart created, given) (never (b.used_ephemeral x))
   where
     never : (p : Bool) → (p && false) ≡ false
     never true = refl
     never false = refl
 
 -- the creator of an ephemeral that is another call's is its creator after, and of no other ephemeral
-still_of : (was : Option ℕ) (call other : ℕ) (now before : Bool) (after : Option ℕ)
-    → after ≡ (if now then (if before then was else Some call) else was) → (call ≡ other → ⊥) → (is_call was other ≡ true → before ≡ true)
-    → is_call after other ≡ is_call was other
-still_of was call other true true after e apart given = rw e refl
-still_of was call other true false after e apart given =
-    rw e (different call other apart ∙ sym (false_from_ne_true (is_call was other) (λ is. true≢false (sym (given is)))))
-still_of was call other false before after e apart given = rw e refl
+still_of : (was : Option ℕ) (call other : ℕ) (stands used : Bool) (after : Option ℕ)
+    → after ≡ (if stands then (if used then was else Some call) else None) → (call ≡ other → ⊥)
+    → (is_call was other ≡ true → (stands ≡ true) × (used ≡ true)) → is_call after other ≡ is_call was other
+still_of was call other true true after e apart both = rw e refl
+still_of was call other true false after e apart both =
+    rw e (different call other apart ∙ sym (false_from_ne_true (is_call was other) (λ is. true≢false (sym (both is).1))))
+still_of was call other false used after e apart both = rw e (sym (false_from_ne_true (is_call was other) (λ is. true≢false (sym (both is).0))))
 
-still_owned : (g after : Gateway) (call other : ℕ) → IsOwnChange g after call → (call ≡ other → ⊥) → (t : TermId)
+still_owned : (g : Gateway) (end : Board) (after : Gateway) (call other : ℕ) → IsOwnChange g end after call → (call ≡ other → ⊥) → (t : TermId)
     → owned_in after other t ≡ owned_in g other t
-still_owned g after call other own apart (Line l) = ap (λ (h : ℕ → Option ℕ). is_call (h l.0) other) own.holder
-still_owned g after call other own apart (Eph x) =
-    created_only (is_call (after.creator x) other) (after.board.given_ephemeral x)
-    ∙ still_of (g.creator x) call other (after.board.given_ephemeral x) (g.board.given_ephemeral x) (after.creator x) (own.creator x) apart
-    (λ is. own.creator_given x other (is_call_of (g.creator x) other is))
-    ∙ sym (created_only (is_call (g.creator x) other) (g.board.given_ephemeral x))
+still_owned g end after call other own apart (Line l) = ap (λ (h : ℕ → Option ℕ). is_call (h l.0) other) own.holder
+still_owned g end after call other own apart (Eph x) =
+    created_only (is_call (after.creator x) other) (after.board.used_ephemeral x)
+    ∙ still_of (g.creator x) call other (exists end (Eph x)) (g.board.used_ephemeral x) (after.creator x) (own.creator x) apart both
+    ∙ sym (created_only (is_call (g.creator x) other) (g.board.used_ephemeral x))
+  where
+    both : is_call (g.creator x) other ≡ true → (exists end (Eph x) ≡ true) × (g.board.used_ephemeral x ≡ true)
+    both is =
+        let there = own.creator_stands x other (is_call_of (g.creator x) other is) in
+        let its = created_only (is_call (g.creator x) other) (g.board.used_ephemeral x) ∙ is in
+        (ap is_some (own.changes.row (Eph x) (apart_at g end after call other own apart (Eph x) its end)) ∙ there, own.accounted.ephemerals x there)
 
 -- ---- what another call is shown
 
 -- what a name stands for is owned
-pub name_owned : (script : Script) (owned : TermId → Bool) (n : Naming) (b : Board) (c : Configuration) → Shown script owned n b c
+pub name_owned : (script : Script) (owned : TermId → Bool) (n : Naming)
+    → ((i : ℕ) → i < length script.lines → owned (Line (record { 0 = n.lines i })) ≡ true) → ((k x : ℕ) → n.ephemerals k ≡ Some x → owned (Eph x) ≡ true)
     → (t : Termination) → IsSlot script t → (u : TermId) → term_of n t ≡ Some u → owned u ≡ true
-name_owned script owned n b c shown (termination.Line i) slot u e = ap owned (sym (the_some (Line (record { 0 = n.lines i })) u e)) ∙ shown.line_owned i slot
-name_owned script owned n b c shown (termination.Ephemeral k) slot u e = go (n.ephemerals k) refl
+name_owned script owned n lines ephemerals (termination.Line i) slot u e = ap owned (sym (the_some (Line (record { 0 = n.lines i })) u e)) ∙ lines i slot
+name_owned script owned n lines ephemerals (termination.Ephemeral k) slot u e = go (n.ephemerals k) refl
   where
     go : (o : Option ℕ) → n.ephemerals k ≡ o → owned u ≡ true
     go None is = absurd (some_is_none u (sym e ∙ ap eph_of is))
-    go (Some x) is = ap owned (the_some u (Eph x) (sym e ∙ ap eph_of is)) ∙ shown.ephemeral_owned k x is
+    go (Some x) is = ap owned (the_some u (Eph x) (sym e ∙ ap eph_of is)) ∙ ephemerals k x is
 
 -- the rows and the cuts of names are those before, where those of what is owned are
 row_stays : (b after : Board) (owned : TermId → Bool) → ((u : TermId) → owned u ≡ true → after.row u ≡ b.row u)
@@ -107,84 +120,68 @@ cut_stays b after owned cuts None p mine also = refl
 cut_stays b after owned cuts (Some u) None mine also = refl
 cut_stays b after owned cuts (Some u) (Some v) mine also = cuts u v (mine u refl) (also v refl)
 
--- an ephemeral that is no more, though its number was given, stays so
-pub gone_stays : (b after : Board) (x : ℕ) → (exists after (Eph x) ≡ true → (exists b (Eph x) ≡ true) ⊎ (b.given_ephemeral x ≡ false))
-    → exists b (Eph x) ≡ false → b.given_ephemeral x ≡ true → exists after (Eph x) ≡ false
-gone_stays b after x back gone given = false_from_ne_true (exists after (Eph x)) (λ is. elim (back is) [
-  | inl was ↦ not_both was gone
-  | inr new ↦ not_both given new
-])
-
-pub remote_stays : (b after : Board) (n : Naming) (r : Remote) (remote : Option ℕ)
-    → ((x : ℕ) → exists after (Eph x) ≡ true → (exists b (Eph x) ≡ true) ⊎ (b.given_ephemeral x ≡ false))
-    → ((x : ℕ) → b.given_ephemeral x ≡ true → after.given_ephemeral x ≡ true)
-    → RemoteReads b n r remote → RemoteReads after n r remote
-remote_stays b after n Unset remote back given reads = reads
-remote_stays b after n Gone remote back given reads =
-    (reads.0, reads.1, gone_stays b after reads.0 (back reads.0) reads.2 reads.3, given reads.0 reads.3)
-remote_stays b after n (To i) remote back given reads = reads
-
--- who stands in a context of the other call after the request is a slot of it: it stood there before, or the changing call owns it, and then
--- one that the changing call owned stood there, or the context is new
-member_stays : (script : Script) (g after : Gateway) (call other : ℕ) (n : Naming) (c : Configuration) → IsOwnChange g after call
-    → (call ≡ other → ⊥) → Shown script (owned_in g other) n g.board c → (j x : ℕ) (t : TermId) → n.contexts j ≡ Some x
-    → place_of after.board t ≡ x → (u : Termination) × IsSlot script u × (term_of n u ≡ Some t)
-member_stays script g after call other n c own apart shown j x t is at = go (owned_at (owner_of g call) after.board t) refl
+-- who stands beside one of the other call's after the request is a slot of it: it stood there before, or the changing call owns it, and
+-- then one that the changing call owned stood there, or the context is new
+member_stays : (script : Script) (g : Gateway) (end : Board) (after : Gateway) (call other : ℕ) (n : Naming) (c : Configuration) → IsOwnChange g end after call
+    → (call ≡ other → ⊥) → Seen script (owned_in g other) n g.board c → (v : Termination) (j x : ℕ) (t : TermId) → IsSlot script v → c.spot v ≡ In j
+    → n.contexts j ≡ Some x → place_of end t ≡ x → (u : Termination) × IsSlot script u × (term_of n u ≡ Some t)
+member_stays script g end after call other n c own apart seen v j x t slot spot is at = go (owned_at (owner_of g call) end t) refl
   where
-    not_null : place_of after.board t ≡ 0 → ⊥
-    not_null e = let above : 0 < x = (shown.context_real j x is).0.0 in let here : place_of after.board t ≡ x = at in omega (arith, above, here, e)
+    not_null : place_of end t ≡ 0 → ⊥
+    not_null e = let above : 0 < x = (seen.context_number j x is).0 in let here : place_of end t ≡ x = at in omega (arith, above, here, e)
 
-    go : (test : Bool) → owned_at (owner_of g call) after.board t ≡ test → (u : Termination) × IsSlot script u × (term_of n u ≡ Some t)
-    go false not_own = shown.members j x t is (sym (ap place_in (own.changes.row t not_own)) ∙ at)
+    go : (test : Bool) → owned_at (owner_of g call) end t ≡ test → (u : Termination) × IsSlot script u × (term_of n u ≡ Some t)
+    go false not_own = seen.members v j x t slot spot is (sym (ap place_in (own.changes.row t not_own)) ∙ at)
     go true its_own = elim (own.changes.place t its_own not_null) [
       | inl stood ↦
-          let slot = shown.members j x stood.0 is (stood.2 ∙ at) in
-          absurd (not_both stood.1 (apart_at g after call other own apart stood.0
-          (name_owned script (owned_in g other) n g.board c shown slot.0 slot.1 stood.0 slot.2) g.board))
-      | inr new ↦ absurd (not_both ((shown.context_real j x is).1) (sym (ap g.board.given_context at) ∙ new))
+          let its = seen.members v j x stood.0 slot spot is (stood.2 ∙ at) in
+          absurd (not_both stood.1 (apart_at g end after call other own apart stood.0
+          (name_owned script (owned_in g other) n seen.line_owned seen.ephemeral_owned its.0 its.1 stood.0 its.2) g.board))
+      | inr new ↦ absurd (not_both (spot_used script (owned_in g other) n g.board c seen own.accounted v j x slot spot is)
+          (sym (ap g.board.used_context at) ∙ new))
     ]
 
 pub others_stay : OthersStayShown
-others_stay script g after call other n c own apart shown =
-    let mine = name_owned script (owned_in g other) n g.board c shown in
-    let row : (u : TermId) → owned_in g other u ≡ true → after.board.row u ≡ g.board.row u =
-    λ u is. own.changes.row u (apart_at g after call other own apart u is after.board) in
+others_stay script g end after call other n c own apart seen =
+    let mine = name_owned script (owned_in g other) n seen.line_owned seen.ephemeral_owned in
+    let row : (u : TermId) → owned_in g other u ≡ true → after.board.row u ≡ g.board.row u = λ u is.
+    ap (λ (rows : TermId → Option Row). rows u) own.settled.row ∙ own.changes.row u (apart_at g end after call other own apart u is end) in
+    let cut : (u v : TermId) → owned_in g other u ≡ true → owned_in g other v ≡ true → after.board.cut u v ≡ g.board.cut u v = λ u v is so.
+    ap (λ (cuts : TermId → TermId → Bool). cuts u v) own.settled.cut
+    ∙ own.changes.cut u v (apart_at g end after call other own apart u is end) (apart_at g end after call other own apart v so end) in
     let rows : (t : Termination) → IsSlot script t → row_on after.board (term_of n t) ≡ row_on g.board (term_of n t) =
     λ t slot. row_stays g.board after.board (owned_in g other) row (term_of n t) (mine t slot) in
     record {
-      stands = λ t slot. ap is_some (rows t slot) ∙ shown.stands t slot;
-      place = λ t slot. ap place_in (rows t slot) ∙ shown.place t slot;
-      in_bound = shown.in_bound;
-      mode = λ t slot. shown.mode t slot ∙ sym (ap mode_in (rows t slot));
-      remote = λ k slot. remote_stays g.board after.board n (c.remote k) (remote_in (row_on after.board (eph_of (n.ephemerals k))))
-          own.changes.ephemeral own.changes.given_ephemeral
-          (subst (λ (o : Option Row). RemoteReads g.board n (c.remote k) (remote_in o)) (sym (rows (termination.Ephemeral k) slot)) (shown.remote k slot));
-      cut = λ t u slot also. shown.cut t u slot also ∙ sym (cut_stays g.board after.board (owned_in g other)
-          (λ x y is so. own.changes.cut x y (apart_at g after call other own apart x is after.board) (apart_at g after call other own apart y so after.board))
-          (term_of n t) (term_of n u) (mine t slot) (mine u also));
-      bound = shown.bound;
-      line_stands = λ i slot. own.changes.line (n.lines i) ∙ shown.line_stands i slot;
-      line_owned = λ i slot. still_owned g after call other own apart (Line (record { 0 = n.lines i })) ∙ shown.line_owned i slot;
-      line_once = shown.line_once;
-      context_real = λ j x is. ((shown.context_real j x is).0, own.changes.given_context x (shown.context_real j x is).1);
-      context_once = shown.context_once;
-      members = member_stays script g after call other n c own apart shown;
-      ephemeral_slot = shown.ephemeral_slot;
-      ephemeral_stands = λ k x is. ap is_some (row (Eph x) (shown.ephemeral_owned k x is)) ∙ shown.ephemeral_stands k x is;
-      ephemeral_owned = λ k x is. still_owned g after call other own apart (Eph x) ∙ shown.ephemeral_owned k x is;
-      ephemeral_once = shown.ephemeral_once;
+      stands = λ t slot. ap is_some (rows t slot) ∙ seen.stands t slot;
+      place = λ t slot. ap place_in (rows t slot) ∙ seen.place t slot;
+      in_bound = seen.in_bound;
+      mode = λ t slot. seen.mode t slot ∙ sym (ap mode_in (rows t slot));
+      remote = λ k slot. subst (λ (o : Option Row). RemoteSeen n (c.remote k) (remote_in o)) (sym (rows (termination.Ephemeral k) slot)) (seen.remote k slot);
+      cut = λ t u slot also. seen.cut t u slot also ∙ sym (cut_stays g.board after.board (owned_in g other) cut (term_of n t) (term_of n u) (mine t slot) (mine u also));
+      bound = seen.bound;
+      line_stands = λ i slot. ap is_some (row (Line (record { 0 = n.lines i })) (seen.line_owned i slot)) ∙ seen.line_stands i slot;
+      line_owned = λ i slot. still_owned g end after call other own apart (Line (record { 0 = n.lines i })) ∙ seen.line_owned i slot;
+      line_once = seen.line_once;
+      context_number = seen.context_number;
+      context_once = seen.context_once;
+      members = λ v j x t slot spot is at. member_stays script g end after call other n c own apart seen v j x t slot spot is
+          (sym (ap (λ (rows : TermId → Option Row). place_in (rows t)) own.settled.row) ∙ at);
+      ephemeral_slot = seen.ephemeral_slot;
+      ephemeral_stands = λ k x is. ap is_some (row (Eph x) (seen.ephemeral_owned k x is)) ∙ seen.ephemeral_stands k x is;
+      ephemeral_owned = λ k x is. still_owned g end after call other own apart (Eph x) ∙ seen.ephemeral_owned k x is;
+      ephemeral_once = seen.ephemeral_once;
       ephemeral_named = λ x is stands.
-          let was : owned_in g other (Eph x) ≡ true = sym (still_owned g after call other own apart (Eph x)) ∙ is in
-          shown.ephemeral_named x was (sym (ap is_some (row (Eph x) was)) ∙ stands);
+          let was : owned_in g other (Eph x) ≡ true = sym (still_owned g end after call other own apart (Eph x)) ∙ is in
+          seen.ephemeral_named x was (sym (ap is_some (row (Eph x) was)) ∙ stands);
     }
 
 -- ---- a call of an older association
 
 -- it owns its lines alone, and the request of another call changes none of them
-pub other_lost : (script : Script) (g after : Gateway) (b : Agent) (call : ℕ) → IsLost script g b → IsOwnChange g after call → (call ≡ b.call → ⊥)
-    → after.association ≡ g.association → ((i : ℕ) → i < length script.lines → g.holder (b.lines i) ≡ Some b.call)
+pub other_lost : (script : Script) (g : Gateway) (end : Board) (after : Gateway) (b : Agent) (call : ℕ) → IsLost script g b → IsOwnChange g end after call
+    → (call ≡ b.call → ⊥) → after.association ≡ g.association → ((i : ℕ) → i < length script.lines → g.holder (b.lines i) ≡ Some b.call)
     → ((l : ℕ) → is_call (g.holder l) call ≡ false → after.line l ≡ g.line l) → after.link b.call ≡ g.link b.call → IsLost script after b
-other_lost script g after b call lost own apart same held lines link =
+other_lost script g end after b call lost own apart same held lines link =
     let mine : (i : ℕ) → i < length script.lines → is_call (g.holder (b.lines i)) b.call ≡ true =
     λ i slot. ap (λ (o : Option ℕ). is_call o b.call) (held i slot) ∙ eq-eqb b.call b.call refl in
     let not_own : (i : ℕ) → i < length script.lines → is_call (g.holder (b.lines i)) call ≡ false =
@@ -192,15 +189,18 @@ other_lost script g after b call lost own apart same held lines link =
     let line : (i : ℕ) → i < length script.lines → after.line (b.lines i) ≡ g.line (b.lines i) = λ i slot. lines (b.lines i) (not_own i slot) in
     record {
       association = subst (λ n. b.association < n) (sym same) lost.association;
-      rows = λ i slot. own.changes.row (Line (record { 0 = b.lines i })) (not_own i slot) ∙ lost.rows i slot;
+      rows = λ i slot. ap (λ (rows : TermId → Option Row). rows (Line (record { 0 = b.lines i }))) own.settled.row
+          ∙ own.changes.row (Line (record { 0 = b.lines i })) (not_own i slot) ∙ lost.rows i slot;
       list = λ i slot. ap (λ (row : LineRow). row.list) (line i slot) ∙ lost.list i slot;
       playing = λ i slot. ap (λ (row : LineRow). row.playing) (line i slot) ∙ lost.playing i slot;
       request = λ i slot. ap (λ (row : LineRow). row.request) (line i slot) ∙ lost.request i slot;
       no_ephemeral = λ x is. lost.no_ephemeral x (is_call_of (g.creator x) b.call
-          (sym (still_of (g.creator x) call b.call (after.board.given_ephemeral x) (g.board.given_ephemeral x) (after.creator x) (own.creator x) apart
-          (λ e. own.creator_given x b.call (is_call_of (g.creator x) b.call e)))
+          (sym (created_only (is_call (g.creator x) b.call) (g.board.used_ephemeral x))
+          ∙ sym (still_owned g end after call b.call own apart (Eph x))
+          ∙ created_only (is_call (after.creator x) b.call) (after.board.used_ephemeral x)
           ∙ ap (λ (o : Option ℕ). is_call o b.call) is ∙ eq-eqb b.call b.call refl));
       no_reply = ap (λ (k : CallLink). k.last) link ∙ lost.no_reply;
-      no_cut = λ i j slot also. own.changes.cut (Line (record { 0 = b.lines i })) (Line (record { 0 = b.lines j })) (not_own i slot) (not_own j also)
+      no_cut = λ i j slot also. ap (λ (cuts : TermId → TermId → Bool). cuts (Line (record { 0 = b.lines i })) (Line (record { 0 = b.lines j }))) own.settled.cut
+          ∙ own.changes.cut (Line (record { 0 = b.lines i })) (Line (record { 0 = b.lines j })) (not_own i slot) (not_own j also)
           ∙ lost.no_cut i j slot also;
     }

@@ -64,7 +64,8 @@ module _ (script : Script) (entries : List Entry) (w : World) (sound : IsSound s
   gateway_sound : GatewayIsSound script (with_gateway w (restarted w.gateway))
   gateway_sound = record {
     accounted = accounted;
-    creator_given = λ x call e. absurd (none_is_some call e);
+    creator_stands = λ x call e. absurd (none_is_some call e);
+    apart = λ x y one other e. absurd (none_is_some one e);
     created = λ x there. absurd (true≢false (sym there ∙ ephemeral_gone x (w.gateway.board.row (Eph x))));
     unheld = λ l row free stands. null_place l (w.gateway.board.row (Line (record { 0 = l }))) row stands;
     held = sound.gateway.held;

@@ -39,7 +39,7 @@ commands_carry (SubtractAll j) = subtract_all_carried j
 commands_carry (SetTopology j t u topology) = topology_carried j t u topology
 
 others_lost : OtherLost
-others_lost script g after call b lost change differ association held lines link = other_lost script g after b call lost change differ association held lines link
+others_lost script g end after call b lost change differ association held lines link = other_lost script g end after b call lost change differ association held lines link
 
 event_sound : (event : Event) → KeepsSound event
 event_sound (on_a_line line event) = line_sound line event

@@ -27,10 +27,11 @@ use Rattle.mg_model.specs.World.{World, IsMarkedPair, HasEnded, IsReleased}
 use Rattle.mg_safety.proofs.Agents.AgentSound.{at_rest}
 use Rattle.mg_model.proofs.Cases.{none_is_some, the_some}
 use Rattle.mg_safety.proofs.Agents.EffectiveAgent.{same_lines}
-use Rattle.mg_safety.proofs.GoodWorlds.GoodPaths.{IsNamed, path_shown, path_starts_outside}
+use Rattle.mg_safety.proofs.GoodWorlds.GoodPaths.{IsNamed, NoStranger, path_shown, path_starts_outside}
 use Rattle.mg_safety.proofs.Invariant.Shown.{Naming, naming, eph_of, row_on, number_at}
 use Rattle.mg_safety.proofs.Invariant.Sound.{Stands, IsCurrent, IsLost, IsSound, owned_in, is_call}
 use Rattle.mg_safety.proofs.Invariant.Statements.{IsClosed, SoundIsGood}
+use Rattle.mg_safety.proofs.Events.Others.{is_call_of, created_only}
 
 some_row : (row : Option Row) → is_some row ≡ true → (r : Row) × (row ≡ Some r)
 some_row None e = absurd (true≢false (sym e))
@@ -94,6 +95,16 @@ module _ (script : Script) (entries : List Entry) (closed : IsClosed script entr
   abbrev row_at : ℕ → Option Row
   row_at l = w.gateway.board.row (Line (record { 0 = l }))
 
+  owner_is : (call x : ℕ) → owned_in w.gateway call (Eph x) ≡ true → w.gateway.creator x ≡ Some call
+  owner_is call x its = is_call_of (w.gateway.creator x) call (sym (created_only (is_call (w.gateway.creator x) call) (w.gateway.board.used_ephemeral x)) ∙ its)
+
+  no_stranger : (call : ℕ) → NoStranger (owned_in w.gateway call) w.gateway.board
+  no_stranger call x i its there other_there not_its out back =
+      let other = sound.gateway.created i other_there in
+      sound.gateway.apart x i call other.0 (owner_is call x its) other.2 (λ same. not_its (
+      created_only (is_call (w.gateway.creator i) call) (w.gateway.board.used_ephemeral i) ∙ ap (λ (o : Option ℕ). is_call o call) other.2
+      ∙ eq-eqb other.0 call (sym same))) out back
+
   path_of : (l m : ℕ) → media.HasPath w.gateway.board l m → IsPathOf l m
   path_of l m path = held_by (w.gateway.holder l) refl
     where
@@ -106,7 +117,7 @@ module _ (script : Script) (entries : List Entry) (closed : IsClosed script entr
           let same = same_lines script w.gateway a current.e current.c.link current.at in
           let start : IsNamed script (naming current.e) (termination.Line i) (Line (record { 0 = l })) =
           record { slot = within; is = ap (λ (n : ℕ). Some (Line (record { 0 = n }))) (ap (λ (lines : ℕ → ℕ). lines i) same ∙ is) } in
-          let found = path_shown script (owned_in w.gateway a.call) (naming current.e) w.gateway.board current.c current.shown (termination.Line i)
+          let found = path_shown script (owned_in w.gateway a.call) (naming current.e) w.gateway.board current.c current.shown (no_stranger a.call) (termination.Line i)
           (Line (record { 0 = l })) (Line (record { 0 = m })) path.crossings start path.goes in
           let last = line_of script (naming current.e) found.to m found.named in
           record {
@@ -175,8 +186,8 @@ module _ (script : Script) (entries : List Entry) (closed : IsClosed script entr
     no_ephemeral k created = false_from_ne_true (exists w.gateway.board (Eph k)) stands_not
       where
         mine : owned_in w.gateway a.call (Eph k) ≡ true
-        mine = ap (λ o. is_call o a.call || (w.gateway.board.given_ephemeral k && not (w.gateway.board.given_ephemeral k))) created
-            ∙ ap (λ test. test || (w.gateway.board.given_ephemeral k && not (w.gateway.board.given_ephemeral k))) (eq-eqb call a.call (sym numbered))
+        mine = ap (λ o. is_call o a.call || (w.gateway.board.used_ephemeral k && not (w.gateway.board.used_ephemeral k))) created
+            ∙ ap (λ test. test || (w.gateway.board.used_ephemeral k && not (w.gateway.board.used_ephemeral k))) (eq-eqb call a.call (sym numbered))
 
         stands_not : exists w.gateway.board (Eph k) ≡ true → ⊥
         stands_not stands =

@@ -22,7 +22,7 @@ use Rattle.mg_model.specs.Script.{Script}
 use Rattle.mg_model.specs.Accepted.{IsSlot}
 use Rattle.mg_safety.proofs.Shared.Components.{is_same_is, same_term_self}
 use Rattle.mg_model.proofs.Cases.{all_three, none_is_some, the_some, three_parts}
-use Rattle.mg_safety.proofs.Invariant.Shown.{Naming, eph_of, term_of, row_on, cut_on, number_at, RemoteReads, Shown}
+use Rattle.mg_safety.proofs.Invariant.Shown.{Naming, eph_of, term_of, row_on, cut_on, number_at, RemoteSeen, Seen}
 
 -- a slot of the script stands for a termination of the gateway
 pub record IsNamed (script : Script) (n : Naming) (u : Termination) (t : TermId) : Type 0 where
@@ -116,7 +116,14 @@ path_starts_outside b t s (crossing ∷ more) h =
 
 -- ---- what the call names
 
-module _ (script : Script) (owned : TermId → Bool) (n : Naming) (b : Board) (c : Configuration) (shown : Shown script owned n b c) where
+-- no ephemeral that the call doesn't own names one of the call's that names it
+abbrev pub NoStranger : (TermId → Bool) → Board → Type 0
+NoStranger owned b =
+    (x i : ℕ) → owned (Eph x) ≡ true → exists b (Eph x) ≡ true → exists b (Eph i) ≡ true → (owned (Eph i) ≡ true → ⊥) → remote_of b (Eph x) ≡ Some i
+    → remote_of b (Eph i) ≡ Some x → ⊥
+
+module _ (script : Script) (owned : TermId → Bool) (n : Naming) (b : Board) (c : Configuration) (shown : Seen script owned n b c)
+    (no_stranger : NoStranger owned b) where
   abbrev Named : Termination → TermId → Type 0
   Named u t = IsNamed script n u t
 
@@ -172,7 +179,7 @@ module _ (script : Script) (owned : TermId → Bool) (n : Naming) (b : Board) (c
   hop u t s named h =
       let p = hop_parts (same_term t s) (place_of b t) (place_of b s) (media.receives (mode_of b t)) (media.sends (mode_of b s)) (b.cut t s) h in
       let first = inside u t named p.outside in
-      let member = shown.members first.j (place_of b t) s first.bound (sym p.together) in
+      let member = shown.members u first.j (place_of b t) s named.slot first.spot_is first.bound (sym p.together) in
       let other : Named member.0 s = record { slot = member.1; is = member.2 } in
       let second = inside member.0 s other (λ e. p.outside (p.together ∙ e)) in
       record {
@@ -192,16 +199,22 @@ module _ (script : Script) (owned : TermId → Bool) (n : Naming) (b : Board) (c
     remote_is : c.remote k ≡ To to
     bound : n.ephemerals to ≡ Some i
 
-  names_one : (k x i : ℕ) → n.ephemerals k ≡ Some x → is_number (remote_of b (Eph x)) i ≡ true → exists b (Eph i) ≡ true → NamesOne k i
-  names_one k x i bound names there =
-      at (c.remote k) refl (subst (RemoteReads b n (c.remote k)) set (shown.remote k (shown.ephemeral_slot k x bound)))
+  names_one : (k x i : ℕ) → n.ephemerals k ≡ Some x → is_number (remote_of b (Eph x)) i ≡ true → exists b (Eph i) ≡ true
+      → is_number (remote_of b (Eph i)) x ≡ true → NamesOne k i
+  names_one k x i bound names there back =
+      at (c.remote k) refl (subst (RemoteSeen n (c.remote k)) set (shown.remote k (shown.ephemeral_slot k x bound)))
     where
       set : remote_in (row_on b (eph_of (n.ephemerals k))) ≡ Some i
       set = ap (λ o. remote_in (row_on b (eph_of o))) bound ∙ number_is (remote_of b (Eph x)) i names
 
-      at : (remote : Remote) → c.remote k ≡ remote → RemoteReads b n remote (Some i) → NamesOne k i
+      -- one that it doesn't name it doesn't own
+      stranger : ((m : ℕ) → n.ephemerals m ≡ Some i → ⊥) → owned (Eph i) ≡ true → ⊥
+      stranger none its = let named = shown.ephemeral_named i its there in none named.0 named.1
+
+      at : (remote : Remote) → c.remote k ≡ remote → RemoteSeen n remote (Some i) → NamesOne k i
       at Unset e reads = absurd (none_is_some i (sym reads))
-      at Gone e reads = absurd (true≢false (sym there ∙ ap (λ y. exists b (Eph y)) (the_some i reads.0 reads.1) ∙ reads.2))
+      at Gone e reads = absurd (no_stranger x i (shown.ephemeral_owned k x bound) (shown.ephemeral_stands k x bound) there
+          (stranger (λ m named. reads.2 m (named ∙ reads.1))) (number_is (remote_of b (Eph x)) i names) (number_is (remote_of b (Eph i)) x back))
       at (To to) e reads = record { to = to; remote_is = e; bound = reads.2 ∙ sym reads.1 }
 
   record CrossesTo (k i : ℕ) : Type 0 where
@@ -219,8 +232,8 @@ module _ (script : Script) (owned : TermId → Bool) (n : Naming) (b : Board) (c
   cross : (k x i : ℕ) → n.ephemerals k ≡ Some x → IsTrue (media.crosses b x i) → CrossesTo k i
   cross k x i bound h =
       let p = cross_parts (x == i) (exists b (Eph x)) (exists b (Eph i)) (is_number (remote_of b (Eph x)) i) (is_number (remote_of b (Eph i)) x) h in
-      let there = names_one k x i bound p.goes_out p.second_stands in
-      let back = names_one there.to i x there.bound p.comes_back p.first_stands in
+      let there = names_one k x i bound p.goes_out p.second_stands p.comes_back in
+      let back = names_one there.to i x there.bound p.comes_back p.first_stands p.goes_out in
       let home : back.to ≡ k = shown.ephemeral_once back.to k x back.bound bound in
       let apart : k ≡ there.to → ⊥ =
       λ e. true≢false (sym (eq-eqb x i (the_some x i (sym bound ∙ ap n.ephemerals e ∙ there.bound))) ∙ p.differ) in

@@ -18,7 +18,7 @@ pub record IsReady (script : Script) (own : Owner) (n m : Naming) (b : Board) (c
   pub shown : Shown script (owned_at own b) n b c
   pub well_formed : IsWellFormed c
   pub accounted : IsAccounted b
-  pub earlier : (x : ℕ) → own.before x ≡ true → b.given_ephemeral x ≡ true
+  pub earlier : (x : ℕ) → own.before x ≡ true → b.used_ephemeral x ≡ true
   pub built : AreBuilt n m b
   pub known : uses_known (known_by m) command ≡ true
   pub declared : IsCommandOf script command

@@ -77,12 +77,12 @@ number_at n (In j) = unwrap_or (n.contexts j) 0
 
 abbrev pub RemoteReads : Board → Naming → Remote → Option ℕ → Type 0
 RemoteReads b n Unset remote = remote ≡ None
-RemoteReads b n Gone remote = (x : ℕ) × (remote ≡ Some x) × (exists b (Eph x) ≡ false) × (b.given_ephemeral x ≡ true)
+RemoteReads b n Gone remote = (x : ℕ) × (remote ≡ Some x) × (exists b (Eph x) ≡ false) × (b.used_ephemeral x ≡ true)
 RemoteReads b n (To i) remote = (x : ℕ) × (remote ≡ Some x) × (n.ephemerals i ≡ Some x)
 
--- ---- the board
+-- ---- the board, while a request runs
 
--- the board shows the configuration of a call that owns these terminations
+-- the board shows the configuration of a call that owns these terminations; what the request has freed isn't given again before it ends
 pub record Shown (script : Script) (owned : TermId → Bool) (n : Naming) (b : Board) (c : Configuration) : Type 0 where
   -- what is read at each name
   pub stands : (t : Termination) → IsSlot script t → is_some (row_on b (term_of n t)) ≡ is_present (c.spot t)
@@ -97,7 +97,7 @@ pub record Shown (script : Script) (owned : TermId → Bool) (n : Naming) (b : B
   pub line_owned : (i : ℕ) → i < length script.lines → owned (Line (record { 0 = n.lines i })) ≡ true
   pub line_once : (i j : ℕ) → i < length script.lines → j < length script.lines → n.lines i ≡ n.lines j → i ≡ j
   -- contexts
-  pub context_real : (j x : ℕ) → n.contexts j ≡ Some x → is_context_number x × (b.given_context x ≡ true)
+  pub context_real : (j x : ℕ) → n.contexts j ≡ Some x → is_context_number x × (b.used_context x ≡ true)
   pub context_once : (i j x : ℕ) → n.contexts i ≡ Some x → n.contexts j ≡ Some x → i ≡ j
   pub members : (j x : ℕ) (t : TermId) → n.contexts j ≡ Some x → place_of b t ≡ x → (u : Termination) × IsSlot script u × (term_of n u ≡ Some t)
   -- ephemerals
@@ -107,10 +107,45 @@ pub record Shown (script : Script) (owned : TermId → Bool) (n : Naming) (b : B
   pub ephemeral_once : (k i x : ℕ) → n.ephemerals k ≡ Some x → n.ephemerals i ≡ Some x → k ≡ i
   pub ephemeral_named : (x : ℕ) → owned (Eph x) ≡ true → exists b (Eph x) ≡ true → (k : ℕ) × (n.ephemerals k ≡ Some x)
 
--- whatever stands or exists was given
+-- ---- between requests
+
+-- a Remote that is gone names nothing of the call's own: its number may by now be another's
+abbrev pub RemoteSeen : Naming → Remote → Option ℕ → Type 0
+RemoteSeen n Unset remote = remote ≡ None
+RemoteSeen n Gone remote = (x : ℕ) × (remote ≡ Some x) × ((i : ℕ) → n.ephemerals i ≡ Some x → ⊥)
+RemoteSeen n (To i) remote = (x : ℕ) × (remote ≡ Some x) × (n.ephemerals i ≡ Some x)
+
+-- what is left of that when numbers may be given again: nothing is said of a name that is stale, nor of what a Remote that is gone names
+pub record Seen (script : Script) (owned : TermId → Bool) (n : Naming) (b : Board) (c : Configuration) : Type 0 where
+  -- what is read at each name
+  pub stands : (t : Termination) → IsSlot script t → is_some (row_on b (term_of n t)) ≡ is_present (c.spot t)
+  pub place : (t : Termination) → IsSlot script t → place_in (row_on b (term_of n t)) ≡ number_at n (c.spot t)
+  pub in_bound : (t : Termination) (j : ℕ) → IsSlot script t → c.spot t ≡ In j → is_some (n.contexts j) ≡ true
+  pub mode : (t : Termination) → IsSlot script t → c.mode t ≡ mode_in (row_on b (term_of n t))
+  pub remote : (k : ℕ) → k < length script.ephemerals → RemoteSeen n (c.remote k) (remote_in (row_on b (eph_of (n.ephemerals k))))
+  pub cut : (t u : Termination) → IsSlot script t → IsSlot script u → c.cut t u ≡ cut_on b (term_of n t) (term_of n u)
+  pub bound : (j : ℕ) → is_some (n.contexts j) ≡ not (is_free (c.context j))
+  -- lines
+  pub line_stands : (i : ℕ) → i < length script.lines → exists b (Line (record { 0 = n.lines i })) ≡ true
+  pub line_owned : (i : ℕ) → i < length script.lines → owned (Line (record { 0 = n.lines i })) ≡ true
+  pub line_once : (i j : ℕ) → i < length script.lines → j < length script.lines → n.lines i ≡ n.lines j → i ≡ j
+  -- contexts
+  pub context_number : (j x : ℕ) → n.contexts j ≡ Some x → is_context_number x
+  pub context_once : (i j x : ℕ) → n.contexts i ≡ Some x → n.contexts j ≡ Some x → i ≡ j
+  -- whoever stands where one of the call's stands is one of the call's
+  pub members : (v : Termination) (j x : ℕ) (t : TermId) → IsSlot script v → c.spot v ≡ In j → n.contexts j ≡ Some x → place_of b t ≡ x
+      → (u : Termination) × IsSlot script u × (term_of n u ≡ Some t)
+  -- ephemerals
+  pub ephemeral_slot : (k x : ℕ) → n.ephemerals k ≡ Some x → k < length script.ephemerals
+  pub ephemeral_stands : (k x : ℕ) → n.ephemerals k ≡ Some x → exists b (Eph x) ≡ true
+  pub ephemeral_owned : (k x : ℕ) → n.ephemerals k ≡ Some x → owned (Eph x) ≡ true
+  pub ephemeral_once : (k i x : ℕ) → n.ephemerals k ≡ Some x → n.ephemerals i ≡ Some x → k ≡ i
+  pub ephemeral_named : (x : ℕ) → owned (Eph x) ≡ true → exists b (Eph x) ≡ true → (k : ℕ) × (n.ephemerals k ≡ Some x)
+
+-- whatever stands or exists can't be given by the present request
 pub record IsAccounted (b : Board) : Type 0 where
-  pub ephemerals : (x : ℕ) → exists b (Eph x) ≡ true → b.given_ephemeral x ≡ true
-  pub contexts : (t : TermId) → (place_of b t ≡ 0 → ⊥) → b.given_context (place_of b t) ≡ true
+  pub ephemerals : (x : ℕ) → exists b (Eph x) ≡ true → b.used_ephemeral x ≡ true
+  pub contexts : (t : TermId) → (place_of b t ≡ 0 → ⊥) → b.used_context (place_of b t) ≡ true
 
 -- ---- the lines
 
@@ -142,7 +177,7 @@ pub record Owner : Type 0 where
 
 abbrev pub owned_at : Owner → Board → TermId → Bool
 owned_at own b (Line l) = own.held l.0
-owned_at own b (Eph x) = own.created x || (b.given_ephemeral x && not (own.before x))
+owned_at own b (Eph x) = own.created x || (b.used_ephemeral x && not (own.before x))
 
 -- the names by which commands are built, at a place of a request: what an earlier command of it created, or what was bound
 abbrev pub context_made : List Done → Option ℕ → Option ℕ → Option ℕ
@@ -165,10 +200,10 @@ pub record AreBuilt (n m : Naming) (b : Board) : Type 0 where
   pub lines : m.lines ≡ n.lines
   pub context : (j x : ℕ) → n.contexts j ≡ Some x → m.contexts j ≡ Some x
   pub context_lost : (j x : ℕ) → m.contexts j ≡ Some x → n.contexts j ≡ None → ContextExists b x → ⊥
-  pub context_real : (j x : ℕ) → m.contexts j ≡ Some x → is_context_number x × (b.given_context x ≡ true)
+  pub context_real : (j x : ℕ) → m.contexts j ≡ Some x → is_context_number x × (b.used_context x ≡ true)
   pub ephemeral : (k x : ℕ) → n.ephemerals k ≡ Some x → m.ephemerals k ≡ Some x
   pub ephemeral_lost : (k x : ℕ) → m.ephemerals k ≡ Some x → n.ephemerals k ≡ None → exists b (Eph x) ≡ false
-  pub ephemeral_given : (k x : ℕ) → m.ephemerals k ≡ Some x → b.given_ephemeral x ≡ true
+  pub ephemeral_given : (k x : ℕ) → m.ephemerals k ≡ Some x → b.used_ephemeral x ≡ true
 
 -- the names that commands may use
 abbrev pub known_by : Naming → Names
@@ -243,9 +278,9 @@ built_after m command done = m
 pub record ChangesOwned (own : Owner) (b after : Board) : Type 0 where
   pub row : (t : TermId) → owned_at own after t ≡ false → after.row t ≡ b.row t
   pub cut : (t u : TermId) → owned_at own after t ≡ false → owned_at own after u ≡ false → after.cut t u ≡ b.cut t u
-  pub given_context : (x : ℕ) → b.given_context x ≡ true → after.given_context x ≡ true
-  pub given_ephemeral : (x : ℕ) → b.given_ephemeral x ≡ true → after.given_ephemeral x ≡ true
+  pub used_context : (x : ℕ) → b.used_context x ≡ true → after.used_context x ≡ true
+  pub used_ephemeral : (x : ℕ) → b.used_ephemeral x ≡ true → after.used_ephemeral x ≡ true
   pub place : (t : TermId) → owned_at own after t ≡ true → (place_of after t ≡ 0 → ⊥)
-      → ((u : TermId) × (owned_at own b u ≡ true) × (place_of b u ≡ place_of after t)) ⊎ (b.given_context (place_of after t) ≡ false)
+      → ((u : TermId) × (owned_at own b u ≡ true) × (place_of b u ≡ place_of after t)) ⊎ (b.used_context (place_of after t) ≡ false)
   pub line : (l : ℕ) → exists after (Line (record { 0 = l })) ≡ exists b (Line (record { 0 = l }))
-  pub ephemeral : (x : ℕ) → exists after (Eph x) ≡ true → (exists b (Eph x) ≡ true) ⊎ (b.given_ephemeral x ≡ false)
+  pub ephemeral : (x : ℕ) → exists after (Eph x) ≡ true → (exists b (Eph x) ≡ true) ⊎ (b.used_ephemeral x ≡ false)

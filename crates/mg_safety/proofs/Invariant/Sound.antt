@@ -8,7 +8,7 @@ use Rattle.mg_names.specs.declared.phases.LinkPhase as phases
 use Rattle.mg_names.specs.declared.phases.LinkPhase.TheVariants.{Sent, Answered, Failed, Resting}
 use Rattle.mg_model.specs.declared.rows.Row.{Row}
 use Rattle.mg_model.specs.Agent.{Agent, awaits_reply, awaits_pass, resting, after_results, built_by, commands_of, none_made}
-use Rattle.mg_model.specs.Board.{exists}
+use Rattle.mg_model.specs.Board.{exists, remote_of}
 use Rattle.mg_model.specs.Configuration.{Configuration}
 use Rattle.mg_model.specs.Entries.{Entry, IsCovered}
 use Rattle.mg_model.specs.Gateway.{Gateway, last_executed}
@@ -18,7 +18,7 @@ use Rattle.mg_model.specs.Script.{Script}
 use Rattle.mg_model.specs.World.{World}
 use Rattle.mg_model.specs.Board.{null_row}
 use Rattle.mg_model.specs.Accepted.{IsSlot}
-use Rattle.mg_safety.proofs.Invariant.Shown.{naming, Shown, LinesShown, IsAccounted, Owner, owned_at, list_raises}
+use Rattle.mg_safety.proofs.Invariant.Shown.{naming, Seen, LinesShown, IsAccounted, Owner, owned_at, list_raises}
 use Rattle.mg_model.specs.declared.commands.Termination.{Termination}
 use Rattle.mg_model.specs.declared.commands.EventsName.TheVariants.{Empty}
 use Rattle.mg_model.specs.declared.components.Remote.TheVariants.{Unset}
@@ -54,7 +54,7 @@ abbrev pub owner_of : Gateway → ℕ → Owner
 owner_of g call = record {
   held = λ l. is_call (g.holder l) call;
   created = λ x. is_call (g.creator x) call;
-  before = g.board.given_ephemeral;
+  before = g.board.used_ephemeral;
 }
 
 abbrev pub owned_in : Gateway → ℕ → TermId → Bool
@@ -110,7 +110,7 @@ pub record IsCurrent (script : Script) (entries : List Entry) (g : Gateway) (a :
   pub stands : Stands script entries c
   pub state : c.state ≡ a.state
   pub at : IsAt script g a e c.link
-  pub shown : Shown script (owned_in g a.call) (naming e) g.board c
+  pub shown : Seen script (owned_in g a.call) (naming e) g.board c
   pub lines_shown : LinesShown script e g.line c
 
 -- the call is of an older association: it owns nothing
@@ -160,9 +160,12 @@ pub record IsNoteSound (g : Gateway) (sent : SentNote) : Type 0 where
 
 pub record GatewayIsSound (script : Script) (w : World) : Type 0 where
   pub accounted : IsAccounted w.gateway.board
-  -- an ephemeral that exists was created by a call that is open; what a call created was given
-  pub creator_given : (x call : ℕ) → w.gateway.creator x ≡ Some call → w.gateway.board.given_ephemeral x ≡ true
+  -- an ephemeral that exists was created by a call that is open, and what doesn't exist by none
+  pub creator_stands : (x call : ℕ) → w.gateway.creator x ≡ Some call → exists w.gateway.board (Eph x) ≡ true
   pub created : (x : ℕ) → exists w.gateway.board (Eph x) ≡ true → (call : ℕ) × (a : Agent) × (w.gateway.creator x ≡ Some call) × (w.agent call ≡ Some a)
+  -- no two ephemerals of different calls name each other
+  pub apart : (x y one other : ℕ) → w.gateway.creator x ≡ Some one → w.gateway.creator y ≡ Some other → (one ≡ other → ⊥)
+      → remote_of w.gateway.board (Eph x) ≡ Some y → remote_of w.gateway.board (Eph y) ≡ Some x → ⊥
   -- a line that no call holds stands in the null context; a line that is held is one of its call's
   pub unheld : (l : ℕ) (row : Row) → w.gateway.holder l ≡ None → w.gateway.board.row (Line (record { 0 = l })) ≡ Some row → row.place.0 ≡ 0
   pub held : (l call : ℕ) → w.gateway.holder l ≡ Some call

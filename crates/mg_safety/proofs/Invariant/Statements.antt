@@ -4,19 +4,21 @@ use Rattle.std.specs.List.{All}
 use Rattle.mg_model.specs.declared.failures.ChosenRefusal.{ChosenRefusal}
 use Rattle.mg_model.specs.declared.failures.Failure.{Failure}
 use Rattle.mg_names.specs.declared.identifiers.TermId.{TermId}
+use Rattle.mg_names.specs.declared.identifiers.TermId.TheVariants.{Eph}
 use Rattle.mg_names.specs.declared.phases.LinkPhase.TheVariants.{Sent}
 use Rattle.mg_model.specs.Agent.{Agent, after_results, built_by, commands_of, none_made}
+use Rattle.mg_model.specs.Board.{Board, exists, IsSettled}
 use Rattle.mg_model.specs.Configuration.{Configuration}
 use Rattle.mg_model.specs.Entries.{Entry}
 use Rattle.mg_model.specs.Gateway.{Gateway, start_of}
 use Rattle.mg_model.specs.LineEvents.{LineRow, Note}
-use Rattle.mg_model.specs.Obligations.{NoneBroken, JoinedAreMarked, EndedIsCleared, CreatedAreUnbound}
+use Rattle.mg_model.specs.Obligations.{NoneBroken, JoinedAreMarked, EndedIsCleared, CreatedAreUnbound, NamesAreLive}
 use Rattle.mg_model.specs.RequestRun.{Running, RunsFrom, note_on}
 use Rattle.mg_model.specs.Script.{Script}
 use Rattle.mg_model.specs.Steps.{Step, steps_of, opening, reset}
 use Rattle.mg_model.specs.World.{World, Event, Opened, IsOpening, IsGood, Occurs}
 use Rattle.mg_model.specs.Accepted.{IsScript, IsEntryOf}
-use Rattle.mg_safety.proofs.Invariant.Shown.{Naming, naming, Shown, LinesShown, IsAccounted, owned_at, list_raises, ChangesOwned}
+use Rattle.mg_safety.proofs.Invariant.Shown.{Naming, naming, Shown, Seen, LinesShown, IsAccounted, owned_at, list_raises, ChangesOwned}
 use Rattle.mg_safety.proofs.Invariant.Sound.{Stands, is_call, owner_of, owned_in, link_of, IsSound}
 
 -- ---- the certificate
@@ -28,6 +30,7 @@ pub record IsClosed (script : Script) (entries : List Entry) : Type 0 where
   pub marked : (c : Configuration) → Stands script entries c → JoinedAreMarked script c
   pub cleared : (c : Configuration) → Stands script entries c → EndedIsCleared script c
   pub unbound : (c : Configuration) → Stands script entries c → CreatedAreUnbound script c
+  pub live : (c : Configuration) → Stands script entries c → NamesAreLive c
   pub steps : (c : Configuration) (step : Step) → Stands script entries c → Contains (steps_of script c) step → Stands script entries step.1
 
 abbrev pub NoneBrokenIsClosed : Type 0
@@ -60,30 +63,33 @@ pub record IsRunOf (script : Script) (entries : List Entry) (g : Gateway) (a : A
 abbrev pub RequestsRun : Type 0
 RequestsRun =
     (script : Script) (entries : List Entry) → IsScript script → IsClosed script entries → (g : Gateway) (a : Agent) (c : Configuration)
-    → Stands script entries c → c.link ≡ Sent → c.state ≡ a.state → Shown script (owned_in g a.call) (naming a) g.board c
+    → Stands script entries c → c.link ≡ Sent → c.state ≡ a.state → Seen script (owned_in g a.call) (naming a) g.board c
     → LinesShown script a g.line c → IsAccounted g.board → (number : ℕ) (refusal : Option ChosenRefusal) (end : Running) (failure : Option Failure)
     → RunsFrom number refusal (start_of g) 0 (commands_of script a none_made 0 (built_by script a a.state)) end failure
     → IsRunOf script entries g a number end failure
 
 -- ---- another call's request
 
--- what the gateway becomes where only what a call owns was changed
-pub record IsOwnChange (g after : Gateway) (call : ℕ) : Type 0 where
-  pub changes : ChangesOwned (owner_of g call) g.board after.board
+-- what the gateway becomes where a request changed only what its call owns, and has ended
+pub record IsOwnChange (g : Gateway) (end : Board) (after : Gateway) (call : ℕ) : Type 0 where
+  pub changes : ChangesOwned (owner_of g call) g.board end
+  pub settled : IsSettled end after.board
   pub holder : after.holder ≡ g.holder
   pub creator : (x : ℕ) → after.creator x
-      ≡ (if after.board.given_ephemeral x then (if g.board.given_ephemeral x then g.creator x else Some call) else g.creator x)
+      ≡ (if exists end (Eph x) then (if g.board.used_ephemeral x then g.creator x else Some call) else None)
   pub accounted : IsAccounted g.board
-  pub creator_given : (x one : ℕ) → g.creator x ≡ Some one → g.board.given_ephemeral x ≡ true
+  pub creator_stands : (x one : ℕ) → g.creator x ≡ Some one → exists g.board (Eph x) ≡ true
 
 abbrev pub OthersStayShown : Type 0
 OthersStayShown =
-    (script : Script) (g after : Gateway) (call other : ℕ) (n : Naming) (c : Configuration) → IsOwnChange g after call → (call ≡ other → ⊥)
-    → Shown script (owned_in g other) n g.board c → Shown script (owned_in after other) n after.board c
+    (script : Script) (g : Gateway) (end : Board) (after : Gateway) (call other : ℕ) (n : Naming) (c : Configuration) → IsOwnChange g end after call
+    → (call ≡ other → ⊥) → Seen script (owned_in g other) n g.board c → Seen script (owned_in after other) n after.board c
 
--- what the run calls owned is what the call owns once the request ended
+-- what exists of what the run calls owned is what the call owns once the request ended
 abbrev pub OwnersAgree : Type 0
-OwnersAgree = (g after : Gateway) (call : ℕ) → IsOwnChange g after call → (t : TermId) → owned_at (owner_of g call) after.board t ≡ owned_in after call t
+OwnersAgree =
+    (g : Gateway) (end : Board) (after : Gateway) (call : ℕ) → IsAccounted end → IsOwnChange g end after call → (t : TermId) → exists end t ≡ true
+    → owned_in after call t ≡ owned_at (owner_of g call) end t
 
 -- ---- events
 

@@ -33,7 +33,8 @@ use Rattle.mg_safety.proofs.Requests.RunKnown.{AreKnown, binds, bound_agree, bui
 use Rattle.mg_safety.proofs.Requests.RunNames.{IsMadeBelow, built_on, item_is, made_below_next, named_on, none_below}
 use Rattle.mg_safety.proofs.Requests.RunNotes.{AreNotes, described_held, goes_on, line_goes, no_notes, notes_carried, other_line}
 use Rattle.mg_safety.proofs.Requests.RunSteps.{all_unbound, changes_on, effect_state, formed_with_link, lines_with_link, shown_still, unchanged}
-use Rattle.mg_safety.proofs.Invariant.Shown.{Naming, naming, naming_at, Shown, LinesShown, IsAccounted, owned_at, AreBuilt, known_by, item_for, built_after, ChangesOwned}
+use Rattle.mg_safety.proofs.Requests.Starting.{shown_at_start}
+use Rattle.mg_safety.proofs.Invariant.Shown.{Naming, naming, naming_at, Shown, Seen, LinesShown, IsAccounted, owned_at, AreBuilt, known_by, item_for, built_after, ChangesOwned}
 use Rattle.mg_safety.proofs.Invariant.Sound.{Stands, owner_of, owned_in, link_of}
 use Rattle.mg_safety.proofs.Invariant.Statements.{IsClosed, IsRunOf, LineGoes, RequestsRun}
 
@@ -105,7 +106,7 @@ module _ (script : Script) (is_script : IsScript script) (entries : List Entry) 
     shown = u.shown;
     well_formed = formed_with_link c Failed (u.steps (Refuse place, with_link c Failed) (first_in _ _)).covered.1.1.1;
     accounted = u.accounted;
-    earlier = u.changes.given_ephemeral;
+    earlier = u.changes.used_ephemeral;
     built = u.built;
     known = u.known.0;
     declared = All-head (IsCommandOf script) command more u.declared;
@@ -207,11 +208,12 @@ steps_sent script c link commands sent unbound is =
     chosen test e = rw e refl
 
 underway_at_start : (script : Script) → IsScript script → (entries : List Entry) → IsClosed script entries → (g : Gateway) (a : Agent) (c : Configuration)
-    → Stands script entries c → c.link ≡ Sent → c.state ≡ a.state → Shown script (owned_in g a.call) (naming a) g.board c
+    → Stands script entries c → c.link ≡ Sent → c.state ≡ a.state → Seen script (owned_in g a.call) (naming a) g.board c
     → LinesShown script a g.line c → IsAccounted g.board → (number : ℕ)
     → IsUnderway script entries g a number (start_of g) 0 (built_by script a a.state) none_made a c
-underway_at_start script is entries closed g a c stands sent state shown lines_shown accounted number =
-    let names = bound_agree script (owned_in g a.call) a g.board c shown stands.of_script in
+underway_at_start script is entries closed g a c stands sent state seen lines_shown accounted number =
+    let shown = shown_at_start script (owned_in g a.call) (naming a) g.board c seen stands.covered.1.1.1 stands.of_script accounted (closed.live c stands (inl sent)) in
+    let names = bound_agree script (owned_in g a.call) a g.board c seen stands.of_script in
     let commands = (state_of script a.state).commands in
     let unbound : names_unbound script c ≡ true = closed.unbound c stands sent in
     let same : built_by script a a.state ≡ built (bound_names c) (state_of script c.state).commands =
@@ -248,6 +250,6 @@ underway_at_start script is entries closed g a c stands sent state shown lines_s
 
 -- a request that was built runs
 pub requests_run : CommandsCarry → RequestsRun
-requests_run carry script entries is closed g a c stands sent state shown lines_shown accounted number refusal end failure runs =
+requests_run carry script entries is closed g a c stands sent state seen lines_shown accounted number refusal end failure runs =
     runs_on script is entries g a number carry refusal end failure (built_by script a a.state) (start_of g) 0 none_made a c
-    (underway_at_start script is entries closed g a c stands sent state shown lines_shown accounted number) runs
+    (underway_at_start script is entries closed g a c stands sent state seen lines_shown accounted number) runs

@@ -20,7 +20,7 @@ use Rattle.mg_model.specs.Script.{Script, State}
 use Rattle.mg_model.specs.Tables.{state_of, no_state}
 use Rattle.mg_model.specs.Accepted.{IsScript, IsCommandOf, IsStateOf, creates_apart, create_once}
 use Rattle.mg_model.proofs.Cases.{and_first, and_second, by_test}
-use Rattle.mg_safety.proofs.Invariant.Shown.{Naming, naming, Shown, known_by, item_for, built_after, eph_of, row_on}
+use Rattle.mg_safety.proofs.Invariant.Shown.{Naming, naming, Seen, known_by, item_for, built_after, eph_of, row_on}
 use Rattle.mg_safety.proofs.Invariant.Sound.{IsOfScript}
 
 -- ---- what a command creates is in its result
@@ -154,7 +154,7 @@ state_is script is i = all_at (IsStateOf script) no_state script.states i is.sta
 
 -- ---- the names of a call before its request
 
-module _ (script : Script) (owned : TermId → Bool) (a : Agent) (b : Board) (c : Configuration) (shown : Shown script owned (naming a) b c)
+module _ (script : Script) (owned : TermId → Bool) (a : Agent) (b : Board) (c : Configuration) (shown : Seen script owned (naming a) b c)
     (of_script : IsOfScript script c) where
   ephemeral_bound : (k : ℕ) → is_some (a.ephemerals k) ≡ is_present (c.spot (termination.Ephemeral k))
   ephemeral_bound k = go (a.ephemerals k) refl

@@ -26,7 +26,7 @@ use Rattle.mg_model.specs.Script.{Script}
 use Rattle.mg_model.specs.Steps.{creates_unbound, with_link}
 use Rattle.mg_model.specs.Accepted.{is_apart, creates_apart}
 use Rattle.mg_model.proofs.Cases.{and_first, and_second, by_test}
-use Rattle.mg_safety.proofs.Invariant.Shown.{Naming, Shown, LinesShown, Owner, owned_at, ChangesOwned}
+use Rattle.mg_safety.proofs.Invariant.Shown.{Naming, Shown, Seen, LinesShown, Owner, owned_at, ChangesOwned}
 
 -- ---- changes of what is owned
 
@@ -36,17 +36,17 @@ given_more true given before after more e = refl
 given_more false true before after more e = rw (more refl) e
 given_more false false before after more e = absurd (true≢false (sym e))
 
-owned_more : (own : Owner) (b after : Board) → ((x : ℕ) → b.given_ephemeral x ≡ true → after.given_ephemeral x ≡ true)
+owned_more : (own : Owner) (b after : Board) → ((x : ℕ) → b.used_ephemeral x ≡ true → after.used_ephemeral x ≡ true)
     → (t : TermId) → owned_at own b t ≡ true → owned_at own after t ≡ true
 owned_more own b after more (Line l) e = e
-owned_more own b after more (Eph x) e = given_more (own.created x) (b.given_ephemeral x) (own.before x) (after.given_ephemeral x) (more x) e
+owned_more own b after more (Eph x) e = given_more (own.created x) (b.used_ephemeral x) (own.before x) (after.used_ephemeral x) (more x) e
 
 pub unchanged : (own : Owner) (b : Board) → ChangesOwned own b b
 unchanged own b = record {
   row = λ t other. refl;
   cut = λ t u first second. refl;
-  given_context = λ x e. e;
-  given_ephemeral = λ x e. e;
+  used_context = λ x e. e;
+  used_ephemeral = λ x e. e;
   place = λ t owned stands. inl (t, owned, refl);
   line = λ l. refl;
   ephemeral = λ x e. inl e;
@@ -54,32 +54,32 @@ unchanged own b = record {
 
 module _ (own : Owner) (b mid after : Board) (first : ChangesOwned own b mid) (second : ChangesOwned own mid after) where
   not_before : (t : TermId) → owned_at own after t ≡ false → owned_at own mid t ≡ false
-  not_before t other = false_from_ne_true (owned_at own mid t) (λ owned. true≢false (sym (owned_more own mid after second.given_ephemeral t owned) ∙ other))
+  not_before t other = false_from_ne_true (owned_at own mid t) (λ owned. true≢false (sym (owned_more own mid after second.used_ephemeral t owned) ∙ other))
 
   ungiven : (was later : ℕ → Bool) (x : ℕ) → (was x ≡ true → later x ≡ true) → later x ≡ false → was x ≡ false
   ungiven was later x kept none = false_from_ne_true (was x) (λ given. true≢false (sym (kept given) ∙ none))
 
   place_before : (t : TermId) → owned_at own after t ≡ true → (place_of after t ≡ 0 → ⊥)
-      → ((u : TermId) × (owned_at own b u ≡ true) × (place_of b u ≡ place_of after t)) ⊎ (b.given_context (place_of after t) ≡ false)
+      → ((u : TermId) × (owned_at own b u ≡ true) × (place_of b u ≡ place_of after t)) ⊎ (b.used_context (place_of after t) ≡ false)
   place_before t owned stands = elim (second.place t owned stands) [
     | inl (u, owned_then, same) ↦ elim (first.place u owned_then (λ zero. stands (sym same ∙ zero))) [
       | inl (v, owned_before, place) ↦ inl (v, owned_before, place ∙ same)
-      | inr none ↦ inr (ap b.given_context (sym same) ∙ none)
+      | inr none ↦ inr (ap b.used_context (sym same) ∙ none)
     ]
-    | inr none ↦ inr (ungiven b.given_context mid.given_context (place_of after t) (first.given_context (place_of after t)) none)
+    | inr none ↦ inr (ungiven b.used_context mid.used_context (place_of after t) (first.used_context (place_of after t)) none)
   ]
 
   pub changes_on : ChangesOwned own b after
   changes_on = record {
     row = λ t other. second.row t other ∙ first.row t (not_before t other);
     cut = λ t u one other. second.cut t u one other ∙ first.cut t u (not_before t one) (not_before u other);
-    given_context = λ x e. second.given_context x (first.given_context x e);
-    given_ephemeral = λ x e. second.given_ephemeral x (first.given_ephemeral x e);
+    used_context = λ x e. second.used_context x (first.used_context x e);
+    used_ephemeral = λ x e. second.used_ephemeral x (first.used_ephemeral x e);
     place = place_before;
     line = λ l. second.line l ∙ first.line l;
     ephemeral = λ x stands. elim (second.ephemeral x stands) [
       | inl stood ↦ first.ephemeral x stood
-      | inr none ↦ inr (ungiven b.given_ephemeral mid.given_ephemeral x (first.given_ephemeral x) none)
+      | inr none ↦ inr (ungiven b.used_ephemeral mid.used_ephemeral x (first.used_ephemeral x) none)
     ];
   }
 
@@ -243,6 +243,29 @@ shown_still script owned n b c state link s = record {
 pub lines_with_link : (script : Script) (e : Agent) (line : ℕ → LineRow) (c : Configuration) (link : phases.LinkPhase)
     → LinesShown script e line c → LinesShown script e line (with_link c link)
 lines_with_link script e line c link s = record { events = s.events; silent = s.silent; expected = s.expected }
+
+pub seen_still : (script : Script) (owned : TermId → Bool) (n : Naming) (b : Board) (c : Configuration) (state : ℕ) (link : phases.LinkPhase)
+    → Seen script owned n b c → Seen script owned n b (record c { state = state; link = link })
+seen_still script owned n b c state link s = record {
+  stands = s.stands;
+  place = s.place;
+  in_bound = s.in_bound;
+  mode = s.mode;
+  remote = s.remote;
+  cut = s.cut;
+  bound = s.bound;
+  line_stands = s.line_stands;
+  line_owned = s.line_owned;
+  line_once = s.line_once;
+  context_number = s.context_number;
+  context_once = s.context_once;
+  members = s.members;
+  ephemeral_slot = s.ephemeral_slot;
+  ephemeral_stands = s.ephemeral_stands;
+  ephemeral_owned = s.ephemeral_owned;
+  ephemeral_once = s.ephemeral_once;
+  ephemeral_named = s.ephemeral_named;
+}
 
 -- a command leaves the state
 pub effect_state : (script : Script) (c : Configuration) (command : Command) → (effect script c command).state ≡ c.state

@@ -31,8 +31,9 @@ loop-line-preserved c =
       rows = λ t. ap (λ (b : Board). rows_idled rest b.row t) board ∙ idled_more before l rest t
           ∙ ap (λ (ls : List LineNo). rows_idled ls before.row t) (sym left) ∙ inv.rows t;
       cut = ap (λ (b : Board). b.cut) board ∙ inv.cut;
-      given_context = ap (λ (b : Board). b.given_context) board ∙ inv.given_context;
-      given_ephemeral = ap (λ (b : Board). b.given_ephemeral) board ∙ inv.given_ephemeral;
+      used_context = ap (λ (b : Board). b.used_context) board ∙ inv.used_context;
+      used_ephemeral = ap (λ (b : Board). b.used_ephemeral) board ∙ inv.used_ephemeral;
+      class = ap (λ (b : Board). b.class) board ∙ inv.class;
       there = λ n. ap (λ (b : Board). has_line b n) board ∙ there_deactivated before l.0 n ∙ inv.there n;
       lines = λ n. ap (λ (rows : ℕ → LineRow). lines_armed start rest rows n) armed ∙ armed_more start rows_before l rest n
           ∙ ap (λ (ls : List LineNo). lines_armed start ls rows_before n) (sym left) ∙ inv.lines n;

@@ -1,5 +1,6 @@
 -- The examples, one for each obligation.
 use Rattle.mg_examples.proofs.ClearNeeded.{clear_needed}
+use Rattle.mg_examples.proofs.LiveNeeded.{live_needed}
 use Rattle.mg_examples.proofs.MarkNeeded.{mark_needed}
 use Rattle.mg_examples.proofs.OpeningNeeded.{opening_needed}
 use Rattle.mg_examples.proofs.ResetNeeded.{reset_needed}
@@ -24,3 +25,6 @@ returns-clause-unbound c = unbound_needed
 
 pub returns-clause-reset : goal.returns-clause-reset
 returns-clause-reset c = reset_needed
+
+pub returns-clause-live : goal.returns-clause-live
+returns-clause-live c = live_needed

@@ -23,7 +23,7 @@ pub returns : goal.returns
 unfolding board_of
 returns t c =
     let members : (u : TermId) → list_any (same_term u) c.of_context-t-items.result.now ≡ stands_in (board_of c.args.self.now).row (place_of (board_of c.args.self.now) c.args.from.now) u =
-    λ u. ap (λ group. list_any (same_term u) group) c.of_context-t-items.ensures ∙ c.self.invariant.stands c.place_of.result u
+    λ u. ap (λ group. list_any (same_term u) group) c.of_context-t-items.ensures ∙ c.self.invariant.0.stands c.place_of.result u
     ∙ ap (λ n. stands_in (row_of c.self.inside.terms) n u) c.place_of.ensures ∙ (rw (← c.self.view_is) refl) in (
       λ h. absurd (search rules),
       λ leads. absurd (none_left (board_of c.args.self.now) (arrived c.args.trail.now) c.args.from.now c.args.to.now _ c.loop-t.t-index c.loop-t-test.false (c.loop-t.invariant

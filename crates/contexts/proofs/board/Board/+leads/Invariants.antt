@@ -1,11 +1,12 @@
 use Rattle.std.proofs.Common.{◌-◌, length, drop}
 use Rattle.contexts.specs.Paths.{arrived, LeadsByOne}
 use Rattle.contexts.specs.BoardValue.{board_of}
+use Rattle.contexts.proofs.PathLemmas.{most}
 use Rattle.contexts.proofs.board.Board.+leads.Given as goal
 
--- the ephemerals that are not on the trail
+-- the numbers that are not on the trail
 abbrev pub decreases-leads : goal.decreases-leads
-decreases-leads l = length l.self.now.table.ephemerals - length (arrived l.trail.now)
+decreases-leads l = most l.self.now.table.ephemerals - length (arrived l.trail.now)
 
 -- if media goes on by one of the members, it goes on by one of those that are left
 abbrev pub invariant-loop-t : goal.invariant-loop-t

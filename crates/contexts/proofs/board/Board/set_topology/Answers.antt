@@ -13,7 +13,7 @@ pub returns-in_default-clause-err : goal.returns-in_default-clause-err
 unfolding board_of
 returns-in_default-clause-err c = rw (← c.self.view_is) (same_boards _ _ refl
     (cut_of_same (row_of c.self.inside.terms) _ _ (λ d. cuts_viewed c.set.new.cuts.entries d ∙ (rw c.in_default.is at c.set.ensures.err) d ∙ sym (cuts_viewed c.self.inside.cuts.entries d)))
-    refl refl)
+    refl refl refl)
 
 pub invariant_of-self-2 : goal.invariant_of-self-2
 unfolding board_of
@@ -25,7 +25,7 @@ invariant_of-self-2 c =
       differ = c.requires.differ;
       cuts = rw (c.in-Ok.is, c.cuts_forward-forward.ensures, c.cuts_backward-backward.ensures) at c.set.ensures.ok;
     } in
-    tied_set _ _ _ _ _ _ _ _ _ sets c.self.invariant
+    (tied_set _ _ _ _ _ _ _ _ _ sets c.self.invariant.0, c.self.invariant.1)
 
 pub returns-clause-ok : goal.returns-clause-ok
 unfolding board_of
@@ -40,4 +40,4 @@ returns-clause-ok c =
     rw (← c.self.view_is) (same_boards _ _ refl
     (cut_of_same (row_of c.self.inside.terms) _ _ (cuts_viewed c.set.new.cuts.entries) ∙ cut_set _ _ _ _ _ _ _ _ sets
     ∙ ap (λ (cut : TermId → TermId → Bool). with_cut (with_cut cut c.args.t c.args.u (not (second_receives c.args.topology))) c.args.u c.args.t (not (first_receives c.args.topology))) (sym (cut_of_same (row_of c.self.inside.terms) _ _ (cuts_viewed c.self.inside.cuts.entries))))
-    refl refl)
+    refl refl refl)

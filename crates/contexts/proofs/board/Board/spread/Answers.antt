@@ -14,7 +14,7 @@ pub returns-clause-spread : goal.returns-clause-spread
 unfolding board_of
 returns-clause-spread c =
     let members : (u : TermId) → list_any (same_term u) c.of_context-t-items.result.now ≡ stands_in (board_of c.args.self.now).row (place_of (board_of c.args.self.now) c.args.from.now) u =
-    λ u. ap (λ group. list_any (same_term u) group) c.of_context-t-items.ensures ∙ c.self.invariant.stands c.place_of.result u
+    λ u. ap (λ group. list_any (same_term u) group) c.of_context-t-items.ensures ∙ c.self.invariant.0.stands c.place_of.result u
     ∙ ap (λ n. stands_in (row_of c.self.inside.terms) n u) c.place_of.ensures ∙ (rw (← c.self.view_is) refl) in
     spread_all (board_of c.args.self.now) c.args.from.now c.of_context-t-items.result.now c.args.found.now c.loop-t.found members
     (spread_to_end (board_of c.args.self.now) c.args.from.now c.of_context-t-items.result.now c.loop-t.t-index c.args.found.now c.loop-t.found c.loop-t-test.false c.loop-t.invariant)

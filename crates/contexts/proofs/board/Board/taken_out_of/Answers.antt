@@ -13,6 +13,6 @@ unfolding board_of
 returns c = rw (← c.self.view_is) (IfOk-weaker c.taken_out.result (IsTakenOut c.of_context.result.now) _ (λ done out. record {
   context = out.context;
   ephemeral = out.ephemeral;
-  lines = lists_same _ _ _ (λ n. ap (λ group. list_any (same_term (Line (record { 0 = n }))) group) c.of_context.ensures ∙ c.self.invariant.stands c.args.context.0 (Line (record { 0 = n }))) out.lines;
-  ephemerals = lists_same _ _ _ (λ n. ap (λ group. list_any (same_term (Eph n)) group) c.of_context.ensures ∙ c.self.invariant.stands c.args.context.0 (Eph n)) out.ephemerals;
+  lines = lists_same _ _ _ (λ n. ap (λ group. list_any (same_term (Line (record { 0 = n }))) group) c.of_context.ensures ∙ c.self.invariant.0.stands c.args.context.0 (Line (record { 0 = n }))) out.lines;
+  ephemerals = lists_same _ _ _ (λ n. ap (λ group. list_any (same_term (Eph n)) group) c.of_context.ensures ∙ c.self.invariant.0.stands c.args.context.0 (Eph n)) out.ephemerals;
 }) c.taken_out.ensures)

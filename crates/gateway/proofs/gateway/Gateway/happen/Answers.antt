@@ -13,55 +13,55 @@ use Rattle.gateway.proofs.gateway.Gateway.happen.Goals.{else-last-via-then-last+
 
 pub returns-in_default : goal.returns-in_default
 returns-in_default c =
-    let v : GatewayValue = record { association = c.self.inside.association.0; connected = c.self.inside.connections; holders = c.self.inside.holders.entries; calls = c.self.inside.calls.entries } in (
+    let v : GatewayValue = record { association = c.self.inside.association.0; connected = c.self.inside.connections; holders = c.self.inside.holders.entries; calls = c.self.inside.calls.entries; creators = c.self.inside.creators.entries } in (
       subst (λ (w : GatewayValue). CannotOccur w c.args.line.0 c.args.event) c.self.view_is
           (cannot_unheld v c.args.line.0 c.args.event c.in_default.ensures),
-      (λ creator. refl, λ call. refl),
+      (refl, λ call. refl),
     )
 
 pub returns-in_default-call : goal.returns-in_default-call
 returns-in_default-call c =
-    let v : GatewayValue = record { association = c.self.inside.association.0; connected = c.self.inside.connections; holders = c.self.inside.holders.entries; calls = c.self.inside.calls.entries } in
+    let v : GatewayValue = record { association = c.self.inside.association.0; connected = c.self.inside.connections; holders = c.self.inside.holders.entries; calls = c.self.inside.calls.entries; creators = c.self.inside.creators.entries } in
     absurd (open_held v c.self.invariant c.args.line.0 c.in-Some.call c.in-Some.ensures (sym c.in_default-call.ensures))
 
 pub returns-then-raises : goal.returns-then-raises
 returns-then-raises c =
-    let v : GatewayValue = record { association = c.self.inside.association.0; connected = c.self.inside.connections; holders = c.self.inside.holders.entries; calls = c.self.inside.calls.entries } in
+    let v : GatewayValue = record { association = c.self.inside.association.0; connected = c.self.inside.connections; holders = c.self.inside.holders.entries; calls = c.self.inside.calls.entries; creators = c.self.inside.creators.entries } in
     let link : (link_of (call_in v.calls c.in-Some.call)).notes ≡ c.in-Some-call.state.now.notes = ap (λ o. (link_of o).notes) (sym c.in-Some-call.ensures) in
     let full : last_number ≤ (link_of (call_in v.calls c.in-Some.call)).notes = omega (arith, c.if-last.true, c.notes-last.ensures) in (
       subst (λ (w : GatewayValue). CannotOccur w c.args.line.0 c.args.event) c.self.view_is
           (cannot_full v c.args.line.0 c.args.event c.in-Some.call c.in-Some.ensures full (sym c.if-raises.ensures)),
-      (λ creator. refl, λ call. refl),
+      (refl, λ call. refl),
     )
 
 pub returns-in_default-happen : goal.returns-in_default-happen
 returns-in_default-happen c =
-    let v : GatewayValue = record { association = c.self.inside.association.0; connected = c.self.inside.connections; holders = c.self.inside.holders.entries; calls = c.self.inside.calls.entries } in
+    let v : GatewayValue = record { association = c.self.inside.association.0; connected = c.self.inside.connections; holders = c.self.inside.holders.entries; calls = c.self.inside.calls.entries; creators = c.self.inside.creators.entries } in
     subst (λ (w : GatewayValue). CannotOccur w c.args.line.0 c.args.event
-    × IsSame w (record { association = v.association; connected = c.happen.new.self; holders = v.holders; calls = v.calls })) c.self.view_is
+    × IsSame w (record { association = v.association; connected = c.happen.new.self; holders = v.holders; calls = v.calls; creators = v.creators })) c.self.view_is
     (cannot_answered v c.happen.new.self c.args.line.0 c.args.event c.in-Some.call c.in_default-happen.field-0 c.self.invariant c.in-Some.ensures
     c.in_default-happen.ensures.answer c.happen.ensures.board c.happen.ensures.lines)
 
 pub returns-in_default-note : goal.returns-in_default-note
 returns-in_default-note c =
-    let v : GatewayValue = record { association = c.self.inside.association.0; connected = c.self.inside.connections; holders = c.self.inside.holders.entries; calls = c.self.inside.calls.entries } in
+    let v : GatewayValue = record { association = c.self.inside.association.0; connected = c.self.inside.connections; holders = c.self.inside.holders.entries; calls = c.self.inside.calls.entries; creators = c.self.inside.creators.entries } in
     let link : (link_of (call_in v.calls c.in-Some.call)).notes ≡ c.in-Some-call.state.now.notes = ap (λ o. (link_of o).notes) (sym c.in-Some-call.ensures) in
     let few : (link_of (call_in v.calls c.in-Some.call)).notes ≤ last_number = omega (arith, c.notes-last.ensures, c.notes-last.type_inv) in
-    let new : GatewayValue = record { association = v.association; connected = c.happen.new.self; holders = v.holders; calls = v.calls } in
+    let new : GatewayValue = record { association = v.association; connected = c.happen.new.self; holders = v.holders; calls = v.calls; creators = v.creators } in
     subst (λ (w : GatewayValue). IsHappened w c.args.line.0 c.args.event new (Ok None)) c.self.view_is
     (silent_event v c.happen.new.self c.args.line.0 c.args.event c.in-Some.call c.in-Ok.note c.in_default-note.is c.in-Some.ensures
     c.in-Ok.ensures.answer c.happen.ensures.board c.happen.ensures.lines few)
 
 pub returns : goal.returns
 returns c =
-    let v : GatewayValue = record { association = c.self.inside.association.0; connected = c.self.inside.connections; holders = c.self.inside.holders.entries; calls = c.self.inside.calls.entries } in
+    let v : GatewayValue = record { association = c.self.inside.association.0; connected = c.self.inside.connections; holders = c.self.inside.holders.entries; calls = c.self.inside.calls.entries; creators = c.self.inside.creators.entries } in
     let raised : is_raised (outcome_of (line_in v.connected c.args.line.0) c.args.event) ≡ true =
     raised_answered _ _ c.in-Ok.note c.in-Some-note.note c.in-Some-note.is c.in-Ok.ensures.answer in
     let room : c.notes-last.result + 1 ≤ last_number = elim c.else-last.branch [
       | else-last-via-then-last+else-raises w ↦ absurd (true≢false (sym raised ∙ sym w.if-raises.ensures))
       | else-last-via-else-last w ↦ omega (arith, w.if-last.false, c.notes-last.type_inv)
     ] in
-    let new : GatewayValue = record { association = v.association; connected = c.happen.new.self; holders = v.holders; calls = c.count.new.calls.entries } in
+    let new : GatewayValue = record { association = v.association; connected = c.happen.new.self; holders = v.holders; calls = c.count.new.calls.entries; creators = v.creators } in
     subst (λ (w : GatewayValue). IsHappened w c.args.line.0 c.args.event new (Ok (Some c.new.result))) c.self.view_is (
       noted_event v c.happen.new.self c.count.new.calls.entries c.args.line.0 c.args.event c.in-Some.call c.in-Some-call.state.now c.notes-last.result
           c.in-Ok.note c.in-Some-note.note c.new.result c.in-Some-note.is c.in-Some.ensures c.in-Ok.ensures.answer c.happen.ensures.board c.happen.ensures.lines

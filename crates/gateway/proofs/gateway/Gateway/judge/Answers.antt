@@ -43,8 +43,8 @@ returns-in-Ok c =
     let asked : offer (delivery_link state) request.association request.number ≡ offer (delivery_link state) c.association.result.0 c.number.result =
     ap (λ (a : ℕ). offer (delivery_link state) a request.number) (sym c.association.ensures) ∙ ap (offer (delivery_link state) c.association.result.0) (sym c.number.ensures) in (
       addressed w call request state found tied ours,
-      λ creator. subst (λ (r : Reply). IsKept (gateway_of creator w) request r) (sym c.in-Ok.ensures)
-          (is_kept w call request state found tied ours c.in-Kept.reply.now (asked ∙ sym c.in-Kept.ensures) creator),
+      subst (λ (r : Reply). IsKept (gateway_of w) request r) (sym c.in-Ok.ensures)
+          (is_kept w call request state found tied ours c.in-Kept.reply.now (asked ∙ sym c.in-Kept.ensures)),
     )
 
 pub returns-then-commands-last : goal.returns-then-commands-last

@@ -4,8 +4,8 @@ use Rattle.gateway.proofs.gateway.Gateway.open_call.Goals as goal
 
 pub returns-in-Err-clause-answer : goal.returns-in-Err-clause-answer
 unfolding gateway_of
-returns-in-Err-clause-answer c = λ creator. or_no_memory _ _ c.in-Err.ensures
+returns-in-Err-clause-answer c = or_no_memory _ _ c.in-Err.ensures
 
 pub returns-in-Ok-open_free-clause-answer : goal.returns-in-Ok-open_free-clause-answer
 unfolding gateway_of
-returns-in-Ok-open_free-clause-answer c = λ creator. or_no_memory _ _ c.in-Ok.ensures
+returns-in-Ok-open_free-clause-answer c = or_no_memory _ _ c.in-Ok.ensures

@@ -3,7 +3,7 @@ use Rattle.gateway.proofs.TieLemmas.{next_is}
 use Rattle.gateway.proofs.gateway.Gateway.restart.Goals as goal
 
 pub returns : goal.returns
-returns c = next_is (record { association = c.self.inside.association.0; connected = c.self.inside.connections; holders = c.self.inside.holders.entries; calls = c.self.inside.calls.entries })
+returns c = next_is (record { association = c.self.inside.association.0; connected = c.self.inside.connections; holders = c.self.inside.holders.entries; calls = c.self.inside.calls.entries; creators = c.self.inside.creators.entries })
     c.args.self.now
-    (record { association = c.in-Some.number; connected = c.restart.new.self; holders = c.self.inside.holders.entries; calls = c.restart-2.new.calls.entries })
+    (record { association = c.in-Some.number; connected = c.restart.new.self; holders = c.self.inside.holders.entries; calls = c.restart-2.new.calls.entries; creators = c.clear.new.self.entries })
     c.self.view_is c.in-Some.ensures.0 c.in-Some.ensures.1 c.restart.ensures.board c.restart.ensures.lines refl c.restart-2.ensures

@@ -3,7 +3,7 @@ use Rattle.std.proofs.lemmas.List.{length-map}
 use Rattle.mg_model.specs.Numbers.{last_number}
 use Rattle.mg_model.specs.Messages.{Request}
 use Rattle.requests.specs.Views.{line_notes}
-use Rattle.gateway.specs.Standby.{IsEnd}
+use Rattle.requests.specs.Connected.{Ends}
 use Rattle.gateway.specs.GatewayValue.{GatewayValue}
 use Rattle.gateway.proofs.JudgeLemmas.{room_for, run_made}
 use Rattle.gateway.proofs.gateway.Gateway.run.Goals as goal
@@ -29,7 +29,7 @@ returns-clause-runs c =
     run_made c.args.self.now.connected request c.args.chosen c.args.last c.in_ok-connections.connections
     c.in_ok-connections.outcome.results.items (line_notes c.in_ok-connections.outcome.notes.items) c.in_ok-connections.outcome.failure
     c.new-reply.result c.in_ok-kept.kept c.in_ok-notes.notes.items (c.args.last + c.len-count.result)
-    (subst (λ (w : GatewayValue). IsEnd w.connected request c.args.chosen c.in_ok-connections.connections
+    (subst (λ (w : GatewayValue). Ends w.connected request c.args.chosen c.in_ok-connections.connections
     c.in_ok-connections.outcome.results.items (line_notes c.in_ok-connections.outcome.notes.items) c.in_ok-connections.outcome.failure) c.self.view_is c.in_ok-connections.ensures.runs)
     (rw (c.new-reply.ensures, c.id.ensures.call, c.id.ensures.association, c.id.ensures.number) refl)
     c.in_ok-kept.ensures

@@ -1,0 +1,30 @@
+-- Which call created an ephemeral, by its number. A reader should check that a number at which no ephemeral exists has no creator,
+-- whatever was noted.
+use Rattle.std.specs.Prelude.{ℕ, ◌==◌, Bool, false, if◌then◌else◌, List, Option, Some, None}
+use Rattle.std.specs.Ordering.{nat_cmp}
+use Rattle.std.specs.BTreeMap.{is_at}
+use Rattle.std.specs.List.{list_any}
+use Rattle.std.specs.Map.{lookup}
+use Rattle.mg_names.specs.declared.identifiers.TermId.TheVariants.{Eph}
+use Rattle.mg_model.specs.Board.{Board, exists}
+use Rattle.mg_model.specs.Items.{Done}
+
+-- what was noted under a number
+unfoldable pub creator_at : List (ℕ × ℕ) → ℕ → Option ℕ
+creator_at creators k = lookup (is_at (nat_cmp k)) creators
+
+-- the call that created the ephemeral of a number, where there is one
+abbrev pub creator_on : Board → List (ℕ × ℕ) → ℕ → Option ℕ
+creator_on b creators k = if exists b (Eph k) then creator_at creators k else None
+
+-- a command created the ephemeral of a number
+abbrev pub is_that : Option ℕ → ℕ → Bool
+is_that None k = false
+is_that (Some number) k = k == number
+
+abbrev pub is_created : Done → ℕ → Bool
+is_created done k = is_that done.ephemeral k
+
+-- one of the commands did
+abbrev pub any_created : List Done → ℕ → Bool
+any_created results k = list_any (λ (done : Done). is_created done k) results

@@ -1,0 +1,4 @@
+pub mod Class
+pub mod Count
+pub mod Faults
+pub mod Stock

@@ -1,0 +1,119 @@
+-- The start of a request. No name is stale then and no Remote is gone, so whatever is seen is shown as long as the request runs.
+use Rattle.std.proofs.Common.{◌≡◌, ◌∙◌, ◌<◌, ◌≤◌, ◌==◌, ℕ, Bool, true, false, List, [], ◌∷◌, length, Option, Some, None, is_some, refl, sym, ap, subst, arith, true≢false, inl, inr, ◌⊎◌}
+use Rattle.std.specs.Prelude.{◌||◌, not, unwrap_or}
+use Rattle.std.specs.List.{list_any}
+use Rattle.std.proofs.lemmas.Bool.{cases_lt, eqb-true}
+use Rattle.mg_names.specs.declared.context_values.ContextValue.{ContextValue}
+use Rattle.mg_names.specs.declared.context_values.ContextValue.TheVariants.{Free, Live, Stale}
+use Rattle.mg_names.specs.declared.identifiers.TermId.{TermId}
+use Rattle.mg_names.specs.declared.identifiers.TermId.TheVariants.{Line, Eph}
+use Rattle.mg_model.specs.declared.commands.Termination.{Termination}
+use Rattle.mg_model.specs.declared.commands.Termination.TheVariants as termination
+use Rattle.mg_model.specs.declared.components.Remote.{Remote}
+use Rattle.mg_model.specs.declared.components.Remote.TheVariants.{Unset, Gone, To}
+use Rattle.mg_model.specs.declared.components.Spot.{Spot}
+use Rattle.mg_model.specs.declared.components.Spot.TheVariants.{Absent, Null, In}
+use Rattle.mg_model.specs.Accepted.{IsSlot}
+use Rattle.mg_model.specs.Board.{Board, exists, place_of, place_in, remote_in}
+use Rattle.mg_model.specs.Configuration.{Configuration, IsWellFormed, is_in, is_free, is_live, stands_in, terminations}
+use Rattle.mg_model.specs.Obligations.{IsLive}
+use Rattle.mg_model.specs.Script.{Script}
+use Rattle.mg_safety.proofs.Invariant.Shown.{Naming, Shown, Seen, RemoteReads, RemoteSeen, IsAccounted, row_on, term_of, eph_of, number_at}
+use Rattle.mg_safety.proofs.Invariant.Sound.{IsOfScript}
+
+first_or : {A : Type 0} (p : A → Bool) (x : A) (b : Bool) (rest : Bool) → p x ≡ b → (b || rest) ≡ true → (rest ≡ true → (y : A) × (p y ≡ true))
+    → (y : A) × (p y ≡ true)
+first_or p x true rest is e later = (x, is)
+first_or p x false rest is e later = later e
+
+any_found : {A : Type 0} (p : A → Bool) (xs : List A) → list_any p xs ≡ true → (x : A) × (p x ≡ true)
+any_found p [] e = absurd (true≢false (sym e))
+any_found p (x ∷ xs) e = first_or p x (p x) (list_any p xs) refl e (any_found p xs)
+
+in_it : (spot : Spot) (j : ℕ) → is_in spot j ≡ true → spot ≡ In j
+in_it Absent j e = absurd (true≢false (sym e))
+in_it Null j e = absurd (true≢false (sym e))
+in_it (In i) j e = ap (λ x. In x) (eqb-true i j e)
+
+abbrev is_absent : Spot → Bool
+is_absent Absent = true
+is_absent Null = false
+is_absent (In j) = false
+
+-- what is in a context is a slot of the script
+slot_of : (script : Script) (c : Configuration) → IsOfScript script c → (t : Termination) (j : ℕ) → c.spot t ≡ In j → IsSlot script t
+slot_of script c of_script (termination.Line i) j e = at (cases_lt i (length script.lines))
+  where
+    at : (i < length script.lines) ⊎ (length script.lines ≤ i) → i < length script.lines
+    at (inl within) = within
+    at (inr past) = absurd (true≢false (sym (ap is_absent (sym e ∙ of_script.spot (termination.Line i) (λ within.
+        absurd (let below : i < length script.lines = within in omega (arith, below, past)))))))
+slot_of script c of_script (termination.Ephemeral k) j e = at (cases_lt k (length script.ephemerals))
+  where
+    at : (k < length script.ephemerals) ⊎ (length script.ephemerals ≤ k) → k < length script.ephemerals
+    at (inl within) = within
+    at (inr past) = absurd (true≢false (sym (ap is_absent (sym e ∙ of_script.spot (termination.Ephemeral k) (λ within.
+        absurd (let below : k < length script.ephemerals = within in omega (arith, below, past)))))))
+
+module _ (script : Script) (owned : TermId → Bool) (n : Naming) (b : Board) (c : Configuration) (seen : Seen script owned n b c)
+    (accounted : IsAccounted b) where
+  -- a context in which one of the call's terminations stands is in use
+  pub spot_used : (v : Termination) (j x : ℕ) → IsSlot script v → c.spot v ≡ In j → n.contexts j ≡ Some x → b.used_context x ≡ true
+  spot_used v j x slot at bound = by_term (term_of n v) (seen.place v slot ∙ ap (number_at n) at ∙ ap (λ (o : Option ℕ). unwrap_or o 0) bound)
+    where
+      by_term : (o : Option TermId) → place_in (row_on b o) ≡ x → b.used_context x ≡ true
+      by_term None reads = absurd (let above : 0 < x = (seen.context_number j x bound).0 in let none : 0 ≡ x = reads in omega (arith, above, none))
+      by_term (Some t) reads = subst (λ (y : ℕ). b.used_context y ≡ true) reads (accounted.contexts t (λ e.
+          absurd (let above : 0 < x = (seen.context_number j x bound).0 in let stands : place_of b t ≡ x = reads in omega (arith, above, stands, e))))
+
+module _ (script : Script) (owned : TermId → Bool) (n : Naming) (b : Board) (c : Configuration) (seen : Seen script owned n b c)
+    (formed : IsWellFormed c) (of_script : IsOfScript script c) (accounted : IsAccounted b) where
+  -- in a context that is live one of the call's terminations stands
+  record Stander (j : ℕ) : Type 0 where
+    v : Termination
+    slot : IsSlot script v
+    at : c.spot v ≡ In j
+
+  stander : (j : ℕ) → c.context j ≡ Live → Stander j
+  stander j live =
+      let some = any_found (λ t. is_in (c.spot t) j) terminations (sym (formed.live j) ∙ ap is_live live) in
+      let at = in_it (c.spot some.0) j some.1 in
+      record { v = some.0; slot = slot_of script c of_script some.0 j at; at = at }
+
+  module _ (names : IsLive c) where
+    -- a name that is bound is live
+    bound_live : (j x : ℕ) → n.contexts j ≡ Some x → c.context j ≡ Live
+    bound_live j x bound = at (c.context j) refl (sym (ap is_some bound) ∙ seen.bound j)
+      where
+        at : (v : ContextValue) → c.context j ≡ v → true ≡ not (is_free (c.context j)) → c.context j ≡ Live
+        at Live e here = e
+        at Stale e here = absurd (names.contexts j e)
+        at Free e here = absurd (true≢false (here ∙ ap (λ v. not (is_free v)) e))
+
+    reads : (k : ℕ) (r : Remote) (remote : Option ℕ) → c.remote k ≡ r → RemoteSeen n r remote → RemoteReads b n r remote
+    reads k Unset remote e here = here
+    reads k Gone remote e here = absurd (names.remotes k e)
+    reads k (To i) remote e here = here
+
+    pub shown_at_start : Shown script owned n b c
+    shown_at_start = record {
+      stands = seen.stands;
+      place = seen.place;
+      in_bound = seen.in_bound;
+      mode = seen.mode;
+      remote = λ k slot. reads k (c.remote k) (remote_in (row_on b (eph_of (n.ephemerals k)))) refl (seen.remote k slot);
+      cut = seen.cut;
+      bound = seen.bound;
+      line_stands = seen.line_stands;
+      line_owned = seen.line_owned;
+      line_once = seen.line_once;
+      context_real = λ j x bound. let s = stander j (bound_live j x bound) in
+          (seen.context_number j x bound, spot_used script owned n b c seen accounted s.v j x s.slot s.at bound);
+      context_once = seen.context_once;
+      members = λ j x t bound. let s = stander j (bound_live j x bound) in seen.members s.v j x t s.slot s.at bound;
+      ephemeral_slot = seen.ephemeral_slot;
+      ephemeral_stands = seen.ephemeral_stands;
+      ephemeral_owned = seen.ephemeral_owned;
+      ephemeral_once = seen.ephemeral_once;
+      ephemeral_named = seen.ephemeral_named;
+    }
