@@ -1,7 +1,8 @@
 -- Which call created an ephemeral: what a request creates wasn't used before, and what stands after it stood before it or was created by it.
 use Rattle.std.proofs.Common.{◌≡◌, ◌∙◌, ℕ, ◌+◌, ◌==◌, Bool, true, false, ◌&&◌, ◌||◌, if◌then◌else◌, List, [], ◌∷◌, ◌++◌, Option, Some, None, is_some, ◌⊎◌, inl, inr, refl, sym, ap, rules, subst}
-use Rattle.std.proofs.Common.{IsTrue, ◌<◌, ◌≤◌, take, drop, length, get_or}
+use Rattle.std.proofs.Common.{IsTrue, Result, Ok, Err, OnOk, true≢false, ◌<◌, ◌≤◌, take, drop, length, get_or}
 use Rattle.std.proofs.lemmas.List.{take_more, take_all, take-append-drop}
+use Rattle.std.specs.declared.alloc.AllocError.{AllocError}
 use Rattle.std.proofs.lemmas.Bool.{eqb-true}
 use Rattle.std.proofs.lemmas.List.Folds.{list_any-append}
 use Rattle.mg_names.specs.declared.codes.Code.TheVariants.{UnknownTermination}
@@ -65,7 +66,7 @@ was_fresh false n k used fresh h = absurd (search rules)
 -- what a command created wasn't used
 fresh_before : (b : Board) (item : Item) (after : Board) (done : Done) (k : ℕ) → IsExecuted b item after done → is_created done k ≡ true → b.used_ephemeral k ≡ false
 fresh_before b item after done k e h =
-    was_fresh (creates_ephemeral item) e.chosen.ephemeral k b.used_ephemeral (λ creates. (e.fresh.ephemeral creates).0.1) (sym (ap (λ (o : Option ℕ). is_that o k) e.result.ephemeral) ∙ h)
+    was_fresh (creates_ephemeral item) e.chosen.ephemeral k b.used_ephemeral (λ creates. (e.fresh.ephemeral creates).1) (sym (ap (λ (o : Option ℕ). is_that o k) e.result.ephemeral) ∙ h)
 
 second_false : (a b : Bool) → (a || b) ≡ false → b ≡ false
 second_false true b h = absurd (search rules)
@@ -200,3 +201,19 @@ none_before results place k none = first_false _ _ (sym (list_any-append (λ (d 
 
 pub others_kept : (results : List Done) (place call : ℕ) (before now : List (ℕ × ℕ)) → NotedTo results place call before now → (k : ℕ) → any_created results k ≡ false → creator_at now k ≡ creator_at before k
 others_kept results place call before now so_far k none = so_far k ∙ rw (none_before results place k none) refl
+
+pub on_ok : {P Q : Type 0} (r : Result (Unit {0}) AllocError) → OnOk r P → (P → Q) → OnOk r Q
+on_ok (Ok done) h f = f h
+on_ok (Err fault) h f = h
+
+-- what was noted of numbers that aren't used shows nowhere
+pub same_creators : (b : Board) (results : List Done) (before now : List (ℕ × ℕ)) → ((k : ℕ) → b.used_ephemeral k ≡ exists b (Eph k)) → ((k : ℕ) → any_created results k ≡ true → b.used_ephemeral k ≡ false)
+    → ((k : ℕ) → any_created results k ≡ false → creator_at now k ≡ creator_at before k) → creator_on b now ≡ creator_on b before
+same_creators b results before now settled unused others = λ i k. at k i
+  where
+    at : (k : ℕ) → creator_on b now k ≡ creator_on b before k
+    at k = by_value (exists b (Eph k))
+        (λ there. by_value (any_created results k)
+        (λ made. let bad : true ≡ false = sym there ∙ sym (settled k) ∙ unused k made in absurd (true≢false bad))
+        (λ none. rw there (others k none)))
+        (λ gone. rw gone refl)

@@ -1,13 +1,18 @@
 -- What is done on two connections that show the same leaves them showing the same.
-use Rattle.std.proofs.Common.{◌≡◌, ◌∙◌, ℕ, sym, ap}
-use Rattle.mg_model.specs.Board.{Board}
+use Rattle.std.proofs.Common.{◌≡◌, ◌∙◌, ℕ, Option, Some, None, IfSome, refl, sym, ap}
+use Rattle.mg_model.specs.declared.failures.ChosenRefusal.{ChosenRefusal}
+use Rattle.mg_model.specs.declared.failures.Failure.{Failure}
+use Rattle.mg_model.specs.Board.{Board, IsSettled}
+use Rattle.mg_model.specs.Items.{Done}
+use Rattle.mg_model.specs.Messages.{Request}
+use Rattle.mg_model.specs.RequestRun.{Running, RunsFrom}
 use Rattle.mg_model.specs.declared.line_events.LineEvent.{LineEvent}
 use Rattle.mg_model.specs.Gateway.{outcome_of, board_restarted}
 use Rattle.mg_model.specs.LineEvents.{LineRow, cleared}
 use Rattle.mg_names.specs.declared.identifiers.LineNo.{LineNo}
 use Rattle.std.proofs.Common.{List}
-use Rattle.requests.specs.Connected.{Connected, board_in, line_in, has_line, lines_after}
-use Rattle.gateway.specs.Standby.{ShowsSame, ShowsOpened, board_idled, lines_armed}
+use Rattle.requests.specs.Connected.{Connected, board_in, line_in, has_line, start_in, lines_after}
+use Rattle.gateway.specs.Standby.{ShowsSame, ShowsOpened, IsStandby, HasEnd, board_idled, lines_armed}
 
 abbrev pub all_cleared : (ℕ → LineRow) → ℕ → LineRow
 all_cleared rows l = cleared (rows l)
@@ -39,3 +44,13 @@ opened_from_same s a t lines same opened = record {
   board = opened.board ∙ ap (board_idled lines) same.board;
   rows = opened.rows ∙ ap (λ (x : Board). lines_armed x lines (line_in s)) same.board ∙ ap (lines_armed (board_in a) lines) same.lines;
 }
+
+-- connections that follow a request to its end show what is active
+pub followed : (start ended active : Connected) (request : Request) (refusal : Option ChosenRefusal) (results : List Done) (o : Option Connected) → HasEnd start request refusal ended results → active ≡ ended
+    → IfSome o (λ c. (e : Running) (failure : Option Failure) (settled : Board) → RunsFrom request.number refusal (start_in start) 0 request.commands e failure → e.results ≡ results
+    → IsSettled e.board settled → (board_in c ≡ settled) × (line_in c ≡ e.line)) → IsStandby o active
+followed start ended active request refusal results None has same follows = tt
+followed start ended active request refusal results (Some c) has same follows =
+    let ends = has.is_end in
+    let both = follows (record { board = ends.board; line = line_in ended; results = results; notes = has.notes }) has.failure (board_in ended) ends.runs refl ends.is_settled in
+    record { board = both.0 ∙ ap board_in (sym same); lines = both.1 ∙ ap line_in (sym same) }
