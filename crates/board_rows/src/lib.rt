@@ -6,4 +6,6 @@
 #[cfg(test)]
 mod boards;
 #[cfg(test)]
+mod numbers;
+#[cfg(test)]
 mod rows_of_terminations;

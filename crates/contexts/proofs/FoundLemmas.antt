@@ -11,7 +11,7 @@ use Rattle.mg_model.specs.Members.{is_among}
 use Rattle.mg_model.specs.Media.{hops, crosses, goes_over}
 use Rattle.contexts.specs.BoardValue.{stands_in}
 use Rattle.contexts.specs.Paths.{Leads, arrival}
-use Rattle.contexts.specs.Found.{FoundValue, all_found, noted, noted_if, IsTaken, all_differ, IsFullFor, IsOverfull, ArrivesAtMore, ArrivesNext, arrives_over, MayArrive, IsSpread, IsSettled, IsClosed}
+use Rattle.contexts.specs.Found.{FoundValue, all_found, noted, noted_if, IsTaken, all_differ, IsFullFor, IsOverfull, ArrivesAtMore, ArrivesNext, arrives_over, MayArrive, IsSpread, IsExplored, IsClosed}
 use Rattle.contexts.proofs.TermLemmas.{same_is, same_itself, split_and, by_value, not_both}
 use Rattle.contexts.proofs.PathLemmas.{both, not_false, negated, same_number, next_from, arrives, stands_beside, avoids_nothing}
 
@@ -254,8 +254,8 @@ leads_by_found b from to k way hop = (way.crossings, avoids_nothing way.crossing
 
 -- ---- a set that is closed holds every path
 
-no_way : (b : Board) (to : TermId) (found : List ℕ) → ((i : ℕ) → is_among found i ≡ true → IsSettled b to found (Eph i)) →
-    (from : TermId) (crossings : List (ℕ × ℕ)) → IsSettled b to found from → IsTrue (goes_over b from crossings to) → ⊥
+no_way : (b : Board) (to : TermId) (found : List ℕ) → ((i : ℕ) → is_among found i ≡ true → IsExplored b to found (Eph i)) →
+    (from : TermId) (crossings : List (ℕ × ℕ)) → IsExplored b to found from → IsTrue (goes_over b from crossings to) → ⊥
 no_way b to found all from [] settled goes = not_both (hops b from to) goes settled.misses
 no_way b to found all from (crossing ∷ more) settled goes =
     let parts = split_and (hops b from (Eph crossing.0) && crosses b crossing.0 crossing.1) (goes_over b (Eph crossing.1) more to) goes in
@@ -270,7 +270,7 @@ closed_misses b from to found closed none way = no_way b to (all_found found) (�
 
 -- ---- the search as it goes on
 
-larger : (b : Board) (to : TermId) (xs ys : List ℕ) (from : TermId) → ((i : ℕ) → is_among xs i ≡ true → is_among ys i ≡ true) → IsSettled b to xs from → IsSettled b to ys from
+larger : (b : Board) (to : TermId) (xs ys : List ℕ) (from : TermId) → ((i : ℕ) → is_among xs i ≡ true → is_among ys i ≡ true) → IsExplored b to xs from → IsExplored b to ys from
 larger b to xs ys from kept settled = record { misses = settled.misses; arrived = λ i next. kept i (settled.arrived i next) }
 
 pub closed_start : (b : Board) (from to : TermId) (new : FoundValue) → hops b from to ≡ false → IsSpread b from (record { done = []; ahead = [] }) new → IsClosed b from to new
@@ -307,7 +307,7 @@ closed_step b from to n old mid new closed taken misses spread = record {
     kept : (i : ℕ) → is_among (all_found old) i ≡ true → is_among (all_found new) i ≡ true
     kept i h = spread.kept i (rw (taken_found n old mid taken) h)
 
-    done : (i : ℕ) → (is_among old.done i ≡ true) ⊎ (is_among (n ∷ []) i ≡ true) → IsSettled b to (all_found new) (Eph i)
+    done : (i : ℕ) → (is_among old.done i ≡ true) ⊎ (is_among (n ∷ []) i ≡ true) → IsExplored b to (all_found new) (Eph i)
     done i (inl before) = larger b to (all_found old) (all_found new) (Eph i) kept (closed.done i before)
     done i (inr last) = let same : i ≡ n = among_one n i last in rw same (record { misses = misses; arrived = spread.arrived })
 

@@ -87,12 +87,12 @@ pub record ArrivesAtMore (b : Board) (most : ℕ) (from : TermId) : Type 0 where
   pub sound : (i : ℕ) → is_among numbers i ≡ true → MayArrive b from i
 
 -- media doesn't hop from a termination to the aim, and each ephemeral at which it arrives next is found
-pub record IsSettled (b : Board) (to : TermId) (found : List ℕ) (from : TermId) : Type 0 where
+pub record IsExplored (b : Board) (to : TermId) (found : List ℕ) (from : TermId) : Type 0 where
   pub misses : hops b from to ≡ false
   pub arrived : (i : ℕ) → ArrivesNext b from i → is_among found i ≡ true
 
 -- so far the start and all from which the search has gone on are settled, and media may arrive at each one found
 pub record IsClosed (b : Board) (from to : TermId) (found : FoundValue) : Type 0 where
-  pub start : IsSettled b to (all_found found) from
-  pub done : (i : ℕ) → is_among found.done i ≡ true → IsSettled b to (all_found found) (Eph i)
+  pub start : IsExplored b to (all_found found) from
+  pub done : (i : ℕ) → is_among found.done i ≡ true → IsExplored b to (all_found found) (Eph i)
   pub sound : (i : ℕ) → is_among (all_found found) i ≡ true → MayArrive b from i

@@ -47,18 +47,18 @@ fn append(group: &mut Vec<TermId>, t: TermId) -> Result<(), AllocError>
 }
 
 /// Opens the context of the next number, with one member.
-fn open(members: &mut Members, alloc: Global, context: u32, t: TermId) -> Result<(), AllocError>
-    requires { IsGiven members.old context }
-    ensures ok { OnOk result ((c : ℕ) → members_at members.new c ≡ (if c == context then with_member t (members_at members.old context) else members_at members.old c)) }
-    ensures used { OnOk result ((c : ℕ) → is_used members.new c ≡ given true context (is_used members.old) c) }
+fn open(members: &mut Members, alloc: Global, t: TermId) -> Result<u32, AllocError>
+    ensures number { IfOk result (IsGiven members.old) }
+    ensures members { IfOk result (λ number. (c : ℕ) → members_at members.new c ≡ (if c == number then with_member t (members_at members.old number) else members_at members.old c)) }
+    ensures used { IfOk result (λ number. (c : ℕ) → is_used members.new c ≡ given true number (is_used members.old) c) }
     ensures class { members.new.class ≡ members.old.class }
     ensures err { OnErr result (members.new ≡ members.old) }
 {
     let group = alone(alloc, t)?;
-    let Ok(_) = members.create(group) else {
+    let Ok(number) = members.create(group) else {
         return Err(AllocError);
     };
-    Ok(())
+    Ok(number)
 }
 
 /// Adds a member to a context, which is there or has the next number.
@@ -76,7 +76,8 @@ pub(crate) fn enter(
     ensures err_used { OnErr result ((c : ℕ) → is_used members.new c ≡ is_used members.old c) }
 {
     let Some(mut group) = members.replace(context, Vec::new(alloc)) else {
-        return open(members, alloc, context, t);
+        open(members, alloc, t)?;
+        return Ok(());
     };
     let appended = append(&mut group, t);
     let _ = members.replace(context, group);

@@ -1,5 +1,5 @@
 //! `gatebench CALLS REQUESTS`: opens so many calls with a line each, then executes so many requests, one call after the other, and says
-//! how many contexts there are. Each request adds the call's line to a new context and subtracts all of it again. `tools/bench` times
+//! how many contexts there are. Each request adds the call's line to a new context and a new ephemeral beside it, and subtracts both again. `tools/bench` times
 //! it; it promises nothing else.
 #![tactic(auto)]
 
@@ -57,13 +57,23 @@ fn add(line: LineNo) -> RequestCommand {
     }
 }
 
-/// The request with this number: the line of the call goes to a new context, and out of it.
+/// Add of a new ephemeral to the context of the first command.
+const ADD_BESIDE: RequestCommand = RequestCommand::Add {
+    context: ContextRef::MadeAt(0),
+    added: Newcomer::NewEphemeral,
+    settings: SettingsRef {
+        mode: Some(Mode::SendReceive),
+        remote: None,
+    },
+};
+
+/// The request with this number: the line of the call goes to a new context with a new ephemeral, and both out of it.
 fn request(alloc: Global, gateway: &Gateway, call: u32, number: u32) -> Result<Request, Failure> {
     let subtract = RequestCommand::SubtractAll {
         context: ContextRef::MadeAt(0),
     };
     let line = LineNo(call.saturating_add(1));
-    let Ok(commands) = Vec::from_array(alloc, [add(line), subtract]) else {
+    let Ok(commands) = Vec::from_array(alloc, [add(line), ADD_BESIDE, subtract]) else {
         return Err(Failure::Memory);
     };
     let id = MessageId {

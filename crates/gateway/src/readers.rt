@@ -42,10 +42,8 @@ impl Gateway {
         ensures { option_map (λ call. call.0) result ≡ (gateway_of self.now).creator ephemeral }
     {
         self.board().get(TermId::Eph(ephemeral))?;
-        match creators::creator(&self.creators, ephemeral) {
-            Some(call) => Some(CallNo(call)),
-            None => None,
-        }
+        let call = creators::creator(&self.creators, ephemeral)?;
+        Some(CallNo(call))
     }
 
     /// Whether a call is open.

@@ -6,3 +6,5 @@
 mod failing_requests;
 #[cfg(test)]
 mod gateways;
+#[cfg(test)]
+mod numbers;

@@ -22,7 +22,7 @@ fn copied<V>(alloc: Global, from: &BTreeMap<u32, V>) -> Result<Vec<u32>, AllocEr
 }
 
 /// The numbers under which a map keeps something, in rising order.
-pub fn numbers<V>(alloc: Global, from: &BTreeMap<u32, V>) -> Result<Vec<u32>, AllocError>
+fn numbers<V>(alloc: Global, from: &BTreeMap<u32, V>) -> Result<Vec<u32>, AllocError>
     ensures { IfOk result (λ found. Lists (is_kept from.now.entries) found.items) }
 {
     let found = copied(alloc, from)?;
