@@ -71,7 +71,11 @@ fn given(board: &mut Board) -> Option<[u32; 6]> {
     Some([one.0, two.0, three.0, near, far, last])
 }
 
+/// The same on a new board of a class of numbers, if there is such a class.
 fn given_by(alloc: Global, first: u32, stride: u32) -> Option<[u32; 6]> {
+    if first >= stride {
+        return None;
+    }
     let mut board = Board::with_ids(alloc, &LINES, first, stride).ok()?;
     given(&mut board)
 }
