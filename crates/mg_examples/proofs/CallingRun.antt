@@ -7,7 +7,8 @@ use Rattle.mg_model.specs.Agent.{Agent, noted}
 use Rattle.mg_model.specs.declared.line_events.LineEvent.TheVariants as event
 use Rattle.mg_model.specs.Script.{Script}
 use Rattle.mg_model.specs.Tables.{line_places}
-use Rattle.mg_model.specs.World.{World, Event, on_a_line, note, execute, AgentSteps, agent_steps, Runs}
+use Rattle.mg_model.specs.declared.events.Event.{Event}
+use Rattle.mg_model.specs.World.{World, on_a_line, note, execute, AgentSteps, agent_steps, Runs}
 use Rattle.mg_examples.specs.Needed.{EndsBadly}
 use Rattle.mg_examples.specs.Talk.{call, off_hook}
 use Rattle.mg_model.proofs.Single.{first_in}
@@ -45,11 +46,11 @@ abbrev w3 : World
 w3 = talking_world w2 call 1 ready
 
 abbrev events : List Event
-events = on_a_line 1 (event.Hook hooks.Off) ∷ note (off_hook call) ∷ execute (to_talk call 1) None ∷ []
+events = on_a_line 7 1 (event.Hook hooks.Off) ∷ note 7 1 ∷ execute 7 1 None ∷ []
 
 run : Runs silent events w0 w3
 unfolding Runs
-run = (w1, (goes_off w0 call (record { association = refl; held = refl; is_armed = refl; none_sent = refl }), (w2, ((first_in (off_hook call) [], enters), (w3, (((0, omega (arith), refl), inl (executes w2 call 1 ready refl (omega (arith)))), refl))))))
+run = (w1, (goes_off w0 call (record { association = refl; held = refl; is_armed = refl; none_sent = refl }), (w2, ((off_hook call, (first_in (off_hook call) [], refl, refl), enters), (w3, ((to_talk call 1, ((0, omega (arith), refl), refl, refl), inl (executes w2 call 1 ready refl (omega (arith)))), refl))))))
 
 pub calling_ends_badly : EndsBadly (calling [])
 calling_ends_badly = record {

@@ -16,7 +16,9 @@ use Rattle.mg_model.specs.Obligations.{Claim, OpeningCovered, ResetCovered, Mark
 use Rattle.mg_model.specs.Script.{Script}
 use Rattle.mg_model.specs.Steps.{opening, reset, with_link, steps_of}
 use Rattle.mg_model.specs.Tables.{is_empty}
-use Rattle.mg_model.specs.World.{World, Event, restart, hear, pass, Runs, IsGood, with_gateway, agent_steps}
+use Rattle.mg_model.specs.declared.events.Event.{Event}
+use Rattle.mg_model.specs.declared.events.Event.TheVariants.{Restart}
+use Rattle.mg_model.specs.World.{World, hear, pass, Runs, IsGood, with_gateway, agent_steps}
 use Rattle.mg_examples.specs.Needed.{IsNeeded}
 use Rattle.mg_model.specs.Accepted.{IsScript, IsStateOf, IsEntryOf}
 use Rattle.mg_examples.proofs.PointFacts.{Below, EachPoint, at_points, EachCovered, steps_covered, none_joined, none_bound}
@@ -157,7 +159,7 @@ abbrev w3 : World
 w3 = agent_steps w2 7 at_rest
 
 abbrev events : List Event
-events = restart ∷ hear 7 2 ∷ pass 7 ∷ []
+events = Restart ∷ hear 7 2 ∷ pass 7 ∷ []
 
 run : Runs unarmed events w0 w3
 unfolding Runs

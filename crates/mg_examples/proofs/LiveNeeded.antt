@@ -9,7 +9,8 @@ use Rattle.mg_model.specs.declared.line_events.Hook.TheVariants as hooks
 use Rattle.mg_model.specs.declared.line_events.LineEvent.TheVariants as event
 use Rattle.mg_model.specs.Agent.{Agent, noted, replied}
 use Rattle.mg_model.specs.Tables.{line_places}
-use Rattle.mg_model.specs.World.{World, Event, on_a_line, execute, reply, note, AgentSteps, agent_steps, Opened, IsFirst, IsGood, Runs}
+use Rattle.mg_model.specs.declared.events.Event.{Event}
+use Rattle.mg_model.specs.World.{World, on_a_line, execute, reply, note, AgentSteps, agent_steps, Opened, IsFirst, IsGood, Runs}
 use Rattle.mg_examples.specs.Needed.{IsNeeded}
 use Rattle.mg_examples.specs.Talk.{call, off_hook}
 use Rattle.mg_examples.specs.TwoTalks.{other_call}
@@ -106,14 +107,13 @@ put_beside = executes w9 7 3 puts_back with_both with_both put_back one_put_back
 -- ---- the run
 
 abbrev last_events : List Event
-last_events = on_a_line 3 (event.Hook hooks.Off) ∷ note (off_hook other_call) ∷ execute (asks 8 1 (puts 3)) None ∷ execute (asks 7 3 puts_back) None ∷ []
+last_events = on_a_line 8 3 (event.Hook hooks.Off) ∷ note 8 1 ∷ execute 8 1 None ∷ execute 7 3 None ∷ []
 
 abbrev middle_events : List Event
-middle_events = execute (asks 7 2 takes_out) None ∷ reply (answer 7 2 taken_out) ∷ last_events
+middle_events = execute 7 2 None ∷ reply 7 2 ∷ last_events
 
 abbrev events : List Event
-events =
-    on_a_line 1 (event.Hook hooks.Off) ∷ note (off_hook call) ∷ execute (asks 7 1 (puts 1)) None ∷ reply (answer 7 1 (made 1)) ∷ middle_events
+events = on_a_line 7 1 (event.Hook hooks.Off) ∷ note 7 1 ∷ execute 7 1 None ∷ reply 7 1 ∷ middle_events
 
 other_runs : Runs name_kept last_events w6 w10
 unfolding Runs
@@ -124,8 +124,14 @@ other_runs = (
     (
       w8,
       (
-        ((0, omega (arith), refl), also_makes),
-        (w9, (((0, omega (arith), refl), inl other_is_put), (w10, (((1, omega (arith), refl), inl put_beside), refl)))),
+        (off_hook other_call, ((0, omega (arith), refl), refl, refl), also_makes),
+        (
+          w9,
+          (
+            (asks 8 1 (puts 3), ((0, omega (arith), refl), refl, refl), inl other_is_put),
+            (w10, ((asks 7 3 puts_back, ((1, omega (arith), refl), refl, refl), inl put_beside), refl)),
+          ),
+        ),
       ),
     ),
   ),
@@ -133,7 +139,13 @@ other_runs = (
 
 leaves_and_on : Runs name_kept middle_events w4 w10
 unfolding Runs
-leaves_and_on = (w5, (((0, omega (arith), refl), inl first_taken_out), (w6, (((0, omega (arith), refl), returns), other_runs))))
+leaves_and_on = (
+  w5,
+  (
+    (asks 7 2 takes_out, ((0, omega (arith), refl), refl, refl), inl first_taken_out),
+    (w6, ((answer 7 2 taken_out, ((0, omega (arith), refl), refl, refl), returns), other_runs)),
+  ),
+)
 
 run : Runs name_kept events w0 w10
 unfolding Runs
@@ -144,8 +156,14 @@ run = (
     (
       w2,
       (
-        ((0, omega (arith), refl), makes),
-        (w3, (((0, omega (arith), refl), inl first_put), (w4, (((0, omega (arith), refl), leaves), leaves_and_on)))),
+        (off_hook call, ((0, omega (arith), refl), refl, refl), makes),
+        (
+          w3,
+          (
+            (asks 7 1 (puts 1), ((0, omega (arith), refl), refl, refl), inl first_put),
+            (w4, ((answer 7 1 (made 1), ((0, omega (arith), refl), refl, refl), leaves), leaves_and_on)),
+          ),
+        ),
       ),
     ),
   ),

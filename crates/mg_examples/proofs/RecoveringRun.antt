@@ -5,7 +5,9 @@ use Rattle.std.specs.Prelude.{unwrap_or}
 use Rattle.mg_model.specs.Agent.{Agent, heard}
 use Rattle.mg_model.specs.Gateway.{restarted}
 use Rattle.mg_model.specs.Script.{Script}
-use Rattle.mg_model.specs.World.{World, Event, execute, restart, hear, AgentSteps, agent_steps, Runs, with_gateway}
+use Rattle.mg_model.specs.declared.events.Event.{Event}
+use Rattle.mg_model.specs.declared.events.Event.TheVariants.{Restart}
+use Rattle.mg_model.specs.World.{World, execute, hear, AgentSteps, agent_steps, Runs, with_gateway}
 use Rattle.mg_examples.specs.Needed.{EndsBadly}
 use Rattle.mg_examples.specs.Talk.{call}
 use Rattle.mg_examples.specs.TwoLines.{two_lines}
@@ -42,11 +44,11 @@ abbrev w3 : World
 w3 = talking_world w2 call 1 ready
 
 abbrev events : List Event
-events = restart ∷ hear 7 2 ∷ execute (to_talk call 2) None ∷ []
+events = Restart ∷ hear 7 2 ∷ execute 7 1 None ∷ []
 
 run : Runs recovering events w0 w3
 unfolding Runs
-run = (w1, ((omega (arith), refl), (w2, ((omega (arith), enters), (w3, (((0, omega (arith), refl), inl (executes w2 call 1 ready refl (omega (arith)))), refl))))))
+run = (w1, ((omega (arith), refl), (w2, ((omega (arith), enters), (w3, ((to_talk call 2, ((0, omega (arith), refl), refl, refl), inl (executes w2 call 1 ready refl (omega (arith)))), refl))))))
 
 pub recovering_ends_badly : EndsBadly recovering
 recovering_ends_badly = record {

@@ -86,7 +86,7 @@ takes marks = record { before = talking; agent = resting_there; open_call = refl
 
 run : (marks : List Pair) → Runs (basic marks) to_a_talk w0 w4
 unfolding Runs
-run marks = (w1, (goes_off w0 call (record { association = refl; held = refl; is_armed = refl; none_sent = refl }), (w2, ((first_in (off_hook call) [], enters marks), (w3, ((first_in (to_talk call hang) [], inl is_executed), (w4, ((first_in (all_done call 1) [], takes marks), refl))))))))
+run marks = (w1, (goes_off w0 call (record { association = refl; held = refl; is_armed = refl; none_sent = refl }), (w2, ((off_hook call, (first_in (off_hook call) [], refl, refl), enters marks), (w3, ((to_talk call hang, (first_in (to_talk call hang) [], refl, refl), inl is_executed), (w4, ((all_done call 1, (first_in (all_done call 1) [], refl, refl), takes marks), refl))))))))
 
 pub leads : (marks : List Pair) → LeadsToATalk marks
 leads marks = record { opening = w0; end = w4; opens = opens (basic marks) refl (call ∷ []) (one_call (basic marks) refl); runs = run marks; joined = joined w2.gateway.board call 1 ready }

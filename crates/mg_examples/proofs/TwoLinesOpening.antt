@@ -223,18 +223,22 @@ pub record IsWaiting (g : Gateway) (one : Opened) : Type 0 where
   pub is_armed : g.line (one.lines 0) ≡ armed_line
   pub none_sent : (g.link one.call).notes ≡ 0
 
-pub goes_off : (w : World) (one : Opened) → IsWaiting w.gateway one → LineOccurs w (one.lines 0) (event.Hook hooks.Off) (off_hook_world w one)
-goes_off w one waiting = record {
-  gateway = off_hook_gateway w.gateway one;
-  sent = off_hook one ∷ [];
-  happens = record {
-    call = one.call;
-    outcome = record { row = off; note = Some (off_hook one).note };
-    held = waiting.held;
-    happens = ap (λ row. outcome_of row (event.Hook hooks.Off)) waiting.is_armed;
-    notes_are = rw (waiting.association, waiting.none_sent) refl;
-    room = let none = waiting.none_sent in omega (arith, none);
+pub goes_off : (w : World) (one : Opened) → IsWaiting w.gateway one
+    → (w.gateway.holder (one.lines 0) ≡ Some one.call) × LineOccurs w (one.lines 0) (event.Hook hooks.Off) (off_hook_world w one)
+goes_off w one waiting = (
+  waiting.held,
+  record {
+    gateway = off_hook_gateway w.gateway one;
+    sent = off_hook one ∷ [];
+    happens = record {
+      call = one.call;
+      outcome = record { row = off; note = Some (off_hook one).note };
+      held = waiting.held;
+      happens = ap (λ row. outcome_of row (event.Hook hooks.Off)) waiting.is_armed;
+      notes_are = rw (waiting.association, waiting.none_sent) refl;
+      room = let none = waiting.none_sent in omega (arith, none);
+      after_is = refl;
+    };
     after_is = refl;
-  };
-  after_is = refl;
-}
+  },
+)

@@ -7,7 +7,8 @@ use Rattle.mg_model.specs.declared.line_events.LineEvent.TheVariants as event
 use Rattle.mg_model.specs.Agent.{Agent, noted, replied}
 use Rattle.mg_model.specs.Script.{Script}
 use Rattle.mg_model.specs.Tables.{line_places}
-use Rattle.mg_model.specs.World.{World, Event, on_a_line, note, execute, reply, AgentSteps, agent_steps, Opened, AreDistinct, Runs}
+use Rattle.mg_model.specs.declared.events.Event.{Event}
+use Rattle.mg_model.specs.World.{World, on_a_line, note, execute, reply, AgentSteps, agent_steps, Opened, AreDistinct, Runs}
 use Rattle.mg_examples.specs.Talk.{call, off_hook, to_talk, all_done}
 use Rattle.mg_examples.specs.TwoLines.{to_talk_off_hook, calling}
 use Rattle.mg_examples.specs.TwoTalks.{both_lines, other_call, to_two_talks, TwoCallsTalk}
@@ -138,36 +139,36 @@ rests = record { before = asking call; agent = at_rest call 1; open_call = refl;
 -- ---- the run
 
 module _ (more : List Event) (end : World) where
-  off_hook_twice : Runs script more w2 end → Runs script (on_a_line 1 (event.Hook hooks.Off) ∷ on_a_line 3 (event.Hook hooks.Off) ∷ more) w0 end
+  off_hook_twice : Runs script more w2 end → Runs script (on_a_line 7 1 (event.Hook hooks.Off) ∷ on_a_line 8 3 (event.Hook hooks.Off) ∷ more) w0 end
   unfolding Runs
   off_hook_twice goes_on = (w1, (goes_off w0 call waits, (w2, (goes_off w1 other_call also_waits, goes_on))))
 
-  both_enter : Runs script more w4 end → Runs script (note (off_hook call) ∷ note (off_hook other_call) ∷ more) w2 end
+  both_enter : Runs script more w4 end → Runs script (note 7 1 ∷ note 8 1 ∷ more) w2 end
   unfolding Runs
-  both_enter goes_on = (w3, (((1, omega (arith), refl), enters), (w4, (((0, omega (arith), refl), other_enters), goes_on))))
+  both_enter goes_on = (w3, ((off_hook call, ((1, omega (arith), refl), refl, refl), enters), (w4, ((off_hook other_call, ((0, omega (arith), refl), refl, refl), other_enters), goes_on))))
 
-  both_executed : Runs script more w6 end → Runs script (execute (to_talk call None) None ∷ execute (to_talk other_call None) None ∷ more) w4 end
+  both_executed : Runs script more w6 end → Runs script (execute 7 1 None ∷ execute 8 1 None ∷ more) w4 end
   unfolding Runs
   both_executed goes_on = (
     w5,
     (
-      ((1, omega (arith), refl), inl (executes w4 call 1 ready refl (omega (arith)))),
-      (w6, (((0, omega (arith), refl), inl (executes w5 other_call 2 also_ready refl (omega (arith)))), goes_on)),
+      (to_talk call None, ((1, omega (arith), refl), refl, refl), inl (executes w4 call 1 ready refl (omega (arith)))),
+      (w6, ((to_talk other_call None, ((0, omega (arith), refl), refl, refl), inl (executes w5 other_call 2 also_ready refl (omega (arith)))), goes_on)),
     ),
   )
 
-both_taken : Runs script (reply (all_done other_call 2) ∷ reply (all_done call 1) ∷ []) w6 w8
+both_taken : Runs script (reply 8 1 ∷ reply 7 1 ∷ []) w6 w8
 unfolding Runs
-both_taken = (w7, (((0, omega (arith), refl), other_rests), (w8, (((1, omega (arith), refl), rests), refl))))
+both_taken = (w7, ((all_done other_call 2, ((0, omega (arith), refl), refl, refl), other_rests), (w8, ((all_done call 1, ((1, omega (arith), refl), refl, refl), rests), refl))))
 
 run : Runs script to_two_talks w0 w8
 run =
     off_hook_twice
-    (note (off_hook call) ∷ note (off_hook other_call) ∷ execute (to_talk call None) None ∷ execute (to_talk other_call None) None ∷ answers) w8
-    (both_enter (execute (to_talk call None) None ∷ execute (to_talk other_call None) None ∷ answers) w8 (both_executed answers w8 both_taken))
+    (note 7 1 ∷ note 8 1 ∷ execute 7 1 None ∷ execute 8 1 None ∷ answers) w8
+    (both_enter (execute 7 1 None ∷ execute 8 1 None ∷ answers) w8 (both_executed answers w8 both_taken))
   where
     answers : List Event
-    answers = reply (all_done other_call 2) ∷ reply (all_done call 1) ∷ []
+    answers = reply 8 1 ∷ reply 7 1 ∷ []
 
 pub two_calls_talk : TwoCallsTalk
 two_calls_talk = record {

@@ -11,7 +11,8 @@ use Rattle.mg_model.specs.Gateway.{Gateway, after_request, start_of}
 use Rattle.mg_model.specs.Items.{IsExecuted}
 use Rattle.mg_model.specs.Messages.{Request, Reply, RequestCommand}
 use Rattle.mg_model.specs.RequestRun.{Running, after_command, item_at, RunsFrom}
-use Rattle.mg_model.specs.World.{World, Event, execute, reply, pass, timer, IsFirst, Runs, IsGood, with_gateway, agent_steps}
+use Rattle.mg_model.specs.declared.events.Event.{Event}
+use Rattle.mg_model.specs.World.{World, execute, reply, pass, timer, IsFirst, Runs, IsGood, with_gateway, agent_steps}
 use Rattle.mg_examples.specs.Needed.{IsNeeded}
 use Rattle.mg_examples.proofs.CreatedTwice.{created_twice, entries, accepted, listed, breaks}
 use Rattle.mg_examples.specs.Talk.{call}
@@ -170,7 +171,7 @@ abbrev w6 : World
 w6 = agent_steps w5 7 ended
 
 abbrev events : List Event
-events = timer 7 ∷ execute (asks 1) None ∷ reply (answer 1) ∷ execute (asks 2) None ∷ reply (answer 2) ∷ pass 7 ∷ []
+events = timer 7 ∷ execute 7 1 None ∷ reply 7 1 ∷ execute 7 2 None ∷ reply 7 2 ∷ pass 7 ∷ []
 
 run : Runs created_twice events w0 w6
 unfolding Runs
@@ -181,19 +182,19 @@ run = (
     (
       w2,
       (
-        (first_in (asks 1) [], inl first_is_executed),
+        (asks 1, (first_in (asks 1) [], refl, refl), inl first_is_executed),
         (
           w3,
           (
-            (first_in (answer 1) [], record { before = asking; agent = asking_again; open_call = refl; steps = refl; after_is = refl }),
+            (answer 1, (first_in (answer 1) [], refl, refl), record { before = asking; agent = asking_again; open_call = refl; steps = refl; after_is = refl }),
             (
               w4,
               (
-                (first_in (asks 2) (asks 1 ∷ []), inl second_is_executed),
+                (asks 2, (first_in (asks 2) (asks 1 ∷ []), refl, refl), inl second_is_executed),
                 (
                   w5,
                   (
-                    (first_in (answer 2) (answer 1 ∷ []), record { before = asking_again; agent = ending; open_call = refl; steps = refl; after_is = refl }),
+                    (answer 2, (first_in (answer 2) (answer 1 ∷ []), refl, refl), record { before = asking_again; agent = ending; open_call = refl; steps = refl; after_is = refl }),
                     (
                       w6,
                       (record { before = ending; agent = ended; open_call = refl; steps = refl; after_is = refl }, refl),

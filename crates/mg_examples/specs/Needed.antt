@@ -6,7 +6,8 @@ use Rattle.mg_model.specs.Entries.{Entry}
 use Rattle.mg_names.specs.declared.obligations.Obligation.{Obligation}
 use Rattle.mg_model.specs.Obligations.{Claim, Holds, obligation_of}
 use Rattle.mg_model.specs.Script.{Script}
-use Rattle.mg_model.specs.World.{World, Event, Opened, IsOpening, Runs, IsGood}
+use Rattle.mg_model.specs.declared.events.Event.{Event}
+use Rattle.mg_model.specs.World.{World, Opened, IsOpening, Runs, IsGood}
 use Rattle.mg_model.specs.Accepted.{IsScript, IsEntryOf}
 
 -- a claim of this obligation is broken, and every claim of another one holds

@@ -14,7 +14,8 @@ use Rattle.mg_model.specs.declared.transitions.EventItem.TheVariants.{OnHook}
 use Rattle.mg_model.specs.Media.{AreJoined}
 use Rattle.mg_model.specs.declared.references.ContextRef.TheVariants.{Number, MadeAt}
 use Rattle.mg_model.specs.Messages.{add_line, Request, Reply, SentNote}
-use Rattle.mg_model.specs.World.{World, Event, on_a_line, execute, reply, note, Opened, IsOpening, Runs}
+use Rattle.mg_model.specs.declared.events.Event.{Event}
+use Rattle.mg_model.specs.World.{World, on_a_line, execute, reply, note, Opened, IsOpening, Runs}
 use Rattle.mg_examples.specs.Basic.{basic}
 
 -- ---- the call and its messages
@@ -61,7 +62,7 @@ abbrev pub hang : Option (List ListItem)
 hang = Some (OnHook StateOfHook ∷ [])
 
 abbrev pub to_a_talk : List Event
-to_a_talk = on_a_line 1 (event.Hook hooks.Off) ∷ note (off_hook call) ∷ execute (to_talk call hang) None ∷ reply (all_done call 1) ∷ []
+to_a_talk = on_a_line 7 1 (event.Hook hooks.Off) ∷ note 7 1 ∷ execute 7 1 None ∷ reply 7 1 ∷ []
 
 -- these events are a run from an opening with that call alone, and its last world joins the lines 1 and 2
 pub record LeadsToATalk (marks : List Pair) : Type 0 where

@@ -11,7 +11,8 @@ use Rattle.mg_model.specs.Accepted.{IsScript, IsEntryOf}
 use Rattle.mg_model.specs.Entries.{Entry}
 use Rattle.mg_model.specs.Media.{AreJoined}
 use Rattle.mg_model.specs.Obligations.{NoneBroken}
-use Rattle.mg_model.specs.World.{World, Event, on_a_line, note, execute, reply, Opened, IsOpening, Runs}
+use Rattle.mg_model.specs.declared.events.Event.{Event}
+use Rattle.mg_model.specs.World.{World, on_a_line, note, execute, reply, Opened, IsOpening, Runs}
 use Rattle.mg_examples.specs.Talk.{call, off_hook, to_talk, all_done}
 use Rattle.mg_examples.specs.TwoLines.{calling}
 
@@ -25,8 +26,7 @@ other_call = record { call = 8; lines = λ i. i + 3 }
 
 abbrev pub to_two_talks : List Event
 to_two_talks =
-    on_a_line 1 (event.Hook hooks.Off) ∷ on_a_line 3 (event.Hook hooks.Off) ∷ note (off_hook call) ∷ note (off_hook other_call)
-    ∷ execute (to_talk call None) None ∷ execute (to_talk other_call None) None ∷ reply (all_done other_call 2) ∷ reply (all_done call 1) ∷ []
+    on_a_line 7 1 (event.Hook hooks.Off) ∷ on_a_line 8 3 (event.Hook hooks.Off) ∷ note 7 1 ∷ note 8 1 ∷ execute 7 1 None ∷ execute 8 1 None ∷ reply 8 1 ∷ reply 7 1 ∷ []
 
 -- the script and the entries are accepted and break no obligation; these events are a run from an opening with the two calls, and its last
 -- world joins the lines of each

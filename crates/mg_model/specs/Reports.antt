@@ -14,7 +14,9 @@ use Rattle.mg_model.specs.Delivery.{is_new, arrival}
 use Rattle.mg_model.specs.Messages.{Request, Reply, SentNote}
 use Rattle.mg_model.specs.Script.{Script}
 use Rattle.mg_model.specs.Tables.{state_of}
-use Rattle.mg_model.specs.World.{World, Event, on_a_line, execute, reply, pass, note, timer, hear, restart, Occurs, Opened, IsOpening}
+use Rattle.mg_model.specs.declared.events.Event.{Event}
+use Rattle.mg_model.specs.declared.events.Event.TheVariants.{Restart}
+use Rattle.mg_model.specs.World.{World, on_a_line, execute, reply, pass, note, timer, hear, Occurs, Opened, IsOpening}
 
 -- ---- plans
 
@@ -69,17 +71,17 @@ refusal_at (Some place) = Some (record { place = place; refusal = InternalFailur
 
 -- the step means the event, in this world, for this agent
 abbrev pub Means : World → Agent → PlanStep → Event → Type 0
-Means w a (goes_off l) event = event ≡ on_a_line (a.lines l) (Hook Off)
-Means w a (goes_on l) event = event ≡ on_a_line (a.lines l) (Hook On)
-Means w a (flashes l) event = event ≡ on_a_line (a.lines l) Flash
-Means w a (dials l s) event = event ≡ on_a_line (a.lines l) (Digit s)
-Means w a (pauses l) event = event ≡ on_a_line (a.lines l) Pause
-Means w a (ends l s) event = event ≡ on_a_line (a.lines l) (SignalEnd s)
+Means w a (goes_off l) event = event ≡ on_a_line a.call (a.lines l) (Hook Off)
+Means w a (goes_on l) event = event ≡ on_a_line a.call (a.lines l) (Hook On)
+Means w a (flashes l) event = event ≡ on_a_line a.call (a.lines l) Flash
+Means w a (dials l s) event = event ≡ on_a_line a.call (a.lines l) (Digit s)
+Means w a (pauses l) event = event ≡ on_a_line a.call (a.lines l) Pause
+Means w a (ends l s) event = event ≡ on_a_line a.call (a.lines l) (SignalEnd s)
 Means w a (executes which place) event =
-    (request : Request) × MeansRequest w a.call which request × (event ≡ execute request (refusal_at place))
-Means w a (takes_reply which) event = (answer : Reply) × MeansReply w a.call which answer × (event ≡ reply answer)
+    (request : Request) × MeansRequest w a.call which request × (event ≡ execute a.call request.number (refusal_at place))
+Means w a (takes_reply which) event = (answer : Reply) × MeansReply w a.call which answer × (event ≡ reply a.call answer.number)
 Means w a passes event = event ≡ pass a.call
-Means w a (takes_note which) event = (sent : SentNote) × MeansNote w a which sent × (event ≡ note sent)
+Means w a (takes_note which) event = (sent : SentNote) × MeansNote w a which sent × (event ≡ note a.call sent.number)
 Means w a times_out event = event ≡ timer a.call
 Means w a hears event = event ≡ hear a.call w.gateway.association
 
@@ -120,7 +122,7 @@ unfoldable pub EpochsRun : Script → ℕ → Epochs → Counted → Counted →
 EpochsRun script call [] c end = end ≡ c
 EpochsRun script call (steps ∷ []) c end = StepsRun script call steps c end
 EpochsRun script call (steps ∷ next_steps ∷ more) c end =
-    (before : Counted) × (w : World) × StepsRun script call steps c before × Occurs script before.world restart w
+    (before : Counted) × (w : World) × StepsRun script call steps c before × Occurs script before.world Restart w
     × EpochsRun script call (next_steps ∷ more) (record before { world = w }) end
 
 -- ---- the report
@@ -168,7 +170,7 @@ together shards place = flat_map (λ (history : History). slice_index_or history
 
 abbrev pub merged_from : List History → ℕ → ℕ → List Event
 merged_from shards place zero = together shards place
-merged_from shards place (suc restarts) = together shards place ++ restart ∷ merged_from shards (place + 1) restarts
+merged_from shards place (suc restarts) = together shards place ++ Restart ∷ merged_from shards (place + 1) restarts
 
 -- one history of all shards: between two associations one restart stands for the restarts of all
 unfoldable pub merged : List History → (restarts : ℕ) → List Event

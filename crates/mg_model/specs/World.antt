@@ -1,9 +1,13 @@
 -- The whole: a gateway, the agents of the calls, and the set of all messages that were ever sent; what can happen to it; and
 -- when it is good. Any message may be delivered at any time, any number of times, or never. A reader should check that no
 -- event is missing, that each says of everything else that it stays, and what a good world is: that is the promise.
-use Rattle.std.specs.Prelude.{◌≡◌, ℕ, ◌<◌, ◌≤◌, ◌==◌, false, IsTrue, if◌then◌else◌, List, [], ◌∷◌, ◌++◌, length, Contains, Option, Some, None, ◌⊎◌}
+use Rattle.std.specs.Prelude.{◌≡◌, ℕ, ◌<◌, ◌≤◌, ◌==◌, Bool, false, IsTrue, if◌then◌else◌, List, [], ◌∷◌, ◌++◌, length, Contains, Option, Some, None, ◌⊎◌}
 use Rattle.mg_names.specs.declared.identifiers.TermId.TheVariants.{Line, Eph}
 use Rattle.mg_names.specs.declared.strictness.Strict.TheVariants.{Exact}
+use Rattle.mg_model.specs.declared.events.CallEvent.{CallEvent}
+use Rattle.mg_model.specs.declared.events.CallEvent.TheVariants as to_call
+use Rattle.mg_model.specs.declared.events.Event.{Event}
+use Rattle.mg_model.specs.declared.events.Event.TheVariants.{OfCall, Restart}
 use Rattle.mg_model.specs.declared.failures.ChosenRefusal.{ChosenRefusal}
 use Rattle.mg_model.specs.declared.line_events.LineEvent.{LineEvent}
 use Rattle.mg_model.specs.declared.rows.Row.{Row}
@@ -27,16 +31,35 @@ pub record World : Type 0 where
   pub replies : List Reply
   pub notes : List SentNote
 
--- what can happen. The first is any of five: hook, flash, digit, pause, and the end of a signal
-pub data Event : Type 0 where
-  on_a_line : (line : ℕ) → LineEvent → Event
-  execute : Request → Option ChosenRefusal → Event
-  reply : Reply → Event
-  pass : (call : ℕ) → Event
-  note : SentNote → Event
-  timer : (call : ℕ) → Event
-  hear : (call association : ℕ) → Event
-  restart : Event
+-- ---- what can happen, as data: the parts of a history
+
+-- an event of a line names the call that holds it: any of hook, flash, digit, pause, and the end of a signal
+abbrev pub on_a_line : (call line : ℕ) → LineEvent → Event
+on_a_line call line happens = OfCall (record { 0 = call }) (to_call.OnLine (record { 0 = line }) happens)
+
+-- a request, a reply and a note are named by their numbers
+abbrev pub execute : (call number : ℕ) → Option ChosenRefusal → Event
+execute call number chosen = OfCall (record { 0 = call }) (to_call.Execute number chosen)
+
+abbrev pub reply : (call number : ℕ) → Event
+reply call number = OfCall (record { 0 = call }) (to_call.Reply number)
+
+abbrev pub pass : (call : ℕ) → Event
+pass call = OfCall (record { 0 = call }) to_call.Pass
+
+abbrev pub note : (call number : ℕ) → Event
+note call number = OfCall (record { 0 = call }) (to_call.Note number)
+
+abbrev pub timer : (call : ℕ) → Event
+timer call = OfCall (record { 0 = call }) to_call.Timer
+
+abbrev pub hear : (call association : ℕ) → Event
+hear call association = OfCall (record { 0 = call }) (to_call.Hear (record { 0 = association }))
+
+-- whether an event is one of a call
+abbrev pub is_of_call : ℕ → Event → Bool
+is_of_call call (OfCall c happens) = c.0 == call
+is_of_call call Restart = false
 
 -- ---- what an agent sends as it goes on
 
@@ -92,19 +115,30 @@ pub record LineOccurs (w : World) (line : ℕ) (event : LineEvent) (after : Worl
   pub happens : Happens w.gateway line event gateway sent
   pub after_is : after ≡ record (with_gateway w gateway) { notes = sent ++ w.notes }
 
+-- a message of a call with a number was sent
+abbrev pub IsRequestOf : World → ℕ → ℕ → Request → Type 0
+IsRequestOf w call number request = Contains w.requests request × (request.call ≡ call) × (request.number ≡ number)
+
+abbrev pub IsReplyOf : World → ℕ → ℕ → Reply → Type 0
+IsReplyOf w call number answer = Contains w.replies answer × (answer.call ≡ call) × (answer.number ≡ number)
+
+abbrev pub IsNoteOf : World → ℕ → ℕ → SentNote → Type 0
+IsNoteOf w call number sent = Contains w.notes sent × (sent.call ≡ call) × (sent.number ≡ number)
+
+abbrev pub OccursTo : Script → World → ℕ → CallEvent → World → Type 0
+OccursTo script w call (to_call.OnLine line happens) after = (w.gateway.holder line.0 ≡ Some call) × LineOccurs w line.0 happens after
+OccursTo script w call (to_call.Execute number chosen) after = (request : Request) × IsRequestOf w call number request × Executes w request chosen after
+OccursTo script w call (to_call.Reply number) after = (answer : Reply) × IsReplyOf w call number answer × AgentSteps w call (λ a. replied script a answer) after
+OccursTo script w call to_call.Pass after = AgentSteps w call (passed script) after
+OccursTo script w call (to_call.Note number) after =
+    (sent : SentNote) × IsNoteOf w call number sent × AgentSteps w call (λ a. noted script a (line_places script) sent) after
+OccursTo script w call to_call.Timer after = AgentSteps w call (timed script) after
+OccursTo script w call (to_call.Hear association) after =
+    (association.0 ≤ w.gateway.association) × AgentSteps w call (λ a. heard script a association.0) after
+
 abbrev pub Occurs : Script → World → Event → World → Type 0
-Occurs script w (on_a_line line event) after = LineOccurs w line event after
-Occurs script w (execute request chosen) after = Contains w.requests request × Executes w request chosen after
-Occurs script w (reply answer) after =
-    Contains w.replies answer × AgentSteps w answer.call (λ a. replied script a answer) after
-Occurs script w (pass call) after = AgentSteps w call (passed script) after
-Occurs script w (note sent) after =
-    Contains w.notes sent × AgentSteps w sent.call (λ a. noted script a (line_places script) sent) after
-Occurs script w (timer call) after = AgentSteps w call (timed script) after
-Occurs script w (hear call association) after =
-    (association ≤ w.gateway.association) × AgentSteps w call (λ a. heard script a association) after
-Occurs script w restart after =
-    (w.gateway.association < last_association) × (after ≡ with_gateway w (restarted w.gateway))
+Occurs script w (OfCall call happens) after = OccursTo script w call.0 happens after
+Occurs script w Restart after = (w.gateway.association < last_association) × (after ≡ with_gateway w (restarted w.gateway))
 
 -- the events of a list happen one after the other
 unfoldable pub Runs : Script → List Event → World → World → Type 0

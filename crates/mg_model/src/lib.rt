@@ -5,6 +5,7 @@
 
 pub mod commands;
 pub mod components;
+pub mod events;
 pub mod failures;
 pub mod faults;
 pub mod items;

@@ -6,7 +6,8 @@ use Rattle.std.specs.List.{All}
 use Rattle.mg_model.specs.Entries.{Entry}
 use Rattle.mg_model.specs.Obligations.{NoneBroken}
 use Rattle.mg_model.specs.Script.{Script}
-use Rattle.mg_model.specs.World.{World, Event, Opened, IsOpening, Runs, IsGood}
+use Rattle.mg_model.specs.declared.events.Event.{Event}
+use Rattle.mg_model.specs.World.{World, Opened, IsOpening, Runs, IsGood}
 use Rattle.mg_model.specs.Accepted.{IsScript, IsEntryOf}
 
 -- in every run of any number of calls on distinct lines every world is good: each prefix of a run is a run

@@ -19,7 +19,9 @@ use Rattle.mg_model.specs.Paths.{passes_in, passes_out}
 use Rattle.mg_model.specs.Media.{receives, sends, share_context, crosses, goes_over, AreJoined}
 use Rattle.mg_model.specs.Messages.{Request, Reply, SentNote}
 use Rattle.mg_model.specs.Script.{Script}
-use Rattle.mg_model.specs.World.{World, Event, on_a_line, execute, reply, pass, note, timer, hear, restart, Occurs, Opened, IsOpening, IsGood}
+use Rattle.mg_model.specs.declared.events.CallEvent.{CallEvent}
+use Rattle.mg_model.specs.declared.events.Event.TheVariants.{Restart}
+use Rattle.mg_model.specs.World.{World, execute, OccursTo, Occurs, Opened, IsOpening, IsGood}
 use Rattle.mg_model.specs.Board.{null_row}
 
 -- nothing but the replies that were sent
@@ -31,8 +33,8 @@ pub record IsSameButReplies (w after : World) : Type 0 where
 
 abbrev pub OldRequestsDoNothing : Type 0
 OldRequestsDoNothing =
-    (script : Script) (w after : World) (request : Request) (refusal : Option ChosenRefusal) → Occurs script w (execute request refusal) after
-    → request.number ≤ last_executed w.gateway request.call → IsSameButReplies w after
+    (script : Script) (w after : World) (call number : ℕ) (refusal : Option ChosenRefusal) → Occurs script w (execute call number refusal) after
+    → number ≤ last_executed w.gateway call → IsSameButReplies w after
 
 pub record IsLineRestarted (w after : World) (l : ℕ) : Type 0 where
   pub row : after.gateway.board.row (Line (record { 0 = l })) ≡ Some null_row
@@ -43,21 +45,10 @@ pub record IsLineRestarted (w after : World) (l : ℕ) : Type 0 where
 
 abbrev pub RestartsClearLines : Type 0
 RestartsClearLines =
-    (script : Script) (w after : World) → Occurs script w restart after → (l : ℕ) (row : Row)
+    (script : Script) (w after : World) → Occurs script w Restart after → (l : ℕ) (row : Row)
     → w.gateway.board.row (Line (record { 0 = l })) ≡ Some row → IsLineRestarted w after l
 
 -- ---- other calls
-
--- an event is of a call
-abbrev pub IsOfCall : World → Event → ℕ → Type 0
-IsOfCall w (on_a_line line event) call = w.gateway.holder line ≡ Some call
-IsOfCall w (execute request refusal) call = request.call ≡ call
-IsOfCall w (reply answer) call = answer.call ≡ call
-IsOfCall w (pass one) call = one ≡ call
-IsOfCall w (note sent) call = sent.call ≡ call
-IsOfCall w (timer one) call = one ≡ call
-IsOfCall w (hear one association) call = one ≡ call
-IsOfCall w restart call = ⊥
 
 -- each agent and each kept reply has the number of its call
 pub record AreNumbered (w : World) : Type 0 where
@@ -73,8 +64,8 @@ pub record IsSameFor (w after : World) (other : ℕ) : Type 0 where
 
 abbrev pub EventsKeepOthers : Type 0
 EventsKeepOthers =
-    (script : Script) (w after : World) (event : Event) (call other : ℕ) → AreNumbered w → Occurs script w event after
-    → IsOfCall w event call → (call ≡ other → ⊥) → IsSameFor w after other
+    (script : Script) (w after : World) (call other : ℕ) (happens : CallEvent) → AreNumbered w → OccursTo script w call happens after
+    → (call ≡ other → ⊥) → IsSameFor w after other
 
 -- ---- good worlds
 

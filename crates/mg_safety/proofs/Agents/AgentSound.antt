@@ -14,7 +14,7 @@ use Rattle.mg_model.specs.Steps as steps
 use Rattle.mg_model.specs.Steps.{Step, entering, observations}
 use Rattle.std.specs.List.{flat_map}
 use Rattle.mg_model.specs.Tables.{state_of, line_places}
-use Rattle.mg_model.specs.World.{World, pass, timer}
+use Rattle.mg_model.specs.World.{World, pass, timer, AgentSteps}
 use Rattle.mg_model.proofs.Cases.{none_is_some}
 use Rattle.mg_safety.proofs.Invariant.Shown.{naming, Seen, LinesShown}
 use Rattle.mg_safety.proofs.Invariant.Sound.{owned_in, IsPassing, IsResting, IsAt, IsCurrent, IsLost, CallIsSound}
@@ -90,7 +90,7 @@ pass_goes script entries closed w call a b sound is = by_part sound.part
         let taken = passes script a b a.phase is in
         lost_goes script entries w.gateway a a b lost refl refl refl refl (rests_follows script a (state_of script a.state).ok b taken.1)
 
-pub pass_sound : (call : ℕ) → KeepsSound (pass call)
+pub pass_sound : (call : ℕ) → KeepsSound (λ script w after. AgentSteps w call (passed script) after)
 pass_sound call script entries is_script closed w after sound s = agent_goes script entries w after call (passed script) sound s
     (pass_goes script entries closed w call s.before s.agent (sound.calls call s.before s.open_call) s.steps)
 
@@ -128,6 +128,6 @@ timer_goes script entries closed w call a b sound is = by_part sound.part
         let taken = times script a b (is_resting a.phase) refl is in
         lost_goes script entries w.gateway a a b lost refl refl refl refl (if_follows script a (state_of script a.state).timer b taken.1)
 
-pub timer_sound : (call : ℕ) → KeepsSound (timer call)
+pub timer_sound : (call : ℕ) → KeepsSound (λ script w after. AgentSteps w call (timed script) after)
 timer_sound call script entries is_script closed w after sound s = agent_goes script entries w after call (timed script) sound s
     (timer_goes script entries closed w call s.before s.agent (sound.calls call s.before s.open_call) s.steps)

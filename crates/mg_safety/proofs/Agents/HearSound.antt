@@ -18,7 +18,7 @@ use Rattle.mg_model.specs.Entries.{Entry}
 use Rattle.mg_model.specs.Gateway.{Gateway, last_executed}
 use Rattle.mg_model.specs.Script.{Script}
 use Rattle.mg_model.specs.Steps as steps
-use Rattle.mg_model.specs.World.{World, hear}
+use Rattle.mg_model.specs.World.{World, hear, AgentSteps}
 use Rattle.mg_model.specs.Accepted.{IsSlot}
 use Rattle.mg_model.proofs.Cases.{none_is_some}
 use Rattle.mg_safety.proofs.Invariant.Shown.{Naming, Seen, LinesShown, number_at, row_on, term_of, cut_on}
@@ -178,7 +178,7 @@ hear_goes script entries closed w call association a b sound known is = by_part 
         goes_on script entries w.gateway a (forgotten a association) b refl refl (omega (arith, newer)) refl
         (enters_follows script (forgotten a association) script.restart b taken.1) (none_settles script w.gateway a lost) (by_age lost (eq-or-lt_of_le known))
 
-pub hear_sound : (call association : ℕ) → KeepsSound (hear call association)
+pub hear_sound : (call association : ℕ) → KeepsSound (λ script w after. (association ≤ w.gateway.association) × AgentSteps w call (λ a. heard script a association) after)
 hear_sound call association script entries is_script closed w after sound occurs =
     let s = occurs.1 in
     agent_goes script entries w after call (λ a. heard script a association) sound s

@@ -1,6 +1,6 @@
 -- An agent that accepts a note keeps the world sound: the note that leads on is raised by the list that stands, so where it leads is an
 -- observation of the configuration.
-use Rattle.std.proofs.Common.{◌≡◌, ◌∙◌, ◌<◌, ℕ, Bool, true, false, List, Option, Some, None, refl, sym, ap, subst, arith, inl, inr, true≢false}
+use Rattle.std.proofs.Common.{◌≡◌, ◌∙◌, ◌<◌, ℕ, Bool, true, false, List, Option, Some, None, refl, sym, ap, subst, arith, inl, inr, true≢false, Contains}
 use Rattle.std.proofs.lemmas.Bool.{eqb-true}
 use Rattle.std.specs.Prelude.{◌==◌, ◌&&◌, not, if◌then◌else◌, ◌⊎◌}
 use Rattle.mg_names.specs.declared.phases.LinkPhase.TheVariants.{Resting}
@@ -16,7 +16,7 @@ use Rattle.mg_model.specs.Messages.{SentNote}
 use Rattle.mg_model.specs.Script.{Script}
 use Rattle.mg_model.specs.Steps as steps
 use Rattle.mg_model.specs.Tables.{state_of, items_of, raises, target_in, line_places}
-use Rattle.mg_model.specs.World.{World, note}
+use Rattle.mg_model.specs.World.{World, note, AgentSteps}
 use Rattle.mg_model.proofs.Cases.{none_is_some, the_some, and_second}
 use Rattle.mg_safety.proofs.Invariant.Sound.{Stands, IsCurrent, IsLost, IsNoteSound, IsNoteStanding, CallIsSound}
 use Rattle.mg_safety.proofs.Invariant.Statements.{IsClosed, KeepsSound}
@@ -151,7 +151,7 @@ note_goes script entries closed w sent a b known sound t = by_part sound.part
     by_part (inr lost) = lost_goes script entries w.gateway a (accepting a sent.number) b lost refl refl refl refl
         (stay_follows script (accepting a sent.number) b (target_of script a (line_in a sent.line (line_places script)) sent.note) t.phase t.leads)
 
-pub note_sound : (sent : SentNote) → KeepsSound (note sent)
+pub note_sound : (sent : SentNote) → KeepsSound (λ script w after. Contains w.notes sent × AgentSteps w sent.call (λ a. noted script a (line_places script) sent) after)
 note_sound sent script entries is_script closed w after sound occurs =
     let s = occurs.1 in
     agent_goes script entries w after sent.call (λ a. noted script a (line_places script) sent) sound s

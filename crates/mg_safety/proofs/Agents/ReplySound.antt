@@ -1,6 +1,6 @@
 -- An agent that takes a reply keeps the world sound: it is the reply that the gateway keeps, so the agent's names are then those by which the
 -- board shows the configuration.
-use Rattle.std.proofs.Common.{◌≡◌, ◌∙◌, ◌<◌, ◌≤◌, Bool, true, false, List, Option, Some, None, refl, sym, ap, subst, arith, inl, inr}
+use Rattle.std.proofs.Common.{◌≡◌, ◌∙◌, ◌<◌, ◌≤◌, Bool, true, false, List, Option, Some, None, refl, sym, ap, subst, arith, inl, inr, Contains}
 use Rattle.std.proofs.lemmas.Bool.{and_parts, eqb-true}
 use Rattle.std.specs.Prelude.{◌==◌, ◌&&◌, if◌then◌else◌, Contains, unwrap_or, ◌⊎◌}
 use Rattle.mg_model.specs.declared.failures.Failure.{Failure}
@@ -14,7 +14,7 @@ use Rattle.mg_model.specs.Messages.{Request, Reply}
 use Rattle.mg_model.specs.Script.{Script}
 use Rattle.mg_model.specs.Steps as steps
 use Rattle.mg_model.specs.Tables.{state_of}
-use Rattle.mg_model.specs.World.{World, reply}
+use Rattle.mg_model.specs.World.{World, reply, AgentSteps}
 use Rattle.mg_model.proofs.Cases.{none_is_some}
 use Rattle.mg_safety.proofs.Invariant.Sound.{Stands, link_of, IsAnswered, IsAt, IsCurrent, IsLost, IsReplySound, CallIsSound}
 use Rattle.mg_safety.proofs.Invariant.Statements.{IsClosed, KeepsSound}
@@ -147,7 +147,7 @@ reply_goes script entries closed w answer a b known sound t = by_part sound.part
         lost_goes script entries w.gateway a (bound script a answer) b lost keep.call keep.lines keep.association keep.next
         (leads_follows script a (bound script a answer) answer.failure b t.leads)
 
-pub reply_sound : (answer : Reply) → KeepsSound (reply answer)
+pub reply_sound : (answer : Reply) → KeepsSound (λ script w after. Contains w.replies answer × AgentSteps w answer.call (λ a. replied script a answer) after)
 reply_sound answer script entries is_script closed w after sound occurs =
     let s = occurs.1 in
     agent_goes script entries w after answer.call (λ a. replied script a answer) sound s

@@ -13,7 +13,7 @@ use Rattle.mg_model.specs.Gateway.{Gateway, last_executed, number_of, with_line,
 use Rattle.mg_model.specs.LineEvents.{LineRow, Note, Outcome, silent}
 use Rattle.mg_model.specs.Messages.{Request, Reply, SentNote}
 use Rattle.mg_model.specs.Script.{Script}
-use Rattle.mg_model.specs.World.{World, on_a_line, with_gateway}
+use Rattle.mg_model.specs.World.{World, LineOccurs, with_gateway}
 use Rattle.mg_safety.proofs.Events.RowAfterEvent.{IsRowAfter, row_after}
 use Rattle.mg_safety.proofs.Invariant.Shown.{LinesShown, list_raises}
 use Rattle.mg_safety.proofs.Invariant.Sound.{IsAt, IsCurrent, IsLost, IsSentBy, CallIsSound, IsReplySound, IsNoteStanding, IsNoteSound, GatewayIsSound, IsSound}
@@ -224,7 +224,7 @@ module _ (script : Script) (entries : List Entry) (w : World) (sound : IsSound s
   after_sound : IsSound script entries after
   after_sound = record { gateway = gateway_sound; calls = call_sound }
 
-pub line_sound : (l : ℕ) (event : LineEvent) → KeepsSound (on_a_line l event)
+pub line_sound : (l : ℕ) (event : LineEvent) → KeepsSound (λ script w after. LineOccurs w l event after)
 line_sound l event script entries is_script closed w after sound occurs =
     let h = occurs.happens in
     let is : after ≡ world_after w l h.call (length occurs.sent) h.outcome =

@@ -10,7 +10,8 @@ use Rattle.mg_model.specs.Entries.{Entry}
 use Rattle.mg_model.specs.Gateway.{restarted, row_restarted, board_restarted}
 use Rattle.mg_model.specs.Messages.{Request, Reply, SentNote}
 use Rattle.mg_model.specs.Script.{Script}
-use Rattle.mg_model.specs.World.{World, restart, with_gateway}
+use Rattle.mg_model.specs.declared.events.Event.TheVariants.{Restart}
+use Rattle.mg_model.specs.World.{World, with_gateway, Occurs}
 use Rattle.mg_model.specs.Board.{null_row}
 use Rattle.mg_model.proofs.Cases.{none_is_some}
 use Rattle.mg_safety.proofs.Agents.EffectiveAgent.{same_lines}
@@ -129,6 +130,6 @@ module _ (script : Script) (entries : List Entry) (w : World) (sound : IsSound s
         part = inr (lost a one.part);
       }
 
-pub restart_sound : KeepsSound restart
+pub restart_sound : KeepsSound (λ script w after. Occurs script w Restart after)
 restart_sound script entries is_script closed w after sound occurs =
     subst (IsSound script entries) (sym occurs.1) (record { gateway = gateway_sound script entries w sound; calls = call_sound script entries w sound })

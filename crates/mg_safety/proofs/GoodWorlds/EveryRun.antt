@@ -1,8 +1,14 @@
 -- The promise over runs: openings are sound, every event keeps a world sound, and sound worlds are good.
-use Rattle.std.proofs.Common.{List, [], ◌∷◌, sym, subst}
+use Rattle.std.proofs.Common.{ℕ, List, [], ◌∷◌, sym, subst}
 use Rattle.mg_model.specs.Entries.{Entry}
 use Rattle.mg_model.specs.Script.{Script}
-use Rattle.mg_model.specs.World.{World, Event, on_a_line, execute, reply, pass, note, timer, hear, restart, Runs}
+use Rattle.mg_model.specs.declared.events.CallEvent.{CallEvent}
+use Rattle.mg_model.specs.declared.events.CallEvent.TheVariants as to_call
+use Rattle.mg_model.specs.declared.events.Event.{Event}
+use Rattle.mg_model.specs.declared.events.Event.TheVariants.{OfCall, Restart}
+use Rattle.mg_model.specs.Agent.{replied, noted}
+use Rattle.mg_model.specs.Tables.{line_places}
+use Rattle.mg_model.specs.World.{World, AgentSteps, OccursTo, Occurs, Runs}
 use Rattle.mg_safety.specs.Headline.{EveryRunIsGood, EveryRunOfOneCallIsGood}
 use Rattle.mg_model.specs.Accepted.{IsScript}
 use Rattle.mg_model.specs.declared.commands.Command.TheVariants.{AddLine, AddEphemeral, ModifyLine, ModifyEphemeral, MoveLine, MoveEphemeral, Subtract, SubtractAll, SetTopology}
@@ -41,15 +47,23 @@ commands_carry (SetTopology j t u topology) = topology_carried j t u topology
 others_lost : OtherLost
 others_lost script g end after call b lost change differ association held lines link = other_lost script g end after b call lost change differ association held lines link
 
-event_sound : (event : Event) → KeepsSound event
-event_sound (on_a_line line event) = line_sound line event
-event_sound (execute request refusal) = execute_sound (requests_run commands_carry) others_stay owners_agree others_lost request refusal
-event_sound (reply answer) = reply_sound answer
-event_sound (pass call) = pass_sound call
-event_sound (note sent) = note_sound sent
-event_sound (timer call) = timer_sound call
-event_sound (hear call association) = hear_sound call association
-event_sound restart = restart_sound
+call_sound : (call : ℕ) (happens : CallEvent) → KeepsSound (λ script w after. OccursTo script w call happens after)
+call_sound call (to_call.OnLine line event) script entries is_script closes w after sound occurs = line_sound line.0 event script entries is_script closes w after sound occurs.1
+call_sound call (to_call.Execute number chosen) script entries is_script closes w after sound (request, of_call, executes) =
+    execute_sound (requests_run commands_carry) others_stay owners_agree others_lost request chosen script entries is_script closes w after sound (of_call.0, executes)
+call_sound call (to_call.Reply number) script entries is_script closes w after sound (answer, of_call, steps) =
+    reply_sound answer script entries is_script closes w after sound
+    (of_call.0, subst (λ (c : ℕ). AgentSteps w c (λ a. replied script a answer) after) (sym of_call.1) steps)
+call_sound call to_call.Pass script entries is_script closes w after sound occurs = pass_sound call script entries is_script closes w after sound occurs
+call_sound call (to_call.Note number) script entries is_script closes w after sound (sent, of_call, steps) =
+    note_sound sent script entries is_script closes w after sound
+    (of_call.0, subst (λ (c : ℕ). AgentSteps w c (λ a. noted script a (line_places script) sent) after) (sym of_call.1) steps)
+call_sound call to_call.Timer script entries is_script closes w after sound occurs = timer_sound call script entries is_script closes w after sound occurs
+call_sound call (to_call.Hear association) script entries is_script closes w after sound occurs = hear_sound call association.0 script entries is_script closes w after sound occurs
+
+event_sound : (event : Event) → KeepsSound (λ script w after. Occurs script w event after)
+event_sound (OfCall call happens) = call_sound call.0 happens
+event_sound Restart = restart_sound
 
 runs_sound : (script : Script) (entries : List Entry) → IsScript script → IsClosed script entries → (events : List Event) (w end : World)
     → IsSound script entries w → Runs script events w end → IsSound script entries end

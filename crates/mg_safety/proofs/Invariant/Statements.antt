@@ -16,7 +16,7 @@ use Rattle.mg_model.specs.Obligations.{NoneBroken, JoinedAreMarked, EndedIsClear
 use Rattle.mg_model.specs.RequestRun.{Running, RunsFrom, note_on}
 use Rattle.mg_model.specs.Script.{Script}
 use Rattle.mg_model.specs.Steps.{Step, steps_of, opening, reset}
-use Rattle.mg_model.specs.World.{World, Event, Opened, IsOpening, IsGood, Occurs}
+use Rattle.mg_model.specs.World.{World, Opened, IsOpening, IsGood}
 use Rattle.mg_model.specs.Accepted.{IsScript, IsEntryOf}
 use Rattle.mg_safety.proofs.Invariant.Shown.{Naming, naming, Shown, Seen, LinesShown, IsAccounted, owned_at, list_raises, ChangesOwned}
 use Rattle.mg_safety.proofs.Invariant.Sound.{Stands, is_call, owner_of, owned_in, link_of, IsSound}
@@ -102,7 +102,7 @@ abbrev pub SoundIsGood : Type 0
 SoundIsGood = (script : Script) (entries : List Entry) → IsScript script → IsClosed script entries → (w : World) → IsSound script entries w → IsGood script w
 
 -- an event keeps the world sound
-abbrev pub KeepsSound : Event → Type 0
-KeepsSound event =
+abbrev pub KeepsSound : (Script → World → World → Type 0) → Type 0
+KeepsSound happens =
     (script : Script) (entries : List Entry) → IsScript script → IsClosed script entries → (w after : World) → IsSound script entries w
-    → Occurs script w event after → IsSound script entries after
+    → happens script w after → IsSound script entries after

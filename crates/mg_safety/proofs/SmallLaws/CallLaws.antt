@@ -10,7 +10,8 @@ use Rattle.mg_model.specs.declared.line_events.LineEvent.{LineEvent}
 use Rattle.mg_model.specs.Gateway.{Gateway, last_executed, row_restarted, notes_from, sent_notes, reply_of}
 use Rattle.mg_model.specs.Messages.{Request, Reply, SentNote}
 use Rattle.mg_model.specs.RequestRun.{RaisedNote}
-use Rattle.mg_model.specs.World.{World, on_a_line, execute, reply, pass, note, timer, hear, restart, Executes, IsFirst, LineOccurs, AgentSteps, sent_in}
+use Rattle.mg_model.specs.declared.events.CallEvent.TheVariants as to_call
+use Rattle.mg_model.specs.World.{World, Executes, IsFirst, LineOccurs, AgentSteps, sent_in}
 use Rattle.mg_model.specs.Tables.{line_places}
 use Rattle.mg_safety.specs.Laws.{OldRequestsDoNothing, RestartsClearLines, EventsKeepOthers, AreNumbered, IsSameButReplies, IsSameFor}
 use Rattle.mg_model.proofs.Cases.{at_another}
@@ -33,7 +34,9 @@ by_case w after request refusal old (inr (inl again)) = same_but_replies w after
 by_case w after request refusal old (inr (inr dropped)) = same_but_replies w after w.replies dropped.1
 
 pub old_requests : OldRequestsDoNothing
-old_requests script w after request refusal occurs old = by_case w after request refusal old occurs.1
+old_requests script w after call number refusal (request, of_call, executes) old =
+    by_case w after request refusal
+    (subst (λ (n : ℕ). n ≤ last_executed w.gateway request.call) (sym of_call.2) (subst (λ (c : ℕ). number ≤ last_executed w.gateway c) (sym of_call.1) old)) executes
 
 pub restarts : RestartsClearLines
 restarts script w after occurs l row stands = record {
@@ -164,18 +167,14 @@ request_keeps w after request refusal call other numbered (inr (inr dropped)) of
 }
 
 pub events_keep : EventsKeepOthers
-events_keep script w after (on_a_line line event) call other numbered occurs of differ = line_keeps w after line event call other occurs of differ
-events_keep script w after (execute request refusal) call other numbered occurs of differ =
-    request_keeps w after request refusal call other numbered occurs.1 of differ
-events_keep script w after (reply answer) call other numbered occurs of differ =
-    agent_keeps w after answer.call other (λ a. replied script a answer) numbered (λ a. replied_own script a answer) (λ e. differ (sym of ∙ e)) occurs.1
-events_keep script w after (pass one) call other numbered occurs of differ =
-    agent_keeps w after one other (passed script) numbered (passed_own script) (λ e. differ (sym of ∙ e)) occurs
-events_keep script w after (note sent) call other numbered occurs of differ =
-    agent_keeps w after sent.call other (λ a. noted script a (line_places script) sent) numbered (λ a. noted_own script a (line_places script) sent)
-    (λ e. differ (sym of ∙ e)) occurs.1
-events_keep script w after (timer one) call other numbered occurs of differ =
-    agent_keeps w after one other (timed script) numbered (timed_own script) (λ e. differ (sym of ∙ e)) occurs
-events_keep script w after (hear one association) call other numbered occurs of differ =
-    agent_keeps w after one other (λ a. heard script a association) numbered (λ a. heard_own script a association) (λ e. differ (sym of ∙ e)) occurs.1
-events_keep script w after restart call other numbered occurs of differ = absurd of
+events_keep script w after call other (to_call.OnLine line event) numbered occurs differ = line_keeps w after line.0 event call other occurs.1 occurs.0 differ
+events_keep script w after call other (to_call.Execute number chosen) numbered (request, of_call, executes) differ =
+    request_keeps w after request chosen call other numbered executes of_call.1 differ
+events_keep script w after call other (to_call.Reply number) numbered (answer, of_call, steps) differ =
+    agent_keeps w after call other (λ a. replied script a answer) numbered (λ a. replied_own script a answer) differ steps
+events_keep script w after call other to_call.Pass numbered occurs differ = agent_keeps w after call other (passed script) numbered (passed_own script) differ occurs
+events_keep script w after call other (to_call.Note number) numbered (sent, of_call, steps) differ =
+    agent_keeps w after call other (λ a. noted script a (line_places script) sent) numbered (λ a. noted_own script a (line_places script) sent) differ steps
+events_keep script w after call other to_call.Timer numbered occurs differ = agent_keeps w after call other (timed script) numbered (timed_own script) differ occurs
+events_keep script w after call other (to_call.Hear association) numbered occurs differ =
+    agent_keeps w after call other (λ a. heard script a association.0) numbered (λ a. heard_own script a association.0) differ occurs.1
