@@ -50,7 +50,7 @@ events = on_a_line 7 1 (event.Hook hooks.Off) ∷ note 7 1 ∷ execute 7 1 None 
 
 run : Runs silent events w0 w3
 unfolding Runs
-run = (w1, (goes_off w0 call (record { association = refl; held = refl; is_armed = refl; none_sent = refl }), (w2, ((off_hook call, (first_in (off_hook call) [], refl, refl), enters), (w3, ((to_talk call 1, ((0, omega (arith), refl), refl, refl), inl (executes w2 call 1 ready refl (omega (arith)))), refl))))))
+run = (w1, (goes_off w0 call (record { association = refl; held = refl; is_armed = refl; none_sent = refl }), (w2, ((off_hook call, (first_in (off_hook call) [], refl, refl), enters), (w3, ((to_talk call 1, ((0, omega (arith), refl), refl, refl), inl (executes w2 call 1 ready refl refl (omega (arith)))), refl))))))
 
 pub calling_ends_badly : EndsBadly (calling [])
 calling_ends_badly = record {

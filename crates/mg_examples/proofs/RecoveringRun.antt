@@ -48,7 +48,7 @@ events = Restart ∷ hear 7 2 ∷ execute 7 1 None ∷ []
 
 run : Runs recovering events w0 w3
 unfolding Runs
-run = (w1, ((omega (arith), refl), (w2, ((omega (arith), enters), (w3, ((to_talk call 2, ((0, omega (arith), refl), refl, refl), inl (executes w2 call 1 ready refl (omega (arith)))), refl))))))
+run = (w1, ((omega (arith), refl), (w2, ((omega (arith), enters), (w3, ((to_talk call 2, ((0, omega (arith), refl), refl, refl), inl (executes w2 call 1 ready refl refl (omega (arith)))), refl))))))
 
 pub recovering_ends_badly : EndsBadly recovering
 recovering_ends_badly = record {

@@ -93,6 +93,7 @@ gateway calls = record {
   holder = λ l. option_map (λ (one : Opened). one.call) (user_of calls l);
   creator = λ k. None;
   link = λ c. record { last = None; notes = 0 };
+  retired = λ c. false;
 }
 
 abbrev pub agent : Script → Opened → Agent
@@ -185,6 +186,7 @@ module _ (script : Script) (two : length script.lines ≡ 2) (calls : List Opene
       no_ephemeral_given = refl;
       no_creator = refl;
       no_reply_kept = refl;
+      none_retired = refl;
     };
     agents = record { opened = λ one there. ap (option_map (agent script)) (by_number one there); no_other = open_by };
     messages = record { no_request = refl; no_answer = refl; no_note = refl };

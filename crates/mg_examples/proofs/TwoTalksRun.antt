@@ -152,8 +152,8 @@ module _ (more : List Event) (end : World) where
   both_executed goes_on = (
     w5,
     (
-      (to_talk call None, ((1, omega (arith), refl), refl, refl), inl (executes w4 call 1 ready refl (omega (arith)))),
-      (w6, ((to_talk other_call None, ((0, omega (arith), refl), refl, refl), inl (executes w5 other_call 2 also_ready refl (omega (arith)))), goes_on)),
+      (to_talk call None, ((1, omega (arith), refl), refl, refl), inl (executes w4 call 1 ready refl refl (omega (arith)))),
+      (w6, ((to_talk other_call None, ((0, omega (arith), refl), refl, refl), inl (executes w5 other_call 2 also_ready refl refl (omega (arith)))), goes_on)),
     ),
   )
 

@@ -306,3 +306,8 @@ opened script call lines = record {
   expected = λ i. if nat_lt i (length script.lines) then Some opening_request else None;
   accepted = λ n. false;
 }
+
+-- an agent that begins on the lines of a call that has ended: at rest in the start state and in the same association, with the next number
+-- and the RequestIDs that are expected of the old one
+abbrev pub begun : Script → ℕ → Agent → Agent
+begun script call old = record (opened script call old.lines) { association = old.association; next = old.next; expected = old.expected }

@@ -1,18 +1,20 @@
 -- The gateway whole: its association, the connection model, its lines, for each call the reply that its link keeps and the
 -- count of its notes, and what events do to it. A reader should check that a request is executed at most once (H.248.1
 -- Annex D.1.1), that messages of another association do nothing, and what a restart takes away.
-use Rattle.std.specs.Prelude.{◌≡◌, ℕ, ◌+◌, ◌≤◌, ◌==◌, false, if◌then◌else◌, List, [], ◌∷◌, length, Option, Some, None}
+use Rattle.std.specs.Prelude.{◌≡◌, ℕ, ◌+◌, ◌≤◌, ◌==◌, Bool, true, false, if◌then◌else◌, List, [], ◌∷◌, length, Option, Some, None}
 use Rattle.mg_names.specs.declared.identifiers.TermId.{TermId}
-use Rattle.mg_names.specs.declared.identifiers.TermId.TheVariants.{Eph}
+use Rattle.mg_names.specs.declared.identifiers.TermId.TheVariants.{Line, Eph}
 use Rattle.mg_model.specs.declared.failures.ChosenRefusal.{ChosenRefusal}
 use Rattle.mg_model.specs.declared.failures.Failure.{Failure}
 use Rattle.mg_model.specs.declared.line_events.LineEvent.{LineEvent}
 use Rattle.mg_model.specs.declared.line_events.LineEvent.TheVariants.{Hook, Flash, Digit, Pause, SignalEnd}
 use Rattle.mg_model.specs.declared.rows.Row.{Row}
-use Rattle.mg_model.specs.Board.{Board, exists, IsSettled}
+use Rattle.mg_names.specs.declared.strictness.Strict.TheVariants.{Exact}
+use Rattle.mg_model.specs.declared.transitions.EventItem.TheVariants.{OffHook}
+use Rattle.mg_model.specs.Board.{Board, exists, null_row, IsSettled}
 use Rattle.mg_model.specs.Delivery.{Link, Offer, fresh, kept, discard, offer}
 use Rattle.mg_model.specs.Items.{subtracted}
-use Rattle.mg_model.specs.LineEvents.{LineRow, Note, Outcome, cleared, hooked, flashed, dialled, paused, signal_ended}
+use Rattle.mg_model.specs.LineEvents.{LineRow, silent, Note, Outcome, cleared, hooked, flashed, dialled, paused, signal_ended}
 use Rattle.mg_model.specs.Messages.{Request, Reply, SentNote}
 use Rattle.mg_model.specs.Numbers.{last_number}
 use Rattle.mg_model.specs.RequestRun.{Running, RaisedNote, RunsFrom}
@@ -31,6 +33,8 @@ pub record Gateway : Type 0 where
   -- the call whose request created an ephemeral, in this association
   pub creator : ℕ → Option ℕ
   pub link : ℕ → CallLink
+  -- whether a call of this number was retired: its requests are dropped, and no call has its number again
+  pub retired : ℕ → Bool
 
 -- ---- requests
 
@@ -53,7 +57,7 @@ last_executed g call = number_of (g.link call).last
 
 -- what that link says of a request that arrives
 abbrev pub offer_to : Gateway → Request → Offer Reply
-offer_to g request = offer (link_in g request.call) request.association request.number
+offer_to g request = if g.retired request.call then discard else offer (link_in g request.call) request.association request.number
 
 abbrev pub with_link : Gateway → ℕ → CallLink → Gateway
 with_link g call link = record g { link = λ c. if c == call then link else g.link c }
@@ -133,6 +137,28 @@ pub record Happens (g : Gateway) (l : ℕ) (event : LineEvent) (after : Gateway)
   pub room : (g.link call).notes + length notes ≤ last_number
   pub after_is : after ≡ with_notes (with_line g l outcome.row) call (length notes)
 
+-- ---- a call that begins on the lines of one that has ended
+
+-- each line that the old call holds is in the null context, Inactive, silent and armed by `al/of` with `strict=exact` alone, and no
+-- ephemeral exists that it created (this profile's own)
+pub record MayBegin (g : Gateway) (old : ℕ) : Type 0 where
+  pub rows : (l : ℕ) → g.holder l ≡ Some old → g.board.row (Line (record { 0 = l })) ≡ Some null_row
+  pub playing : (l : ℕ) → g.holder l ≡ Some old → (g.line l).playing ≡ silent
+  pub list : (l : ℕ) → g.holder l ≡ Some old → (g.line l).list ≡ OffHook Exact ∷ []
+  pub no_ephemeral : (k : ℕ) → g.creator k ≡ Some old → ⊥
+
+abbrev pub handed_over : ℕ → ℕ → Option ℕ → Option ℕ
+handed_over old new None = None
+handed_over old new (Some call) = Some (if call == old then new else call)
+
+-- the old call is retired, and the new one holds its lines; of both nothing is kept, and no note was sent
+abbrev pub begun : Gateway → (old new : ℕ) → Gateway
+begun g old new = record g {
+  holder = λ l. handed_over old new (g.holder l);
+  link = λ call. if call == old then record { last = None; notes = 0 } else if call == new then record { last = None; notes = 0 } else g.link call;
+  retired = λ call. if call == old then true else g.retired call;
+}
+
 -- ---- restart
 
 -- a line is in the null context and Inactive, and an ephemeral is no more
@@ -162,4 +188,5 @@ restarted g = record {
   holder = g.holder;
   creator = λ k. None;
   link = λ call. link_restarted (g.link call);
+  retired = g.retired;
 }

@@ -11,9 +11,10 @@ use Rattle.mg_model.specs.declared.events.Event.TheVariants.{OfCall, Restart}
 use Rattle.mg_model.specs.declared.failures.ChosenRefusal.{ChosenRefusal}
 use Rattle.mg_model.specs.declared.line_events.LineEvent.{LineEvent}
 use Rattle.mg_model.specs.declared.rows.Row.{Row}
-use Rattle.mg_model.specs.Agent.{Agent, Phase, awaits_reply, awaits_pass, resting, replied, passed, noted, timed, heard, opened}
+use Rattle.mg_model.specs.Agent.{Agent, Phase, awaits_reply, awaits_pass, resting, replied, passed, noted, timed, heard, opened, begun}
 use Rattle.mg_model.specs.Board.{exists, null_row}
-use Rattle.mg_model.specs.Gateway.{Gateway, IsExecutedBy, IsKept, IsDiscarded, Happens, restarted}
+use Rattle.mg_model.specs.Gateway as gateway
+use Rattle.mg_model.specs.Gateway.{Gateway, IsExecutedBy, IsKept, IsDiscarded, Happens, MayBegin, restarted}
 use Rattle.mg_model.specs.declared.transitions.EventItem.TheVariants.{OffHook}
 use Rattle.mg_model.specs.LineEvents.{LineRow, new_line, silent}
 use Rattle.mg_model.specs.Media.{AreJoined}
@@ -52,6 +53,10 @@ note call number = OfCall (record { 0 = call }) (to_call.Note number)
 
 abbrev pub timer : (call : ℕ) → Event
 timer call = OfCall (record { 0 = call }) to_call.Timer
+
+-- a call begins on the lines of one that has ended
+abbrev pub begin : (call old : ℕ) → Event
+begin call old = OfCall (record { 0 = call }) (to_call.Begin (record { 0 = old }))
 
 abbrev pub hear : (call association : ℕ) → Event
 hear call association = OfCall (record { 0 = call }) (to_call.Hear (record { 0 = association }))
@@ -125,6 +130,25 @@ IsReplyOf w call number answer = Contains w.replies answer × (answer.call ≡ c
 abbrev pub IsNoteOf : World → ℕ → ℕ → SentNote → Type 0
 IsNoteOf w call number sent = Contains w.notes sent × (sent.call ≡ call) × (sent.number ≡ number)
 
+-- the call has ended: its state is marked end, it is at rest, and its association is the gateway's
+pub record HasEnded (script : Script) (w : World) (a : Agent) : Type 0 where
+  pub is_end : IsTrue (state_of script a.state).is_end
+  pub at_rest : a.phase ≡ resting
+  pub current : a.association ≡ w.gateway.association
+
+-- a call has ended and its lines wait for off-hook; a call of a number that was never used begins on them
+pub record Begins (script : Script) (w : World) (call old : ℕ) (after : World) : Type 0 where
+  pub before : Agent
+  pub open_call : w.agent old ≡ Some before
+  pub ended : HasEnded script w before
+  pub may : MayBegin w.gateway old
+  pub unused : w.agent call ≡ None
+  pub not_retired : w.gateway.retired call ≡ false
+  pub after_is : after ≡ record w {
+    gateway = gateway.begun w.gateway old call;
+    agent = λ c. if c == call then Some (begun script call before) else if c == old then None else w.agent c;
+  }
+
 abbrev pub OccursTo : Script → World → ℕ → CallEvent → World → Type 0
 OccursTo script w call (to_call.OnLine line happens) after = (w.gateway.holder line.0 ≡ Some call) × LineOccurs w line.0 happens after
 OccursTo script w call (to_call.Execute number chosen) after = (request : Request) × IsRequestOf w call number request × Executes w request chosen after
@@ -133,6 +157,7 @@ OccursTo script w call to_call.Pass after = AgentSteps w call (passed script) af
 OccursTo script w call (to_call.Note number) after =
     (sent : SentNote) × IsNoteOf w call number sent × AgentSteps w call (λ a. noted script a (line_places script) sent) after
 OccursTo script w call to_call.Timer after = AgentSteps w call (timed script) after
+OccursTo script w call (to_call.Begin old) after = Begins script w call old.0 after
 OccursTo script w call (to_call.Hear association) after =
     (association.0 ≤ w.gateway.association) × AgentSteps w call (λ a. heard script a association.0) after
 
@@ -182,6 +207,7 @@ pub record IsNewGateway (g : Gateway) : Type 0 where
   pub no_ephemeral_given : g.board.used_ephemeral ≡ (λ n. false)
   pub no_creator : g.creator ≡ (λ k. None)
   pub no_reply_kept : g.link ≡ (λ call. record { last = None; notes = 0 })
+  pub none_retired : g.retired ≡ (λ call. false)
 
 -- the agents of these calls and no other, each at rest in the start state
 pub record AreOpenedAgents (script : Script) (calls : List Opened) (w : World) : Type 0 where
@@ -202,12 +228,6 @@ pub record IsOpening (script : Script) (calls : List Opened) (w : World) : Type 
   pub messages : NothingIsSent w
 
 -- ---- what is promised
-
--- the call has ended: its state is marked end, it is at rest, and its association is the gateway's
-pub record HasEnded (script : Script) (w : World) (a : Agent) : Type 0 where
-  pub is_end : IsTrue (state_of script a.state).is_end
-  pub at_rest : a.phase ≡ resting
-  pub current : a.association ≡ w.gateway.association
 
 -- two lines are lines of one call whose current state marks the pair as talking
 pub record IsMarkedPair (script : Script) (w : World) (l m : ℕ) : Type 0 where

@@ -34,6 +34,11 @@ pub enum CallEvent {
     },
     /// The timer of the agent's state ends.
     Timer,
+    /// The call begins on the lines of one that has ended, which is retired.
+    Begin {
+        /// The call that has ended.
+        old: CallNo,
+    },
     /// The agent hears that an association has begun.
     Hear {
         /// The association.

@@ -1,4 +1,4 @@
--- The events of the gateway and what they leave to other calls: executes, events of lines, restarts; and openings.
+-- The events of the gateway and what they leave to other calls: executes, events of lines, restarts, calls that begin; and openings.
 pub mod Others
 pub mod StayApart
 pub mod RowAfterEvent
@@ -9,3 +9,6 @@ pub mod ExecutedGateway
 pub mod ExecuteSound
 pub mod Restarts
 pub mod Openings
+pub mod Handover
+pub mod BegunCalls
+pub mod BeginSound

@@ -4,3 +4,4 @@ pub mod Shown
 pub mod CarriedOver
 pub mod Sound
 pub mod Statements
+pub mod OpeningShown

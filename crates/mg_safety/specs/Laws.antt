@@ -20,6 +20,7 @@ use Rattle.mg_model.specs.Media.{receives, sends, share_context, crosses, goes_o
 use Rattle.mg_model.specs.Messages.{Request, Reply, SentNote}
 use Rattle.mg_model.specs.Script.{Script}
 use Rattle.mg_model.specs.declared.events.CallEvent.{CallEvent}
+use Rattle.mg_model.specs.declared.events.CallEvent.TheVariants as to_call
 use Rattle.mg_model.specs.declared.events.Event.TheVariants.{Restart}
 use Rattle.mg_model.specs.World.{World, execute, OccursTo, Occurs, Opened, IsOpening, IsGood}
 use Rattle.mg_model.specs.Board.{null_row}
@@ -62,10 +63,15 @@ pub record IsSameFor (w after : World) (other : ℕ) : Type 0 where
   pub replies : (answer : Reply) → answer.call ≡ other → Contains after.replies answer → Contains w.replies answer
   pub notes : (sent : SentNote) → sent.call ≡ other → Contains after.notes sent → Contains w.notes sent
 
+-- the call ends with the event: another begins on its lines
+abbrev pub IsRetiredBy : CallEvent → ℕ → Type 0
+IsRetiredBy (to_call.Begin old) other = old.0 ≡ other
+IsRetiredBy _ other = ⊥
+
 abbrev pub EventsKeepOthers : Type 0
 EventsKeepOthers =
     (script : Script) (w after : World) (call other : ℕ) (happens : CallEvent) → AreNumbered w → OccursTo script w call happens after
-    → (call ≡ other → ⊥) → IsSameFor w after other
+    → (call ≡ other → ⊥) → (IsRetiredBy happens other → ⊥) → IsSameFor w after other
 
 -- ---- good worlds
 

@@ -13,7 +13,8 @@ pub fn restarts_clear_lines()
     ensures { RestartsClearLines }
 {}
 
-/// An event of one call, a restart apart, leaves the agent, the link and the messages of every other call as they were.
+/// An event of one call, a restart apart, leaves the agent, the link and the messages of every other call as they were; a call that begins on the
+/// lines of one that has ended leaves those of every call but that one.
 pub fn events_keep_others()
     ensures { EventsKeepOthers }
 {}

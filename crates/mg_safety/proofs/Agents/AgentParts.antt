@@ -109,6 +109,7 @@ goes_on script entries g a e b call lines association next follows settled part 
   sends = λ request is.
       let own = follows.sends request is in
       (own.0 ∙ call, own.1 ∙ sym follows.association, own.2);
+  above = λ request is. let more = follows.above request is in omega (arith, next, more);
   settled = settled;
   part = part;
 }

@@ -11,7 +11,7 @@ use Rattle.mg_model.specs.Script.{Script}
 use Rattle.mg_model.specs.World.{World, AgentSteps, agent_steps, sent_in}
 use Rattle.mg_model.proofs.Single.{none_in, only_one}
 use Rattle.mg_model.proofs.Cases.{the_some}
-use Rattle.mg_safety.proofs.Invariant.Sound.{IsSentBy, IsCurrent, IsLost, CallIsSound, GatewayIsSound, IsSound}
+use Rattle.mg_safety.proofs.Invariant.Sound.{IsSentBy, IsCurrent, IsLost, CallIsSound, IsKnown, IsOpen, IsAboveFloor, GatewayIsSound, IsSound}
 
 -- the agent b goes on from a: what it sends is new and its own, what was sent before is settled, and it is current or lost
 pub record Goes (script : Script) (entries : List Entry) (g : Gateway) (a b : Agent) : Type 0 where
@@ -21,6 +21,7 @@ pub record Goes (script : Script) (entries : List Entry) (g : Gateway) (a b : Ag
   pub next : a.next ≤ b.next
   pub sends : (request : Request) → b.phase ≡ awaits_reply request
       → (request.call ≡ a.call) × (request.association ≡ b.association) × (request.number < b.next)
+  pub above : (request : Request) → b.phase ≡ awaits_reply request → a.next ≤ request.number
   pub settled : (request : Request) → IsSentBy g a request → request.association ≡ g.association → request.number ≤ last_executed g a.call
   pub part : IsCurrent script entries g b ⊎ IsLost script g b
 
@@ -111,7 +112,44 @@ module _ (script : Script) (entries : List Entry) (w : World) (call : ℕ) (a b 
           (subst (CallIsSound script entries (agent_steps w call b) call) (the_some b one there) own_call)
       by_call false e there = other_call other one (differs other call e) there
 
-  gateway_after : GatewayIsSound script (agent_steps w call b)
+  known_after : (other : ℕ) → IsKnown w other → IsKnown (agent_steps w call b) other
+  known_after other (inl there) = let now = agent_after other there.0 there.1 in inl (now.0, now.1)
+  known_after other (inr gone) = inr gone
+
+  open_before : (other : ℕ) → IsOpen (agent_steps w call b) other → IsOpen w other
+  open_before other (now, there) = by_call (other == call) refl there
+    where
+      by_call : (same : Bool) → (other == call) ≡ same → (if same then Some b else w.agent other) ≡ Some now → IsOpen w other
+      by_call true e is = (a, ap w.agent (eqb-true other call e) ∙ here)
+      by_call false e is = (now, is)
+
+  floor_after : (other : ℕ) (one : Agent) → (agent_steps w call b).agent other ≡ Some one → IsAboveFloor (sound.floor other) (agent_steps w call b) other one
+  floor_after other one = by_call (other == call) refl
+    where
+      own : IsAboveFloor (sound.floor call) (agent_steps w call b) call b
+      own = let old = sound.floors call a here in record {
+        next = let before = old.next in let step = goes.next in omega (arith, before, step);
+        requests = λ request there of. elim (Contains-append_cases (sent_in b.phase) w.requests request there) [
+          | inl new ↦ (let sends = goes.above request (outstanding_in b.phase request new) in let before = old.next in omega (arith, sends, before))
+          | inr before ↦ old.requests request before of
+        ];
+      }
+
+      by_call : (same : Bool) → (other == call) ≡ same → (if same then Some b else w.agent other) ≡ Some one → IsAboveFloor (sound.floor other) (agent_steps w call b) other one
+      by_call true e there = subst (λ n. IsAboveFloor (sound.floor n) (agent_steps w call b) n one) (sym (eqb-true other call e))
+          (subst (IsAboveFloor (sound.floor call) (agent_steps w call b) call) (the_some b one there) own)
+      by_call false e there = let old = sound.floors other one there in record {
+        next = old.next;
+        requests = λ request among of. elim (Contains-append_cases (sent_in b.phase) w.requests request among) [
+          | inl new ↦ absurd (differs other call e (sym of ∙ sent_own request new))
+          | inr before ↦ old.requests request before of
+        ];
+      }
+
+  retired_after : (other : ℕ) (one : Agent) → (agent_steps w call b).agent other ≡ Some one → w.gateway.retired other ≡ false
+  retired_after other one there = let was = open_before other (one, there) in sound.gateway.retired other was.0 was.1
+
+  gateway_after : GatewayIsSound script sound.floor (agent_steps w call b)
   gateway_after = let old = sound.gateway in record {
     accounted = old.accounted;
     creator_stands = old.creator_stands;
@@ -128,16 +166,19 @@ module _ (script : Script) (entries : List Entry) (w : World) (call : ℕ) (a b 
     kept = old.kept;
     request_ids = old.request_ids;
     requests = λ request there. elim (Contains-append_cases (sent_in b.phase) w.requests request there) [
-      | inl new ↦ (let now = agent_after call a here in (now.0, ap (agent_steps w call b).agent (sent_own request new) ∙ now.1))
-      | inr before ↦ (let was = old.requests request before in let now = agent_after request.call was.0 was.1 in (now.0, now.1))
+      | inl new ↦ (let now = agent_after call a here in inl (now.0, ap (agent_steps w call b).agent (sent_own request new) ∙ now.1))
+      | inr before ↦ known_after request.call (old.requests request before)
     ];
-    replies = old.replies;
-    notes = old.notes;
+    retired = retired_after;
+    replies = λ answer among. let was = old.replies answer among in (known_after answer.call was.0, λ is_open. was.1 (open_before answer.call is_open));
+    notes = λ sent among. let was = old.notes sent among in (known_after sent.call was.0, λ is_open. was.1 (open_before sent.call is_open));
   }
 
 pub agent_goes : (script : Script) (entries : List Entry) (w after : World) (call : ℕ) (step : Agent → Option Agent) → IsSound script entries w
     → (s : AgentSteps w call step after) → Goes script entries w.gateway s.before s.agent → IsSound script entries after
 agent_goes script entries w after call step sound s goes = subst (IsSound script entries) (sym s.after_is) (record {
+  floor = sound.floor;
+  floors = floor_after script entries w call s.before s.agent sound s.open_call goes;
   gateway = gateway_after script entries w call s.before s.agent sound s.open_call goes;
   calls = each_call script entries w call s.before s.agent sound s.open_call goes;
 })

@@ -33,6 +33,7 @@ pub record Follows (e b : Agent) : Type 0 where
   pub next : e.next ≤ b.next
   pub sends : (request : Request) → b.phase ≡ awaits_reply request
       → (request.call ≡ e.call) × (request.association ≡ e.association) × (request.number < b.next)
+  pub above : (request : Request) → b.phase ≡ awaits_reply request → e.next ≤ request.number
 
 -- the request that a phase names is one
 pub same_request : (one other : Request) → awaits_reply one ≡ awaits_reply other → one ≡ other
@@ -51,6 +52,7 @@ follows_resting e = record {
   lines = refl;
   next = omega arith;
   sends = λ request is. absurd (not_resting request is);
+  above = λ request is. absurd (not_resting request is);
 }
 
 entered_follows : (script : Script) (e : Agent) (state : ℕ) (b : Agent) (empty : Bool) → entered_with script e state empty ≡ Some b → Follows e b
@@ -60,6 +62,7 @@ entered_follows script e state b true is = subst (Follows e) (the_some (record e
   lines = refl;
   next = omega arith;
   sends = λ request is. absurd (not_passing request is);
+  above = λ request is. absurd (not_passing request is);
 })
 entered_follows script e state b false is = numbered (nat_le e.next last_number) is
   where
@@ -76,6 +79,9 @@ entered_follows script e state b false is = numbered (nat_le e.next last_number)
           let present : e.association ≡ request.association = ap (λ (r : Request). r.association) one in
           let number : e.next ≡ request.number = ap (λ (r : Request). r.number) one in
           (sym own, sym present, omega (arith, number));
+      above = λ request is.
+          let number : e.next ≡ request.number = ap (λ (r : Request). r.number) (same_request (request_of script e state) request is) in
+          omega (arith, number);
     })
     numbered false is = absurd (none_is_some b is)
 

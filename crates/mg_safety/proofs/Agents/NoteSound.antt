@@ -72,6 +72,7 @@ follows_itself a is = record {
   lines = refl;
   next = omega arith;
   sends = λ request phase. absurd (not_resting request (sym is ∙ phase));
+  above = λ request phase. absurd (not_resting request (sym is ∙ phase));
 }
 
 stay_follows : (script : Script) (a b : Agent) (target : Option ℕ) → a.phase ≡ resting → entered_or_stays script a target ≡ Some b → Follows a b
@@ -107,10 +108,10 @@ stays_current script entries g a number k phase link between = record {
 }
 
 -- where the note leads, the checker's configuration stands
-note_leads : (script : Script) (entries : List Entry) → IsClosed script entries → (g : Gateway) (a : Agent) (sent : SentNote) (state : ℕ)
-    (k : IsCurrent script entries g a) → k.c.link ≡ Resting → IsBetween script g a k.c → IsNoteStanding g sent
+note_leads : (script : Script) (entries : List Entry) → IsClosed script entries → (floor : ℕ → ℕ) (g : Gateway) (a : Agent) (sent : SentNote) (state : ℕ)
+    (k : IsCurrent script entries g a) → k.c.link ≡ Resting → IsBetween script g a k.c → IsNoteStanding floor g sent
     → LeadsOn script a sent.line sent.note state → Stands script entries (steps.with_state script k.c state)
-note_leads script entries closed g a sent state k link between standing where_to =
+note_leads script entries closed floor g a sent state k link between standing where_to =
     let i = where_to.i in
     let request : (g.line sent.line).request ≡ Some sent.note.request =
     subst (λ l. (g.line l).request ≡ Some sent.note.request) where_to.line_is
@@ -124,19 +125,19 @@ note_leads script entries closed g a sent state k link between standing where_to
     step_of script entries closed k.c Resting (names.Observe i sent.note.kind, steps.with_state script k.c state) k.stands link
     (observed script k.c i sent.note.kind state where_to.place raised target)
 
-note_current : (script : Script) (entries : List Entry) → IsClosed script entries → (g : Gateway) (a b : Agent) (sent : SentNote)
-    (k : IsCurrent script entries g a) → a.phase ≡ resting → k.c.link ≡ Resting → IsBetween script g a k.c → IsNoteStanding g sent → (target : Option ℕ)
+note_current : (script : Script) (entries : List Entry) → IsClosed script entries → (floor : ℕ → ℕ) (g : Gateway) (a b : Agent) (sent : SentNote)
+    (k : IsCurrent script entries g a) → a.phase ≡ resting → k.c.link ≡ Resting → IsBetween script g a k.c → IsNoteStanding floor g sent → (target : Option ℕ)
     → target_of script a (line_in a sent.line (line_places script)) sent.note ≡ target
     → entered_or_stays script (accepting a sent.number) target ≡ Some b → IsCurrent script entries g b
-note_current script entries closed g a b sent k phase link between standing None where_to is =
+note_current script entries closed floor g a b sent k phase link between standing None where_to is =
     subst (IsCurrent script entries g) (the_some (accepting a sent.number) b is) (stays_current script entries g a sent.number k phase link between)
-note_current script entries closed g a b sent k phase link between standing (Some state) where_to is =
+note_current script entries closed floor g a b sent k phase link between standing (Some state) where_to is =
     enters_current script entries g (accepting a sent.number) k.c state b (accepting_between script g a sent.number k.c between)
-    (note_leads script entries closed g a sent state k link between standing (leads_where script a sent.line sent.note state where_to)) is
+    (note_leads script entries closed floor g a sent state k link between standing (leads_where script a sent.line sent.note state where_to)) is
 
-note_goes : (script : Script) (entries : List Entry) → IsClosed script entries → (w : World) (sent : SentNote) (a b : Agent) → IsNoteSound w.gateway sent
+note_goes : (script : Script) (entries : List Entry) → IsClosed script entries → (floor : ℕ → ℕ) (w : World) (sent : SentNote) (a b : Agent) → IsNoteSound floor w.gateway sent
     → CallIsSound script entries w sent.call a → IsAccepted script a b sent → Goes script entries w.gateway a b
-note_goes script entries closed w sent a b known sound t = by_part sound.part
+note_goes script entries closed floor w sent a b known sound t = by_part sound.part
   where
     by_part : IsCurrent script entries w.gateway a ⊎ IsLost script w.gateway a → Goes script entries w.gateway a b
     by_part (inl k) =
@@ -146,7 +147,7 @@ note_goes script entries closed w sent a b known sound t = by_part sound.part
         goes_on script entries w.gateway a (accepting a sent.number) b refl refl (omega arith) refl
         (stay_follows script (accepting a sent.number) b (target_of script a (line_in a sent.line (line_places script)) sent.note) t.phase t.leads)
         (quiet w.gateway a (rest_quiet a.phase t.phase))
-        (inl (note_current script entries closed w.gateway a b sent k t.phase rest.link_is between (known.standing (t.association ∙ k.association))
+        (inl (note_current script entries closed floor w.gateway a b sent k t.phase rest.link_is between (known.standing (t.association ∙ k.association))
         (target_of script a (line_in a sent.line (line_places script)) sent.note) refl t.leads))
     by_part (inr lost) = lost_goes script entries w.gateway a (accepting a sent.number) b lost refl refl refl refl
         (stay_follows script (accepting a sent.number) b (target_of script a (line_in a sent.line (line_places script)) sent.note) t.phase t.leads)
@@ -155,5 +156,5 @@ pub note_sound : (sent : SentNote) → KeepsSound (λ script w after. Contains w
 note_sound sent script entries is_script closed w after sound occurs =
     let s = occurs.1 in
     agent_goes script entries w after sent.call (λ a. noted script a (line_places script) sent) sound s
-    (note_goes script entries closed w sent s.before s.agent (sound.gateway.notes sent occurs.0)
+    (note_goes script entries closed sound.floor w sent s.before s.agent ((sound.gateway.notes sent occurs.0).1 (s.before, s.open_call))
     (sound.calls sent.call s.before s.open_call) (accepts script s.before s.agent sent s.steps))

@@ -151,5 +151,5 @@ pub reply_sound : (answer : Reply) → KeepsSound (λ script w after. Contains w
 reply_sound answer script entries is_script closed w after sound occurs =
     let s = occurs.1 in
     agent_goes script entries w after answer.call (λ a. replied script a answer) sound s
-    (reply_goes script entries closed w answer s.before s.agent (sound.gateway.replies answer occurs.0)
+    (reply_goes script entries closed w answer s.before s.agent ((sound.gateway.replies answer occurs.0).1 (s.before, s.open_call))
     (sound.calls answer.call s.before s.open_call) (takes script s.before s.agent answer s.steps))

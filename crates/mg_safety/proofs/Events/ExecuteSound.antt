@@ -1,5 +1,5 @@
 -- A request that reaches the gateway keeps the world sound: it is executed, or its reply is sent once more, or nothing happens.
-use Rattle.std.proofs.Common.{◌≡◌, ◌∙◌, ◌++◌, List, [], ◌∷◌, refl, sym, ap, subst, arith, inl, inr, Option}
+use Rattle.std.proofs.Common.{◌≡◌, ◌∙◌, ◌++◌, ℕ, true, false, true≢false, List, [], ◌∷◌, refl, sym, ap, subst, arith, inl, inr, Option}
 use Rattle.std.proofs.lemmas.List.Elements.{Contains-append_cases}
 use Rattle.std.specs.Prelude.{Contains}
 use Rattle.mg_model.specs.declared.failures.ChosenRefusal.{ChosenRefusal}
@@ -10,9 +10,9 @@ use Rattle.mg_model.specs.Script.{Script}
 use Rattle.mg_model.specs.World.{World, execute, with_gateway, Executes, IsFirst, IsRepeat}
 use Rattle.mg_model.specs.Accepted.{IsScript}
 use Rattle.mg_model.proofs.Single.{only_one}
-use Rattle.mg_safety.proofs.Invariant.Sound.{IsReplySound, IsSound}
+use Rattle.mg_safety.proofs.Invariant.Sound.{IsReplySound, IsKnown, IsOpen, IsSound}
 use Rattle.mg_safety.proofs.Invariant.Statements.{IsClosed, RequestsRun, OthersStayShown, OwnersAgree, KeepsSound}
-use Rattle.mg_model.proofs.Offered.{fresh_at, kept_at}
+use Rattle.mg_model.proofs.Offered.{fresh_at, fresh_is_open, kept_at}
 use Rattle.mg_safety.proofs.Events.Executing.{HasRun, is_due, due_runs}
 use Rattle.mg_safety.proofs.Events.ExecutedCalls.{OtherLost, world_after, calls_after}
 use Rattle.mg_safety.proofs.Events.ExecutedGateway.{gateway_after}
@@ -27,11 +27,16 @@ same_world : (w : World) (g h : Gateway) (answer other : Reply) (sent more : Lis
     → world_with w g answer sent ≡ world_with w h other more
 same_world w g h answer other sent more first second third = cc
 
+-- a call that is known and wasn't retired is open
+is_open : (w : World) (call : ℕ) → IsKnown w call → w.gateway.retired call ≡ false → IsOpen w call
+is_open w call (inl there) not_retired = there
+is_open w call (inr gone) not_retired = absurd (true≢false (sym gone ∙ not_retired))
+
 has_run : RequestsRun → (script : Script) (entries : List Entry) → IsScript script → IsClosed script entries → (w : World) (request : Request)
     (refusal : Option ChosenRefusal) (g : Gateway) (answer : Reply) (sent : List SentNote) → IsSound script entries w → Contains w.requests request
     → (x : IsExecutedBy w.gateway request refusal g answer sent) → HasRun script entries w request x.end x.failure
 has_run run script entries is_script closed w request refusal g answer sent sound there x =
-    let open_call = sound.gateway.requests request there in
+    let open_call = is_open w request.call (sound.gateway.requests request there) (fresh_is_open w.gateway request x.is_fresh) in
     let own = sound.calls request.call open_call.0 open_call.1 in
     let by = own.requests request there refl in
     let offered = fresh_at w.gateway request x.is_fresh in
@@ -58,15 +63,17 @@ first_sound run shown agree lost script entries is_script closed w request refus
     f.after_is ∙ same_world w f.gateway (after_request w.gateway request x.end x.settled x.failure) f.answer (reply_of request x.end x.failure) f.sent
     (sent_notes request.call request.association (w.gateway.link request.call).notes x.end.notes) x.after_is x.reply_is x.notes_are in
     subst (IsSound script entries) (sym is) (record {
-      gateway = gateway_after script entries w request x.end x.settled x.failure sound h x.is_settled;
+      floor = sound.floor;
+      gateway = gateway_after script entries w request x.end x.settled x.failure sound h there x.is_settled;
+      floors = λ call a here. let old = sound.floors call a here in record { next = old.next; requests = old.requests };
       calls = calls_after script entries w request x.end x.settled x.failure sound h x.is_settled shown agree lost;
     })
 
 -- ---- its reply is sent once more
 
 repeat_sound : (script : Script) (entries : List Entry) (w : World) (request : Request) (after : World) → IsSound script entries w
-    → IsRepeat w request after → IsSound script entries after
-repeat_sound script entries w request after sound r =
+    → Contains w.requests request → IsRepeat w request after → IsSound script entries after
+repeat_sound script entries w request after sound among r =
     let g = sound.gateway in
     let last = kept_at w.gateway request r.answer r.kept in
     let of = g.kept request.call r.answer last in
@@ -75,6 +82,8 @@ repeat_sound script entries w request after sound r =
       kept = λ present. inl (ap (λ n. (w.gateway.link n).last) of.0 ∙ last);
     } in
     subst (IsSound script entries) (sym r.after_is) (record {
+      floor = sound.floor;
+      floors = λ call a here. let old = sound.floors call a here in record { next = old.next; requests = old.requests };
       gateway = record {
         accounted = g.accounted;
         creator_stands = g.creator_stands;
@@ -84,9 +93,15 @@ repeat_sound script entries w request after sound r =
         held = g.held;
         kept = g.kept;
         request_ids = g.request_ids;
+        retired = g.retired;
         requests = g.requests;
         replies = λ answer there. elim (Contains-append_cases (r.answer ∷ []) w.replies answer there) [
-          | inl new ↦ subst (IsReplySound w.gateway) (only_one r.answer answer new) again
+          | inl new ↦ (
+              let one = only_one r.answer answer new in
+              (
+                subst (λ (x : Reply). IsKnown w x.call) one (subst (IsKnown w) (sym of.0) (g.requests request among)),
+                λ is_open. subst (IsReplySound w.gateway) one again,
+              ))
           | inr before ↦ g.replies answer before
         ];
         notes = g.notes;
@@ -109,5 +124,5 @@ execute_sound run shown agree lost request refusal script entries is_script clos
     by_case : Executes w request refusal after → IsSound script entries after
     by_case (inl first) =
         first_sound run shown agree lost script entries is_script closed w request refusal after sound occurs.0 first
-    by_case (inr (inl again)) = repeat_sound script entries w request after sound again
+    by_case (inr (inl again)) = repeat_sound script entries w request after sound occurs.0 again
     by_case (inr (inr dropped)) = subst (IsSound script entries) (sym dropped.1) sound

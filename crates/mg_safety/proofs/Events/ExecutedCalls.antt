@@ -46,7 +46,7 @@ module _ (script : Script) (entries : List Entry) (w : World) (request : Request
       let a = h.agent in
       let run = h.run in
       let changes = subst (IsOwnChange w.gateway end.board (after_request w.gateway request end settled failure)) (sym h.call)
-      (run_changes script entries w request end settled failure sound.gateway h is_settled) in
+      (run_changes script entries w request end settled failure sound.floor sound.gateway h is_settled) in
       record {
         association = sym h.outstanding.association ∙ h.association;
         c = run.c;
@@ -139,7 +139,7 @@ module _ (script : Script) (entries : List Entry) (w : World) (request : Request
           state = k.state;
           at = other_at k.e k.c.link k.at;
           shown = stay script w.gateway end.board (after_request w.gateway request end settled failure) request.call b.call (naming k.e) k.c
-              (run_changes script entries w request end settled failure sound.gateway h is_settled) (λ e. unlike (sym e)) k.shown;
+              (run_changes script entries w request end settled failure sound.floor sound.gateway h is_settled) (λ e. unlike (sym e)) k.shown;
           lines_shown = record {
             events = λ i within. ap (λ (row : LineRow). row.list) (line_kept (k.e.lines i) (held i within)) ∙ k.lines_shown.events i within;
             silent = λ i within quiet. ap (λ (row : LineRow). row.playing) (line_kept (k.e.lines i) (held i within))
@@ -151,7 +151,7 @@ module _ (script : Script) (entries : List Entry) (w : World) (request : Request
 
     other_lost : OtherLost → IsLost script w.gateway b → IsLost script (after_request w.gateway request end settled failure) b
     other_lost stay lost = stay script w.gateway end.board (after_request w.gateway request end settled failure) request.call b lost
-        (run_changes script entries w request end settled failure sound.gateway h is_settled) (λ e. unlike (sym e)) refl
+        (run_changes script entries w request end settled failure sound.floor sound.gateway h is_settled) (λ e. unlike (sym e)) refl
         (λ i within. (sound.calls other b there).held i within ∙ ap Some (sym numbered))
         (λ l apart. h.run.other_lines l (ap (is_call (w.gateway.holder l)) h.call ∙ apart))
         (link_other w.gateway request end settled failure b.call unlike)

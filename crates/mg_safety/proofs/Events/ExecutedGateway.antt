@@ -22,7 +22,7 @@ use Rattle.mg_safety.proofs.Events.Others.{is_call_of}
 use Rattle.mg_safety.proofs.Events.StayApart.{stay_apart}
 use Rattle.mg_model.proofs.Cases.{none_is_some}
 use Rattle.mg_safety.proofs.Invariant.Shown.{naming, IsAccounted, list_raises}
-use Rattle.mg_safety.proofs.Invariant.Sound.{is_call, IsReplySound, IsNoteStanding, IsNoteSound, GatewayIsSound, IsSound}
+use Rattle.mg_safety.proofs.Invariant.Sound.{is_call, IsKnown, IsOpen, IsReached, IsReplySound, IsNoteStanding, IsNoteSound, GatewayIsSound, IsSound}
 use Rattle.mg_safety.proofs.Invariant.Statements.{IsOwnChange, LineGoes}
 use Rattle.mg_safety.proofs.Events.Executing.{not_call_of, HasRun, link_own, link_other, executed_own, executed_other, executed_more, run_changes}
 use Rattle.mg_safety.proofs.Events.ExecutedCalls.{world_after}
@@ -81,25 +81,29 @@ creator_new stands before was call there fresh = rw (there, fresh) refl
 
 -- ---- what was sent before
 
--- the descriptor of a line with a RequestID that is no more than a bound below the request's number is the one that stood before
-same_descriptor : (row after : LineRow) (number q bound : ℕ) → LineGoes number row after → after.request ≡ Some q → q ≤ bound → bound < number
+-- the descriptor of a line with a RequestID below the request's number is the one that stood before
+same_descriptor : (row after : LineRow) (number q : ℕ) → LineGoes number row after → after.request ≡ Some q → q < number
     → (after.list ≡ row.list) × (row.request ≡ Some q)
-same_descriptor row after number q bound (inl armed) is within above =
-    let same : number ≡ q = ap (λ (o : Option ℕ). unwrap_or o q) (sym armed ∙ is) in absurd (omega (arith, same, within, above))
-same_descriptor row after number q bound (inr (inl emptied)) is within above = absurd (none_is_some q (sym emptied ∙ is))
-same_descriptor row after number q bound (inr (inr stays)) is within above = (stays.0, sym stays.1 ∙ is)
+same_descriptor row after number q (inl armed) is below =
+    let same : number ≡ q = ap (λ (o : Option ℕ). unwrap_or o q) (sym armed ∙ is) in absurd (omega (arith, same, below))
+same_descriptor row after number q (inr (inl emptied)) is below = absurd (none_is_some q (sym emptied ∙ is))
+same_descriptor row after number q (inr (inr stays)) is below = (stays.0, sym stays.1 ∙ is)
 
 -- a RequestID of the call's line is no more than the request's number
-bounded : (row after : LineRow) (number q bound : ℕ) → LineGoes number row after → after.request ≡ Some q → (row.request ≡ Some q → q ≤ bound)
-    → bound < number → q ≤ number
-bounded row after number q bound (inl armed) is within above =
+bounded : (row after : LineRow) (number q : ℕ) → LineGoes number row after → after.request ≡ Some q → (row.request ≡ Some q → q < number) → q ≤ number
+bounded row after number q (inl armed) is within =
     let same : number ≡ q = ap (λ (o : Option ℕ). unwrap_or o q) (sym armed ∙ is) in omega (arith, same)
-bounded row after number q bound (inr (inl emptied)) is within above = absurd (none_is_some q (sym emptied ∙ is))
-bounded row after number q bound (inr (inr stays)) is within above =
-    let old : q ≤ bound = within (sym stays.1 ∙ is) in omega (arith, old, above)
+bounded row after number q (inr (inl emptied)) is within = absurd (none_is_some q (sym emptied ∙ is))
+bounded row after number q (inr (inr stays)) is within = let old : q < number = within (sym stays.1 ∙ is) in omega (arith, old)
 
 module _ (script : Script) (entries : List Entry) (w : World) (request : Request) (end : Running) (settled : Board) (failure : Option Failure)
-    (sound : IsSound script entries w) (h : HasRun script entries w request end failure) (is_settled : IsSettled end.board settled) where
+    (sound : IsSound script entries w) (h : HasRun script entries w request end failure) (there : Contains w.requests request)
+    (is_settled : IsSettled end.board settled) where
+  -- what the lines of the request's call could raise until now is below its number
+  reached_below : (q : ℕ) → IsReached sound.floor w.gateway request.call q → q < request.number
+  reached_below q (inl before) = let floor = (sound.floors request.call h.agent h.open_call).requests request there refl in omega (arith, before, floor)
+  reached_below q (inr executed) = let newer = h.newer in omega (arith, executed, newer)
+
   other_line : (l call : ℕ) → w.gateway.holder l ≡ Some call → (call ≡ request.call → ⊥) → end.line l ≡ w.gateway.line l
   other_line l call held apart = h.run.other_lines l (not_call_of (w.gateway.holder l) call h.agent.call held (λ e. apart (e ∙ h.call)))
 
@@ -144,7 +148,7 @@ module _ (script : Script) (entries : List Entry) (w : World) (request : Request
       → remote_of settled (Eph x) ≡ Some y → remote_of settled (Eph y) ≡ Some x → ⊥
   apart_after x y one other of_one of_other differ there back =
       let own = subst (IsOwnChange w.gateway end.board (after_request w.gateway request end settled failure)) (sym h.call)
-      (run_changes script entries w request end settled failure sound.gateway h is_settled) in
+      (run_changes script entries w request end settled failure sound.floor sound.gateway h is_settled) in
       let names = naming (after_results h.agent (built_by script h.agent h.agent.state) end.results request.number) in
       stay_apart script w.gateway end.board (after_request w.gateway request end settled failure) h.agent.call own h.run.accounted names h.run.c h.run.shown
       sound.gateway.apart x y one other (sym (settled_stands (Eph x)) ∙ creator_stands x one of_one) (sym (settled_stands (Eph y)) ∙ creator_stands y other of_other)
@@ -155,22 +159,24 @@ module _ (script : Script) (entries : List Entry) (w : World) (request : Request
       (sym (h.run.changes.row (Line (record { 0 = l })) (ap (λ (o : Option ℕ). is_call o h.agent.call) free)) ∙ (sym (settled_row (Line (record { 0 = l }))) ∙ is))
 
   request_ids : (l call q : ℕ) → w.gateway.holder l ≡ Some call → (end.line l).request ≡ Some q
-      → q ≤ last_executed (after_request w.gateway request end settled failure) call
+      → IsReached sound.floor (after_request w.gateway request end settled failure) call q
   request_ids l call q held is = go (call == request.call) refl
     where
-      go : (same : Bool) → (call == request.call) ≡ same → q ≤ last_executed (after_request w.gateway request end settled failure) call
+      go : (same : Bool) → (call == request.call) ≡ same → IsReached sound.floor (after_request w.gateway request end settled failure) call q
       go true e =
           let one : call ≡ request.call = eqb-true call request.call e in
           let own : last_executed (after_request w.gateway request end settled failure) call ≡ request.number =
           ap (last_executed (after_request w.gateway request end settled failure)) one ∙ executed_own w.gateway request end settled failure in
-          let below : q ≤ request.number = bounded (w.gateway.line l) (end.line l) request.number q (last_executed w.gateway request.call)
-          (h.run.own_lines l) is (sound.gateway.request_ids l request.call q (held ∙ ap Some one)) h.newer in
-          omega (arith, own, below)
+          let below : q ≤ request.number = bounded (w.gateway.line l) (end.line l) request.number q
+          (h.run.own_lines l) is (λ stood. reached_below q (sound.gateway.request_ids l request.call q (held ∙ ap Some one) stood)) in
+          inr (omega (arith, own, below))
       go false e =
           let apart = eqb-false call request.call e in
           let same = executed_other w.gateway request end settled failure call apart in
-          let below = sound.gateway.request_ids l call q held (ap (λ (row : LineRow). row.request) (sym (other_line l call held apart)) ∙ is) in
-          omega (arith, same, below)
+          elim (sound.gateway.request_ids l call q held (ap (λ (row : LineRow). row.request) (sym (other_line l call held apart)) ∙ is)) [
+            | inl before ↦ inl before
+            | inr executed ↦ (let below : q ≤ last_executed w.gateway call = executed in inr (omega (arith, same, below)))
+          ]
 
   -- ---- replies
 
@@ -218,52 +224,57 @@ module _ (script : Script) (entries : List Entry) (w : World) (request : Request
   -- ---- notes
 
   note_new : (sent : SentNote) → Contains (sent_notes request.call request.association (w.gateway.link request.call).notes end.notes) sent
-      → IsNoteSound (after_request w.gateway request end settled failure) sent
-  note_new sent there =
+      → IsKnown w sent.call × (IsOpen w sent.call → IsNoteSound sound.floor (after_request w.gateway request end settled failure) sent)
+  note_new sent among =
       let from : IsSentFrom request.call request.association end.notes sent =
-      sent_from request.call request.association (w.gateway.link request.call).notes end.notes sent there in
+      sent_from request.call request.association (w.gateway.link request.call).notes end.notes sent among in
       let raised = h.run.notes from.line from.note from.among in
       let number : sent.note.request ≡ request.number = ap (λ (n : Note). n.request) from.note_is ∙ raised.1 in
       let own : last_executed (after_request w.gateway request end settled failure) sent.call ≡ request.number =
       ap (last_executed (after_request w.gateway request end settled failure)) from.of_call ∙ executed_own w.gateway request end settled failure in
-      record {
-        association = let of = from.of_association in let present = h.association in omega (arith, of, present);
-        standing = λ present. record {
-          held = ap w.gateway.holder from.of_line ∙ is_call_of (w.gateway.holder from.line) h.agent.call raised.0
-              ∙ ap Some h.call ∙ ap Some (sym from.of_call);
-          number = omega (arith, number, own);
-          raised = λ is. ap (λ (n : Note). list_raises (end.line sent.line).list n.kind) from.note_is
-              ∙ ap (λ l. list_raises (end.line l).list from.note.kind) from.of_line
-              ∙ raised.2 (ap (λ l. (end.line l).request) (sym from.of_line) ∙ is ∙ ap Some number);
-        };
-      }
+      (
+        subst (IsKnown w) (sym from.of_call) (sound.gateway.requests request there),
+        λ is_open. record {
+          association = let of = from.of_association in let present = h.association in omega (arith, of, present);
+          standing = λ present. record {
+            held = ap w.gateway.holder from.of_line ∙ is_call_of (w.gateway.holder from.line) h.agent.call raised.0
+                ∙ ap Some h.call ∙ ap Some (sym from.of_call);
+            number = inr (omega (arith, number, own));
+            raised = λ is. ap (λ (n : Note). list_raises (end.line sent.line).list n.kind) from.note_is
+                ∙ ap (λ l. list_raises (end.line l).list from.note.kind) from.of_line
+                ∙ raised.2 (ap (λ l. (end.line l).request) (sym from.of_line) ∙ is ∙ ap Some number);
+          };
+        },
+      )
 
-  note_after : (sent : SentNote) → IsNoteSound w.gateway sent → IsNoteSound (after_request w.gateway request end settled failure) sent
+  note_after : (sent : SentNote) → IsNoteSound sound.floor w.gateway sent → IsNoteSound sound.floor (after_request w.gateway request end settled failure) sent
   note_after sent old = record {
     association = old.association;
     standing = λ present. record {
       held = (old.standing present).held;
-      number = let below = (old.standing present).number in
-          let more = executed_more w.gateway request end settled failure h.newer sent.call in omega (arith, below, more);
+      number = elim (old.standing present).number [
+        | inl before ↦ inl before
+        | inr executed ↦ (let below : sent.note.request ≤ last_executed w.gateway sent.call = executed in
+            let more = executed_more w.gateway request end settled failure h.newer sent.call in inr (omega (arith, below, more)))
+      ];
       raised = λ is. go (old.standing present) is (sent.call == request.call) refl;
     };
   }
     where
-      go : IsNoteStanding w.gateway sent → (end.line sent.line).request ≡ Some sent.note.request → (same : Bool) → (sent.call == request.call) ≡ same
+      go : IsNoteStanding sound.floor w.gateway sent → (end.line sent.line).request ≡ Some sent.note.request → (same : Bool) → (sent.call == request.call) ≡ same
           → list_raises (end.line sent.line).list sent.note.kind ≡ true
       go was is true e =
           let one : sent.call ≡ request.call = eqb-true sent.call request.call e in
-          let below : sent.note.request ≤ last_executed w.gateway request.call =
-          subst (λ n. sent.note.request ≤ last_executed w.gateway n) one was.number in
+          let below = reached_below sent.note.request (subst (λ n. IsReached sound.floor w.gateway n sent.note.request) one was.number) in
           let stays = same_descriptor (w.gateway.line sent.line) (end.line sent.line) request.number sent.note.request
-          (last_executed w.gateway request.call) (h.run.own_lines sent.line) is below h.newer in
+          (h.run.own_lines sent.line) is below in
           ap (λ list. list_raises list sent.note.kind) stays.0 ∙ was.raised stays.1
       go was is false e =
           let same = other_line sent.line sent.call was.held (eqb-false sent.call request.call e) in
           ap (λ (row : LineRow). list_raises row.list sent.note.kind) same
           ∙ was.raised (ap (λ (row : LineRow). row.request) (sym same) ∙ is)
 
-  pub gateway_after : GatewayIsSound script (world_after w request end settled failure)
+  pub gateway_after : GatewayIsSound script sound.floor (world_after w request end settled failure)
   gateway_after = record {
     accounted = settled_accounted;
     creator_stands = creator_stands;
@@ -273,14 +284,18 @@ module _ (script : Script) (entries : List Entry) (w : World) (request : Request
     held = sound.gateway.held;
     kept = kept;
     request_ids = request_ids;
+    retired = sound.gateway.retired;
     requests = sound.gateway.requests;
-    replies = λ answer there. elim (Contains-append_cases (reply_of request end failure ∷ []) w.replies answer there) [
-      | inl new ↦ subst (IsReplySound (after_request w.gateway request end settled failure)) (only_one (reply_of request end failure) answer new) reply_new
-      | inr before ↦ reply_after answer (sound.gateway.replies answer before)
+    replies = λ answer among. elim (Contains-append_cases (reply_of request end failure ∷ []) w.replies answer among) [
+      | inl new ↦ (let one = only_one (reply_of request end failure) answer new in (
+        subst (λ (x : Reply). IsKnown w x.call) one (sound.gateway.requests request there),
+        λ is_open. subst (IsReplySound (after_request w.gateway request end settled failure)) one reply_new,
+      ))
+      | inr before ↦ (let was = sound.gateway.replies answer before in (was.0, λ is_open. reply_after answer (was.1 is_open)))
     ];
-    notes = λ sent there. elim (Contains-append_cases
-        (sent_notes request.call request.association (w.gateway.link request.call).notes end.notes) w.notes sent there) [
+    notes = λ sent among. elim (Contains-append_cases
+        (sent_notes request.call request.association (w.gateway.link request.call).notes end.notes) w.notes sent among) [
           | inl new ↦ note_new sent new
-          | inr before ↦ note_after sent (sound.gateway.notes sent before)
+          | inr before ↦ (let was = sound.gateway.notes sent before in (was.0, λ is_open. note_after sent (was.1 is_open)))
         ];
   }

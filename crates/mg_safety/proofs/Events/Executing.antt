@@ -132,9 +132,9 @@ module _ (g : Gateway) (request : Request) (end : Running) (settled : Board) (fa
 
 -- only what the call owns was changed
 pub run_changes : (script : Script) (entries : List Entry) (w : World) (request : Request) (end : Running) (settled : Board) (failure : Option Failure)
-    → GatewayIsSound script w → HasRun script entries w request end failure → IsSettled end.board settled
+    → (floor : ℕ → ℕ) → GatewayIsSound script floor w → HasRun script entries w request end failure → IsSettled end.board settled
     → IsOwnChange w.gateway end.board (after_request w.gateway request end settled failure) request.call
-run_changes script entries w request end settled failure sound h is_settled = record {
+run_changes script entries w request end settled failure floor sound h is_settled = record {
   changes = subst (λ n. ChangesOwned (owner_of w.gateway n) w.gateway.board end.board) h.call h.run.changes;
   settled = is_settled;
   holder = refl;

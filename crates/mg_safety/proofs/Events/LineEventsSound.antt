@@ -16,7 +16,7 @@ use Rattle.mg_model.specs.Script.{Script}
 use Rattle.mg_model.specs.World.{World, LineOccurs, with_gateway}
 use Rattle.mg_safety.proofs.Events.RowAfterEvent.{IsRowAfter, row_after}
 use Rattle.mg_safety.proofs.Invariant.Shown.{LinesShown, list_raises}
-use Rattle.mg_safety.proofs.Invariant.Sound.{IsAt, IsCurrent, IsLost, IsSentBy, CallIsSound, IsReplySound, IsNoteStanding, IsNoteSound, GatewayIsSound, IsSound}
+use Rattle.mg_safety.proofs.Invariant.Sound.{IsAt, IsCurrent, IsLost, IsSentBy, IsKnown, IsOpen, IsReached, CallIsSound, IsReplySound, IsNoteStanding, IsNoteSound, GatewayIsSound, IsSound}
 use Rattle.mg_safety.proofs.Invariant.Statements.{KeepsSound}
 
 -- what an event leaves of a line
@@ -84,52 +84,59 @@ module _ (script : Script) (entries : List Entry) (w : World) (sound : IsSound s
   executed_kept : (one : ℕ) → last_executed later one ≡ last_executed g one
   executed_kept one = ap number_of (last_kept one)
 
+  reached_kept : (one q : ℕ) → IsReached sound.floor g one q → IsReached sound.floor later one q
+  reached_kept one q (inl before) = inl before
+  reached_kept one q (inr executed) = inr (subst (λ n. q ≤ n) (sym (executed_kept one)) executed)
+
   -- ---- notes and replies
 
-  new_standing : (sent : SentNote) → IsNew g call l outcome.note sent → IsNoteStanding later sent
+  new_standing : (sent : SentNote) → IsNew g call l outcome.note sent → IsNoteStanding sound.floor later sent
   new_standing sent new =
       let raised = is_after.note sent.note new.note_is in
-      let listed : sent.note.request ≤ last_executed g call = sound.gateway.request_ids l call sent.note.request held raised.0 in
+      let listed : IsReached sound.floor g call sent.note.request = sound.gateway.request_ids l call sent.note.request held raised.0 in
       record {
         held = ap g.holder new.line_is ∙ held ∙ ap (λ (n : ℕ). Some n) (sym new.call_is);
-        number = subst (λ n. sent.note.request ≤ n) (sym (executed_kept sent.call ∙ ap (last_executed g) new.call_is)) listed;
+        number = subst (λ n. IsReached sound.floor later n sent.note.request) (sym new.call_is) (reached_kept call sent.note.request listed);
         raised = λ stands. ap (λ list. list_raises list sent.note.kind) ((line_kept sent.line).list ∙ ap (λ m. (g.line m).list) new.line_is) ∙ raised.1;
       }
 
-  old_standing : (sent : SentNote) → IsNoteStanding g sent → IsNoteStanding later sent
+  old_standing : (sent : SentNote) → IsNoteStanding sound.floor g sent → IsNoteStanding sound.floor later sent
   old_standing sent old = record {
     held = old.held;
-    number = subst (λ n. sent.note.request ≤ n) (sym (executed_kept sent.call)) old.number;
+    number = reached_kept sent.call sent.note.request old.number;
     raised = λ stands. ap (λ list. list_raises list sent.note.kind) (line_kept sent.line).list
         ∙ old.raised (sym (line_kept sent.line).request ∙ stands);
   }
 
-  note_sound : (sent : SentNote) → Contains (sent_now ++ w.notes) sent → IsNoteSound later sent
+  holds : IsKnown w call
+  holds = let own = sound.gateway.held l call held in inl (own.0, own.2)
+
+  note_sound : (sent : SentNote) → Contains (sent_now ++ w.notes) sent → IsKnown w sent.call × (IsOpen w sent.call → IsNoteSound sound.floor later sent)
   note_sound sent among = elim (Contains-append_cases sent_now w.notes sent among) [
     | inl new ↦ of_new (new_note g call l outcome.note sent new)
-    | inr old ↦ record {
-      association = (sound.gateway.notes sent old).association;
-      standing = λ same. old_standing sent ((sound.gateway.notes sent old).standing same);
-    }
+    | inr old ↦ (let was = sound.gateway.notes sent old in (
+      was.0,
+      λ is_open. record { association = (was.1 is_open).association; standing = λ same. old_standing sent ((was.1 is_open).standing same) },
+    ))
   ]
     where
-      of_new : IsNew g call l outcome.note sent → IsNoteSound later sent
+      of_new : IsNew g call l outcome.note sent → IsKnown w sent.call × (IsOpen w sent.call → IsNoteSound sound.floor later sent)
       of_new new =
           let same : sent.association ≡ g.association = new.association_is in
-          record { association = omega (arith, same); standing = λ present. new_standing sent new }
+          (
+            subst (IsKnown w) (sym new.call_is) holds,
+            λ is_open. record { association = omega (arith, same); standing = λ present. new_standing sent new },
+          )
 
-  reply_sound : (answer : Reply) → Contains w.replies answer → IsReplySound later answer
-  reply_sound answer among = record {
-    association = (sound.gateway.replies answer among).association;
-    kept = λ same. of_call ((sound.gateway.replies answer among).kept same);
-  }
+  reply_sound : (answer : Reply) → IsReplySound g answer → IsReplySound later answer
+  reply_sound answer was = record { association = was.association; kept = λ same. of_call (was.kept same) }
     where
       of_call : ((g.link answer.call).last ≡ Some answer) ⊎ (answer.number < last_executed g answer.call)
           → ((later.link answer.call).last ≡ Some answer) ⊎ (answer.number < last_executed later answer.call)
       of_call (inl kept) = inl (last_kept answer.call ∙ kept)
       of_call (inr older) = inr (subst (λ n. answer.number < n) (sym (executed_kept answer.call)) older)
 
-  gateway_sound : GatewayIsSound script after
+  gateway_sound : GatewayIsSound script sound.floor after
   gateway_sound = record {
     accounted = sound.gateway.accounted;
     creator_stands = sound.gateway.creator_stands;
@@ -138,10 +145,10 @@ module _ (script : Script) (entries : List Entry) (w : World) (sound : IsSound s
     unheld = sound.gateway.unheld;
     held = sound.gateway.held;
     kept = λ one answer e. sound.gateway.kept one answer (sym (last_kept one) ∙ e);
-    request_ids = λ m one q is stands. subst (λ n. q ≤ n) (sym (executed_kept one))
-        (sound.gateway.request_ids m one q is (sym (line_kept m).request ∙ stands));
+    request_ids = λ m one q is stands. reached_kept one q (sound.gateway.request_ids m one q is (sym (line_kept m).request ∙ stands));
+    retired = sound.gateway.retired;
     requests = sound.gateway.requests;
-    replies = reply_sound;
+    replies = λ answer among. let was = sound.gateway.replies answer among in (was.0, λ is_open. reply_sound answer (was.1 is_open));
     notes = note_sound;
   }
 
@@ -222,7 +229,12 @@ module _ (script : Script) (entries : List Entry) (w : World) (sound : IsSound s
       }
 
   after_sound : IsSound script entries after
-  after_sound = record { gateway = gateway_sound; calls = call_sound }
+  after_sound = record {
+    floor = sound.floor;
+    gateway = gateway_sound;
+    floors = λ one a there. let old = sound.floors one a there in record { next = old.next; requests = old.requests };
+    calls = call_sound;
+  }
 
 pub line_sound : (l : ℕ) (event : LineEvent) → KeepsSound (λ script w after. LineOccurs w l event after)
 line_sound l event script entries is_script closed w after sound occurs =

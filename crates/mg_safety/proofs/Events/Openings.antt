@@ -28,84 +28,25 @@ use Rattle.mg_safety.proofs.Agents.Entering.{not_resting}
 use Rattle.mg_model.proofs.Cases.{none_is_some, where_true}
 use Rattle.mg_safety.proofs.SmallLaws.OpeningLaws.{all_in_null}
 use Rattle.mg_safety.proofs.Invariant.Shown.{Naming, naming, term_of, row_on, cut_on, number_at, Seen, LinesShown}
-use Rattle.mg_safety.proofs.Invariant.Sound.{IsCurrent, CallIsSound, GatewayIsSound, is_call, owned_in}
+use Rattle.mg_safety.proofs.Invariant.OpeningShown.{AreCleared, events_armed, opening_shown}
+use Rattle.mg_safety.proofs.Invariant.Sound.{IsReached, IsCurrent, CallIsSound, GatewayIsSound, is_call, owned_in}
 use Rattle.mg_safety.proofs.Invariant.Statements.{IsClosed, OpeningsAreSound}
 
 none_among : {A : Type 0} (x : A) (xs : List A) → xs ≡ [] → Contains xs x → ⊥
 none_among x xs e among = let there = subst (λ ys. Contains ys x) e among in let below : there.0 < 0 = there.1 in omega (arith, below)
 
-below_is : (i n : ℕ) → i < n → nat_lt i n ≡ true
-below_is i n h = grind (arith, common_steps)
-
-abbrev is_null_or_absent : Spot → Bool
-is_null_or_absent Absent = true
-is_null_or_absent Null = true
-is_null_or_absent (In j) = false
-
 module _ (script : Script) (entries : List Entry) (closed : IsClosed script entries) (calls : List Opened) (w : World) (o : IsOpening script calls w) where
   -- ---- one call
 
   module _ (one : Opened) (there : Contains calls one) where
-    abbrev b : Board
-    b = w.gateway.board
-
-    abbrev names : Naming
-    names = naming (opened script one.call one.lines)
-
-    spot_is : (i : ℕ) → i < length script.lines → (opening script).spot (termination.Line i) ≡ Null
-    spot_is i within = where_true (nat_lt i (length script.lines)) Null Absent (below_is i (length script.lines) within)
-
-    events_is : (i : ℕ) → i < length script.lines → (opening script).events i ≡ Armed
-    events_is i within = where_true (nat_lt i (length script.lines)) Armed Empty (below_is i (length script.lines) within)
-
-    row_is : (i : ℕ) → i < length script.lines → w.gateway.board.row (Line (record { 0 = one.lines i })) ≡ Some null_row
-    row_is i within = o.lines.stand one there i within
-
-    stands : (t : Termination) → IsSlot script t → is_some (row_on b (term_of names t)) ≡ is_present ((opening script).spot t)
-    stands (termination.Line i) within = ap is_some (row_is i within) ∙ sym (ap is_present (spot_is i within))
-    stands (termination.Ephemeral k) within = refl
-
-    place : (t : Termination) → IsSlot script t → place_in (row_on b (term_of names t)) ≡ number_at names ((opening script).spot t)
-    place (termination.Line i) within = ap place_in (row_is i within) ∙ sym (ap (number_at names) (spot_is i within))
-    place (termination.Ephemeral k) within = refl
-
-    is_not_in : (spot : Spot) (j : ℕ) → is_null_or_absent spot ≡ true → spot ≡ In j → ⊥
-    is_not_in spot j outside e = true≢false (sym outside ∙ ap is_null_or_absent e)
-
-    in_none : (t : Termination) (j : ℕ) → IsSlot script t → (opening script).spot t ≡ In j → ⊥
-    in_none (termination.Line i) j within e = is_not_in Null j refl (sym (spot_is i within) ∙ e)
-    in_none (termination.Ephemeral k) j within e = is_not_in Absent j refl e
-
-    mode : (t : Termination) → IsSlot script t → (opening script).mode t ≡ mode_in (row_on b (term_of names t))
-    mode (termination.Line i) within = sym (ap mode_in (row_is i within))
-    mode (termination.Ephemeral k) within = refl
-
-    cut : (t u : Termination) → IsSlot script t → IsSlot script u → (opening script).cut t u ≡ cut_on b (term_of names t) (term_of names u)
-    cut (termination.Line i) (termination.Line j) first second =
-        sym (ap (λ (is_cut : TermId → TermId → Bool). is_cut (Line (record { 0 = one.lines i })) (Line (record { 0 = one.lines j }))) o.gateway.nothing_cut)
-    cut (termination.Line i) (termination.Ephemeral k) first second = refl
-    cut (termination.Ephemeral k) u first second = refl
-
-    shown : Seen script (owned_in w.gateway one.call) names b (opening script)
-    shown = record {
-      stands = stands;
-      place = place;
-      in_bound = λ t j slot e. absurd (in_none t j slot e);
-      mode = mode;
-      remote = λ k within. refl;
-      cut = cut;
-      bound = λ j. refl;
-      line_stands = λ i within. ap is_some (row_is i within);
-      line_owned = λ i within. ap (λ h. is_call h one.call) (o.lines.held one there i within) ∙ eq-eqb one.call one.call refl;
-      line_once = λ i j first second e. (o.distinct.lines_differ one one there there i j first second e).1;
-      context_number = λ j x e. absurd (none_is_some x e);
-      context_once = λ i j x e other. absurd (none_is_some x e);
-      members = λ v j x t slot at e standing. absurd (none_is_some x e);
-      ephemeral_slot = λ k x e. absurd (none_is_some x e);
-      ephemeral_stands = λ k x e. absurd (none_is_some x e);
-      ephemeral_owned = λ k x e. absurd (none_is_some x e);
-      ephemeral_once = λ k i x e other. absurd (none_is_some x e);
-      ephemeral_named = λ x owned standing. absurd (true≢false (sym standing ∙ ap is_some (o.gateway.no_ephemeral x)));
+    cleared : AreCleared script (owned_in w.gateway one.call) w.gateway.board one.lines
+    cleared = record {
+      rows = λ i within. o.lines.stand one there i within;
+      no_cut = λ i j first second. ap (λ (is_cut : TermId → TermId → Bool). is_cut (Line (record { 0 = one.lines i })) (Line (record { 0 = one.lines j })))
+          o.gateway.nothing_cut;
+      own = λ i within. ap (λ h. is_call h one.call) (o.lines.held one there i within) ∙ eq-eqb one.call one.call refl;
+      once = λ i j first second e. (o.distinct.lines_differ one one there there i j first second e).1;
+      no_ephemeral = λ x is standing. true≢false (sym standing ∙ ap is_some (o.gateway.no_ephemeral x));
     }
 
     armed : (i : ℕ) → i < length script.lines → w.gateway.line (one.lines i) ≡ armed_line
@@ -117,7 +58,7 @@ module _ (script : Script) (entries : List Entry) (closed : IsClosed script entr
 
     lines_shown : LinesShown script (opened script one.call one.lines) w.gateway.line (opening script)
     lines_shown = record {
-      events = λ i within. ap (λ (row : LineRow). row.list) (armed i within) ∙ sym (ap (list_of script) (events_is i within));
+      events = λ i within. ap (λ (row : LineRow). row.list) (armed i within) ∙ sym (ap (list_of script) (events_armed script i within));
       silent = λ i within still. ap (λ (row : LineRow). row.playing) (armed i within);
       expected = λ i q within e. ap (λ (row : LineRow). row.request) (armed i within)
           ∙ ap (λ (n : ℕ). Some n) (sym (expects_zero (nat_lt i (length script.lines)) q e));
@@ -134,7 +75,7 @@ module _ (script : Script) (entries : List Entry) (closed : IsClosed script entr
       stands = closed.opening;
       state = refl;
       at = inr (inr (inr (record { phase = refl; effective = refl; link_is = refl })));
-      shown = shown;
+      shown = opening_shown script (owned_in w.gateway one.call) w.gateway.board one.lines cleared;
       lines_shown = lines_shown;
     }
 
@@ -166,14 +107,14 @@ module _ (script : Script) (entries : List Entry) (closed : IsClosed script entr
       let one = o.lines.held_alone l call e in
       (opened script one.0.call one.0.lines, one.1, ap w.agent (sym one.3) ∙ o.agents.opened one.0 one.2, one.4, one.5)
 
-  request_ids : (l call q : ℕ) → w.gateway.holder l ≡ Some call → (w.gateway.line l).request ≡ Some q → q ≤ last_executed w.gateway call
+  request_ids : (l call q : ℕ) → w.gateway.holder l ≡ Some call → (w.gateway.line l).request ≡ Some q → IsReached (λ (one : ℕ). 0) w.gateway call q
   request_ids l call q e stands =
       let one = o.lines.held_alone l call e in
       let is_armed : w.gateway.line l ≡ armed_line = ap w.gateway.line (sym one.5) ∙ o.lines.armed one.0 one.2 one.1 one.4 in
       let zero_is : q ≡ 0 = ap (λ (x : Option ℕ). unwrap_or x 0) (sym stands ∙ ap (λ (row : LineRow). row.request) is_armed) in
-      omega (arith, zero_is)
+      inl (omega (arith, zero_is))
 
-  gateway_sound : GatewayIsSound script w
+  gateway_sound : GatewayIsSound script (λ (one : ℕ). 0) w
   gateway_sound = record {
     accounted = record {
       ephemerals = λ x standing. absurd (true≢false (sym standing ∙ ap is_some (o.gateway.no_ephemeral x)));
@@ -186,6 +127,7 @@ module _ (script : Script) (entries : List Entry) (closed : IsClosed script entr
     held = held;
     kept = λ call answer e. absurd (none_kept call answer e);
     request_ids = request_ids;
+    retired = λ call a there. ap (λ (retired : ℕ → Bool). retired call) o.gateway.none_retired;
     requests = λ request among. absurd (none_among request w.requests o.messages.no_request among);
     replies = λ answer among. absurd (none_among answer w.replies o.messages.no_answer among);
     notes = λ sent among. absurd (none_among sent w.notes o.messages.no_note among);
@@ -201,6 +143,11 @@ module _ (script : Script) (entries : List Entry) (closed : IsClosed script entr
 
 pub openings_sound : OpeningsAreSound
 openings_sound script entries is_script closed calls w o = record {
+  floor = λ one. 0;
   gateway = gateway_sound script entries closed calls w o;
+  floors = λ call a there. record {
+    next = (call_sound script entries closed calls w o call a there).first;
+    requests = λ request among of. absurd (none_among request w.requests o.messages.no_request among);
+  };
   calls = call_sound script entries closed calls w o;
 }

@@ -16,7 +16,7 @@ use Rattle.mg_model.specs.Board.{null_row}
 use Rattle.mg_model.proofs.Cases.{none_is_some}
 use Rattle.mg_safety.proofs.Agents.EffectiveAgent.{same_lines}
 use Rattle.mg_safety.proofs.Invariant.Shown.{IsAccounted}
-use Rattle.mg_safety.proofs.Invariant.Sound.{IsCurrent, IsLost, IsSentBy, CallIsSound, IsReplySound, IsNoteSound, GatewayIsSound, IsSound}
+use Rattle.mg_safety.proofs.Invariant.Sound.{IsCurrent, IsLost, IsSentBy, IsOpen, CallIsSound, IsReplySound, IsNoteSound, GatewayIsSound, IsSound}
 use Rattle.mg_safety.proofs.Invariant.Statements.{KeepsSound}
 
 -- ---- rows
@@ -46,23 +46,23 @@ module _ (script : Script) (entries : List Entry) (w : World) (sound : IsSound s
     contexts = λ t elsewhere. absurd (elsewhere (in_null t (w.gateway.board.row t)));
   }
 
-  reply_sound : (answer : Reply) → Contains w.replies answer → IsReplySound (restarted w.gateway) answer
-  reply_sound answer among =
-      let older : answer.association ≤ w.gateway.association = (sound.gateway.replies answer among).association in
+  reply_sound : (answer : Reply) → Contains w.replies answer → IsOpen w answer.call → IsReplySound (restarted w.gateway) answer
+  reply_sound answer among is_open =
+      let older : answer.association ≤ w.gateway.association = ((sound.gateway.replies answer among).1 is_open).association in
       record {
         association = omega (arith, older);
         kept = λ (now : answer.association ≡ w.gateway.association + 1). absurd (omega (arith, older, now));
       }
 
-  note_sound : (sent : SentNote) → Contains w.notes sent → IsNoteSound (restarted w.gateway) sent
-  note_sound sent among =
-      let older : sent.association ≤ w.gateway.association = (sound.gateway.notes sent among).association in
+  note_sound : (sent : SentNote) → Contains w.notes sent → IsOpen w sent.call → IsNoteSound sound.floor (restarted w.gateway) sent
+  note_sound sent among is_open =
+      let older : sent.association ≤ w.gateway.association = ((sound.gateway.notes sent among).1 is_open).association in
       record {
         association = omega (arith, older);
         standing = λ (now : sent.association ≡ w.gateway.association + 1). absurd (omega (arith, older, now));
       }
 
-  gateway_sound : GatewayIsSound script (with_gateway w (restarted w.gateway))
+  gateway_sound : GatewayIsSound script sound.floor (with_gateway w (restarted w.gateway))
   gateway_sound = record {
     accounted = accounted;
     creator_stands = λ x call e. absurd (none_is_some call e);
@@ -72,9 +72,10 @@ module _ (script : Script) (entries : List Entry) (w : World) (sound : IsSound s
     held = sound.gateway.held;
     kept = λ call answer e. absurd (none_is_some answer e);
     request_ids = λ l call q held e. absurd (none_is_some q e);
+    retired = sound.gateway.retired;
     requests = sound.gateway.requests;
-    replies = reply_sound;
-    notes = note_sound;
+    replies = λ answer among. ((sound.gateway.replies answer among).0, λ is_open. reply_sound answer among is_open);
+    notes = λ sent among. ((sound.gateway.notes sent among).0, λ is_open. note_sound sent among is_open);
   }
 
   -- ---- the calls
@@ -132,4 +133,9 @@ module _ (script : Script) (entries : List Entry) (w : World) (sound : IsSound s
 
 pub restart_sound : KeepsSound (λ script w after. Occurs script w Restart after)
 restart_sound script entries is_script closed w after sound occurs =
-    subst (IsSound script entries) (sym occurs.1) (record { gateway = gateway_sound script entries w sound; calls = call_sound script entries w sound })
+    subst (IsSound script entries) (sym occurs.1) (record {
+      floor = sound.floor;
+      gateway = gateway_sound script entries w sound;
+      floors = λ call a here. let old = sound.floors call a here in record { next = old.next; requests = old.requests };
+      calls = call_sound script entries w sound;
+    })

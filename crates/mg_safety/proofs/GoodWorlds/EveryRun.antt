@@ -19,6 +19,7 @@ use Rattle.mg_safety.proofs.Commands.SubtractCarried.{subtract_carried, subtract
 use Rattle.mg_safety.proofs.Commands.TopologyCarried.{topology_carried}
 use Rattle.mg_safety.proofs.Agents.AgentSound.{pass_sound, timer_sound}
 use Rattle.mg_safety.proofs.Certificate.Closed.{closed}
+use Rattle.mg_safety.proofs.Events.BeginSound.{begin_sound}
 use Rattle.mg_safety.proofs.Events.ExecuteSound.{execute_sound}
 use Rattle.mg_safety.proofs.Events.ExecutedCalls.{OtherLost}
 use Rattle.mg_safety.proofs.GoodWorlds.Good.{sound_good}
@@ -58,6 +59,7 @@ call_sound call to_call.Pass script entries is_script closes w after sound occur
 call_sound call (to_call.Note number) script entries is_script closes w after sound (sent, of_call, steps) =
     note_sound sent script entries is_script closes w after sound
     (of_call.0, subst (λ (c : ℕ). AgentSteps w c (λ a. noted script a (line_places script) sent) after) (sym of_call.1) steps)
+call_sound call (to_call.Begin old) script entries is_script closes w after sound occurs = begin_sound call old.0 script entries is_script closes w after sound occurs
 call_sound call to_call.Timer script entries is_script closes w after sound occurs = timer_sound call script entries is_script closes w after sound occurs
 call_sound call (to_call.Hear association) script entries is_script closes w after sound occurs = hear_sound call association.0 script entries is_script closes w after sound occurs
 

@@ -148,17 +148,28 @@ pub record IsReplySound (g : Gateway) (answer : Reply) : Type 0 where
   pub association : answer.association ≤ g.association
   pub kept : answer.association ≡ g.association → ((g.link answer.call).last ≡ Some answer) ⊎ (answer.number < last_executed g answer.call)
 
+-- a RequestID that the call's lines can have: one that was there when the call opened, or of a request of it that was executed
+abbrev pub IsReached : (ℕ → ℕ) → Gateway → ℕ → ℕ → Type 0
+IsReached floor g call q = (q ≤ floor call) ⊎ (q ≤ last_executed g call)
+
 -- a note of the present association with the RequestID of the descriptor that stands is of a kind that the descriptor raises
-pub record IsNoteStanding (g : Gateway) (sent : SentNote) : Type 0 where
+pub record IsNoteStanding (floor : ℕ → ℕ) (g : Gateway) (sent : SentNote) : Type 0 where
   pub held : g.holder sent.line ≡ Some sent.call
-  pub number : sent.note.request ≤ last_executed g sent.call
+  pub number : IsReached floor g sent.call sent.note.request
   pub raised : (g.line sent.line).request ≡ Some sent.note.request → list_raises (g.line sent.line).list sent.note.kind ≡ true
 
-pub record IsNoteSound (g : Gateway) (sent : SentNote) : Type 0 where
+pub record IsNoteSound (floor : ℕ → ℕ) (g : Gateway) (sent : SentNote) : Type 0 where
   pub association : sent.association ≤ g.association
-  pub standing : sent.association ≡ g.association → IsNoteStanding g sent
+  pub standing : sent.association ≡ g.association → IsNoteStanding floor g sent
 
-pub record GatewayIsSound (script : Script) (w : World) : Type 0 where
+-- the call is open, or was retired
+abbrev pub IsKnown : World → ℕ → Type 0
+IsKnown w call = ((a : Agent) × (w.agent call ≡ Some a)) ⊎ (w.gateway.retired call ≡ true)
+
+abbrev pub IsOpen : World → ℕ → Type 0
+IsOpen w call = (a : Agent) × (w.agent call ≡ Some a)
+
+pub record GatewayIsSound (script : Script) (floor : ℕ → ℕ) (w : World) : Type 0 where
   pub accounted : IsAccounted w.gateway.board
   -- an ephemeral that exists was created by a call that is open, and what doesn't exist by none
   pub creator_stands : (x call : ℕ) → w.gateway.creator x ≡ Some call → exists w.gateway.board (Eph x) ≡ true
@@ -171,11 +182,20 @@ pub record GatewayIsSound (script : Script) (w : World) : Type 0 where
   pub held : (l call : ℕ) → w.gateway.holder l ≡ Some call
       → (a : Agent) × (i : ℕ) × (w.agent call ≡ Some a) × (i < length script.lines) × (a.lines i ≡ l)
   pub kept : (call : ℕ) (answer : Reply) → (w.gateway.link call).last ≡ Some answer → (answer.call ≡ call) × (answer.association ≡ w.gateway.association)
-  pub request_ids : (l call q : ℕ) → w.gateway.holder l ≡ Some call → (w.gateway.line l).request ≡ Some q → q ≤ last_executed w.gateway call
-  pub requests : (request : Request) → Contains w.requests request → (a : Agent) × (w.agent request.call ≡ Some a)
-  pub replies : (answer : Reply) → Contains w.replies answer → IsReplySound w.gateway answer
-  pub notes : (sent : SentNote) → Contains w.notes sent → IsNoteSound w.gateway sent
+  pub request_ids : (l call q : ℕ) → w.gateway.holder l ≡ Some call → (w.gateway.line l).request ≡ Some q → IsReached floor w.gateway call q
+  -- all that was sent is of a call that is open or was retired; of an open one it is as it should be
+  pub retired : (call : ℕ) (a : Agent) → w.agent call ≡ Some a → w.gateway.retired call ≡ false
+  pub requests : (request : Request) → Contains w.requests request → IsKnown w request.call
+  pub replies : (answer : Reply) → Contains w.replies answer → IsKnown w answer.call × (IsOpen w answer.call → IsReplySound w.gateway answer)
+  pub notes : (sent : SentNote) → Contains w.notes sent → IsKnown w sent.call × (IsOpen w sent.call → IsNoteSound floor w.gateway sent)
+
+-- the numbers of a call are above those that its lines had when it opened
+pub record IsAboveFloor (floor : ℕ) (w : World) (call : ℕ) (a : Agent) : Type 0 where
+  pub next : floor < a.next
+  pub requests : (request : Request) → Contains w.requests request → request.call ≡ call → floor < request.number
 
 pub record IsSound (script : Script) (entries : List Entry) (w : World) : Type 0 where
-  pub gateway : GatewayIsSound script w
+  pub floor : ℕ → ℕ
+  pub gateway : GatewayIsSound script floor w
+  pub floors : (call : ℕ) (a : Agent) → w.agent call ≡ Some a → IsAboveFloor (floor call) w call a
   pub calls : (call : ℕ) (a : Agent) → w.agent call ≡ Some a → CallIsSound script entries w call a

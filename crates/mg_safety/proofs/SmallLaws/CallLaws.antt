@@ -11,11 +11,13 @@ use Rattle.mg_model.specs.Gateway.{Gateway, last_executed, row_restarted, notes_
 use Rattle.mg_model.specs.Messages.{Request, Reply, SentNote}
 use Rattle.mg_model.specs.RequestRun.{RaisedNote}
 use Rattle.mg_model.specs.declared.events.CallEvent.TheVariants as to_call
-use Rattle.mg_model.specs.World.{World, Executes, IsFirst, LineOccurs, AgentSteps, sent_in}
+use Rattle.mg_model.specs.Script.{Script}
+use Rattle.mg_model.specs.World.{World, Executes, IsFirst, LineOccurs, AgentSteps, Begins, sent_in}
 use Rattle.mg_model.specs.Tables.{line_places}
 use Rattle.mg_safety.specs.Laws.{OldRequestsDoNothing, RestartsClearLines, EventsKeepOthers, AreNumbered, IsSameButReplies, IsSameFor}
 use Rattle.mg_model.proofs.Cases.{at_another}
 use Rattle.mg_model.proofs.Offered.{fresh_at, kept_at}
+use Rattle.mg_safety.proofs.Events.Handover.{link_other, agent_other}
 use Rattle.mg_safety.proofs.SmallLaws.AgentLaws.{IsOwn, GivesOwn, replied_own, passed_own, noted_own, timed_own, heard_own}
 
 same_but_replies : (w after : World) (replies : List Reply) → after ≡ record w { replies = replies } → IsSameButReplies w after
@@ -166,15 +168,28 @@ request_keeps w after request refusal call other numbered (inr (inr dropped)) of
   notes = λ sent is there. subst (λ (v : World). Contains v.notes sent) dropped.1 there;
 }
 
+-- a call that begins leaves all others but the one that has ended
+begin_keeps : (script : Script) (w after : World) (call old other : ℕ) → (call ≡ other → ⊥) → (old ≡ other → ⊥) → Begins script w call old after
+    → IsSameFor w after other
+begin_keeps script w after call old other differ not_ended x = record {
+  agent = ap (λ (v : World). v.agent other) x.after_is
+      ∙ agent_other script w call old other x.before (λ e. not_ended (sym e)) (λ e. differ (sym e));
+  link = ap (λ (v : World). v.gateway.link other) x.after_is ∙ link_other w.gateway old call other (λ e. not_ended (sym e)) (λ e. differ (sym e));
+  requests = λ request is there. subst (λ (v : World). Contains v.requests request) x.after_is there;
+  replies = λ answer is there. subst (λ (v : World). Contains v.replies answer) x.after_is there;
+  notes = λ sent is there. subst (λ (v : World). Contains v.notes sent) x.after_is there;
+}
+
 pub events_keep : EventsKeepOthers
-events_keep script w after call other (to_call.OnLine line event) numbered occurs differ = line_keeps w after line.0 event call other occurs.1 occurs.0 differ
-events_keep script w after call other (to_call.Execute number chosen) numbered (request, of_call, executes) differ =
+events_keep script w after call other (to_call.OnLine line event) numbered occurs differ not_ended = line_keeps w after line.0 event call other occurs.1 occurs.0 differ
+events_keep script w after call other (to_call.Execute number chosen) numbered (request, of_call, executes) differ not_ended =
     request_keeps w after request chosen call other numbered executes of_call.1 differ
-events_keep script w after call other (to_call.Reply number) numbered (answer, of_call, steps) differ =
+events_keep script w after call other (to_call.Reply number) numbered (answer, of_call, steps) differ not_ended =
     agent_keeps w after call other (λ a. replied script a answer) numbered (λ a. replied_own script a answer) differ steps
-events_keep script w after call other to_call.Pass numbered occurs differ = agent_keeps w after call other (passed script) numbered (passed_own script) differ occurs
-events_keep script w after call other (to_call.Note number) numbered (sent, of_call, steps) differ =
+events_keep script w after call other to_call.Pass numbered occurs differ not_ended = agent_keeps w after call other (passed script) numbered (passed_own script) differ occurs
+events_keep script w after call other (to_call.Note number) numbered (sent, of_call, steps) differ not_ended =
     agent_keeps w after call other (λ a. noted script a (line_places script) sent) numbered (λ a. noted_own script a (line_places script) sent) differ steps
-events_keep script w after call other to_call.Timer numbered occurs differ = agent_keeps w after call other (timed script) numbered (timed_own script) differ occurs
-events_keep script w after call other (to_call.Hear association) numbered occurs differ =
+events_keep script w after call other (to_call.Begin old) numbered occurs differ not_ended = begin_keeps script w after call old.0 other differ not_ended occurs
+events_keep script w after call other to_call.Timer numbered occurs differ not_ended = agent_keeps w after call other (timed script) numbered (timed_own script) differ occurs
+events_keep script w after call other (to_call.Hear association) numbered occurs differ not_ended =
     agent_keeps w after call other (λ a. heard script a association.0) numbered (λ a. heard_own script a association.0) differ occurs.1

@@ -1,0 +1,229 @@
+-- Where a call begins on the lines of one that has ended, the new call is shown the opening configuration, and each other call what it was shown.
+use Rattle.std.proofs.Common.{◌≡◌, ◌∙◌, ℕ, Bool, true, false, List, [], ◌∷◌, Option, Some, None, is_some, length, refl, sym, ap, subst, arith, inl, inr, true≢false, ◌<◌, ◌≤◌, ◌⊎◌}
+use Rattle.std.specs.Prelude.{◌==◌, Contains, IsTrue, unwrap_or}
+use Rattle.std.proofs.lemmas.Bool.{eq-eqb, false_from_ne_true}
+use Rattle.mg_names.specs.declared.identifiers.TermId.{TermId}
+use Rattle.mg_names.specs.declared.identifiers.TermId.TheVariants.{Line, Eph}
+use Rattle.mg_names.specs.declared.phases.LinkPhase as phases
+use Rattle.mg_model.specs.declared.commands.EventsName.{EventsName}
+use Rattle.mg_model.specs.declared.commands.Termination.TheVariants as termination
+use Rattle.mg_model.specs.declared.components.Spot.{Spot}
+use Rattle.mg_model.specs.declared.components.Spot.TheVariants.{Null}
+use Rattle.mg_model.specs.Agent.{Agent, awaits_reply, resting, begun}
+use Rattle.mg_model.specs.Board.{Board, exists, null_row}
+use Rattle.mg_model.specs.Configuration.{Configuration, is_in}
+use Rattle.mg_model.specs.Entries.{Entry}
+use Rattle.mg_model.specs.Gateway as gateway
+use Rattle.mg_model.specs.Gateway.{Gateway, CallLink, MayBegin, last_executed}
+use Rattle.mg_model.specs.ListContents.{list_of}
+use Rattle.mg_model.specs.Messages.{Request}
+use Rattle.mg_model.specs.Script.{Script}
+use Rattle.mg_model.specs.Steps.{opening}
+use Rattle.mg_model.specs.Tables.{state_of}
+use Rattle.mg_model.specs.World.{World, HasEnded}
+use Rattle.mg_model.proofs.Cases.{none_is_some, some_is_none, the_some, not_both}
+use Rattle.mg_safety.proofs.Agents.AgentSound.{at_rest}
+use Rattle.mg_safety.proofs.Agents.Entering.{not_resting}
+use Rattle.mg_safety.proofs.Events.Others.{is_call_of, created_only}
+use Rattle.mg_safety.proofs.Events.Handover.{handed_own, handed_other, still_owns, link_other, none_executed, executed_other, world_begun}
+use Rattle.mg_safety.proofs.Invariant.OpeningShown.{AreCleared, events_armed, opening_shown}
+use Rattle.mg_safety.proofs.Invariant.Shown.{Naming, naming, Seen, LinesShown}
+use Rattle.mg_safety.proofs.Invariant.Sound.{IsAt, IsCurrent, IsLost, IsSentBy, IsKnown, CallIsSound, IsSound, is_call, owned_in}
+use Rattle.mg_safety.proofs.Invariant.Statements.{IsClosed}
+
+-- what a call is shown does not depend on how it is said what it owns
+seen_by : (script : Script) (owned also : TermId → Bool) (n : Naming) (b : Board) (c : Configuration) → ((t : TermId) → also t ≡ owned t)
+    → Seen script owned n b c → Seen script also n b c
+seen_by script owned also n b c same seen = record {
+  stands = seen.stands;
+  place = seen.place;
+  in_bound = seen.in_bound;
+  mode = seen.mode;
+  remote = seen.remote;
+  cut = seen.cut;
+  bound = seen.bound;
+  line_stands = seen.line_stands;
+  line_owned = λ i within. same (Line (record { 0 = n.lines i })) ∙ seen.line_owned i within;
+  line_once = seen.line_once;
+  context_number = seen.context_number;
+  context_once = seen.context_once;
+  members = seen.members;
+  ephemeral_slot = seen.ephemeral_slot;
+  ephemeral_stands = seen.ephemeral_stands;
+  ephemeral_owned = λ k x is. same (Eph x) ∙ seen.ephemeral_owned k x is;
+  ephemeral_once = seen.ephemeral_once;
+  ephemeral_named = λ x is stands. seen.ephemeral_named x (sym (same (Eph x)) ∙ is) stands;
+}
+
+-- no termination stands in a context where it stands in the null context
+not_in : (spot : Spot) (j : ℕ) → spot ≡ Null → IsTrue (is_in spot j) → ⊥
+not_in spot j null there = true≢false (sym there ∙ ap (λ (s : Spot). is_in s j) null)
+
+module _ (script : Script) (entries : List Entry) (closed : IsClosed script entries) (w : World) (sound : IsSound script entries w) (new old : ℕ) (a : Agent)
+    (open_call : w.agent old ≡ Some a) (ended : HasEnded script w a) (may : MayBegin w.gateway old)
+    (unused : w.agent new ≡ None) (not_retired : w.gateway.retired new ≡ false) where
+  abbrev g : Gateway
+  g = w.gateway
+
+  abbrev later : Gateway
+  later = gateway.begun w.gateway old new
+
+  abbrev after : World
+  after = world_begun script w new old a
+
+  pub differ : new ≡ old → ⊥
+  differ is = some_is_none a (sym open_call ∙ ap w.agent (sym is) ∙ unused)
+
+  -- nothing is known of the new call's number
+  pub not_known : IsKnown w new → ⊥
+  not_known (inl there) = some_is_none there.0 (sym there.1 ∙ unused)
+  not_known (inr gone) = not_both gone not_retired
+
+  was : CallIsSound script entries w old a
+  was = sound.calls old a open_call
+
+  current : IsCurrent script entries g a
+  current = elim was.part [
+    | inl k ↦ k
+    | inr lost ↦ (let older = lost.association in let present = ended.current in absurd (omega (arith, older, present)))
+  ]
+
+  -- ---- the new call
+
+  -- the old call is cleared: its lines stand in the null context, where nothing is cut
+  no_cut : (i j : ℕ) → i < length script.lines → j < length script.lines → g.board.cut (Line (record { 0 = a.lines i })) (Line (record { 0 = a.lines j })) ≡ false
+  no_cut i j first second =
+      let k = current in
+      let rest = at_rest script g a k.e k.c.link ended.at_rest k.at in
+      let names : (naming k.e).lines ≡ a.lines = ap (λ (e : Agent). e.lines) rest.effective in
+      let cleared = closed.cleared k.c k.stands rest.link_is (subst (λ n. IsTrue (state_of script n).is_end) (sym k.state) ended.is_end) in
+      let none : k.c.cut (termination.Line i) (termination.Line j) ≡ false = false_from_ne_true (k.c.cut (termination.Line i) (termination.Line j))
+      (λ is_cut. let within = k.stands.covered.1.1.1.cut_within (termination.Line i) (termination.Line j) is_cut in
+      not_in (k.c.spot (termination.Line i)) within.0 (cleared.in_null i first) within.1.0) in
+      subst (λ (lines : ℕ → ℕ). g.board.cut (Line (record { 0 = lines i })) (Line (record { 0 = lines j })) ≡ false) names
+      (sym (k.shown.cut (termination.Line i) (termination.Line j) first second) ∙ none)
+
+  cleared : AreCleared script (owned_in later new) g.board a.lines
+  cleared = record {
+    rows = λ i within. may.rows (a.lines i) (was.held i within);
+    no_cut = no_cut;
+    own = λ i within. ap (λ (o : Option ℕ). is_call o new) (handed_own old new (g.holder (a.lines i)) (was.held i within)) ∙ eq-eqb new new refl;
+    once = was.once;
+    no_ephemeral = λ x is standing.
+        let made = sound.gateway.created x standing in
+        let mine : g.creator x ≡ Some new = is_call_of (g.creator x) new (sym (created_only (is_call (g.creator x) new) (g.board.used_ephemeral x)) ∙ is) in
+        not_known (subst (IsKnown w) (the_some made.0 new (sym made.2 ∙ mine)) (inl (made.1, made.3)));
+  }
+
+  lines_shown : LinesShown script (begun script new a) later.line (opening script)
+  lines_shown = record {
+    events = λ i within. may.list (a.lines i) (was.held i within) ∙ sym (ap (list_of script) (events_armed script i within));
+    silent = λ i within still. may.playing (a.lines i) (was.held i within);
+    expected = λ i q within expects.
+        let k = current in
+        let rest = at_rest script g a k.e k.c.link ended.at_rest k.at in
+        subst (λ (e : Agent). (g.line (e.lines i)).request ≡ Some q) rest.effective
+        (k.lines_shown.expected i q within (ap (λ (e : Agent). e.expected i) rest.effective ∙ expects));
+  }
+
+  pub new_sound : CallIsSound script entries after new (begun script new a)
+  new_sound =
+      let none = none_executed g old new differ in
+      let above = was.first in
+      record {
+        numbered = refl;
+        first = above;
+        next = omega (arith, none, above);
+        held = λ i within. handed_own old new (g.holder (a.lines i)) (was.held i within);
+        once = was.once;
+        requests = λ request among of. absurd (not_known (subst (IsKnown w) of (sound.gateway.requests request among)));
+        outstanding = λ request awaiting. absurd (not_resting request awaiting);
+        part = inl (record {
+          association = ended.current;
+          c = opening script;
+          e = begun script new a;
+          stands = closed.opening;
+          state = refl;
+          at = inr (inr (inr (record { phase = refl; effective = refl; link_is = refl })));
+          shown = opening_shown script (owned_in later new) g.board a.lines cleared;
+          lines_shown = lines_shown;
+        });
+      }
+
+  -- ---- another call
+
+  module _ (other : ℕ) (one : Agent) (there : w.agent other ≡ Some one) (not_old : other ≡ old → ⊥) (not_new : other ≡ new → ⊥) where
+    its : CallIsSound script entries w other one
+    its = sound.calls other one there
+
+    link_is : later.link one.call ≡ g.link one.call
+    link_is = subst (λ n. later.link n ≡ g.link n) (sym its.numbered) (link_other g old new other not_old not_new)
+
+    executed_is : last_executed later one.call ≡ last_executed g one.call
+    executed_is = subst (λ n. last_executed later n ≡ last_executed g n) (sym its.numbered) (executed_other g old new other not_old not_new)
+
+    at_still : (e : Agent) (link : phases.LinkPhase) → IsAt script g one e link → IsAt script later one e link
+    at_still e link (inl sent) = inl (record {
+      request = sent.request;
+      outstanding = sent.outstanding;
+      above = let above = sent.above in let same = executed_is in omega (arith, above, same);
+      effective = sent.effective;
+      link_is = sent.link_is;
+    })
+    at_still e link (inr (inl answered)) = inr (inl (record {
+      request = answered.request;
+      outstanding = answered.outstanding;
+      answer = answered.answer;
+      kept = ap (λ (l : CallLink). l.last) link_is ∙ answered.kept;
+      number = answered.number;
+      effective = answered.effective;
+      link_is = answered.link_is;
+    }))
+    at_still e link (inr (inr rests)) = inr (inr rests)
+
+    owns : (t : TermId) → owned_in later one.call t ≡ owned_in g one.call t
+    owns = subst (λ n. (t : TermId) → owned_in later n t ≡ owned_in g n t) (sym its.numbered) (still_owns g old new other not_old not_new)
+
+    part_still : IsCurrent script entries g one ⊎ IsLost script g one → IsCurrent script entries later one ⊎ IsLost script later one
+    part_still (inl k) = inl (record {
+      association = k.association;
+      c = k.c;
+      e = k.e;
+      stands = k.stands;
+      state = k.state;
+      at = at_still k.e k.c.link k.at;
+      shown = seen_by script (owned_in g one.call) (owned_in later one.call) (naming k.e) g.board k.c owns k.shown;
+      lines_shown = record { events = k.lines_shown.events; silent = k.lines_shown.silent; expected = k.lines_shown.expected };
+    })
+    part_still (inr lost) = inr (record {
+      association = lost.association;
+      rows = lost.rows;
+      list = lost.list;
+      playing = lost.playing;
+      request = lost.request;
+      no_ephemeral = lost.no_ephemeral;
+      no_reply = ap (λ (l : CallLink). l.last) link_is ∙ lost.no_reply;
+      no_cut = lost.no_cut;
+    })
+
+    sent_still : (request : Request) → IsSentBy g one request → IsSentBy later one request
+    sent_still request sent = record {
+      association = sent.association;
+      number = sent.number;
+      outstanding = λ present. elim (sent.outstanding present) [
+        | inl is ↦ inl is
+        | inr settled ↦ (let old_is : request.number ≤ last_executed g one.call = settled in let same = executed_is in inr (omega (arith, old_is, same)))
+      ];
+    }
+
+    pub other_sound : CallIsSound script entries after other one
+    other_sound = record {
+      numbered = its.numbered;
+      first = its.first;
+      next = let below = its.next in let same = executed_other g old new other not_old not_new in omega (arith, below, same);
+      held = λ i within. handed_other old new other (g.holder (one.lines i)) (its.held i within) not_old;
+      once = its.once;
+      requests = λ request among of. sent_still request (its.requests request among of);
+      outstanding = its.outstanding;
+      part = part_still its.part;
+    }

@@ -1,0 +1,152 @@
+-- What a call that begins on the lines of another changes: who holds the lines, whose agents and links there are, and which RequestIDs count as
+-- there before it. A call with the number of neither is as it was.
+use Rattle.std.proofs.Common.{◌≡◌, ◌∙◌, ℕ, Bool, true, false, Option, Some, None, refl, sym, ap, arith, inl, inr, zero, suc, ◌<◌, ◌≤◌, ◌⊎◌}
+use Rattle.std.specs.Prelude.{◌==◌, if◌then◌else◌}
+use Rattle.std.proofs.lemmas.Bool.{eqb-true, eqb-false}
+use Rattle.mg_names.specs.declared.identifiers.TermId.{TermId}
+use Rattle.mg_names.specs.declared.identifiers.TermId.TheVariants.{Line, Eph}
+use Rattle.mg_model.specs.Agent.{Agent, begun}
+use Rattle.mg_model.specs.Gateway as gateway
+use Rattle.mg_model.specs.Gateway.{Gateway, CallLink, handed_over, last_executed, number_of}
+use Rattle.mg_model.specs.Messages.{Reply}
+use Rattle.mg_model.specs.Script.{Script}
+use Rattle.mg_model.specs.World.{World}
+use Rattle.mg_model.proofs.Cases.{none_is_some, the_some, some_is_none, at_one, at_another, different}
+use Rattle.mg_safety.proofs.Invariant.Sound.{is_call, owned_in, IsReached}
+
+-- ---- who holds a line
+
+pub handed_own : (old new : ℕ) (o : Option ℕ) → o ≡ Some old → handed_over old new o ≡ Some new
+handed_own old new o is = ap (handed_over old new) is ∙ ap (λ (n : ℕ). Some n) (at_one old new old)
+
+pub handed_other : (old new one : ℕ) (o : Option ℕ) → o ≡ Some one → (one ≡ old → ⊥) → handed_over old new o ≡ Some one
+handed_other old new one o is apart = ap (handed_over old new) is ∙ ap (λ (n : ℕ). Some n) (at_another old one new one apart)
+
+-- a line is the new call's, and was the old one's; or it is whose it was
+pub handed_from : (old new : ℕ) (o : Option ℕ) (call : ℕ) → handed_over old new o ≡ Some call
+    → ((o ≡ Some old) × (call ≡ new)) ⊎ ((o ≡ Some call) × (call ≡ old → ⊥))
+handed_from old new None call is = absurd (none_is_some call is)
+handed_from old new (Some one) call is = by_test (one == old) refl (the_some (if one == old then new else one) call is)
+  where
+    by_test : (test : Bool) → (one == old) ≡ test → (if test then new else one) ≡ call
+        → ((Some one ≡ Some old) × (call ≡ new)) ⊎ ((Some one ≡ Some call) × (call ≡ old → ⊥))
+    by_test true e same = inl (ap (λ (n : ℕ). Some n) (eqb-true one old e), sym same)
+    by_test false e same = inr (ap (λ (n : ℕ). Some n) same, λ is_old. eqb-false one old e (same ∙ is_old))
+
+pub handed_none : (old new : ℕ) (o : Option ℕ) → handed_over old new o ≡ None → o ≡ None
+handed_none old new None is = refl
+handed_none old new (Some one) is = absurd (some_is_none (if one == old then new else one) is)
+
+-- another call owns what it owned
+pub still_holds : (old new other : ℕ) (o : Option ℕ) → (other ≡ old → ⊥) → (other ≡ new → ⊥) → is_call (handed_over old new o) other ≡ is_call o other
+still_holds old new other None not_old not_new = refl
+still_holds old new other (Some one) not_old not_new = by_test (one == old) refl
+  where
+    by_test : (test : Bool) → (one == old) ≡ test → ((if test then new else one) == other) ≡ (one == other)
+    by_test true e = different new other (λ is. not_new (sym is)) ∙ sym (different one other (λ is. not_old (sym is ∙ eqb-true one old e)))
+    by_test false e = refl
+
+pub still_owns : (g : Gateway) (old new other : ℕ) → (other ≡ old → ⊥) → (other ≡ new → ⊥) → (t : TermId)
+    → owned_in (gateway.begun g old new) other t ≡ owned_in g other t
+still_owns g old new other not_old not_new (Line l) = still_holds old new other (g.holder l.0) not_old not_new
+still_owns g old new other not_old not_new (Eph x) = refl
+
+-- ---- links
+
+abbrev nothing_kept : CallLink
+nothing_kept = record { last = None; notes = 0 }
+
+pub link_other : (g : Gateway) (old new other : ℕ) → (other ≡ old → ⊥) → (other ≡ new → ⊥) → (gateway.begun g old new).link other ≡ g.link other
+link_other g old new other not_old not_new =
+    at_another old other nothing_kept (if other == new then nothing_kept else g.link other) not_old ∙ at_another new other nothing_kept (g.link other) not_new
+
+pub link_new : (g : Gateway) (old new : ℕ) → (new ≡ old → ⊥) → (gateway.begun g old new).link new ≡ nothing_kept
+link_new g old new differ =
+    at_another old new nothing_kept (if new == new then nothing_kept else g.link new) differ ∙ at_one new nothing_kept (g.link new)
+
+pub link_old : (g : Gateway) (old new : ℕ) → (gateway.begun g old new).link old ≡ nothing_kept
+link_old g old new = at_one old nothing_kept (if old == new then nothing_kept else g.link old)
+
+pub none_executed : (g : Gateway) (old new : ℕ) → (new ≡ old → ⊥) → last_executed (gateway.begun g old new) new ≡ 0
+none_executed g old new differ = ap (λ (link : CallLink). number_of link.last) (link_new g old new differ)
+
+pub executed_other : (g : Gateway) (old new other : ℕ) → (other ≡ old → ⊥) → (other ≡ new → ⊥)
+    → last_executed (gateway.begun g old new) other ≡ last_executed g other
+executed_other g old new other not_old not_new = ap (λ (link : CallLink). number_of link.last) (link_other g old new other not_old not_new)
+
+-- a reply that is kept after is one that was kept, of a call that is neither
+pub kept_from : (g : Gateway) (old new call : ℕ) (answer : Reply) → (new ≡ old → ⊥) → ((gateway.begun g old new).link call).last ≡ Some answer
+    → (g.link call).last ≡ Some answer
+kept_from g old new call answer differ is = by_old (call == old) refl
+  where
+    none : {P : Type 0} → (gateway.begun g old new).link call ≡ nothing_kept → P
+    none e = absurd (none_is_some answer (sym (ap (λ (link : CallLink). link.last) e) ∙ is))
+
+    by_new : (test : Bool) → (call == new) ≡ test → (call ≡ old → ⊥) → (g.link call).last ≡ Some answer
+    by_new true e not_old = none (ap (gateway.begun g old new).link (eqb-true call new e) ∙ link_new g old new differ)
+    by_new false e not_old = sym (ap (λ (link : CallLink). link.last) (link_other g old new call not_old (eqb-false call new e))) ∙ is
+
+    by_old : (test : Bool) → (call == old) ≡ test → (g.link call).last ≡ Some answer
+    by_old true e = none (ap (gateway.begun g old new).link (eqb-true call old e) ∙ link_old g old new)
+    by_old false e = by_new (call == new) refl (eqb-false call old e)
+
+-- ---- agents
+
+abbrev pub world_begun : Script → World → (new old : ℕ) → Agent → World
+world_begun script w new old a = record w {
+  gateway = gateway.begun w.gateway old new;
+  agent = λ c. if c == new then Some (begun script new a) else if c == old then None else w.agent c;
+}
+
+pub agent_new : (script : Script) (w : World) (new old : ℕ) (a : Agent) → (world_begun script w new old a).agent new ≡ Some (begun script new a)
+agent_new script w new old a = at_one new (Some (begun script new a)) (if new == old then None else w.agent new)
+
+pub agent_other : (script : Script) (w : World) (new old other : ℕ) (a : Agent) → (other ≡ old → ⊥) → (other ≡ new → ⊥)
+    → (world_begun script w new old a).agent other ≡ w.agent other
+agent_other script w new old other a not_old not_new =
+    at_another new other (Some (begun script new a)) (if other == old then None else w.agent other) not_new ∙ at_another old other None (w.agent other) not_old
+
+-- an agent after is the new call's, or one that was there, of another call
+pub agent_from : (script : Script) (w : World) (new old call : ℕ) (a one : Agent) → (world_begun script w new old a).agent call ≡ Some one
+    → ((call ≡ new) × (begun script new a ≡ one)) ⊎ ((call ≡ new → ⊥) × (call ≡ old → ⊥) × (w.agent call ≡ Some one))
+agent_from script w new old call a one = by_new (call == new) refl
+  where
+    by_old : (test : Bool) → (call == old) ≡ test → (call ≡ new → ⊥) → (if test then None else w.agent call) ≡ Some one
+        → ((call ≡ new) × (begun script new a ≡ one)) ⊎ ((call ≡ new → ⊥) × (call ≡ old → ⊥) × (w.agent call ≡ Some one))
+    by_old true e not_new is = absurd (none_is_some one is)
+    by_old false e not_new is = inr (not_new, eqb-false call old e, is)
+
+    by_new : (test : Bool) → (call == new) ≡ test → (if test then Some (begun script new a) else if call == old then None else w.agent call) ≡ Some one
+        → ((call ≡ new) × (begun script new a ≡ one)) ⊎ ((call ≡ new → ⊥) × (call ≡ old → ⊥) × (w.agent call ≡ Some one))
+    by_new true e is = inl (eqb-true call new e, the_some (begun script new a) one is)
+    by_new false e is = by_old (call == old) refl (eqb-false call new e) is
+
+-- ---- RequestIDs that were there before a call began
+
+abbrev pub before_next : ℕ → ℕ
+before_next zero = zero
+before_next (suc n) = n
+
+pub below_next : (n : ℕ) → 0 < n → before_next n < n
+below_next zero above = absurd (omega (arith, above))
+below_next (suc n) above = let one_less : n < suc n = omega arith in one_less
+
+pub at_most : (n q : ℕ) → q < n → q ≤ before_next n
+at_most zero q below = absurd (omega (arith, below))
+at_most (suc n) q below = let small : q < suc n = below in let it : q ≤ n = omega (arith, small) in it
+
+abbrev pub floor_begun : (ℕ → ℕ) → (new : ℕ) → Agent → ℕ → ℕ
+floor_begun floor new a = λ c. if c == new then before_next a.next else floor c
+
+pub floor_new : (floor : ℕ → ℕ) (new : ℕ) (a : Agent) → floor_begun floor new a new ≡ before_next a.next
+floor_new floor new a = at_one new (before_next a.next) (floor new)
+
+pub floor_other : (floor : ℕ → ℕ) (new other : ℕ) (a : Agent) → (other ≡ new → ⊥) → floor_begun floor new a other ≡ floor other
+floor_other floor new other a not_new = at_another new other (before_next a.next) (floor other) not_new
+
+pub reached_other : (floor : ℕ → ℕ) (g : Gateway) (old new other q : ℕ) (a : Agent) → (other ≡ old → ⊥) → (other ≡ new → ⊥) → IsReached floor g other q
+    → IsReached (floor_begun floor new a) (gateway.begun g old new) other q
+reached_other floor g old new other q a not_old not_new (inl before) =
+    let same = floor_other floor new other a not_new in inl (omega (arith, same, before))
+reached_other floor g old new other q a not_old not_new (inr executed) =
+    let same = executed_other g old new other not_old not_new in inr (omega (arith, same, executed))
