@@ -24,5 +24,6 @@ pub mod ListContents
 pub mod Agent
 pub mod World
 pub mod Reports
+pub mod Shards
 pub mod Delivery
 pub mod Accepted

@@ -1,8 +1,8 @@
--- What a plan's report says of each call, and how the histories of several shards are one history. A reader should check
+-- What a plan's report says of each call. A reader should check
 -- which message each step of a plan delivers, that a step which cannot happen is counted idle, and that the report speaks of each
 -- call run alone on a gateway of its own. This profile's own.
-use Rattle.std.specs.Prelude.{◌≡◌, ℕ, zero, suc, ◌+◌, ◌≤◌, ◌==◌, Bool, true, false, ◌&&◌, if◌then◌else◌, List, [], ◌∷◌, ◌++◌, Contains, slice_index_or, Option, Some, None, ◌⊎◌, codes}
-use Rattle.std.specs.List.{find, flat_map}
+use Rattle.std.specs.Prelude.{◌≡◌, ℕ, ◌+◌, ◌≤◌, ◌==◌, Bool, true, false, ◌&&◌, if◌then◌else◌, List, [], ◌∷◌, Contains, Option, Some, None, ◌⊎◌, codes}
+use Rattle.std.specs.List.{find}
 use Rattle.mg_names.specs.declared.signals.Signal.{Signal}
 use Rattle.mg_names.specs.declared.symbols.Symbol.{Symbol}
 use Rattle.mg_model.specs.declared.failures.ChosenRefusal.{ChosenRefusal}
@@ -157,21 +157,3 @@ pub record IsReported (script : Script) (one : Opened) (epochs : Epochs) (line :
   pub runs : EpochsRun script one.call epochs (record { world = start; events = 0; idle = 0 }) end
   pub at_end : end.world.agent one.call ≡ Some agent
   pub line_is : line ≡ line_of script agent end
-
--- ---- several shards
-
--- the events of one shard, association by association
-abbrev pub History : Type 0
-History = List (List Event)
-
--- the events of all shards in the association with this place, shard after shard
-abbrev pub together : List History → ℕ → List Event
-together shards place = flat_map (λ (history : History). slice_index_or history place []) shards
-
-abbrev pub merged_from : List History → ℕ → ℕ → List Event
-merged_from shards place zero = together shards place
-merged_from shards place (suc restarts) = together shards place ++ Restart ∷ merged_from shards (place + 1) restarts
-
--- one history of all shards: between two associations one restart stands for the restarts of all
-unfoldable pub merged : List History → (restarts : ℕ) → List Event
-merged shards restarts = merged_from shards 0 restarts
