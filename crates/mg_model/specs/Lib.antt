@@ -23,6 +23,7 @@ pub mod Gateway
 pub mod ListContents
 pub mod Agent
 pub mod World
+pub mod Plans
 pub mod Reports
 pub mod Shards
 pub mod Delivery

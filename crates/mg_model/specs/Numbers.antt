@@ -42,3 +42,7 @@ opening_request = 0
 
 abbrev pub last_number : ℕ
 last_number = 4294967295
+
+-- the greatest count of a plan's calls
+abbrev pub plan_calls : ℕ
+plan_calls = 10000

@@ -1,46 +1,21 @@
--- What a plan's report says of each call. A reader should check
--- which message each step of a plan delivers, that a step which cannot happen is counted idle, and that the report speaks of each
--- call run alone on a gateway of its own. This profile's own.
-use Rattle.std.specs.Prelude.{◌≡◌, ℕ, ◌+◌, ◌≤◌, ◌==◌, Bool, true, false, ◌&&◌, if◌then◌else◌, List, [], ◌∷◌, Contains, Option, Some, None, ◌⊎◌, codes}
+-- What the report of a plan says of each call. A reader should check which message each step of a plan delivers, that a step which can't happen is
+-- counted idle, that a call is told as if it alone, with all that begin on its lines, was run on a gateway of its own, and that the restarts of other
+-- calls may stand anywhere among its steps. This profile's own.
+use Rattle.std.specs.Prelude.{◌≡◌, ℕ, zero, suc, ◌+◌, ◌≤◌, ◌==◌, Bool, true, false, ◌&&◌, if◌then◌else◌, List, [], ◌∷◌, ◌++◌, Contains, Option, Some, None, ◌⊎◌, codes}
 use Rattle.std.specs.List.{find}
-use Rattle.mg_names.specs.declared.signals.Signal.{Signal}
-use Rattle.mg_names.specs.declared.symbols.Symbol.{Symbol}
 use Rattle.mg_model.specs.declared.failures.ChosenRefusal.{ChosenRefusal}
 use Rattle.mg_model.specs.declared.failures.Refusal.TheVariants.{InternalFailure}
 use Rattle.mg_model.specs.declared.line_events.Hook.TheVariants.{On, Off}
 use Rattle.mg_model.specs.declared.line_events.LineEvent.TheVariants.{Hook, Flash, Digit, Pause, SignalEnd}
+use Rattle.mg_model.specs.declared.events.Event.{Event}
+use Rattle.mg_model.specs.declared.events.Event.TheVariants.{Restart}
 use Rattle.mg_model.specs.Agent.{Agent, Phase, awaits_reply, awaits_pass, resting, inbox_of}
 use Rattle.mg_model.specs.Delivery.{is_new, arrival}
 use Rattle.mg_model.specs.Messages.{Request, Reply, SentNote}
+use Rattle.mg_model.specs.Plans.{PlanStep, goes_off, goes_on, flashes, dials, pauses, ends, executes, takes_reply, passes, takes_note, times_out, hears, begins, restarts, PlanCall, Plan, epochs_of, steps_in, restarts_of_others, opened_as, number_begun}
 use Rattle.mg_model.specs.Script.{Script}
 use Rattle.mg_model.specs.Tables.{state_of}
-use Rattle.mg_model.specs.declared.events.Event.{Event}
-use Rattle.mg_model.specs.declared.events.Event.TheVariants.{Restart}
-use Rattle.mg_model.specs.World.{World, on_a_line, execute, reply, pass, note, timer, hear, Occurs, Opened, IsOpening}
-
--- ---- plans
-
--- a step of a call: what a user does on one of its lines, or which of its messages is delivered
-pub data PlanStep : Type 0 where
-  goes_off : (line : ℕ) → PlanStep
-  goes_on : (line : ℕ) → PlanStep
-  flashes : (line : ℕ) → PlanStep
-  dials : (line : ℕ) → Symbol → PlanStep
-  pauses : (line : ℕ) → PlanStep
-  ends : (line : ℕ) → Signal → PlanStep
-  -- a request by its number, or the latest; and a place at which it is refused
-  executes : Option ℕ → Option ℕ → PlanStep
-  -- the reply to a number, or the latest
-  takes_reply : Option ℕ → PlanStep
-  passes : PlanStep
-  -- a note by its number, or the oldest that is not accepted
-  takes_note : Option ℕ → PlanStep
-  times_out : PlanStep
-  hears : PlanStep
-
--- the steps of a call, epoch by epoch: as many as the plan's longest call has, empty ones where this call has none
-abbrev pub Epochs : Type 0
-Epochs = List (List PlanStep)
+use Rattle.mg_model.specs.World.{World, on_a_line, execute, reply, pass, note, timer, begin, hear, Occurs, Opened, IsOpening}
 
 -- ---- which event a step means
 
@@ -69,63 +44,32 @@ abbrev pub refusal_at : Option ℕ → Option ChosenRefusal
 refusal_at None = None
 refusal_at (Some place) = Some (record { place = place; refusal = InternalFailure })
 
--- the step means the event, in this world, for this agent
-abbrev pub Means : World → Agent → PlanStep → Event → Type 0
-Means w a (goes_off l) event = event ≡ on_a_line a.call (a.lines l) (Hook Off)
-Means w a (goes_on l) event = event ≡ on_a_line a.call (a.lines l) (Hook On)
-Means w a (flashes l) event = event ≡ on_a_line a.call (a.lines l) Flash
-Means w a (dials l s) event = event ≡ on_a_line a.call (a.lines l) (Digit s)
-Means w a (pauses l) event = event ≡ on_a_line a.call (a.lines l) Pause
-Means w a (ends l s) event = event ≡ on_a_line a.call (a.lines l) (SignalEnd s)
-Means w a (executes which place) event =
+-- the step means the event, in this world, for this agent, where the next call to begin has this number
+abbrev pub Means : World → Agent → (next : ℕ) → PlanStep → Event → Type 0
+Means w a next (goes_off l) event = event ≡ on_a_line a.call (a.lines l) (Hook Off)
+Means w a next (goes_on l) event = event ≡ on_a_line a.call (a.lines l) (Hook On)
+Means w a next (flashes l) event = event ≡ on_a_line a.call (a.lines l) Flash
+Means w a next (dials l s) event = event ≡ on_a_line a.call (a.lines l) (Digit s)
+Means w a next (pauses l) event = event ≡ on_a_line a.call (a.lines l) Pause
+Means w a next (ends l s) event = event ≡ on_a_line a.call (a.lines l) (SignalEnd s)
+Means w a next (executes which place) event =
     (request : Request) × MeansRequest w a.call which request × (event ≡ execute a.call request.number (refusal_at place))
-Means w a (takes_reply which) event = (answer : Reply) × MeansReply w a.call which answer × (event ≡ reply a.call answer.number)
-Means w a passes event = event ≡ pass a.call
-Means w a (takes_note which) event = (sent : SentNote) × MeansNote w a which sent × (event ≡ note a.call sent.number)
-Means w a times_out event = event ≡ timer a.call
-Means w a hears event = event ≡ hear a.call w.gateway.association
+Means w a next (takes_reply which) event = (answer : Reply) × MeansReply w a.call which answer × (event ≡ reply a.call answer.number)
+Means w a next passes event = event ≡ pass a.call
+Means w a next (takes_note which) event = (sent : SentNote) × MeansNote w a which sent × (event ≡ note a.call sent.number)
+Means w a next times_out event = event ≡ timer a.call
+Means w a next hears event = event ≡ hear a.call w.gateway.association
+Means w a next begins event = event ≡ begin next a.call
+Means w a next restarts event = event ≡ Restart
 
--- ---- a call alone
+-- ---- a report's line
 
--- a world, with the events and the idle steps of the call so far
-pub record Counted : Type 0 where
-  pub world : World
+-- what the report says of a call: its state's name, its phase, and how many of its steps were events and how many idle
+pub record ReportLine : Type 0 where
+  pub state : List ℕ
+  pub phase : List ℕ
   pub events : ℕ
   pub idle : ℕ
-
--- the step happens, and is an event of the call
-pub record StepHappens (script : Script) (call : ℕ) (c : Counted) (step : PlanStep) (after : Counted) : Type 0 where
-  pub agent : Agent
-  pub event : Event
-  pub open_call : c.world.agent call ≡ Some agent
-  pub means : Means c.world agent step event
-  pub occurs : Occurs script c.world event after.world
-  pub events_are : after.events ≡ c.events + 1
-  pub idle_is : after.idle ≡ c.idle
-
--- no event that it means can happen
-pub record StepIsIdle (script : Script) (call : ℕ) (c : Counted) (step : PlanStep) (after : Counted) : Type 0 where
-  pub agent : Agent
-  pub open_call : c.world.agent call ≡ Some agent
-  pub cannot : (event : Event) (world : World) → Means c.world agent step event → Occurs script c.world event world → ⊥
-  pub world_stays : after.world ≡ c.world
-  pub events_are : after.events ≡ c.events
-  pub idle_is : after.idle ≡ c.idle + 1
-
-unfoldable pub StepsRun : Script → ℕ → List PlanStep → Counted → Counted → Type 0
-StepsRun script call [] c end = end ≡ c
-StepsRun script call (step ∷ more) c end =
-    (next : Counted) × (StepHappens script call c step next ⊎ StepIsIdle script call c step next) × StepsRun script call more next end
-
--- the epochs of a call, with a restart between each two
-unfoldable pub EpochsRun : Script → ℕ → Epochs → Counted → Counted → Type 0
-EpochsRun script call [] c end = end ≡ c
-EpochsRun script call (steps ∷ []) c end = StepsRun script call steps c end
-EpochsRun script call (steps ∷ next_steps ∷ more) c end =
-    (before : Counted) × (w : World) × StepsRun script call steps c before × Occurs script before.world Restart w
-    × EpochsRun script call (next_steps ∷ more) (record before { world = w }) end
-
--- ---- the report
 
 abbrev pub phase_word : Bool → Bool → Phase → List ℕ
 phase_word false is_end phase = codes "lost"
@@ -133,27 +77,103 @@ phase_word true is_end (awaits_reply request) = codes "waiting"
 phase_word true is_end awaits_pass = codes "waiting"
 phase_word true is_end resting = if is_end then codes "ended" else codes "resting"
 
--- what the report says of a call: its state's name, its phase, and the two counts
-pub record ReportLine : Type 0 where
-  pub state : List ℕ
-  pub phase : List ℕ
+-- ---- a call of the plan alone, with all that begin within it
+
+-- how far it is: the world, the call that stands, how many began before it, its events and idle steps so far, and the lines of those
+-- that are retired
+pub record Progress : Type 0 where
+  pub world : World
+  pub standing : ℕ
+  pub begun : ℕ
   pub events : ℕ
   pub idle : ℕ
+  pub retired : List ReportLine
 
-abbrev pub line_of : Script → Agent → Counted → ReportLine
-line_of script a c = record {
+abbrev pub start_as : Opened → World → Progress
+start_as one w = record { world = w; standing = one.call; begun = 0; events = 0; idle = 0; retired = [] }
+
+-- the line of the call that stands
+abbrev pub line_now : Script → Agent → Progress → ReportLine
+line_now script a p = record {
   state = (state_of script a.state).name;
-  phase = phase_word (a.association == c.world.gateway.association) (state_of script a.state).is_end a.phase;
-  events = c.events;
-  idle = c.idle;
+  phase = phase_word (a.association == p.world.gateway.association) (state_of script a.state).is_end a.phase;
+  events = p.events;
+  idle = p.idle;
 }
 
--- the report's line of a call is that of some run of it alone
-pub record IsReported (script : Script) (one : Opened) (epochs : Epochs) (line : ReportLine) : Type 0 where
+-- its line once it is retired
+abbrev pub line_retired : Script → Agent → Progress → ReportLine
+line_retired script a p = record (line_now script a p) { phase = codes "retired" }
+
+-- after an event: one more of the standing call. A call that begins stands from then on, with that event as its first. A restart is
+-- no call's event
+abbrev pub after_event : Script → (first : ℕ) → Agent → Progress → PlanStep → World → Progress
+after_event script first a p begins w = record {
+  world = w;
+  standing = number_begun first (p.begun + 1);
+  begun = p.begun + 1;
+  events = 1;
+  idle = 0;
+  retired = p.retired ++ line_retired script a p ∷ [];
+}
+after_event script first a p restarts w = record p { world = w }
+after_event script first a p step w = record p { world = w; events = p.events + 1 }
+
+-- the step happens
+pub record StepHappens (script : Script) (first : ℕ) (p : Progress) (step : PlanStep) (after : Progress) : Type 0 where
+  pub agent : Agent
+  pub event : Event
+  pub world : World
+  pub stands : p.world.agent p.standing ≡ Some agent
+  pub means : Means p.world agent (number_begun first (p.begun + 1)) step event
+  pub occurs : Occurs script p.world event world
+  pub after_is : after ≡ after_event script first agent p step world
+
+-- no event that it means can happen; a restart is never idle
+pub record StepIsIdle (script : Script) (first : ℕ) (p : Progress) (step : PlanStep) (after : Progress) : Type 0 where
+  pub agent : Agent
+  pub stands : p.world.agent p.standing ≡ Some agent
+  pub no_restart : step ≡ restarts → ⊥
+  pub cannot : (event : Event) (world : World) → Means p.world agent (number_begun first (p.begun + 1)) step event
+      → Occurs script p.world event world → ⊥
+  pub after_is : after ≡ record p { idle = p.idle + 1 }
+
+unfoldable pub StepsRun : Script → (first : ℕ) → List PlanStep → Progress → Progress → Type 0
+StepsRun script first [] p end = end ≡ p
+StepsRun script first (step ∷ more) p end =
+    (next : Progress) × (StepHappens script first p step next ⊎ StepIsIdle script first p step next) × StepsRun script first more next end
+
+-- ---- where the restarts of other calls stand
+
+-- the call's steps, with as many restarts more, each anywhere among them
+unfoldable pub IsPlacing : List PlanStep → (others : ℕ) → List PlanStep → Type 0
+IsPlacing steps others [] = (steps ≡ []) × (others ≡ 0)
+IsPlacing steps others (step ∷ placed) =
+    ((more : List PlanStep) × (steps ≡ step ∷ more) × IsPlacing more others placed)
+    ⊎ ((fewer : ℕ) × (step ≡ restarts) × (others ≡ suc fewer) × IsPlacing steps fewer placed)
+
+-- ---- the report
+
+-- the lines of a call and of those that began within it are those of some run of it alone
+pub record IsReported (script : Script) (one : Opened) (steps : List PlanStep) (others : ℕ) (lines : List ReportLine) : Type 0 where
+  pub placed : List PlanStep
+  pub placing : IsPlacing steps others placed
   pub start : World
-  pub end : Counted
+  pub end : Progress
   pub agent : Agent
   pub opens : IsOpening script (one ∷ []) start
-  pub runs : EpochsRun script one.call epochs (record { world = start; events = 0; idle = 0 }) end
-  pub at_end : end.world.agent one.call ≡ Some agent
-  pub line_is : line ≡ line_of script agent end
+  pub runs : StepsRun script one.call placed (start_as one start) end
+  pub stands : end.world.agent end.standing ≡ Some agent
+  pub lines_are : lines ≡ end.retired ++ line_now script agent end ∷ []
+
+-- the lines of these calls of a plan, of which the first has this number
+unfoldable pub AreReported : Script → Plan → (number : ℕ) → List PlanCall → List (List ReportLine) → Type 0
+AreReported script plan number [] [] = Unit {0}
+AreReported script plan number (call ∷ more) (lines ∷ others) =
+    IsReported script (opened_as number call) (steps_in (epochs_of plan.calls) call.epochs) (restarts_of_others plan call) lines
+    × AreReported script plan (number + 1) more others
+AreReported script plan number calls lines = ⊥
+
+-- the report of a plan: for each call its line, then those of the calls that began within it
+abbrev pub IsReport : Script → Plan → List (List ReportLine) → Type 0
+IsReport script plan lines = AreReported script plan 0 plan.calls lines

@@ -1,14 +1,14 @@
 //! The promise over runs. `mg_examples` has runs and certificates that show that it isn't hollow.
 ghost use Rattle.mg_safety.specs.Headline.{EveryRunIsGood, EveryRunOfOneCallIsGood};
 
-/// Where no obligation of a script and its certificate is broken, every world of every run of any number of calls on lines that differ is
+/// Where no obligation of a script and its certificate is broken, every world of every run of any number of calls, on lines distinct at each moment, is
 /// good, whatever is lost, repeated, late, refused or restarted: an audio path joins two lines only inside one call whose current
 /// state marks that pair as talking, and a call that has ended owns no ephemeral and has each line silent in the null context, armed for off-hook.
 pub fn every_run_is_good()
     ensures { EveryRunIsGood }
 {}
 
-/// The same of a call that is alone on the gateway.
+/// The same of a call that is alone on the gateway, with all that begin on its lines.
 pub fn every_run_of_one_call_is_good()
     ensures { EveryRunOfOneCallIsGood }
 {}
