@@ -1,7 +1,7 @@
 -- What the report of a plan says of each call. A reader should check which message each step of a plan delivers, that a step which can't happen is
 -- counted idle, that a call is told as if it alone, with all that begin on its lines, was run on a gateway of its own, and that the restarts of other
 -- calls may stand anywhere among its steps. This profile's own.
-use Rattle.std.specs.Prelude.{◌≡◌, ℕ, zero, suc, ◌+◌, ◌≤◌, ◌==◌, Bool, true, false, ◌&&◌, if◌then◌else◌, List, [], ◌∷◌, ◌++◌, Contains, Option, Some, None, ◌⊎◌, codes}
+use Rattle.std.specs.Prelude.{◌≡◌, ℕ, suc, ◌+◌, ◌≤◌, ◌==◌, Bool, true, false, ◌&&◌, if◌then◌else◌, List, [], ◌∷◌, ◌++◌, Contains, Option, Some, None, ◌⊎◌, codes}
 use Rattle.std.specs.List.{find}
 use Rattle.mg_model.specs.declared.failures.ChosenRefusal.{ChosenRefusal}
 use Rattle.mg_model.specs.declared.failures.Refusal.TheVariants.{InternalFailure}

@@ -1,0 +1,12 @@
+//! Small laws of plans and their reports.
+ghost use Rattle.mg_reports.specs.Laws.{OnePlacingWithoutRestarts, StepsMeanOneEvent};
+
+/// Where no other call of the plan has a `restart` step, the steps of a call are placed in one way: as they are. This profile's own.
+pub fn one_placing_without_restarts()
+    ensures { OnePlacingWithoutRestarts }
+{}
+
+/// A step of a plan means one event at most.
+pub fn steps_mean_one_event()
+    ensures { StepsMeanOneEvent }
+{}
