@@ -1,5 +1,7 @@
 -- worked rows of the definitions
 pub mod BasicRows
+pub mod BegunTalkRun
+pub mod BegunUnbroken
 pub mod BoardRows
 pub mod LineRows
 -- runs, and certificates that break one obligation

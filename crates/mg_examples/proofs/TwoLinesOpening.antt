@@ -192,6 +192,21 @@ module _ (script : Script) (two : length script.lines ≡ 2) (calls : List Opene
     messages = record { no_request = refl; no_answer = refl; no_note = refl };
   }
 
+-- a line that a call holds is in the null context and armed
+pub held_row : (calls : List Opened) (l number : ℕ) → (gateway calls).holder l ≡ Some number → (board calls).row (Line (record { 0 = l })) ≡ Some null_row
+held_row calls l number e = of_user (user_of calls l) e
+  where
+    of_user : (user : Option Opened) → option_map (λ (one : Opened). one.call) user ≡ Some number → row_if user ≡ Some null_row
+    of_user None none = absurd (none_is_some number none)
+    of_user (Some one) is = refl
+
+pub held_line : (calls : List Opened) (l number : ℕ) → (gateway calls).holder l ≡ Some number → (gateway calls).line l ≡ armed_line
+held_line calls l number e = of_user (user_of calls l) e
+  where
+    of_user : (user : Option Opened) → option_map (λ (one : Opened). one.call) user ≡ Some number → line_if user ≡ armed_line
+    of_user None none = absurd (none_is_some number none)
+    of_user (Some one) is = refl
+
 -- ---- the calls of an opening differ
 
 -- a call alone
@@ -209,7 +224,7 @@ one_call script two = record {
 
 -- ---- the first line of a call goes off hook
 
-abbrev off : LineRow
+abbrev pub off : LineRow
 off = record armed_line { hook = hooks.Off }
 
 abbrev off_hook_gateway : Gateway → Opened → Gateway

@@ -3,3 +3,4 @@ pub mod TwoLines
 pub mod Talk
 pub mod TwoTalks
 pub mod Needed
+pub mod BegunTalk

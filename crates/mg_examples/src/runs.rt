@@ -2,6 +2,7 @@
 ghost use Rattle.std.specs.Prelude.{List};
 ghost use Rattle.mg_model.specs.declared.transitions.Pair.{Pair};
 ghost use Rattle.mg_names.specs.declared.obligations.Obligation.TheVariants as Obligation;
+ghost use Rattle.mg_examples.specs.BegunTalk.{BegunCallTalks};
 ghost use Rattle.mg_examples.specs.Needed.{IsNeeded};
 ghost use Rattle.mg_examples.specs.Talk.{LeadsToATalk};
 ghost use Rattle.mg_examples.specs.TwoTalks.{TwoCallsTalk};
@@ -17,6 +18,12 @@ pub fn a_run_joins_two_lines()
 /// the other; so a good world isn't a silent one.
 pub fn two_calls_talk_at_once()
     ensures { TwoCallsTalk }
+{}
+
+/// The promise is about calls that begin later too: there is a script with a certificate that breaks no obligation, and a run of it in which a
+/// call begins on the lines of one that has ended, one of them off hook, and joins them.
+pub fn a_begun_call_talks()
+    ensures { BegunCallTalks }
 {}
 
 /// No obligation could be left out: for each there is a script with a certificate that breaks it alone, and a run of the script that
