@@ -1,9 +1,7 @@
 -- The run in which a call that began on the lines of an ended one talks, world by world: line 1 goes off hook, call 8 begins on the lines of call 7,
 -- its timer leads to `talk`, its request is executed, and the reply is taken.
-use Rattle.std.proofs.Common.{◌≡◌, ◌==◌, ℕ, List, [], ◌∷◌, Option, Some, None, false, if◌then◌else◌, refl, ap, arith, inl}
+use Rattle.std.proofs.Common.{◌≡◌, ◌==◌, [], ◌∷◌, Some, None, if◌then◌else◌, refl, ap, arith, inl}
 use Rattle.std.specs.Prelude.{unwrap_or}
-use Rattle.mg_model.specs.declared.line_events.LineEvent.TheVariants as event
-use Rattle.mg_model.specs.declared.line_events.Hook.TheVariants as hooks
 use Rattle.mg_model.specs.Agent as agents
 use Rattle.mg_model.specs.Agent.{Agent, timed, replied}
 use Rattle.mg_model.specs.Gateway.{MayBegin, begun}

@@ -2,7 +2,7 @@
 -- speaks of such calls too. Five events: line a goes off hook while call 7 has ended, call 8 begins on the lines of call 7, which is retired, its
 -- timer leads to the state `talk`, its request is executed, and the reply is taken. A reader should check that each premise of the promise is
 -- here, that the line is off hook when call 8 begins, and that the last world joins the lines for call 8, which is the only one left.
-use Rattle.std.specs.Prelude.{◌≡◌, ◌+◌, true, List, [], ◌∷◌, Option, Some, None, codes}
+use Rattle.std.specs.Prelude.{◌≡◌, ◌+◌, true, List, [], ◌∷◌, Some, None, codes}
 use Rattle.std.specs.List.{All}
 use Rattle.mg_model.specs.declared.events.Event.{Event}
 use Rattle.mg_model.specs.declared.line_events.Hook.TheVariants as hooks

@@ -13,7 +13,7 @@ use Rattle.mg_model.specs.Media.{AreJoined}
 use Rattle.mg_model.specs.Obligations.{NoneBroken}
 use Rattle.mg_model.specs.declared.events.Event.{Event}
 use Rattle.mg_model.specs.World.{World, on_a_line, note, execute, reply, Opened, IsOpening, Runs}
-use Rattle.mg_examples.specs.Talk.{call, off_hook, to_talk, all_done}
+use Rattle.mg_examples.specs.Talk.{call}
 use Rattle.mg_examples.specs.TwoLines.{calling}
 
 -- `talk` marks the lines a and b as talking
