@@ -1,4 +1,5 @@
--- A sound world is good, and every world of every run is sound.
+-- A sound world is good, every world of every run is sound, and so on the lines of an ended call another may begin.
 pub mod GoodPaths
 pub mod Good
 pub mod EveryRun
+pub mod Beginning

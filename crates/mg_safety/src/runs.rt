@@ -1,4 +1,5 @@
 //! The promise over runs. `mg_examples` has runs and certificates that show that it isn't hollow.
+ghost use Rattle.mg_safety.specs.Beginnings.{EndedCallsMayBegin, LostCallsMayNotBegin};
 ghost use Rattle.mg_safety.specs.Headline.{EveryRunIsGood, EveryRunOfOneCallIsGood};
 
 /// Where no obligation of a script and its certificate is broken, every world of every run of any number of calls, on lines distinct at each moment, is
@@ -11,4 +12,15 @@ pub fn every_run_is_good()
 /// The same of a call that is alone on the gateway, with all that begin on its lines.
 pub fn every_run_of_one_call_is_good()
     ensures { EveryRunOfOneCallIsGood }
+{}
+
+/// Where no obligation is broken, another call may begin on the lines of one that has ended, if nothing is set on them in the null context: that
+/// they are silent and armed, and that no ephemeral of the call exists, is promised.
+pub fn ended_calls_may_begin()
+    ensures { EndedCallsMayBegin }
+{}
+
+/// On the lines of a call of an older association none may begin, where the script has a line: they report nothing.
+pub fn lost_calls_may_not_begin()
+    ensures { LostCallsMayNotBegin }
 {}

@@ -14,7 +14,7 @@ use Rattle.mg_model.specs.Steps as steps
 use Rattle.mg_model.specs.Steps.{Step, entering, observations}
 use Rattle.std.specs.List.{flat_map}
 use Rattle.mg_model.specs.Tables.{state_of, line_places}
-use Rattle.mg_model.specs.World.{World, pass, timer, AgentSteps}
+use Rattle.mg_model.specs.World.{World, AgentSteps}
 use Rattle.mg_model.proofs.Cases.{none_is_some}
 use Rattle.mg_safety.proofs.Invariant.Shown.{naming, Seen, LinesShown}
 use Rattle.mg_safety.proofs.Invariant.Sound.{owned_in, IsPassing, IsResting, IsAt, IsCurrent, IsLost, CallIsSound}

@@ -18,7 +18,7 @@ use Rattle.mg_model.specs.Entries.{Entry}
 use Rattle.mg_model.specs.Gateway.{Gateway, last_executed}
 use Rattle.mg_model.specs.Script.{Script}
 use Rattle.mg_model.specs.Steps as steps
-use Rattle.mg_model.specs.World.{World, hear, AgentSteps}
+use Rattle.mg_model.specs.World.{World, AgentSteps}
 use Rattle.mg_model.specs.Accepted.{IsSlot}
 use Rattle.mg_model.proofs.Cases.{none_is_some}
 use Rattle.mg_safety.proofs.Invariant.Shown.{Naming, Seen, LinesShown, number_at, row_on, term_of, cut_on}

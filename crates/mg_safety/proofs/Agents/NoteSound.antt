@@ -16,7 +16,7 @@ use Rattle.mg_model.specs.Messages.{SentNote}
 use Rattle.mg_model.specs.Script.{Script}
 use Rattle.mg_model.specs.Steps as steps
 use Rattle.mg_model.specs.Tables.{state_of, items_of, raises, target_in, line_places}
-use Rattle.mg_model.specs.World.{World, note, AgentSteps}
+use Rattle.mg_model.specs.World.{World, AgentSteps}
 use Rattle.mg_model.proofs.Cases.{none_is_some, the_some, and_second}
 use Rattle.mg_safety.proofs.Invariant.Sound.{Stands, IsCurrent, IsLost, IsNoteSound, IsNoteStanding, CallIsSound}
 use Rattle.mg_safety.proofs.Invariant.Statements.{IsClosed, KeepsSound}

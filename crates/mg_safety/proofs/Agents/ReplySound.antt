@@ -14,7 +14,7 @@ use Rattle.mg_model.specs.Messages.{Request, Reply}
 use Rattle.mg_model.specs.Script.{Script}
 use Rattle.mg_model.specs.Steps as steps
 use Rattle.mg_model.specs.Tables.{state_of}
-use Rattle.mg_model.specs.World.{World, reply, AgentSteps}
+use Rattle.mg_model.specs.World.{World, AgentSteps}
 use Rattle.mg_model.proofs.Cases.{none_is_some}
 use Rattle.mg_safety.proofs.Invariant.Sound.{Stands, link_of, IsAnswered, IsAt, IsCurrent, IsLost, IsReplySound, CallIsSound}
 use Rattle.mg_safety.proofs.Invariant.Statements.{IsClosed, KeepsSound}

@@ -1,17 +1,17 @@
 -- A call that begins on the lines of one that has ended keeps the world sound.
-use Rattle.std.proofs.Common.{◌≡◌, ◌∙◌, ℕ, Bool, true, false, List, Option, Some, None, length, refl, sym, ap, subst, arith, inl, inr, ◌<◌, ◌≤◌, ◌⊎◌}
-use Rattle.std.specs.Prelude.{◌==◌, if◌then◌else◌, Contains}
+use Rattle.std.proofs.Common.{◌≡◌, ◌∙◌, ℕ, Bool, true, false, List, Some, None, length, refl, sym, ap, subst, arith, inl, inr, ◌<◌, ◌≤◌}
+use Rattle.std.specs.Prelude.{◌==◌}
 use Rattle.std.proofs.lemmas.Bool.{eqb-true, eqb-false}
 use Rattle.mg_model.specs.Agent.{Agent, begun}
 use Rattle.mg_model.specs.Entries.{Entry}
 use Rattle.mg_model.specs.Gateway as gateway
 use Rattle.mg_model.specs.Gateway.{Gateway, CallLink, handed_over, last_executed}
-use Rattle.mg_model.specs.Messages.{Request, Reply, SentNote}
+use Rattle.mg_model.specs.Messages.{Reply, SentNote}
 use Rattle.mg_model.specs.Script.{Script}
 use Rattle.mg_model.specs.World.{World, Begins, HasEnded}
 use Rattle.mg_model.specs.Gateway.{MayBegin}
-use Rattle.mg_model.proofs.Cases.{some_is_none, none_is_some, the_some, at_one, at_another, different, not_both}
-use Rattle.mg_safety.proofs.Events.Handover.{handed_from, handed_none, handed_other, link_other, kept_from, executed_other, world_begun, agent_new, agent_other, agent_from, before_next, below_next, at_most, floor_begun, floor_new, floor_other, reached_other}
+use Rattle.mg_model.proofs.Cases.{the_some, at_one, at_another}
+use Rattle.mg_safety.proofs.Events.Handover.{handed_from, handed_none, handed_other, link_other, kept_from, executed_other, world_begun, agent_new, agent_other, agent_from, below_next, at_most, floor_begun, floor_new, floor_other, reached_other}
 use Rattle.mg_safety.proofs.Events.BegunCalls.{differ, not_known, new_sound, other_sound}
 use Rattle.mg_safety.proofs.Invariant.Sound.{IsKnown, IsOpen, IsReached, IsReplySound, IsNoteSound, IsAboveFloor, CallIsSound, GatewayIsSound, IsSound}
 use Rattle.mg_safety.proofs.Invariant.Statements.{IsClosed, KeepsSound}
@@ -76,8 +76,7 @@ module _ (script : Script) (entries : List Entry) (closed : IsClosed script entr
       → (one : Agent) × (i : ℕ) × (after.agent call ≡ Some one) × (i < length script.lines) × (one.lines i ≡ l)
   held l call is = elim (handed_from old new (g.holder l) call is) [
     | inl own ↦ (let was = sound.gateway.held l old own.0 in
-        let same : was.0 ≡ a = the_some was.0 a (sym was.2 ∙ open_call) in
-        (
+        let same : was.0 ≡ a = the_some was.0 a (sym was.2 ∙ open_call) in (
           begun script new a,
           was.1,
           ap after.agent own.1 ∙ agent_new script w new old a,
@@ -176,5 +175,5 @@ module _ (script : Script) (entries : List Entry) (closed : IsClosed script entr
   begun_sound = record { floor = floor; gateway = gateway_sound; floors = floors; calls = calls }
 
 pub begin_sound : (new old : ℕ) → KeepsSound (λ script w after. Begins script w new old after)
-begin_sound new old script entries is_script closed w after sound x = subst (IsSound script entries) (sym x.after_is)
+begin_sound new old script entries is_script closed w next sound x = subst (IsSound script entries) (sym x.after_is)
     (begun_sound script entries closed w sound new old x.before x.open_call x.ended x.may x.unused x.not_retired)

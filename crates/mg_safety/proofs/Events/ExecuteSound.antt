@@ -1,5 +1,5 @@
 -- A request that reaches the gateway keeps the world sound: it is executed, or its reply is sent once more, or nothing happens.
-use Rattle.std.proofs.Common.{◌≡◌, ◌∙◌, ◌++◌, ℕ, true, false, true≢false, List, [], ◌∷◌, refl, sym, ap, subst, arith, inl, inr, Option}
+use Rattle.std.proofs.Common.{◌≡◌, ◌∙◌, ◌++◌, ℕ, false, true≢false, List, [], ◌∷◌, refl, sym, ap, subst, arith, inl, inr, Option}
 use Rattle.std.proofs.lemmas.List.Elements.{Contains-append_cases}
 use Rattle.std.specs.Prelude.{Contains}
 use Rattle.mg_model.specs.declared.failures.ChosenRefusal.{ChosenRefusal}
@@ -7,7 +7,7 @@ use Rattle.mg_model.specs.Entries.{Entry}
 use Rattle.mg_model.specs.Gateway.{Gateway, reply_of, after_request, sent_notes, IsExecutedBy}
 use Rattle.mg_model.specs.Messages.{Request, Reply, SentNote}
 use Rattle.mg_model.specs.Script.{Script}
-use Rattle.mg_model.specs.World.{World, execute, with_gateway, Executes, IsFirst, IsRepeat}
+use Rattle.mg_model.specs.World.{World, with_gateway, Executes, IsFirst, IsRepeat}
 use Rattle.mg_model.specs.Accepted.{IsScript}
 use Rattle.mg_model.proofs.Single.{only_one}
 use Rattle.mg_safety.proofs.Invariant.Sound.{IsReplySound, IsKnown, IsOpen, IsSound}
@@ -97,8 +97,7 @@ repeat_sound script entries w request after sound among r =
         requests = g.requests;
         replies = λ answer there. elim (Contains-append_cases (r.answer ∷ []) w.replies answer there) [
           | inl new ↦ (
-              let one = only_one r.answer answer new in
-              (
+              let one = only_one r.answer answer new in (
                 subst (λ (x : Reply). IsKnown w x.call) one (subst (IsKnown w) (sym of.0) (g.requests request among)),
                 λ is_open. subst (IsReplySound w.gateway) one again,
               ))

@@ -1,10 +1,8 @@
 -- The calls after a request was executed: the request's own call is answered, and each other call is as it was.
 use Rattle.std.proofs.Common.{◌≡◌, ◌∙◌, ◌<◌, ◌++◌, ℕ, Bool, true, false, List, ◌∷◌, length, Option, Some, refl, sym, ap, subst, arith, inl, inr}
-use Rattle.std.proofs.Math.Path.{fun_ext}
 use Rattle.std.proofs.lemmas.Bool.{eqb-true, eqb-false}
 use Rattle.std.specs.Prelude.{◌==◌, unwrap_or}
 use Rattle.mg_model.specs.declared.failures.Failure.{Failure}
-use Rattle.mg_names.specs.declared.identifiers.TermId.{TermId}
 use Rattle.mg_names.specs.declared.phases.LinkPhase as phases
 use Rattle.mg_model.specs.Agent.{Agent, after_results, built_by}
 use Rattle.mg_model.specs.Board.{Board, IsSettled}

@@ -231,8 +231,7 @@ module _ (script : Script) (entries : List Entry) (w : World) (request : Request
       let raised = h.run.notes from.line from.note from.among in
       let number : sent.note.request ≡ request.number = ap (λ (n : Note). n.request) from.note_is ∙ raised.1 in
       let own : last_executed (after_request w.gateway request end settled failure) sent.call ≡ request.number =
-      ap (last_executed (after_request w.gateway request end settled failure)) from.of_call ∙ executed_own w.gateway request end settled failure in
-      (
+      ap (last_executed (after_request w.gateway request end settled failure)) from.of_call ∙ executed_own w.gateway request end settled failure in (
         subst (IsKnown w) (sym from.of_call) (sound.gateway.requests request there),
         λ is_open. record {
           association = let of = from.of_association in let present = h.association in omega (arith, of, present);

@@ -122,8 +122,7 @@ module _ (script : Script) (entries : List Entry) (w : World) (sound : IsSound s
     where
       of_new : IsNew g call l outcome.note sent → IsKnown w sent.call × (IsOpen w sent.call → IsNoteSound sound.floor later sent)
       of_new new =
-          let same : sent.association ≡ g.association = new.association_is in
-          (
+          let same : sent.association ≡ g.association = new.association_is in (
             subst (IsKnown w) (sym new.call_is) holds,
             λ is_open. record { association = omega (arith, same); standing = λ present. new_standing sent new },
           )

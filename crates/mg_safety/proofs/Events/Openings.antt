@@ -1,20 +1,12 @@
 -- Openings are sound: every call stands in the opening configuration, which the certificate has, and nothing was sent.
-use Rattle.std.proofs.Common.{◌≡◌, ◌∙◌, ℕ, Bool, true, false, List, [], length, Option, Some, None, is_some, refl, sym, ap, subst, arith, true≢false, ◌<◌, ◌≤◌, inl, inr}
+use Rattle.std.proofs.Common.{◌≡◌, ◌∙◌, ℕ, Bool, true, false, List, [], length, Option, Some, None, is_some, refl, sym, ap, subst, arith, true≢false, ◌<◌, inl, inr}
 use Rattle.std.specs.Prelude.{Contains, if◌then◌else◌, nat_lt, unwrap_or}
 use Rattle.std.proofs.lemmas.Bool.{eq-eqb}
-use Rattle.std.proofs.lemmas.Grind.{common_steps}
 use Rattle.mg_names.specs.declared.identifiers.TermId.{TermId}
 use Rattle.mg_names.specs.declared.identifiers.TermId.TheVariants.{Line}
-use Rattle.mg_model.specs.declared.commands.EventsName.TheVariants.{Empty, Armed}
-use Rattle.mg_model.specs.declared.commands.Termination.{Termination}
-use Rattle.mg_model.specs.declared.commands.Termination.TheVariants as termination
-use Rattle.mg_model.specs.declared.components.Spot.{Spot}
-use Rattle.mg_model.specs.declared.components.Spot.TheVariants.{Absent, Null, In}
 use Rattle.mg_model.specs.declared.rows.Row.{Row}
 use Rattle.mg_model.specs.Agent.{Agent, opened}
 use Rattle.mg_model.specs.ListContents.{list_of}
-use Rattle.mg_model.specs.Board.{Board, place_in, mode_in}
-use Rattle.mg_model.specs.Configuration.{is_present}
 use Rattle.mg_model.specs.Entries.{Entry}
 use Rattle.mg_model.specs.Gateway.{CallLink, last_executed, number_of}
 use Rattle.mg_model.specs.LineEvents.{LineRow}
@@ -22,12 +14,10 @@ use Rattle.mg_model.specs.Messages.{Reply}
 use Rattle.mg_model.specs.Script.{Script}
 use Rattle.mg_model.specs.Steps.{opening}
 use Rattle.mg_model.specs.World.{World, Opened, IsOpening, armed_line}
-use Rattle.mg_model.specs.Board.{null_row}
-use Rattle.mg_model.specs.Accepted.{IsSlot}
 use Rattle.mg_safety.proofs.Agents.Entering.{not_resting}
-use Rattle.mg_model.proofs.Cases.{none_is_some, where_true}
+use Rattle.mg_model.proofs.Cases.{none_is_some}
 use Rattle.mg_safety.proofs.SmallLaws.OpeningLaws.{all_in_null}
-use Rattle.mg_safety.proofs.Invariant.Shown.{Naming, naming, term_of, row_on, cut_on, number_at, Seen, LinesShown}
+use Rattle.mg_safety.proofs.Invariant.Shown.{LinesShown}
 use Rattle.mg_safety.proofs.Invariant.OpeningShown.{AreCleared, events_armed, opening_shown}
 use Rattle.mg_safety.proofs.Invariant.Sound.{IsReached, IsCurrent, CallIsSound, GatewayIsSound, is_call, owned_in}
 use Rattle.mg_safety.proofs.Invariant.Statements.{IsClosed, OpeningsAreSound}

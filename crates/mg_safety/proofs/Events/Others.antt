@@ -1,14 +1,12 @@
 -- A request of one call leaves what every other call is shown: what it changes it owns, and it stands where no other call stands.
-use Rattle.std.proofs.Common.{◌≡◌, ◌∙◌, ◌<◌, ℕ, Bool, true, false, Option, Some, None, is_some, length, refl, sym, ap, subst, arith, inl, inr, true≢false, ◌⊎◌}
-use Rattle.std.specs.Prelude.{◌==◌, ◌&&◌, ◌||◌, not, if◌then◌else◌}
-use Rattle.std.proofs.lemmas.Bool.{eqb-true, eq-eqb, or_left, or_right, false_from_ne_true}
+use Rattle.std.proofs.Common.{◌≡◌, ◌∙◌, ◌<◌, ℕ, Bool, true, false, Option, Some, None, is_some, length, refl, sym, ap, subst, arith, inl, inr, true≢false}
+use Rattle.std.specs.Prelude.{◌&&◌, ◌||◌, not, if◌then◌else◌}
+use Rattle.std.proofs.lemmas.Bool.{eqb-true, eq-eqb, or_right, false_from_ne_true}
 use Rattle.mg_model.specs.declared.components.Spot.TheVariants.{In}
 use Rattle.mg_names.specs.declared.identifiers.TermId.{TermId}
 use Rattle.mg_names.specs.declared.identifiers.TermId.TheVariants.{Line, Eph}
 use Rattle.mg_model.specs.declared.commands.Termination.{Termination}
 use Rattle.mg_model.specs.declared.commands.Termination.TheVariants as termination
-use Rattle.mg_model.specs.declared.components.Remote.{Remote}
-use Rattle.mg_model.specs.declared.components.Remote.TheVariants.{Unset, Gone, To}
 use Rattle.mg_model.specs.declared.rows.Row.{Row}
 use Rattle.mg_model.specs.Agent.{Agent}
 use Rattle.mg_model.specs.Board.{Board, exists, place_of, place_in, mode_in, remote_in}

@@ -1,13 +1,11 @@
 -- No two ephemerals of different calls name each other: a Remote is only ever set to an ephemeral of the setter, and what the setter's
 -- ephemerals name at the end of its request is its own, or is no more.
-use Rattle.std.proofs.Common.{◌≡◌, ◌∙◌, ◌==◌, ℕ, Bool, true, false, Option, Some, None, is_some, refl, sym, ap, subst, true≢false}
+use Rattle.std.proofs.Common.{◌≡◌, ◌∙◌, ◌==◌, ℕ, Bool, true, false, Option, Some, None, refl, sym, ap, subst, true≢false}
 use Rattle.std.specs.Prelude.{if◌then◌else◌}
 use Rattle.std.proofs.lemmas.Bool.{eqb-true, eqb-false, eq-eqb}
-use Rattle.mg_names.specs.declared.identifiers.TermId.{TermId}
 use Rattle.mg_names.specs.declared.identifiers.TermId.TheVariants.{Eph}
 use Rattle.mg_model.specs.declared.components.Remote.{Remote}
 use Rattle.mg_model.specs.declared.components.Remote.TheVariants.{Unset, Gone, To}
-use Rattle.mg_model.specs.declared.rows.Row.{Row}
 use Rattle.mg_model.specs.Board.{Board, exists, remote_of, remote_in}
 use Rattle.mg_model.specs.Configuration.{Configuration}
 use Rattle.mg_model.specs.Gateway.{Gateway}

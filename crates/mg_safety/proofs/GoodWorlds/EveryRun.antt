@@ -67,7 +67,7 @@ event_sound : (event : Event) → KeepsSound (λ script w after. Occurs script w
 event_sound (OfCall call happens) = call_sound call.0 happens
 event_sound Restart = restart_sound
 
-runs_sound : (script : Script) (entries : List Entry) → IsScript script → IsClosed script entries → (events : List Event) (w end : World)
+pub runs_sound : (script : Script) (entries : List Entry) → IsScript script → IsClosed script entries → (events : List Event) (w end : World)
     → IsSound script entries w → Runs script events w end → IsSound script entries end
 unfolding Runs
 runs_sound script entries is_script closes [] w end sound runs = subst (IsSound script entries) (sym runs) sound

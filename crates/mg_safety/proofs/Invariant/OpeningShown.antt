@@ -1,5 +1,5 @@
 -- The opening configuration is shown on lines that stand in the null context, where nothing is cut between them and no ephemeral exists that is owned.
-use Rattle.std.proofs.Common.{◌≡◌, ◌∙◌, ℕ, Bool, true, false, Option, Some, None, is_some, length, refl, sym, ap, arith, true≢false, ◌<◌}
+use Rattle.std.proofs.Common.{◌≡◌, ◌∙◌, ℕ, Bool, true, false, Some, None, is_some, length, refl, sym, ap, arith, true≢false, ◌<◌}
 use Rattle.std.specs.Prelude.{nat_lt}
 use Rattle.std.proofs.lemmas.Grind.{common_steps}
 use Rattle.mg_names.specs.declared.identifiers.TermId.{TermId}

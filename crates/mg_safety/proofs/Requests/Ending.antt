@@ -2,13 +2,10 @@
 use Rattle.std.proofs.Common.{◌≡◌, ◌∙◌, ℕ, Bool, true, false, Option, Some, None, is_some, refl, sym, ap, subst, true≢false}
 use Rattle.mg_names.specs.declared.identifiers.TermId.{TermId}
 use Rattle.mg_names.specs.declared.identifiers.TermId.TheVariants.{Line, Eph}
-use Rattle.mg_model.specs.declared.commands.Termination.{Termination}
-use Rattle.mg_model.specs.declared.commands.Termination.TheVariants as termination
 use Rattle.mg_model.specs.declared.components.Remote.{Remote}
 use Rattle.mg_model.specs.declared.components.Remote.TheVariants.{Unset, Gone, To}
 use Rattle.mg_model.specs.declared.rows.Row.{Row}
-use Rattle.mg_model.specs.Accepted.{IsSlot}
-use Rattle.mg_model.specs.Board.{Board, exists, place_of, place_in, mode_in, remote_in, IsSettled}
+use Rattle.mg_model.specs.Board.{Board, exists, place_in, mode_in, remote_in, IsSettled}
 use Rattle.mg_model.specs.Configuration.{Configuration}
 use Rattle.mg_model.specs.Script.{Script}
 use Rattle.mg_safety.proofs.Invariant.Shown.{Naming, Shown, Seen, RemoteReads, RemoteSeen, row_on, cut_on, term_of, eph_of}

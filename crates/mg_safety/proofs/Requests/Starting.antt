@@ -1,12 +1,11 @@
 -- The start of a request. No name is stale then and no Remote is gone, so whatever is seen is shown as long as the request runs.
-use Rattle.std.proofs.Common.{◌≡◌, ◌∙◌, ◌<◌, ◌≤◌, ◌==◌, ℕ, Bool, true, false, List, [], ◌∷◌, length, Option, Some, None, is_some, refl, sym, ap, subst, arith, true≢false, inl, inr, ◌⊎◌}
+use Rattle.std.proofs.Common.{◌≡◌, ◌∙◌, ◌<◌, ◌≤◌, ℕ, Bool, true, false, List, [], ◌∷◌, length, Option, Some, None, is_some, refl, sym, ap, subst, arith, true≢false, inl, inr, ◌⊎◌}
 use Rattle.std.specs.Prelude.{◌||◌, not, unwrap_or}
 use Rattle.std.specs.List.{list_any}
 use Rattle.std.proofs.lemmas.Bool.{cases_lt, eqb-true}
 use Rattle.mg_names.specs.declared.context_values.ContextValue.{ContextValue}
 use Rattle.mg_names.specs.declared.context_values.ContextValue.TheVariants.{Free, Live, Stale}
 use Rattle.mg_names.specs.declared.identifiers.TermId.{TermId}
-use Rattle.mg_names.specs.declared.identifiers.TermId.TheVariants.{Line, Eph}
 use Rattle.mg_model.specs.declared.commands.Termination.{Termination}
 use Rattle.mg_model.specs.declared.commands.Termination.TheVariants as termination
 use Rattle.mg_model.specs.declared.components.Remote.{Remote}
@@ -14,8 +13,8 @@ use Rattle.mg_model.specs.declared.components.Remote.TheVariants.{Unset, Gone, T
 use Rattle.mg_model.specs.declared.components.Spot.{Spot}
 use Rattle.mg_model.specs.declared.components.Spot.TheVariants.{Absent, Null, In}
 use Rattle.mg_model.specs.Accepted.{IsSlot}
-use Rattle.mg_model.specs.Board.{Board, exists, place_of, place_in, remote_in}
-use Rattle.mg_model.specs.Configuration.{Configuration, IsWellFormed, is_in, is_free, is_live, stands_in, terminations}
+use Rattle.mg_model.specs.Board.{Board, place_of, place_in, remote_in}
+use Rattle.mg_model.specs.Configuration.{Configuration, IsWellFormed, is_in, is_free, is_live, terminations}
 use Rattle.mg_model.specs.Obligations.{IsLive}
 use Rattle.mg_model.specs.Script.{Script}
 use Rattle.mg_safety.proofs.Invariant.Shown.{Naming, Shown, Seen, RemoteReads, RemoteSeen, IsAccounted, row_on, term_of, eph_of, number_at}
