@@ -15,7 +15,7 @@ use scriptreader::{ScriptFault, read_script};
 use std::alloc::Global;
 use std::marker::Model;
 
-/// A script with a certificate that breaks no obligation: every run of any number of calls of the script on lines that differ is good.
+/// A script with a certificate that breaks no obligation: every run of any number of calls of the script, on lines distinct at each moment, is good.
 #[derive(Drop)]
 pub struct Checked {
     script: Script,
