@@ -6,4 +6,5 @@ pub mod Requests
 pub mod Events
 pub mod Agents
 pub mod GoodWorlds
+pub mod Messages
 pub mod SmallLaws

@@ -1,3 +1,4 @@
 pub mod Laws
 pub mod Headline
 pub mod Beginnings
+pub mod MessageNumbers

@@ -1,4 +1,5 @@
 //! Small laws of worlds, openings and events.
+ghost use Rattle.mg_safety.specs.MessageNumbers.{MessagesAreNamedByNumber};
 ghost use Rattle.mg_safety.specs.Laws.{OldRequestsDoNothing, RestartsClearLines, EventsKeepOthers, OpeningsAreGood, CallsStayApart, CommandsKeepOthers, PathsStayInside, SidesAgree};
 
 /// A request whose number is not above the last one executed of its call changes nothing, but that the kept reply may be
@@ -17,6 +18,11 @@ pub fn restarts_clear_lines()
 /// lines of one that has ended leaves those of every call but that one.
 pub fn events_keep_others()
     ensures { EventsKeepOthers }
+{}
+
+/// In every world of every run a message is named by its call and its number: two requests, replies or notes of one call with one number are one.
+pub fn messages_are_named_by_number()
+    ensures { MessagesAreNamedByNumber }
 {}
 
 /// An opening is a good world.
