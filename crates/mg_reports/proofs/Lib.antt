@@ -1,1 +1,4 @@
 pub mod Placings
+pub mod SameRequests
+pub mod SameEvents
+pub mod SameReports

@@ -136,7 +136,7 @@ occurs_numbered script w after call (to_call.Begin old) was occurs = begin_numbe
 occurs_numbered script w after call (to_call.Hear association) was occurs =
     agent_numbered w after call (λ a. heard script a association.0) (λ a. heard_next script a association.0) was occurs.1
 
-event_numbered : (script : Script) (w after : World) (event : Event) → IsNumbered w → Occurs script w event after → IsNumbered after
+pub event_numbered : (script : Script) (w after : World) (event : Event) → IsNumbered w → Occurs script w event after → IsNumbered after
 event_numbered script w after (OfCall call happens) was occurs = occurs_numbered script w after call.0 happens was occurs
 event_numbered script w after Restart was occurs = subst IsNumbered (sym occurs.1) (restart_numbered w was)
 
@@ -147,7 +147,7 @@ runs_numbered script (event ∷ more) w end was runs = runs_numbered script more
 
 -- ---- openings
 
-opening_numbered : (script : Script) (calls : List Opened) (w : World) → IsOpening script calls w → IsNumbered w
+pub opening_numbered : (script : Script) (calls : List Opened) (w : World) → IsOpening script calls w → IsNumbered w
 opening_numbered script calls w opens = record {
   agents = λ c b is. let its = opens.agents.no_other c b is in
       ap (λ (x : Agent). x.call) (the_some b (opened script its.0.call its.0.lines) (sym is ∙ ap w.agent (sym its.2) ∙ opens.agents.opened its.0 its.1)) ∙ its.2;
