@@ -1,0 +1,4 @@
+pub mod Scopes
+pub mod Agreeing
+pub mod Changing
+pub mod Executing
