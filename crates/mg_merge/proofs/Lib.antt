@@ -5,3 +5,5 @@ pub mod Executing
 pub mod Naming
 pub mod Leaving
 pub mod Running
+pub mod Agents
+pub mod Worlds
