@@ -7,3 +7,5 @@ pub mod Leaving
 pub mod Running
 pub mod Agents
 pub mod Worlds
+pub mod AgentEvents
+pub mod LineHappenings
