@@ -9,3 +9,6 @@ pub mod Agents
 pub mod Worlds
 pub mod AgentEvents
 pub mod LineHappenings
+pub mod Beginnings
+pub mod Settling
+pub mod Requests
