@@ -12,3 +12,6 @@ pub mod LineHappenings
 pub mod Beginnings
 pub mod Settling
 pub mod Requests
+pub mod Events
+pub mod Restarts
+pub mod Histories
