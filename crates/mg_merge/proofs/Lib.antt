@@ -15,3 +15,5 @@ pub mod Requests
 pub mod Events
 pub mod Restarts
 pub mod Histories
+pub mod Opening
+pub mod Choosing
