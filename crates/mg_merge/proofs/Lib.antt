@@ -17,3 +17,5 @@ pub mod Restarts
 pub mod Histories
 pub mod Opening
 pub mod Choosing
+pub mod MergedOpening
+pub mod Lanes
