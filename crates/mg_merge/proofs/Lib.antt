@@ -19,3 +19,4 @@ pub mod Opening
 pub mod Choosing
 pub mod MergedOpening
 pub mod Lanes
+pub mod Merging
