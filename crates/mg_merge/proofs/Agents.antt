@@ -1,5 +1,5 @@
 -- The agents of a shard's calls: what their names stand for is the shard's, through each of their steps, and so is what their requests name.
-use Rattle.std.proofs.Common.{◌≡◌, ◌∙◌, ◌+◌, ◌<◌, arith, ℕ, Bool, true, false, List, [], ◌∷◌, length, Option, Some, None, option_map, is_some, refl, sym, ap, subst, inl, inr, true≢false}
+use Rattle.std.proofs.Common.{◌≡◌, ◌+◌, ◌<◌, arith, ℕ, Bool, true, false, List, [], ◌∷◌, length, Option, Some, None, option_map, refl, sym, subst, inl, inr}
 use Rattle.std.specs.Prelude.{◌==◌, if◌then◌else◌, nat_lt, nat_le, unwrap_or, Contains}
 use Rattle.std.specs.List.{All}
 use Rattle.std.proofs.lemmas.Bool.{cases_lt}
@@ -17,7 +17,7 @@ use Rattle.mg_model.specs.declared.failures.Failure.{Failure}
 use Rattle.mg_model.specs.Accepted.{IsScript, IsSlot, IsCommandOf, IsStateOf}
 use Rattle.mg_model.specs.Agent.{answers, Agent, Made, none_made, made_after, Phase, awaits_reply, awaits_pass, resting, entered_with, entered, entered_or_rests, entered_if, entered_or_stays, built_by, bound_by, bound_if, request_of, after_result, after_results, leads_on, replied_to, replied, passed_in, passed, may_accept, inbox_of, is_listed, target_of, line_in, noted, is_resting, timed, forgotten, heard, begun, opened, context_or, ephemeral_or, context_ref, ephemeral_ref, added_to, place_ref, termination_ref, remote_ref, command_of, commands_of}
 use Rattle.mg_model.specs.Delivery.{with_accepted}
-use Rattle.mg_model.specs.Items.{Done, is_context_number}
+use Rattle.mg_model.specs.Items.{Done}
 use Rattle.mg_model.specs.Messages.{Request, Reply, SentNote}
 use Rattle.mg_model.specs.Numbers.{all, null, choose, no_ephemeral, last_number}
 use Rattle.mg_model.specs.Request.{Names, uses_known, names_after, built}

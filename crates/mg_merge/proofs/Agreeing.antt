@@ -1,13 +1,12 @@
 -- A command that names nothing of another shard is refused on the board of the merge with the codes that it is refused with on the
 -- shard's, and takes the same terminations out of their context.
-use Rattle.std.proofs.Common.{◌≡◌, ◌∙◌, ◌<◌, ℕ, Bool, true, false, zero, suc, Option, Some, None, is_some, refl, sym, ap, subst, arith, inl, inr, true≢false}
-use Rattle.std.specs.Prelude.{◌==◌, ◌||◌, ◌&&◌, not, IsTrue}
+use Rattle.std.proofs.Common.{◌≡◌, ◌∙◌, ◌<◌, ℕ, Bool, true, false, zero, suc, Option, Some, None, is_some, refl, sym, ap, subst, arith}
+use Rattle.std.specs.Prelude.{◌==◌, not, IsTrue}
 use Rattle.std.proofs.lemmas.Bool.{eqb-true, eq-eqb}
 use Rattle.mg_names.specs.declared.codes.Code.{Code}
 use Rattle.mg_names.specs.declared.codes.Code.TheVariants.{UnknownContext, UnknownTermination, AlreadyInContext, NotInContext, InternalFailure, InsufficientResources}
 use Rattle.mg_names.specs.declared.identifiers.TermId.{TermId}
 use Rattle.mg_names.specs.declared.identifiers.TermId.TheVariants.{Line, Eph}
-use Rattle.mg_model.specs.declared.items.Added.{Added}
 use Rattle.mg_model.specs.declared.items.Added.TheVariants as added
 use Rattle.mg_model.specs.declared.items.Item.{Item}
 use Rattle.mg_model.specs.declared.items.Item.TheVariants.{Add, Modify, Move, Subtract, SubtractAll, SetTopology}
@@ -16,8 +15,8 @@ use Rattle.mg_model.specs.declared.items.RemoteSetting.TheVariants.{Nothing, Eph
 use Rattle.mg_model.specs.Board.{Board, same_term, exists, place_of, place_in, ContextExists}
 use Rattle.mg_model.specs.Items.{is_context_number, LacksContext, names_nothing, remote_refused, lacks_termination, is_taken, is_misplaced, IsUsedUp, Applies, IsLegal, subtracts}
 use Rattle.mg_model.specs.Numbers.{null}
-use Rattle.mg_model.proofs.Cases.{none_of, different, not_both, false_not_true, by_test}
-use Rattle.mg_merge.proofs.Scopes.{Scope, mine, NamesContext, NamesTerm, NamesRemote, NamesAdded, NamesItem, IsContextOf, IsWithin, IsPart, IsWhole}
+use Rattle.mg_model.proofs.Cases.{none_of, different, not_both, false_not_true}
+use Rattle.mg_merge.proofs.Scopes.{Scope, mine, NamesContext, NamesTerm, NamesRemote, NamesItem, IsWithin, IsPart, IsWhole}
 
 pub same_term_is : (t u : TermId) → same_term t u ≡ true → t ≡ u
 same_term_is (Line i) (Line j) e = ap (λ n. Line (record { 0 = n })) (eqb-true i.0 j.0 e)

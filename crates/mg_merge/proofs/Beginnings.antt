@@ -1,6 +1,6 @@
 -- A call of a shard that begins on the lines of one that has ended begins on the same lines in the merge.
-use Rattle.std.proofs.Common.{◌≡◌, ◌∙◌, ◌<◌, ℕ, Bool, true, false, List, Option, Some, None, refl, sym, ap, subst}
-use Rattle.std.specs.Prelude.{◌==◌, Contains, if◌then◌else◌}
+use Rattle.std.proofs.Common.{◌≡◌, ◌∙◌, ℕ, Bool, true, false, Option, Some, None, refl, sym, ap, subst}
+use Rattle.std.specs.Prelude.{◌==◌, if◌then◌else◌}
 use Rattle.std.proofs.lemmas.Bool.{eqb-true}
 use Rattle.mg_names.specs.declared.identifiers.TermId.TheVariants.{Line}
 use Rattle.mg_model.specs.Agent.{Agent, begun}
@@ -15,7 +15,7 @@ use Rattle.mg_merge.proofs.Agents.{IsAgentWithin, IsReplyWithin, begun_within}
 use Rattle.mg_merge.proofs.AgentEvents.{Follows, another_number}
 use Rattle.mg_merge.proofs.Running.{same_outside}
 use Rattle.mg_merge.proofs.Scopes.{Scope}
-use Rattle.mg_merge.proofs.Worlds.{IsContained, IsBeside, IsMerge, LeavesOthers}
+use Rattle.mg_merge.proofs.Worlds.{IsContained, IsBeside, IsMerge}
 
 abbrev nothing_kept : CallLink
 nothing_kept = record { last = None; notes = 0 }
@@ -60,8 +60,11 @@ module _ (script : Script) (s : Scope) (w m : World) (contained : IsContained sc
     where
       go : (first second : Bool) → (c == call) ≡ first → (if first then Some (begun script call before) else if second then None else w.agent c) ≡ Some b
           → (s.numbers c ≡ true) × IsAgentWithin script s b
-      go true second e is = (ap s.numbers (eqb-true c call e) ∙ own, subst (IsAgentWithin script s) (the_some (begun script call before) b is)
-          (begun_within script s call before (contained.agents old before was_open).1))
+      go true second e is = (
+        ap s.numbers (eqb-true c call e) ∙ own,
+        subst (IsAgentWithin script s) (the_some (begun script call before) b is)
+            (begun_within script s call before (contained.agents old before was_open).1),
+      )
       go false true e is = absurd (none_is_some b is)
       go false false e is = contained.agents c b is
 

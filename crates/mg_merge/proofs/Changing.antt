@@ -1,23 +1,22 @@
 -- What a command of a shard changes: its board stays within what is the shard's, and any board on which it is executed is, at what isn't the
 -- shard's, as it was.
 use Rattle.std.proofs.Common.{◌≡◌, ◌∙◌, ◌<◌, ℕ, Bool, true, false, Option, Some, None, is_some, refl, sym, ap, subst, arith, inl, inr}
-use Rattle.std.specs.Prelude.{◌==◌, ◌||◌, ◌&&◌, ◌⊎◌, not, nat_lt, IsTrue, if◌then◌else◌}
+use Rattle.std.specs.Prelude.{◌==◌, ◌||◌, ◌⊎◌, not, nat_lt, IsTrue, if◌then◌else◌}
 use Rattle.std.proofs.lemmas.Bool.{eqb-true}
 use Rattle.std.proofs.lemmas.Bool.Decides.{nat_tests}
 use Rattle.mg_names.specs.declared.codes.Code.TheVariants.{UnknownContext, UnknownTermination}
 use Rattle.mg_names.specs.declared.identifiers.TermId.{TermId}
 use Rattle.mg_names.specs.declared.identifiers.TermId.TheVariants.{Line, Eph}
-use Rattle.mg_model.specs.declared.items.Added.{Added}
 use Rattle.mg_model.specs.declared.items.Added.TheVariants as added
 use Rattle.mg_model.specs.declared.items.Item.{Item}
 use Rattle.mg_model.specs.declared.items.Item.TheVariants.{Add, Modify, Move, Subtract, SubtractAll, SetTopology}
 use Rattle.mg_model.specs.declared.rows.Row.{Row}
-use Rattle.mg_model.specs.Board.{Board, same_term, exists, place_of, place_in, mode_of, remote_of, null_row, ContextExists}
-use Rattle.mg_model.specs.Items.{is_context_number, IsLegal, Chosen, IsFresh, target, row_at, effect, moved, subtracts, subtracted, without_cuts, given, creates_context, creates_ephemeral}
+use Rattle.mg_model.specs.Board.{Board, same_term, exists, place_of, place_in, mode_of, remote_of, ContextExists}
+use Rattle.mg_model.specs.Items.{IsLegal, Chosen, IsFresh, target, row_at, effect, subtracts, subtracted, given, creates_context, creates_ephemeral}
 use Rattle.mg_model.specs.Numbers.{null, choose}
 use Rattle.mg_model.proofs.Cases.{not_both, false_not_true, by_test, neither_first, not_refused, where_false}
 use Rattle.mg_merge.proofs.Agreeing.{same_term_is, existing_mine, leaves_mine}
-use Rattle.mg_merge.proofs.Scopes.{Scope, mine, NamesContext, NamesTerm, NamesItem, IsContextOf, IsEphemeralOf, IsWithin}
+use Rattle.mg_merge.proofs.Scopes.{Scope, mine, NamesTerm, NamesItem, IsContextOf, IsEphemeralOf, IsWithin}
 
 -- ---- tests
 

@@ -1,8 +1,7 @@
 -- A command that a shard's board executes is executed on the board of the merge, with the same result; the boards after it read alike at what
 -- is the shard's, and all else stays.
-use Rattle.std.proofs.Common.{◌≡◌, ◌∙◌, ◌<◌, ℕ, Bool, true, false, List, Option, Some, None, is_some, refl, sym, ap, subst, arith, inl, inr}
-use Rattle.std.specs.Prelude.{◌==◌, ◌||◌, ◌&&◌, not, IsTrue, if◌then◌else◌}
-use Rattle.mg_names.specs.declared.codes.Code.TheVariants.{UnknownTermination}
+use Rattle.std.proofs.Common.{◌≡◌, ◌∙◌, ◌<◌, ℕ, Bool, true, false, List, Option, Some, is_some, refl, sym, ap, subst}
+use Rattle.std.specs.Prelude.{◌==◌, ◌||◌, ◌&&◌, if◌then◌else◌}
 use Rattle.mg_names.specs.declared.identifiers.TermId.{TermId}
 use Rattle.mg_names.specs.declared.identifiers.TermId.TheVariants.{Line, Eph}
 use Rattle.mg_model.specs.declared.items.Added.TheVariants as added
@@ -11,12 +10,12 @@ use Rattle.mg_model.specs.declared.items.Item.TheVariants.{Add, Modify, Move, Su
 use Rattle.mg_model.specs.declared.items.Settings.{Settings}
 use Rattle.mg_model.specs.declared.rows.Row.{Row}
 use Rattle.mg_model.specs.Board.{Board, same_term, exists, place_of, place_in, mode_in, remote_in, mode_of, remote_of}
-use Rattle.mg_model.specs.Items.{IsLegal, IsUsedUp, Chosen, IsFresh, IsExecuted, IsResult, Lists, Done, row_at, placed, effect, subtracts, subtracted, without_cuts, given, creates_context, creates_ephemeral}
+use Rattle.mg_model.specs.Items.{IsLegal, IsUsedUp, Chosen, IsFresh, IsExecuted, IsResult, Lists, Done, row_at, placed, effect, subtracts, subtracted, creates_context, creates_ephemeral}
 use Rattle.mg_model.specs.Numbers.{null}
 use Rattle.mg_model.proofs.Cases.{not_both}
 use Rattle.mg_merge.proofs.Agreeing.{no_zeroth, leaves_mine, row_same, leaves_same, applies_back}
-use Rattle.mg_merge.proofs.Changing.{class_stays, row_out, cut_out, given_out, not_leaving, within_after, fresh_context, fresh_ephemeral, named_mine}
-use Rattle.mg_merge.proofs.Scopes.{Scope, mine, NamesTerm, NamesItem, IsContextOf, IsWithin, IsPart, IsWhole, IsSameOutside}
+use Rattle.mg_merge.proofs.Changing.{class_stays, row_out, cut_out, given_out, not_leaving, within_after, fresh_context, fresh_ephemeral}
+use Rattle.mg_merge.proofs.Scopes.{Scope, mine, NamesItem, IsWithin, IsPart, IsWhole, IsSameOutside}
 
 -- ---- boards that were changed alike
 
@@ -96,8 +95,11 @@ module _ (s : Scope) (b m : Board) (within : IsWithin s b) (part : IsPart s b m)
   cut_on (Move context u settings) names legal chosen t v own also = rw (part.cut t v own also) refl
   cut_on (Subtract context u) names legal chosen t v own also = rw (part.cut t v own also) refl
   cut_on (SubtractAll context) names legal chosen t v own also =
-      rw (leaves_same s b m within part whole (SubtractAll context) names legal t,
-      leaves_same s b m within part whole (SubtractAll context) names legal v, part.cut t v own also) refl
+      rw (
+        leaves_same s b m within part whole (SubtractAll context) names legal t,
+        leaves_same s b m within part whole (SubtractAll context) names legal v,
+        part.cut t v own also,
+      ) refl
   cut_on (SetTopology context u w topology) names legal chosen t v own also = rw (part.cut t v own also) refl
 
   -- ---- the command is executed
@@ -137,10 +139,16 @@ module _ (s : Scope) (b m : Board) (within : IsWithin s b) (part : IsPart s b m)
       executed = record {
         chosen = chosen;
         fresh = record {
-          context = λ creates. ((fresh.context creates).0, part.used_context chosen.context (own_context creates) ∙ (fresh.context creates).1,
-              part.class chosen.context (own_context creates));
-          ephemeral = λ creates. ((fresh.ephemeral creates).0, part.used_ephemeral chosen.ephemeral (own_ephemeral creates) ∙ (fresh.ephemeral creates).1,
-              part.class chosen.ephemeral (own_ephemeral creates));
+          context = λ creates. (
+            (fresh.context creates).0,
+            part.used_context chosen.context (own_context creates) ∙ (fresh.context creates).1,
+            part.class chosen.context (own_context creates),
+          );
+          ephemeral = λ creates. (
+            (fresh.ephemeral creates).0,
+            part.used_ephemeral chosen.ephemeral (own_ephemeral creates) ∙ (fresh.ephemeral creates).1,
+            part.class chosen.ephemeral (own_ephemeral creates),
+          );
         };
         legal = λ code applies. legal code (applies_back s b m within part whole item names left code applies);
         effect_is = refl;

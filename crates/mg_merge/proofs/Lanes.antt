@@ -1,9 +1,7 @@
 -- The shards side by side, each with what is left of its history: one association of all of them in the merge, shard after shard.
-use Rattle.std.proofs.Common.{◌≡◌, ◌∙◌, ◌++◌, ℕ, true, List, [], ◌∷◌, refl, sym, ap, subst}
-use Rattle.std.specs.Prelude.{Contains}
+use Rattle.std.proofs.Common.{List, [], ◌∷◌, refl}
 use Rattle.std.specs.List.{All}
 use Rattle.std.proofs.lemmas.List.Elements.{All-head, All-tail}
-use Rattle.mg_model.specs.declared.events.CallEvent.{CallEvent}
 use Rattle.mg_model.specs.declared.events.Event.{Event}
 use Rattle.mg_model.specs.declared.events.Event.TheVariants.{OfCall, Restart}
 use Rattle.mg_model.specs.Accepted.{IsScript}
@@ -131,28 +129,31 @@ all_pass script is [] apart m merge each = record {
 }
 all_pass script is (lane ∷ more) apart m merge (lane_begins, more_begin) =
     let one = passes script is (scope_in lane) lane.shard.end lane.rest lane_begins.world m lane_begins.own lane_begins.contained lane_begins.along merge
-        lane_begins.runs in
+    lane_begins.runs in
     let carried : Each (Begins script one.merged) more = each_both (λ (other : Lane). AreSeparate (scope_in lane) (scope_in other)) (Begins script m)
-        (Begins script one.merged) (λ other far begins. record {
-          world = begins.world;
-          contained = begins.contained;
-          along = one.others (scope_in other) begins.world far begins.along;
-          runs = begins.runs;
-          own = begins.own;
-        }) more apart.0 more_begin in
+    (Begins script one.merged) (λ other far begins. record {
+      world = begins.world;
+      contained = begins.contained;
+      along = one.others (scope_in other) begins.world far begins.along;
+      runs = begins.runs;
+      own = begins.own;
+    }) more apart.0 more_begin in
     let rest = all_pass script is more apart.1 one.merged one.merge carried in
     record {
       merged = rest.merged;
       went = runs_after script (before_restart lane.rest) (all_before (rests more)) m one.merged rest.merged one.went rest.went;
       merge = rest.merge;
-      each = (record {
-        world = one.world;
-        contained = one.contained;
-        along = rest.others (scope_in lane) one.world
-            (each_on (λ (other : Lane). AreSeparate (scope_in lane) (scope_in other)) (λ (other : Lane). AreSeparate (scope_in other) (scope_in lane))
-            (λ other far. turned (scope_in lane) (scope_in other) far) more apart.0) one.along;
-        runs = one.runs;
-        own = lane_begins.own;
-      }, rest.each);
+      each = (
+        record {
+          world = one.world;
+          contained = one.contained;
+          along = rest.others (scope_in lane) one.world
+              (each_on (λ (other : Lane). AreSeparate (scope_in lane) (scope_in other)) (λ (other : Lane). AreSeparate (scope_in other) (scope_in lane))
+              (λ other far. turned (scope_in lane) (scope_in other) far) more apart.0) one.along;
+          runs = one.runs;
+          own = lane_begins.own;
+        },
+        rest.each,
+      );
       others = λ u v far beside. rest.others u v far.1 (one.others u v far.0 beside);
     }

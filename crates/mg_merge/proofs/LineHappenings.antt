@@ -1,11 +1,10 @@
 -- An event of a line of a shard happens on the same line of the merge, and raises the same note.
-use Rattle.std.proofs.Common.{◌≡◌, ◌∙◌, ◌+◌, ◌++◌, ◌<◌, ◌≤◌, ℕ, Bool, true, false, List, [], ◌∷◌, length, Option, Some, None, refl, sym, ap, subst, inl, inr}
-use Rattle.std.specs.Prelude.{◌==◌, Contains, if◌then◌else◌}
-use Rattle.std.proofs.lemmas.Bool.{eqb-true}
+use Rattle.std.proofs.Common.{◌≡◌, ◌∙◌, ◌+◌, ◌++◌, ◌≤◌, ℕ, Bool, true, false, List, [], ◌∷◌, length, Option, Some, None, refl, sym, ap, subst}
+use Rattle.std.specs.Prelude.{◌==◌, if◌then◌else◌}
 use Rattle.std.proofs.lemmas.List.Elements.{Contains-append_right}
 use Rattle.mg_model.specs.declared.line_events.LineEvent.{LineEvent}
-use Rattle.mg_model.specs.Gateway.{Gateway, CallLink, Happens, outcome_of, with_line, with_notes, notes_from}
-use Rattle.mg_model.specs.LineEvents.{LineRow, Note, Outcome}
+use Rattle.mg_model.specs.Gateway.{Gateway, CallLink, outcome_of, with_line, with_notes, notes_from}
+use Rattle.mg_model.specs.LineEvents.{LineRow, Note}
 use Rattle.mg_model.specs.Messages.{Reply, SentNote}
 use Rattle.mg_model.specs.Numbers.{last_number}
 use Rattle.mg_model.specs.Script.{Script}
@@ -15,7 +14,7 @@ use Rattle.mg_merge.proofs.Agents.{IsReplyWithin}
 use Rattle.mg_merge.proofs.AgentEvents.{Follows, another_number, added_to_both}
 use Rattle.mg_merge.proofs.Running.{same_outside}
 use Rattle.mg_merge.proofs.Scopes.{Scope}
-use Rattle.mg_merge.proofs.Worlds.{IsContained, IsBeside, IsMerge, LeavesOthers}
+use Rattle.mg_merge.proofs.Worlds.{IsContained, IsBeside, IsMerge}
 
 -- the same notes, of a gateway in the same association that sent as many to the call
 notes_same : (g h : Gateway) (call l : ℕ) (note : Option Note) → h.association ≡ g.association → h.link call ≡ g.link call
@@ -102,20 +101,23 @@ module _ (script : Script) (s : Scope) (w m : World) (contained : IsContained sc
       x.after_is ∙ ap (λ (g : Gateway). record (with_gateway w g) { notes = x.sent ++ w.notes }) h.after_is in
       record {
         merged = it.merged;
-        happens = (along.holder l mine_line ∙ held, record {
-          gateway = with_notes (with_line m.gateway l h.outcome.row) h.call (length x.sent);
-          sent = x.sent;
-          happens = record {
-            call = h.call;
-            outcome = h.outcome;
-            held = along.holder l mine_line ∙ h.held;
-            happens = ap (λ (r : LineRow). outcome_of r event) (along.line l mine_line) ∙ h.happens;
-            notes_are = h.notes_are ∙ sym (notes_same w.gateway m.gateway h.call l h.outcome.note along.association (along.link h.call mine_call));
-            room = subst (λ (link : CallLink). link.notes + length x.sent ≤ last_number) (sym (along.link h.call mine_call)) h.room;
-            after_is = refl;
-          };
-          after_is = it.happens;
-        });
+        happens = (
+          along.holder l mine_line ∙ held,
+          record {
+            gateway = with_notes (with_line m.gateway l h.outcome.row) h.call (length x.sent);
+            sent = x.sent;
+            happens = record {
+              call = h.call;
+              outcome = h.outcome;
+              held = along.holder l mine_line ∙ h.held;
+              happens = ap (λ (r : LineRow). outcome_of r event) (along.line l mine_line) ∙ h.happens;
+              notes_are = h.notes_are ∙ sym (notes_same w.gateway m.gateway h.call l h.outcome.note along.association (along.link h.call mine_call));
+              room = subst (λ (link : CallLink). link.notes + length x.sent ≤ last_number) (sym (along.link h.call mine_call)) h.room;
+              after_is = refl;
+            };
+            after_is = it.happens;
+          },
+        );
         contained = subst (IsContained script s) (sym after_is) it.contained;
         along = subst (λ (v : World). IsBeside s v it.merged) (sym after_is) it.along;
         merge = it.merge;

@@ -1,22 +1,21 @@
 -- Where the merge opens: the lines, the holders and the agents of all shards. It is an opening of all their calls, and each shard stands beside it.
-use Rattle.std.proofs.Common.{◌≡◌, ◌∙◌, ◌<◌, ℕ, Bool, true, false, List, [], ◌∷◌, length, Option, Some, None, is_some, refl, sym, ap, subst, arith, inl, inr}
-use Rattle.std.specs.Prelude.{◌⊎◌, Contains, IsTrue}
+use Rattle.std.proofs.Common.{◌≡◌, ◌∙◌, ℕ, Bool, true, false, List, [], Option, Some, None, is_some, refl, sym, ap, subst, inl, inr}
+use Rattle.std.specs.Prelude.{◌⊎◌, Contains}
 use Rattle.mg_names.specs.declared.identifiers.TermId.{TermId}
 use Rattle.mg_names.specs.declared.identifiers.TermId.TheVariants.{Line, Eph}
 use Rattle.mg_model.specs.declared.rows.Row.{Row}
-use Rattle.mg_model.specs.Agent.{Agent, opened}
-use Rattle.mg_model.specs.Board.{Board, null_row, place_of}
-use Rattle.mg_model.specs.Gateway.{Gateway, CallLink}
-use Rattle.mg_model.specs.LineEvents.{LineRow}
+use Rattle.mg_model.specs.Agent.{Agent}
+use Rattle.mg_model.specs.Board.{null_row, place_of}
+use Rattle.mg_model.specs.Gateway.{CallLink}
 use Rattle.mg_model.specs.Numbers.{first_association}
 use Rattle.mg_model.specs.Script.{Script}
-use Rattle.mg_model.specs.Shards.{Shard, IsShardRun, AreApart, AreAllApart, all_calls}
+use Rattle.mg_model.specs.Shards.{Shard, IsShardRun, AreAllApart, all_calls}
 use Rattle.mg_model.specs.World.{World, Opened, IsOpening, AreDistinct, AreOpenedLines, armed_line}
-use Rattle.mg_model.proofs.Cases.{false_not_true, none_is_some, none_of, not_both, some_of, the_some}
+use Rattle.mg_model.proofs.Cases.{false_not_true, none_is_some, the_some}
 use Rattle.mg_merge.proofs.Choosing.{first_with, only_with, from_first, class_of, in_class, in_joined, from_joined, two_of}
 use Rattle.mg_merge.proofs.Opening.{line_of_call, call_line, start_contained, nothing_in, separate}
-use Rattle.mg_merge.proofs.Scopes.{Scope, scope_of, mine, IsPart}
-use Rattle.mg_merge.proofs.Worlds.{IsContained, IsBeside, IsMerge}
+use Rattle.mg_merge.proofs.Scopes.{scope_of, mine}
+use Rattle.mg_merge.proofs.Worlds.{IsBeside, IsMerge}
 
 -- ---- the world
 

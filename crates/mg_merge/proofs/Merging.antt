@@ -1,7 +1,6 @@
 -- The law: association by association, with one restart of all between two, the histories of the shards are one run of all their calls.
 use Rattle.std.proofs.Common.{◌≡◌, ◌∙◌, ◌+◌, ◌<◌, ◌++◌, ℕ, zero, suc, List, [], ◌∷◌, refl, sym, ap, subst, inl, inr}
-use Rattle.std.specs.Prelude.{Contains, IsTrue}
-use Rattle.std.specs.List.{All}
+use Rattle.std.specs.Prelude.{Contains}
 use Rattle.std.proofs.lemmas.List.Elements.{All-weaker, All-contains_itself}
 use Rattle.mg_model.specs.declared.events.Event.{Event}
 use Rattle.mg_model.specs.declared.events.Event.TheVariants.{Restart}
@@ -9,16 +8,16 @@ use Rattle.mg_model.specs.Accepted.{IsScript}
 use Rattle.mg_model.specs.Gateway.{restarted}
 use Rattle.mg_model.specs.Numbers.{last_association}
 use Rattle.mg_model.specs.Script.{Script}
-use Rattle.mg_model.specs.Shards.{History, Shard, IsShardRun, IsEventOf, AgreesWith, AreApart, AreAllApart, HasIdentifiersLeft, MergesAreRuns, RunsWithin, all_calls, cut_at_restarts, histories, merged_from, restarts_in, together}
-use Rattle.mg_model.specs.World.{World, Occurs, Runs, with_gateway}
+use Rattle.mg_model.specs.Shards.{History, Shard, IsShardRun, IsEventOf, AgreesWith, AreAllApart, MergesAreRuns, RunsWithin, cut_at_restarts, histories, merged_from, restarts_in}
+use Rattle.mg_model.specs.World.{World, Runs, with_gateway}
 use Rattle.mg_model.proofs.Single.{first_in, none_in}
 use Rattle.mg_merge.proofs.Choosing.{later_in, first_or_later}
-use Rattle.mg_merge.proofs.Histories.{after_restart, all_after, all_before, all_cut, first_together, from_restart, later_merged, later_own, none_left, one_left, runs_after}
-use Rattle.mg_merge.proofs.Lanes.{Lane, scope_in, Each, AreAllSeparate, rests, each_on, each_both, GoesOn, Begins, Stops, all_pass}
+use Rattle.mg_merge.proofs.Histories.{after_restart, all_after, all_before, all_cut, first_together, later_merged, later_own, none_left, one_left, runs_after}
+use Rattle.mg_merge.proofs.Lanes.{Lane, scope_in, Each, AreAllSeparate, rests, each_both, Begins, Stops, all_pass}
 use Rattle.mg_merge.proofs.MergedOpening.{merged_start, start_beside, start_merge, opens}
 use Rattle.mg_merge.proofs.Opening.{separate, start_contained}
 use Rattle.mg_merge.proofs.Restarts.{contained_restarted, beside_restarted, merge_restarted}
-use Rattle.mg_merge.proofs.Scopes.{Scope, scope_of, AreSeparate}
+use Rattle.mg_merge.proofs.Scopes.{scope_of, AreSeparate}
 use Rattle.mg_merge.proofs.Worlds.{IsContained, IsBeside, IsMerge}
 
 -- ---- lanes after a restart
@@ -45,9 +44,11 @@ each_back P Q on (lane ∷ more) each = (on lane each.0, each_back P Q on more e
 
 later_separate : (lanes : List Lane) → AreAllSeparate lanes → AreAllSeparate (later_lanes lanes)
 later_separate [] apart = apart
-later_separate (lane ∷ more) apart =
-    (each_later (λ (other : Lane). AreSeparate (scope_in lane) (scope_in other)) (λ (other : Lane). AreSeparate (scope_in lane) (scope_in other))
-    (λ other far. far) more apart.0, later_separate more apart.1)
+later_separate (lane ∷ more) apart = (
+  each_later (λ (other : Lane). AreSeparate (scope_in lane) (scope_in other)) (λ (other : Lane). AreSeparate (scope_in lane) (scope_in other))
+      (λ other far. far) more apart.0,
+  later_separate more apart.1,
+)
 
 -- each is restarted as often
 abbrev IsRestarted : ℕ → Lane → Type 0
@@ -62,15 +63,17 @@ restarts_on script m restarts lane is stops =
     let runs : RunsWithin script (Restart ∷ after_restart lane.rest) stops.world lane.shard.end =
     subst (λ (events : List Event). RunsWithin script events stops.world lane.shard.end) parts.0 stops.runs in
     let next = runs.1.0 in
-    let occurs = runs.1.1.0 in
-    (subst (λ (n : ℕ). n < last_association) (sym stops.along.association) occurs.0, record {
-      world = next;
-      contained = subst (IsContained script (scope_in lane)) (sym occurs.1) (contained_restarted script (scope_in lane) stops.world stops.contained);
-      along = subst (λ (v : World). IsBeside (scope_in lane) v (with_gateway m (restarted m.gateway))) (sym occurs.1)
-          (beside_restarted (scope_in lane) stops.world m stops.along);
-      runs = runs.1.1.1;
-      own = later_own (IsEventOf lane.shard.numbers) lane.rest stops.own;
-    })
+    let occurs = runs.1.1.0 in (
+      subst (λ (n : ℕ). n < last_association) (sym stops.along.association) occurs.0,
+      record {
+        world = next;
+        contained = subst (IsContained script (scope_in lane)) (sym occurs.1) (contained_restarted script (scope_in lane) stops.world stops.contained);
+        along = subst (λ (v : World). IsBeside (scope_in lane) v (with_gateway m (restarted m.gateway))) (sym occurs.1)
+            (beside_restarted (scope_in lane) stops.world m stops.along);
+        runs = runs.1.1.1;
+        own = later_own (IsEventOf lane.shard.numbers) lane.rest stops.own;
+      },
+    )
 
 all_begin : (script : Script) (m : World) (restarts : ℕ) (lanes : List Lane) → Each (IsRestarted (suc restarts)) lanes → Each (Stops script m) lanes
     → Each (Begins script (with_gateway m (restarted m.gateway))) (later_lanes lanes)
@@ -117,13 +120,13 @@ all_merge script is (suc restarts) first others apart m merge are begin =
     let one = restarts_on script passed.merged restarts first are.0 passed.each.0 in
     let next : World = with_gateway passed.merged (restarted passed.merged.gateway) in
     let counts : Each (IsRestarted restarts) (later_lanes (first ∷ others)) = each_later (IsRestarted (suc restarts)) (IsRestarted restarts)
-        (λ lane more. (one_left lane.rest restarts more).1) (first ∷ others) are in
+    (λ lane more. (one_left lane.rest restarts more).1) (first ∷ others) are in
     let rest = all_merge script is restarts (later_lane first) (later_lanes others) (later_separate (first ∷ others) apart) next
-        (merge_restarted passed.merged) counts (all_begin script passed.merged restarts (first ∷ others) are passed.each) in
+    (merge_restarted passed.merged) counts (all_begin script passed.merged restarts (first ∷ others) are passed.each) in
     let later : Runs script (merged_from (all_cut (rests (first ∷ others))) (0 + 1) restarts) next rest.end =
     subst (λ (events : List Event). Runs script events next rest.end)
-        (ap (λ (all : List (List Event)). merged_from (all_cut all) 0 restarts) (later_rests (first ∷ others))
-        ∙ sym (later_merged (rests (first ∷ others)) 0 restarts)) rest.runs in
+    (ap (λ (all : List (List Event)). merged_from (all_cut all) 0 restarts) (later_rests (first ∷ others))
+    ∙ sym (later_merged (rests (first ∷ others)) 0 restarts)) rest.runs in
     record {
       end = rest.end;
       runs = subst (λ (events : List Event). Runs script (events ++ Restart ∷ merged_from (all_cut (rests (first ∷ others))) (0 + 1) restarts) m rest.end)
@@ -161,10 +164,11 @@ all_separate : (script : Script) (shards : List Shard) → ((shard : Shard) → 
     → AreAllSeparate (lanes_of shards)
 unfolding AreAllApart
 all_separate script [] runs apart = tt
-all_separate script (shard ∷ more) runs apart =
-    (each_of (λ (other : Lane). AreSeparate (scope_of shard) (scope_in other)) more
-    (λ other there. separate script shard other (runs shard (first_in shard more)) (runs other (later_in shard more other there)) (apart.0 other there)),
-    all_separate script more (λ other there. runs other (later_in shard more other there)) apart.1)
+all_separate script (shard ∷ more) runs apart = (
+  each_of (λ (other : Lane). AreSeparate (scope_of shard) (scope_in other)) more
+      (λ other there. separate script shard other (runs shard (first_in shard more)) (runs other (later_in shard more other there)) (apart.0 other there)),
+  all_separate script more (λ other there. runs other (later_in shard more other there)) apart.1,
+)
 
 -- where the shards are apart, and were restarted as often, the merge of their histories is a run
 pub merges : MergesAreRuns
@@ -179,7 +183,7 @@ merges script first others restarts is each apart =
       own = All-weaker (Contains shard.history) (IsEventOf shard.numbers) (runs shard there).events shard.history (All-contains_itself shard.history);
     }) in
     let it = all_merge script is restarts (lane_of first) (lanes_of others) (all_separate script shards runs apart) (merged_start shards)
-        (start_merge shards) (each_of (IsRestarted restarts) shards (λ shard there. (each shard there).1)) begin in
+    (start_merge shards) (each_of (IsRestarted restarts) shards (λ shard there. (each shard there).1)) begin in
     record {
       start = merged_start shards;
       end = it.end;

@@ -1,9 +1,8 @@
 -- The commands of a shard's requests name nothing of another shard, so their items don't either.
-use Rattle.std.proofs.Common.{◌≡◌, ◌∙◌, ◌<◌, ℕ, Bool, true, false, List, Option, Some, None, option_map, refl, sym, ap, subst, arith}
+use Rattle.std.proofs.Common.{◌≡◌, ◌<◌, ℕ, true, List, Option, Some, None, option_map, refl, subst, arith}
 use Rattle.std.specs.Prelude.{unwrap_or, slice_get, option_and_then}
 use Rattle.std.specs.List.{All}
 use Rattle.std.proofs.lemmas.Option.{slice_get_within, get_or_from_slice_get}
-use Rattle.mg_model.specs.declared.items.RemoteSetting.{RemoteSetting}
 use Rattle.mg_model.specs.declared.references.ContextRef.{ContextRef}
 use Rattle.mg_model.specs.declared.references.ContextRef.TheVariants.{Number, MadeAt}
 use Rattle.mg_model.specs.declared.references.EphemeralRef.{EphemeralRef}
@@ -12,7 +11,7 @@ use Rattle.mg_model.specs.declared.references.RemoteRef.{RemoteRef}
 use Rattle.mg_model.specs.declared.references.RemoteRef.TheVariants as remote
 use Rattle.mg_model.specs.declared.references.TerminationRef.{TerminationRef}
 use Rattle.mg_model.specs.declared.references.TerminationRef.TheVariants as on
-use Rattle.mg_model.specs.Items.{Done, is_context_number}
+use Rattle.mg_model.specs.Items.{Done}
 use Rattle.mg_model.specs.Messages.{Descriptors, RequestCommand, add_line, add_ephemeral, modify, move, subtract, subtract_all, set_topology}
 use Rattle.mg_model.specs.Numbers.{all, no_ephemeral}
 use Rattle.mg_model.specs.RequestRun.{context_at, ephemeral_at, termination_at, remote_at, item_at, LineDescriptors, on_line, of_termination, described}

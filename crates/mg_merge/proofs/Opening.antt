@@ -1,13 +1,12 @@
 -- Where a shard opens: its world is contained in what it owns; and shards that are apart own nothing in common.
-use Rattle.std.proofs.Common.{◌≡◌, ◌∙◌, ◌<◌, ℕ, Bool, true, false, List, [], length, Option, Some, None, is_some, refl, sym, ap, subst, arith}
-use Rattle.std.specs.Prelude.{Contains, IsTrue}
+use Rattle.std.proofs.Common.{◌≡◌, ◌∙◌, ◌<◌, ℕ, true, List, [], length, Option, Some, None, is_some, refl, sym, ap, subst}
+use Rattle.std.specs.Prelude.{Contains}
 use Rattle.mg_names.specs.declared.identifiers.TermId.{TermId}
 use Rattle.mg_names.specs.declared.identifiers.TermId.TheVariants.{Line, Eph}
 use Rattle.mg_model.specs.declared.rows.Row.{Row}
 use Rattle.mg_model.specs.Agent.{Agent, opened}
-use Rattle.mg_model.specs.Board.{Board, exists, place_of, place_in}
+use Rattle.mg_model.specs.Board.{place_of, place_in}
 use Rattle.mg_model.specs.Gateway.{CallLink}
-use Rattle.mg_model.specs.Messages.{Request, Reply}
 use Rattle.mg_model.specs.Script.{Script}
 use Rattle.mg_model.specs.Shards.{Shard, IsShardRun, AreApart}
 use Rattle.mg_model.specs.World.{World, Opened, IsOpening}
@@ -50,10 +49,11 @@ module _ (script : Script) (shard : Shard) (run : IsShardRun script shard) where
   start_agents : (c : ℕ) (a : Agent) → shard.start.agent c ≡ Some a → (shard.numbers c ≡ true) × IsAgentWithin script (scope_of shard) a
   start_agents c a there =
       let one = run.opens.agents.no_other c a there in
-      let known : shard.start.agent c ≡ Some (opened script one.0.call one.0.lines) = ap shard.start.agent (sym one.2) ∙ run.opens.agents.opened one.0 one.1 in
-      (ap shard.numbers (sym one.2) ∙ run.calls one.0 one.1,
-      subst (IsAgentWithin script (scope_of shard)) (the_some (opened script one.0.call one.0.lines) a (sym known ∙ there))
-      (opened_within script (scope_of shard) one.0.call one.0.lines (call_line one.0 one.1)))
+      let known : shard.start.agent c ≡ Some (opened script one.0.call one.0.lines) = ap shard.start.agent (sym one.2) ∙ run.opens.agents.opened one.0 one.1 in (
+        ap shard.numbers (sym one.2) ∙ run.calls one.0 one.1,
+        subst (IsAgentWithin script (scope_of shard)) (the_some (opened script one.0.call one.0.lines) a (sym known ∙ there))
+            (opened_within script (scope_of shard) one.0.call one.0.lines (call_line one.0 one.1)),
+      )
 
   start_within : IsWithin (scope_of shard) shard.start.gateway.board
   start_within = record {

@@ -1,15 +1,14 @@
 -- A request of a shard that reaches its gateway reaches that of the merge: it is executed there with the same reply and notes, or the same reply
 -- is sent once more, or nothing happens.
-use Rattle.std.proofs.Common.{◌≡◌, ◌∙◌, ◌+◌, ◌++◌, ◌<◌, ◌≤◌, ℕ, Bool, true, false, List, [], ◌∷◌, length, Option, Some, None, is_some, refl, sym, ap, subst, inl, inr}
-use Rattle.std.specs.Prelude.{◌==◌, ◌⊎◌, Contains, if◌then◌else◌}
-use Rattle.std.specs.List.{All}
+use Rattle.std.proofs.Common.{◌≡◌, ◌∙◌, ◌+◌, ◌++◌, ◌≤◌, ℕ, Bool, true, false, List, [], ◌∷◌, length, Option, Some, None, is_some, refl, sym, ap, subst, inl, inr}
+use Rattle.std.specs.Prelude.{◌==◌, Contains, if◌then◌else◌}
 use Rattle.std.proofs.lemmas.List.Elements.{All-nil, Contains-append_cases, Contains-append_right}
 use Rattle.mg_names.specs.declared.identifiers.TermId.TheVariants.{Eph}
 use Rattle.mg_model.specs.declared.failures.ChosenRefusal.{ChosenRefusal}
 use Rattle.mg_model.specs.declared.failures.Failure.{Failure}
 use Rattle.mg_model.specs.Board.{Board, exists, IsSettled}
-use Rattle.mg_model.specs.Delivery.{Offer, fresh, kept, discard, offer}
-use Rattle.mg_model.specs.Gateway.{Gateway, CallLink, IsExecutedBy, after_request, creator_after, numbered, offer_to, reply_of, sent_notes, start_of}
+use Rattle.mg_model.specs.Delivery.{Offer, discard, offer}
+use Rattle.mg_model.specs.Gateway.{Gateway, CallLink, after_request, creator_after, numbered, offer_to, reply_of, sent_notes, start_of}
 use Rattle.mg_model.specs.Items.{Done}
 use Rattle.mg_model.specs.Messages.{Request, Reply, SentNote}
 use Rattle.mg_model.specs.Numbers.{last_number}
@@ -20,7 +19,7 @@ use Rattle.mg_model.specs.World.{World, Executes, IsFirst, IsRepeat, with_gatewa
 use Rattle.mg_model.proofs.Cases.{at_another, none_is_some, the_some}
 use Rattle.mg_model.proofs.Offered.{kept_at}
 use Rattle.mg_model.proofs.Single.{only_one}
-use Rattle.mg_merge.proofs.Agents.{IsRequestWithin, IsReplyWithin}
+use Rattle.mg_merge.proofs.Agents.{IsReplyWithin}
 use Rattle.mg_merge.proofs.AgentEvents.{Follows, leaves_itself, another_number, added_to_both}
 use Rattle.mg_merge.proofs.Naming.{IsDoneBy}
 use Rattle.mg_merge.proofs.Running.{RunsBeside, EndsBeside, runs_too}

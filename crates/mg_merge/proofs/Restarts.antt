@@ -1,16 +1,15 @@
 -- A restart of a shard beside that of the merge: one restart of the merge stands for those of all shards.
-use Rattle.std.proofs.Common.{◌≡◌, ◌∙◌, ◌+◌, ◌<◌, ℕ, Bool, true, false, Option, Some, None, is_some, refl, sym, ap}
-use Rattle.std.specs.Prelude.{IsTrue, ◌↔◌}
+use Rattle.std.proofs.Common.{◌≡◌, ◌∙◌, ◌+◌, ℕ, false, Option, Some, None, is_some, refl, sym, ap}
 use Rattle.mg_names.specs.declared.identifiers.TermId.{TermId}
 use Rattle.mg_names.specs.declared.identifiers.TermId.TheVariants.{Line, Eph}
 use Rattle.mg_model.specs.declared.rows.Row.{Row}
 use Rattle.mg_model.specs.Board.{Board, place_in}
-use Rattle.mg_model.specs.Gateway.{CallLink, restarted, board_restarted, link_restarted, row_restarted}
-use Rattle.mg_model.specs.LineEvents.{LineRow, cleared}
+use Rattle.mg_model.specs.Gateway.{restarted, board_restarted, link_restarted, row_restarted}
+use Rattle.mg_model.specs.LineEvents.{cleared}
 use Rattle.mg_model.specs.Script.{Script}
 use Rattle.mg_model.specs.World.{World, with_gateway}
 use Rattle.mg_model.proofs.Cases.{false_not_true, none_is_some}
-use Rattle.mg_merge.proofs.Scopes.{Scope, IsWithin, IsPart, IsWhole}
+use Rattle.mg_merge.proofs.Scopes.{Scope, IsWithin}
 use Rattle.mg_merge.proofs.Worlds.{IsContained, IsBeside, IsMerge}
 
 gone : (k : ℕ) (row : Option Row) → is_some (row_restarted (Eph k) row) ≡ false

@@ -1,19 +1,16 @@
 -- A request of a shard runs on the gateway of the merge as it runs on the shard's: command by command, up to the same failure or the end, with
 -- the same results and notes.
 use Rattle.std.proofs.Common.{◌≡◌, ◌∙◌, ◌+◌, ◌++◌, ℕ, suc, Bool, true, false, List, [], ◌∷◌, length, Option, Some, None, refl, sym, ap, subst, inl, inr}
-use Rattle.std.specs.Prelude.{◌==◌, ◌||◌, ◌⊎◌, not, filter, if◌then◌else◌, option_map}
+use Rattle.std.specs.Prelude.{◌==◌, ◌||◌, not, filter, if◌then◌else◌}
 use Rattle.std.specs.List.{All}
-use Rattle.std.proofs.lemmas.Bool.{eqb-true}
 use Rattle.std.proofs.lemmas.List.Elements.{All-head, All-tail, All-push, filter_agree}
 use Rattle.mg_names.specs.declared.codes.Code.{Code}
 use Rattle.mg_names.specs.declared.identifiers.TermId.TheVariants.{Line}
 use Rattle.mg_model.specs.declared.failures.ChosenRefusal.{ChosenRefusal}
 use Rattle.mg_model.specs.declared.failures.Failure.{Failure}
-use Rattle.mg_model.specs.declared.failures.Refusal.{Refusal}
 use Rattle.mg_model.specs.declared.items.Item.{Item}
 use Rattle.mg_model.specs.Board.{Board}
-use Rattle.mg_model.specs.Failures.{code_of}
-use Rattle.mg_model.specs.Items.{Applies, Chosen, Done, IsExecuted, IsLegal, IsResult, IsFresh, IsUsedUp, effect, only_if, creates_context, creates_ephemeral, rank, subtracts}
+use Rattle.mg_model.specs.Items.{Chosen, Done, IsExecuted, IsLegal, IsResult, IsFresh, IsUsedUp, only_if, creates_context, creates_ephemeral, subtracts}
 use Rattle.mg_model.specs.LineEvents.{LineRow, cleared}
 use Rattle.mg_model.specs.Messages.{RequestCommand}
 use Rattle.mg_model.specs.RequestRun.{Running, RaisedNote, RunsFrom, Succeeds, Fails, IsRefusedWith, MayRefuse, LineDescriptors, after_command, chosen_at, described, described_row, item_at, line_after, note_from, raised, rearms, standing, with_descriptors}
@@ -158,20 +155,22 @@ module _ (s : Scope) (r m : Running) (along : RunsBeside s r m) (command : Reque
             ∙ ap (λ notes. standing r command item ++ notes) raised_same;
         made = All-push (IsDoneBy s) r.results x.done along.made
             (done_by s r.board along.within item item_names ran.legal ran.chosen ran.fresh x.done ran.result);
-      } in
-      (record {
-        merged = merged;
-        succeeds = record {
-          board = there.merged;
-          done = x.done;
-          not_chosen = x.not_chosen;
-          executed = subst (λ i. IsExecuted m.board i there.merged x.done) (sym item_same) there.executed;
-          next_is = refl;
-        };
-        beside_it = subst (λ (after : Running). RunsBeside s after merged) (sym x.next_is) it;
-        others = record { board = there.outside; line = line_stays ran.legal };
-      }, subst (λ (after : Running). Remain after.board wanted) (sym x.next_is)
-      (subst (λ (after : Board). Remain after wanted) (sym ran.effect_is) (remain_after r.board item ran.chosen wanted left)))
+      } in (
+        record {
+          merged = merged;
+          succeeds = record {
+            board = there.merged;
+            done = x.done;
+            not_chosen = x.not_chosen;
+            executed = subst (λ i. IsExecuted m.board i there.merged x.done) (sym item_same) there.executed;
+            next_is = refl;
+          };
+          beside_it = subst (λ (after : Running). RunsBeside s after merged) (sym x.next_is) it;
+          others = record { board = there.outside; line = line_stays ran.legal };
+        },
+        subst (λ (after : Running). Remain after.board wanted) (sym x.next_is)
+            (subst (λ (after : Board). Remain after wanted) (sym ran.effect_is) (remain_after r.board item ran.chosen wanted left)),
+      )
 
   -- ---- a command that is refused
 

@@ -1,7 +1,6 @@
 -- What a shard owns: numbers of calls, lines, and identifiers of contexts and ephemerals; what of a command is the shard's; and what it means
 -- that the board and the lines of a shard stand, as they are, among those of the merge.
-use Rattle.std.proofs.Common.{◌≡◌, ◌∙◌, ◌<◌, ℕ, Bool, true, false, Option, Some, None, is_some, refl, sym, ap}
-use Rattle.std.specs.Prelude.{Contains}
+use Rattle.std.proofs.Common.{◌≡◌, ◌<◌, ℕ, Bool, true, false, Option, Some, None, is_some}
 use Rattle.mg_names.specs.declared.identifiers.TermId.{TermId}
 use Rattle.mg_names.specs.declared.identifiers.TermId.TheVariants.{Line, Eph}
 use Rattle.mg_model.specs.declared.items.Added.{Added}

@@ -1,8 +1,8 @@
 -- Where a request of a shard ends: the board of the merge is settled as the shard's is, at what is the shard's, and stays settled at the rest.
-use Rattle.std.proofs.Common.{◌≡◌, ◌∙◌, ◌<◌, ℕ, Bool, true, false, Option, Some, None, is_some, refl, sym, ap, subst}
+use Rattle.std.proofs.Common.{◌≡◌, ◌∙◌, ℕ, Bool, true, false, Option, is_some, refl, sym, ap, subst}
 use Rattle.std.specs.Prelude.{IsTrue, if◌then◌else◌, ◌↔◌}
 use Rattle.mg_names.specs.declared.identifiers.TermId.{TermId}
-use Rattle.mg_names.specs.declared.identifiers.TermId.TheVariants.{Line, Eph}
+use Rattle.mg_names.specs.declared.identifiers.TermId.TheVariants.{Eph}
 use Rattle.mg_model.specs.declared.rows.Row.{Row}
 use Rattle.mg_model.specs.Board.{Board, exists, place_of, place_in, ContextExists, IsSettled}
 use Rattle.mg_model.specs.Numbers.{null}
@@ -57,9 +57,10 @@ module _ (s : Scope) (was m b end settled : Board) (before : IsWithin s was) (be
   settled_contexts c = go (s.class c) refl
     where
       go : (test : Bool) → s.class c ≡ test → IsTrue (if test then settled.used_context c else m.used_context c) ↔ ContextExists end c
-      go true e =
-          (λ used. merge_context s b end within part whole c ((is.contexts c).0 used),
-          λ there. (is.contexts c).1 (shard_context s b end within part whole c (λ number. e) there))
+      go true e = (
+        λ used. merge_context s b end within part whole c ((is.contexts c).0 used),
+        λ there. (is.contexts c).1 (shard_context s b end within part whole c (λ number. e) there),
+      )
       go false e = (λ used. stands c e ((contexts c).0 used), λ there. (contexts c).1 (stood c e there))
 
   pub merge_settled : IsSettled end (settled_by s settled m end)

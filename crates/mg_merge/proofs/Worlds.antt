@@ -1,15 +1,14 @@
 -- The world of a shard beside the world of the merge: what each is, and that an event of one shard leaves the other shards beside the merge.
-use Rattle.std.proofs.Common.{◌≡◌, ◌∙◌, ◌<◌, ℕ, Bool, true, false, List, Option, Some, None, refl, sym, ap, subst}
+use Rattle.std.proofs.Common.{◌≡◌, ◌∙◌, ℕ, Bool, true, false, Some, None, refl, sym, ap}
 use Rattle.std.specs.Prelude.{Contains, IsTrue, ◌↔◌}
 use Rattle.mg_names.specs.declared.identifiers.TermId.{TermId}
 use Rattle.mg_names.specs.declared.identifiers.TermId.TheVariants.{Line, Eph}
 use Rattle.mg_model.specs.Agent.{Agent}
-use Rattle.mg_model.specs.Board.{Board, exists, place_of, place_in, ContextExists}
+use Rattle.mg_model.specs.Board.{exists, place_of, place_in, ContextExists}
 use Rattle.mg_model.specs.Messages.{Request, Reply, SentNote}
 use Rattle.mg_model.specs.Numbers.{null}
 use Rattle.mg_model.specs.Script.{Script}
 use Rattle.mg_model.specs.World.{World}
-use Rattle.mg_model.proofs.Cases.{not_both}
 use Rattle.mg_merge.proofs.Agents.{IsAgentWithin, IsRequestWithin, IsReplyWithin}
 use Rattle.mg_merge.proofs.Scopes.{Scope, mine, AreSeparate, IsWithin, IsPart, IsWhole, IsSameOutside}
 
