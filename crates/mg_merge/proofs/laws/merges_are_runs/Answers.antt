@@ -1,5 +1,5 @@
 -- The law.
-use Rattle.mg_merge.proofs.Merging.{merges}
+use Rattle.mg_merge.proofs.Shards.Merging.{merges}
 use Rattle.mg_merge.proofs.laws.merges_are_runs.Goals as goal
 
 pub returns : goal.returns

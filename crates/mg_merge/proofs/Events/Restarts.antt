@@ -10,7 +10,7 @@ use Rattle.mg_model.specs.Script.{Script}
 use Rattle.mg_model.specs.World.{World, with_gateway}
 use Rattle.mg_model.proofs.Cases.{false_not_true, none_is_some}
 use Rattle.mg_merge.proofs.Scopes.{Scope, IsWithin}
-use Rattle.mg_merge.proofs.Worlds.{IsContained, IsBeside, IsMerge}
+use Rattle.mg_merge.proofs.Events.Worlds.{IsContained, IsBeside, IsMerge}
 
 gone : (k : ℕ) (row : Option Row) → is_some (row_restarted (Eph k) row) ≡ false
 gone k None = refl

@@ -12,9 +12,9 @@ use Rattle.mg_model.specs.Shards.{Shard, IsShardRun, AreApart}
 use Rattle.mg_model.specs.World.{World, Opened, IsOpening}
 use Rattle.mg_model.proofs.Cases.{false_not_true, none_is_some, some_of, the_some}
 use Rattle.mg_model.proofs.Single.{none_in}
-use Rattle.mg_merge.proofs.Agents.{IsAgentWithin, opened_within}
+use Rattle.mg_merge.proofs.Events.AgentNames.{IsAgentWithin, opened_within}
 use Rattle.mg_merge.proofs.Scopes.{Scope, scope_of, AreSeparate, IsWithin}
-use Rattle.mg_merge.proofs.Worlds.{IsContained}
+use Rattle.mg_merge.proofs.Events.Worlds.{IsContained}
 
 -- everything stands in the null context, or nowhere
 pub all_in_null : (script : Script) (calls : List Opened) (w : World) → IsOpening script calls w → (t : TermId) → place_of w.gateway.board t ≡ 0

@@ -8,11 +8,11 @@ use Rattle.mg_model.specs.Accepted.{IsScript}
 use Rattle.mg_model.specs.Script.{Script}
 use Rattle.mg_model.specs.Shards.{Shard, IsEventOf, RunsWithin}
 use Rattle.mg_model.specs.World.{World, Runs}
-use Rattle.mg_merge.proofs.Events.{call_follows}
-use Rattle.mg_merge.proofs.Histories.{before_restart, from_restart, all_before, runs_after}
-use Rattle.mg_merge.proofs.Opening.{turned}
+use Rattle.mg_merge.proofs.Events.CallEvents.{call_follows}
+use Rattle.mg_merge.proofs.Shards.Histories.{before_restart, from_restart, all_before, runs_after}
+use Rattle.mg_merge.proofs.Shards.Opening.{turned}
 use Rattle.mg_merge.proofs.Scopes.{Scope, scope_of, AreSeparate}
-use Rattle.mg_merge.proofs.Worlds.{IsContained, IsBeside, IsMerge, others_beside}
+use Rattle.mg_merge.proofs.Events.Worlds.{IsContained, IsBeside, IsMerge, others_beside}
 
 -- a shard, and what is left of its history
 pub record Lane : Type 0 where

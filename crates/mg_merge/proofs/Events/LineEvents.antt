@@ -10,11 +10,11 @@ use Rattle.mg_model.specs.Numbers.{last_number}
 use Rattle.mg_model.specs.Script.{Script}
 use Rattle.mg_model.specs.World.{World, LineOccurs, with_gateway}
 use Rattle.mg_model.proofs.Cases.{at_another, not_both, the_some}
-use Rattle.mg_merge.proofs.Agents.{IsReplyWithin}
-use Rattle.mg_merge.proofs.AgentEvents.{Follows, another_number, added_to_both}
-use Rattle.mg_merge.proofs.Running.{same_outside}
+use Rattle.mg_merge.proofs.Events.AgentNames.{IsReplyWithin}
+use Rattle.mg_merge.proofs.Events.AgentSteps.{Follows, another_number, added_to_both}
+use Rattle.mg_merge.proofs.Commands.RequestRuns.{same_outside}
 use Rattle.mg_merge.proofs.Scopes.{Scope}
-use Rattle.mg_merge.proofs.Worlds.{IsContained, IsBeside, IsMerge}
+use Rattle.mg_merge.proofs.Events.Worlds.{IsContained, IsBeside, IsMerge}
 
 -- the same notes, of a gateway in the same association that sent as many to the call
 notes_same : (g h : Gateway) (call l : ℕ) (note : Option Note) → h.association ≡ g.association → h.link call ≡ g.link call

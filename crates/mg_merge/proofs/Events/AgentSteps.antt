@@ -8,10 +8,10 @@ use Rattle.mg_model.specs.Messages.{Request}
 use Rattle.mg_model.specs.Script.{Script}
 use Rattle.mg_model.specs.World.{World, AgentSteps, agent_steps, sent_in}
 use Rattle.mg_model.proofs.Cases.{at_another, not_both, the_some}
-use Rattle.mg_merge.proofs.Agents.{IsAgentWithin, IsRequestWithin, GivesWithin}
-use Rattle.mg_merge.proofs.Running.{same_outside}
+use Rattle.mg_merge.proofs.Events.AgentNames.{IsAgentWithin, IsRequestWithin, GivesWithin}
+use Rattle.mg_merge.proofs.Commands.RequestRuns.{same_outside}
 use Rattle.mg_merge.proofs.Scopes.{Scope}
-use Rattle.mg_merge.proofs.Worlds.{IsContained, IsBeside, IsMerge, LeavesOthers}
+use Rattle.mg_merge.proofs.Events.Worlds.{IsContained, IsBeside, IsMerge, LeavesOthers}
 
 -- after an event of a shard: the merge goes on, beside the shard, and all else stays
 pub record Follows (script : Script) (s : Scope) (next m : World) (occurs : World → Type 0) : Type 0 where

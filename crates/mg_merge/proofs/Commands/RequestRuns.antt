@@ -15,11 +15,11 @@ use Rattle.mg_model.specs.LineEvents.{LineRow, cleared}
 use Rattle.mg_model.specs.Messages.{RequestCommand}
 use Rattle.mg_model.specs.RequestRun.{Running, RaisedNote, RunsFrom, Succeeds, Fails, IsRefusedWith, MayRefuse, LineDescriptors, after_command, chosen_at, described, described_row, item_at, line_after, note_from, raised, rearms, standing, with_descriptors}
 use Rattle.mg_model.proofs.Cases.{different, none_is_some, not_both, the_some, where_false}
-use Rattle.mg_merge.proofs.Agreeing.{leaves_same, applies_on, applies_back}
-use Rattle.mg_merge.proofs.Changing.{not_leaving, fresh_context, fresh_ephemeral}
-use Rattle.mg_merge.proofs.Executing.{IsExecutedBeside, beside}
-use Rattle.mg_merge.proofs.Leaving.{Remain, remain_after, remain_in_merge, not_used_up}
-use Rattle.mg_merge.proofs.Naming.{NamesCommand, IsDoneBy, item_named, described_mine}
+use Rattle.mg_merge.proofs.Commands.SameCodes.{leaves_same, applies_on, applies_back}
+use Rattle.mg_merge.proofs.Commands.Changes.{not_leaving, fresh_context, fresh_ephemeral}
+use Rattle.mg_merge.proofs.Commands.ExecutedAlike.{IsExecutedBeside, beside}
+use Rattle.mg_merge.proofs.Commands.IdentifiersLeft.{Remain, remain_after, remain_in_merge, not_used_up}
+use Rattle.mg_merge.proofs.Commands.NamedItems.{NamesCommand, IsDoneBy, item_named, described_mine}
 use Rattle.mg_merge.proofs.Scopes.{Scope, NamesItem, IsContextOf, IsEphemeralOf, IsWithin, IsPart, IsWhole, IsSameOutside}
 
 -- a request that runs on the shard's gateway, and on that of the merge

@@ -9,7 +9,7 @@ use Rattle.mg_model.specs.Messages.{Request, Reply, SentNote}
 use Rattle.mg_model.specs.Numbers.{null}
 use Rattle.mg_model.specs.Script.{Script}
 use Rattle.mg_model.specs.World.{World}
-use Rattle.mg_merge.proofs.Agents.{IsAgentWithin, IsRequestWithin, IsReplyWithin}
+use Rattle.mg_merge.proofs.Events.AgentNames.{IsAgentWithin, IsRequestWithin, IsReplyWithin}
 use Rattle.mg_merge.proofs.Scopes.{Scope, mine, AreSeparate, IsWithin, IsPart, IsWhole, IsSameOutside}
 
 -- a world of a shard: nothing in it is another shard's

@@ -11,14 +11,14 @@ use Rattle.mg_model.specs.Script.{Script}
 use Rattle.mg_model.specs.Shards.{History, Shard, IsShardRun, IsEventOf, AgreesWith, AreAllApart, MergesAreRuns, RunsWithin, cut_at_restarts, histories, merged_from, restarts_in}
 use Rattle.mg_model.specs.World.{World, Runs, with_gateway}
 use Rattle.mg_model.proofs.Single.{first_in, none_in}
-use Rattle.mg_merge.proofs.Choosing.{later_in, first_or_later}
-use Rattle.mg_merge.proofs.Histories.{after_restart, all_after, all_before, all_cut, first_together, later_merged, later_own, none_left, one_left, runs_after}
-use Rattle.mg_merge.proofs.Lanes.{Lane, scope_in, Each, AreAllSeparate, rests, each_both, Begins, Stops, all_pass}
-use Rattle.mg_merge.proofs.MergedOpening.{merged_start, start_beside, start_merge, opens}
-use Rattle.mg_merge.proofs.Opening.{separate, start_contained}
-use Rattle.mg_merge.proofs.Restarts.{contained_restarted, beside_restarted, merge_restarted}
+use Rattle.mg_merge.proofs.Lists.{later_in, first_or_later}
+use Rattle.mg_merge.proofs.Shards.Histories.{after_restart, all_after, all_before, all_cut, first_together, later_merged, later_own, none_left, one_left, runs_after}
+use Rattle.mg_merge.proofs.Shards.Lanes.{Lane, scope_in, Each, AreAllSeparate, rests, each_both, Begins, Stops, all_pass}
+use Rattle.mg_merge.proofs.Shards.MergedOpening.{merged_start, start_beside, start_merge, opens}
+use Rattle.mg_merge.proofs.Shards.Opening.{separate, start_contained}
+use Rattle.mg_merge.proofs.Events.Restarts.{contained_restarted, beside_restarted, merge_restarted}
 use Rattle.mg_merge.proofs.Scopes.{scope_of, AreSeparate}
-use Rattle.mg_merge.proofs.Worlds.{IsContained, IsBeside, IsMerge}
+use Rattle.mg_merge.proofs.Events.Worlds.{IsContained, IsBeside, IsMerge}
 
 -- ---- lanes after a restart
 

@@ -12,10 +12,11 @@ use Rattle.mg_model.specs.Script.{Script}
 use Rattle.mg_model.specs.Shards.{Shard, IsShardRun, AreAllApart, all_calls}
 use Rattle.mg_model.specs.World.{World, Opened, IsOpening, AreDistinct, AreOpenedLines, armed_line}
 use Rattle.mg_model.proofs.Cases.{false_not_true, none_is_some, the_some}
-use Rattle.mg_merge.proofs.Choosing.{first_with, only_with, from_first, class_of, in_class, in_joined, from_joined, two_of}
-use Rattle.mg_merge.proofs.Opening.{line_of_call, call_line, start_contained, nothing_in, separate}
+use Rattle.mg_merge.proofs.Shards.Choosing.{first_with, only_with, from_first, class_of, in_class, two_of}
+use Rattle.mg_merge.proofs.Lists.{in_joined, from_joined}
+use Rattle.mg_merge.proofs.Shards.Opening.{line_of_call, call_line, start_contained, nothing_in, separate}
 use Rattle.mg_merge.proofs.Scopes.{scope_of, mine}
-use Rattle.mg_merge.proofs.Worlds.{IsBeside, IsMerge}
+use Rattle.mg_merge.proofs.Events.Worlds.{IsBeside, IsMerge}
 
 -- ---- the world
 
@@ -66,9 +67,6 @@ none_unless (Some x) never = absurd (never x refl)
 module _ (script : Script) (shards : List Shard) (runs : (shard : Shard) → Contains shards shard → IsShardRun script shard)
     (apart : AreAllApart script shards) where
   module _ (shard : Shard) (there : Contains shards shard) where
-    run : IsShardRun script shard
-    run = runs shard there
-
     held_by : (l : ℕ) → (scope_of shard).lines l ≡ true → first_with (holder_of l) shards ≡ shard.start.gateway.holder l
     held_by l own = only_with (holder_of l) shards shard there other_way
       where
@@ -134,9 +132,6 @@ module _ (script : Script) (shards : List Shard) (runs : (shard : Shard) → Con
     }
 
   -- ---- it is an opening
-
-  calls_of : Shard → List Opened
-  calls_of shard = shard.calls
 
   -- a call of all is one of a shard
   whose : (one : Opened) → Contains (all_calls shards) one → (shard : Shard) × Contains shards shard × Contains shard.calls one

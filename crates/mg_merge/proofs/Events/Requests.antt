@@ -19,13 +19,13 @@ use Rattle.mg_model.specs.World.{World, Executes, IsFirst, IsRepeat, with_gatewa
 use Rattle.mg_model.proofs.Cases.{at_another, none_is_some, the_some}
 use Rattle.mg_model.proofs.Offered.{kept_at}
 use Rattle.mg_model.proofs.Single.{only_one}
-use Rattle.mg_merge.proofs.Agents.{IsReplyWithin}
-use Rattle.mg_merge.proofs.AgentEvents.{Follows, leaves_itself, another_number, added_to_both}
-use Rattle.mg_merge.proofs.Naming.{IsDoneBy}
-use Rattle.mg_merge.proofs.Running.{RunsBeside, EndsBeside, runs_too}
+use Rattle.mg_merge.proofs.Events.AgentNames.{IsReplyWithin}
+use Rattle.mg_merge.proofs.Events.AgentSteps.{Follows, leaves_itself, another_number, added_to_both}
+use Rattle.mg_merge.proofs.Commands.NamedItems.{IsDoneBy}
+use Rattle.mg_merge.proofs.Commands.RequestRuns.{RunsBeside, EndsBeside, runs_too}
 use Rattle.mg_merge.proofs.Scopes.{Scope, IsWithin}
-use Rattle.mg_merge.proofs.Settling.{settled_by, settled_within, merge_settled, settled_part, settled_whole, settled_outside}
-use Rattle.mg_merge.proofs.Worlds.{IsContained, IsBeside, IsMerge, LeavesOthers}
+use Rattle.mg_merge.proofs.Events.Settled.{settled_by, settled_within, merge_settled, settled_part, settled_whole, settled_outside}
+use Rattle.mg_merge.proofs.Events.Worlds.{IsContained, IsBeside, IsMerge, LeavesOthers}
 
 -- ---- what a link offers
 
@@ -57,9 +57,6 @@ module _ (script : Script) (s : Scope) (w m : World) (contained : IsContained sc
     (request : Request) (own : s.numbers request.call ≡ true) (end : Running) (settled : Board) (failure : Option Failure) (chosen : Option ChosenRefusal)
     (is_settled : IsSettled end.board settled)
     (ends : EndsBeside s request.number chosen (start_of m.gateway) 0 request.commands end failure) where
-  abbrev run : Running
-  run = ends.merged
-
   within_end : IsWithin s end.board
   within_end = ends.beside_it.within
 

@@ -2,7 +2,7 @@
 -- shard's, and takes the same terminations out of their context.
 use Rattle.std.proofs.Common.{◌≡◌, ◌∙◌, ◌<◌, ℕ, Bool, true, false, zero, suc, Option, Some, None, is_some, refl, sym, ap, subst, arith}
 use Rattle.std.specs.Prelude.{◌==◌, not, IsTrue}
-use Rattle.std.proofs.lemmas.Bool.{eqb-true, eq-eqb}
+use Rattle.std.proofs.lemmas.Bool.{eqb-true}
 use Rattle.mg_names.specs.declared.codes.Code.{Code}
 use Rattle.mg_names.specs.declared.codes.Code.TheVariants.{UnknownContext, UnknownTermination, AlreadyInContext, NotInContext, InternalFailure, InsufficientResources}
 use Rattle.mg_names.specs.declared.identifiers.TermId.{TermId}
@@ -23,10 +23,6 @@ same_term_is (Line i) (Line j) e = ap (λ n. Line (record { 0 = n })) (eqb-true 
 same_term_is (Line i) (Eph j) e = absurd (false_not_true e)
 same_term_is (Eph i) (Line j) e = absurd (false_not_true e)
 same_term_is (Eph i) (Eph j) e = ap (λ n. Eph n) (eqb-true i j e)
-
-pub same_term_self : (t : TermId) → same_term t t ≡ true
-same_term_self (Line i) = eq-eqb i.0 i.0 refl
-same_term_self (Eph x) = eq-eqb x x refl
 
 -- ---- the shard's board alone
 

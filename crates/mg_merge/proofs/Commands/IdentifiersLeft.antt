@@ -1,9 +1,8 @@
 -- The identifiers that are left: each command takes at most one, so where as many were left as there are commands, none is refused for want of
 -- one; not in the merge either.
 use Rattle.std.proofs.Common.{◌≡◌, ◌∙◌, ◌<◌, ◌≤◌, ℕ, suc, Bool, true, false, List, [], ◌∷◌, length, refl, sym, subst, arith, inl, inr}
-use Rattle.std.specs.Prelude.{◌==◌, ◌⊎◌, Contains, if◌then◌else◌}
+use Rattle.std.specs.Prelude.{◌==◌, Contains, if◌then◌else◌}
 use Rattle.std.proofs.lemmas.Bool.{eqb-true, eqb-false}
-use Rattle.std.proofs.lemmas.List.Elements.{Contains-append_cases, Contains-append_right}
 use Rattle.mg_model.specs.declared.items.Added.TheVariants as added
 use Rattle.mg_model.specs.declared.items.Item.{Item}
 use Rattle.mg_model.specs.declared.items.Item.TheVariants.{Add, Modify, Move, Subtract, SubtractAll, SetTopology}
@@ -11,8 +10,9 @@ use Rattle.mg_model.specs.Board.{Board}
 use Rattle.mg_model.specs.Items.{IsRising, Chosen, effect, given, IsUsedUp, creates_context, creates_ephemeral}
 use Rattle.mg_model.specs.Shards.{AreLeft, IsContextLeft, IsEphemeralLeft}
 use Rattle.mg_model.proofs.Cases.{not_both, different}
-use Rattle.mg_model.proofs.Single.{none_in, only_one, first_in}
-use Rattle.mg_merge.proofs.Changing.{class_stays}
+use Rattle.mg_model.proofs.Single.{none_in, first_in}
+use Rattle.mg_merge.proofs.Lists.{first_or_later, later_in}
+use Rattle.mg_merge.proofs.Commands.Changes.{class_stays}
 use Rattle.mg_merge.proofs.Scopes.{Scope, IsWithin, IsPart}
 
 -- ---- a list without a number
@@ -20,15 +20,6 @@ use Rattle.mg_merge.proofs.Scopes.{Scope, IsWithin, IsPart}
 without : ℕ → List ℕ → List ℕ
 without x [] = []
 without x (y ∷ ys) = if y == x then ys else y ∷ without x ys
-
-first_or_later : (y : ℕ) (ys : List ℕ) (n : ℕ) → Contains (y ∷ ys) n → (y ≡ n) ⊎ Contains ys n
-first_or_later y ys n there = elim (Contains-append_cases (y ∷ []) ys n there) [
-  | inl first ↦ inl (only_one y n first)
-  | inr later ↦ inr later
-]
-
-later_in : (y : ℕ) (ys : List ℕ) (n : ℕ) → Contains ys n → Contains (y ∷ ys) n
-later_in y ys n there = Contains-append_right (y ∷ []) ys n there
 
 -- what is left was there
 was_there : (x : ℕ) (ys : List ℕ) (n : ℕ) → Contains (without x ys) n → Contains ys n

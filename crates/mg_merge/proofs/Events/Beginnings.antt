@@ -11,11 +11,11 @@ use Rattle.mg_model.specs.Messages.{Reply}
 use Rattle.mg_model.specs.Script.{Script}
 use Rattle.mg_model.specs.World.{World, Begins}
 use Rattle.mg_model.proofs.Cases.{at_another, different, none_is_some, not_both, the_some, where_false}
-use Rattle.mg_merge.proofs.Agents.{IsAgentWithin, IsReplyWithin, begun_within}
-use Rattle.mg_merge.proofs.AgentEvents.{Follows, another_number}
-use Rattle.mg_merge.proofs.Running.{same_outside}
+use Rattle.mg_merge.proofs.Events.AgentNames.{IsAgentWithin, IsReplyWithin, begun_within}
+use Rattle.mg_merge.proofs.Events.AgentSteps.{Follows, another_number}
+use Rattle.mg_merge.proofs.Commands.RequestRuns.{same_outside}
 use Rattle.mg_merge.proofs.Scopes.{Scope}
-use Rattle.mg_merge.proofs.Worlds.{IsContained, IsBeside, IsMerge}
+use Rattle.mg_merge.proofs.Events.Worlds.{IsContained, IsBeside, IsMerge}
 
 abbrev nothing_kept : CallLink
 nothing_kept = record { last = None; notes = 0 }

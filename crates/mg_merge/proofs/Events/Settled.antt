@@ -7,7 +7,7 @@ use Rattle.mg_model.specs.declared.rows.Row.{Row}
 use Rattle.mg_model.specs.Board.{Board, exists, place_of, place_in, ContextExists, IsSettled}
 use Rattle.mg_model.specs.Numbers.{null}
 use Rattle.mg_model.proofs.Cases.{not_both, where_true, where_false}
-use Rattle.mg_merge.proofs.Agreeing.{merge_context, shard_context}
+use Rattle.mg_merge.proofs.Commands.SameCodes.{merge_context, shard_context}
 use Rattle.mg_merge.proofs.Scopes.{Scope, mine, IsContextOf, IsEphemeralOf, IsWithin, IsPart, IsWhole, IsSameOutside}
 
 -- the board of the merge, of which the shard's identifiers are as they are on the shard's settled board
@@ -31,9 +31,6 @@ settled_within s b settled is within = record {
 module _ (s : Scope) (was m b end settled : Board) (before : IsWithin s was) (beside : IsPart s was m) (within : IsWithin s b) (part : IsPart s b end)
     (whole : IsWhole end) (outside : IsSameOutside s m end) (is : IsSettled b settled)
     (contexts : (c : ℕ) → IsTrue (m.used_context c) ↔ ContextExists m c) (ephemerals : (k : ℕ) → m.used_ephemeral k ≡ exists m (Eph k)) where
-  merged : Board
-  merged = settled_by s settled m end
-
   -- who stands in a context of another shard stands there after as before
   stood : (c : ℕ) → s.class c ≡ false → ContextExists end c → ContextExists m c
   stood c other (real, (t, at)) = go (mine s t) refl

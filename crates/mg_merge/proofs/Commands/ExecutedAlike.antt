@@ -1,6 +1,6 @@
 -- A command that a shard's board executes is executed on the board of the merge, with the same result; the boards after it read alike at what
 -- is the shard's, and all else stays.
-use Rattle.std.proofs.Common.{◌≡◌, ◌∙◌, ◌<◌, ℕ, Bool, true, false, List, Option, Some, is_some, refl, sym, ap, subst}
+use Rattle.std.proofs.Common.{◌≡◌, ◌∙◌, ℕ, Bool, true, false, List, Option, Some, is_some, refl, sym, ap, subst}
 use Rattle.std.specs.Prelude.{◌==◌, ◌||◌, ◌&&◌, if◌then◌else◌}
 use Rattle.mg_names.specs.declared.identifiers.TermId.{TermId}
 use Rattle.mg_names.specs.declared.identifiers.TermId.TheVariants.{Line, Eph}
@@ -10,11 +10,11 @@ use Rattle.mg_model.specs.declared.items.Item.TheVariants.{Add, Modify, Move, Su
 use Rattle.mg_model.specs.declared.items.Settings.{Settings}
 use Rattle.mg_model.specs.declared.rows.Row.{Row}
 use Rattle.mg_model.specs.Board.{Board, same_term, exists, place_of, place_in, mode_in, remote_in, mode_of, remote_of}
-use Rattle.mg_model.specs.Items.{IsLegal, IsUsedUp, Chosen, IsFresh, IsExecuted, IsResult, Lists, Done, row_at, placed, effect, subtracts, subtracted, creates_context, creates_ephemeral}
+use Rattle.mg_model.specs.Items.{is_context_number, IsLegal, IsUsedUp, Chosen, IsFresh, IsExecuted, IsResult, Lists, Done, row_at, placed, effect, subtracts, subtracted, creates_context, creates_ephemeral}
 use Rattle.mg_model.specs.Numbers.{null}
 use Rattle.mg_model.proofs.Cases.{not_both}
-use Rattle.mg_merge.proofs.Agreeing.{no_zeroth, leaves_mine, row_same, leaves_same, applies_back}
-use Rattle.mg_merge.proofs.Changing.{class_stays, row_out, cut_out, given_out, not_leaving, within_after, fresh_context, fresh_ephemeral}
+use Rattle.mg_merge.proofs.Commands.SameCodes.{no_zeroth, leaves_mine, row_same, leaves_same, applies_back}
+use Rattle.mg_merge.proofs.Commands.Changes.{class_stays, row_out, cut_out, given_out, not_leaving, within_after, fresh_context, fresh_ephemeral}
 use Rattle.mg_merge.proofs.Scopes.{Scope, mine, NamesItem, IsWithin, IsPart, IsWhole, IsSameOutside}
 
 -- ---- boards that were changed alike
@@ -27,15 +27,13 @@ whole_after s after m merged within own others whole = record {
   zeroth = zeroth (mine s (Eph 0)) refl;
 }
   where
-    places : (t : TermId) (test : Bool) → mine s t ≡ test → (place_of merged t ≡ null → ⊥) → (0 < place_of merged t) × (place_of merged t < 4294967294)
+    places : (t : TermId) (test : Bool) → mine s t ≡ test → (place_of merged t ≡ null → ⊥) → is_context_number (place_of merged t)
     places t true e real =
         let at : place_of merged t ≡ place_of after t = ap place_in (own t e) in
-        let it = (within.places t (λ is. real (at ∙ is))).0 in
-        (subst (λ (n : ℕ). 0 < n) (sym at) it.0, subst (λ (n : ℕ). n < 4294967294) (sym at) it.1)
+        subst is_context_number (sym at) (within.places t (λ is. real (at ∙ is))).0
     places t false e real =
         let at : place_of merged t ≡ place_of m t = ap place_in (others t e) in
-        let it = whole.places t (λ is. real (at ∙ is)) in
-        (subst (λ (n : ℕ). 0 < n) (sym at) it.0, subst (λ (n : ℕ). n < 4294967294) (sym at) it.1)
+        subst is_context_number (sym at) (whole.places t (λ is. real (at ∙ is)))
 
     zeroth : (test : Bool) → mine s (Eph 0) ≡ test → exists merged (Eph 0) ≡ false
     zeroth true e = ap is_some (own (Eph 0) e) ∙ no_zeroth s after within

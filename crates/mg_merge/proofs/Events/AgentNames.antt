@@ -27,7 +27,7 @@ use Rattle.mg_model.specs.Updates.{with_at}
 use Rattle.mg_model.specs.World.{sent_in}
 use Rattle.mg_model.proofs.Cases.{the_some, none_is_some}
 use Rattle.mg_model.proofs.Single.{none_in, only_one}
-use Rattle.mg_merge.proofs.Naming.{NamesContextRef, NamesEphemeralRef, NamesTermRef, NamesRemoteRef, NamesCommand, IsDoneBy, none_is_all, none_is_zero}
+use Rattle.mg_merge.proofs.Commands.NamedItems.{NamesContextRef, NamesEphemeralRef, NamesTermRef, NamesRemoteRef, NamesCommand, IsDoneBy, none_is_all, none_is_zero}
 use Rattle.mg_merge.proofs.Scopes.{Scope, NamesContext, NamesEphemeral, IsContextOf, IsEphemeralOf}
 
 -- ---- what is the shard's
