@@ -1,0 +1,318 @@
+-- The agents of a shard's calls: what their names stand for is the shard's, through each of their steps, and so is what their requests name.
+use Rattle.std.proofs.Common.{◌≡◌, ◌+◌, ◌<◌, arith, ℕ, Bool, true, false, List, [], ◌∷◌, length, Option, Some, None, option_map, refl, sym, subst, inl, inr}
+use Rattle.std.specs.Prelude.{◌==◌, if◌then◌else◌, nat_lt, nat_le, unwrap_or, Contains}
+use Rattle.std.specs.List.{All}
+use Rattle.std.proofs.lemmas.Bool.{cases_lt}
+use Rattle.std.proofs.lemmas.List.Elements.{All-nil, All-cons, All-head, All-tail}
+use Rattle.std.proofs.lemmas.Option.{unwrap_or-slice_get, slice_get_past}
+use Rattle.mg_model.specs.declared.commands.Command.{Command}
+use Rattle.mg_model.specs.declared.commands.Command.TheVariants.{AddLine, AddEphemeral, ModifyLine, ModifyEphemeral, MoveLine, MoveEphemeral, Subtract, SubtractAll, SetTopology}
+use Rattle.mg_model.specs.declared.commands.Place.{Place}
+use Rattle.mg_model.specs.declared.commands.Place.TheVariants.{NullContext, Context}
+use Rattle.mg_model.specs.declared.commands.RemoteOption.{RemoteOption}
+use Rattle.mg_model.specs.declared.commands.RemoteOption.TheVariants.{NoneGiven, Peer}
+use Rattle.mg_model.specs.declared.commands.Termination.{Termination}
+use Rattle.mg_model.specs.declared.commands.Termination.TheVariants as termination
+use Rattle.mg_model.specs.declared.failures.Failure.{Failure}
+use Rattle.mg_model.specs.Accepted.{IsScript, IsSlot, IsCommandOf, IsStateOf}
+use Rattle.mg_model.specs.Agent.{answers, Agent, Made, none_made, made_after, Phase, awaits_reply, awaits_pass, resting, entered_with, entered, entered_or_rests, entered_if, entered_or_stays, built_by, bound_by, bound_if, request_of, after_result, after_results, leads_on, replied_to, replied, passed_in, passed, may_accept, inbox_of, is_listed, target_of, line_in, noted, is_resting, timed, forgotten, heard, begun, opened, context_or, ephemeral_or, context_ref, ephemeral_ref, added_to, place_ref, termination_ref, remote_ref, command_of, commands_of}
+use Rattle.mg_model.specs.Delivery.{with_accepted}
+use Rattle.mg_model.specs.Items.{Done}
+use Rattle.mg_model.specs.Messages.{Request, Reply, SentNote}
+use Rattle.mg_model.specs.Numbers.{all, null, choose, no_ephemeral, last_number}
+use Rattle.mg_model.specs.Request.{Names, uses_known, names_after, built}
+use Rattle.mg_model.specs.Script.{Script, State}
+use Rattle.mg_model.specs.Tables.{state_of, no_state, is_empty}
+use Rattle.mg_model.specs.Updates.{with_at}
+use Rattle.mg_model.specs.World.{sent_in}
+use Rattle.mg_model.proofs.Cases.{the_some, none_is_some}
+use Rattle.mg_model.proofs.Single.{none_in, only_one}
+use Rattle.mg_merge.proofs.Commands.NamedItems.{NamesContextRef, NamesEphemeralRef, NamesTermRef, NamesRemoteRef, NamesCommand, IsDoneBy, none_is_all, none_is_zero}
+use Rattle.mg_merge.proofs.Scopes.{Scope, NamesContext, NamesEphemeral, IsContextOf, IsEphemeralOf}
+
+-- ---- what is the shard's
+
+-- what the names of a call stand for
+pub record AreOf (script : Script) (s : Scope) (lines : ℕ → ℕ) (contexts ephemerals : ℕ → Option ℕ) : Type 0 where
+  pub line : (i : ℕ) → i < length script.lines → s.lines (lines i) ≡ true
+  pub context : (j n : ℕ) → contexts j ≡ Some n → IsContextOf s n
+  pub ephemeral : (k n : ℕ) → ephemerals k ≡ Some n → IsEphemeralOf s n
+
+abbrev pub IsRequestWithin : Scope → Request → Type 0
+IsRequestWithin s request = All (NamesCommand s) request.commands
+
+abbrev pub IsReplyWithin : Scope → Reply → Type 0
+IsReplyWithin s reply = All (IsDoneBy s) reply.results
+
+-- what is outstanding in a phase
+abbrev pub SendsWithin : Scope → Phase → Type 0
+SendsWithin s phase = (request : Request) → Contains (sent_in phase) request → IsRequestWithin s request
+
+pub record IsAgentWithin (script : Script) (s : Scope) (a : Agent) : Type 0 where
+  pub names : AreOf script s a.lines a.contexts a.ephemerals
+  pub sends : SendsWithin s a.phase
+
+-- ---- the commands of a state
+
+state_commands : (script : Script) → IsScript script → (state : ℕ) → All (IsCommandOf script) (state_of script state).commands
+state_commands script is state = elim (cases_lt state (length script.states)) [
+  | inl below ↦ (subst (IsStateOf script) (sym (unwrap_or-slice_get script.states state no_state)) (is.states state no_state below)).0
+  | inr past ↦ subst (λ (found : Option State). All (IsCommandOf script) (unwrap_or found no_state).commands)
+      (sym (slice_get_past script.states state past)) (All-nil (IsCommandOf script))
+]
+
+built_commands : (script : Script) (names : Names) (commands : List Command) → All (IsCommandOf script) commands
+    → All (IsCommandOf script) (built names commands)
+built_commands script names [] every = All-nil (IsCommandOf script)
+built_commands script names (command ∷ more) every =
+    by_test (uses_known names command)
+    (built_commands script (names_after names command) more (All-tail (IsCommandOf script) command more every))
+    (built_commands script names more (All-tail (IsCommandOf script) command more every))
+  where
+    by_test : (known : Bool) → All (IsCommandOf script) (built (names_after names command) more) → All (IsCommandOf script) (built names more)
+        → All (IsCommandOf script) (if known then command ∷ built (names_after names command) more else built names more)
+    by_test true kept left_out = All-cons (IsCommandOf script) command (built (names_after names command) more)
+        (All-head (IsCommandOf script) command more every) kept
+    by_test false kept left_out = left_out
+
+null_named : (s : Scope) → NamesContext s null
+null_named s number = let above : 0 < 0 = number.0 in absurd (omega (arith, above))
+
+choose_named : (s : Scope) → NamesContext s choose
+choose_named s number = let below : 4294967294 < 4294967294 = number.1 in absurd (omega (arith, below))
+
+module _ (script : Script) (s : Scope) (a : Agent) (names : AreOf script s a.lines a.contexts a.ephemerals) where
+  bound_context : (o : Option ℕ) → ((n : ℕ) → o ≡ Some n → IsContextOf s n) → NamesContext s (unwrap_or o all)
+  bound_context None bound = none_is_all s
+  bound_context (Some n) bound = λ number. (bound n refl).1
+
+  bound_ephemeral : (o : Option ℕ) → ((n : ℕ) → o ≡ Some n → IsEphemeralOf s n) → NamesEphemeral s (unwrap_or o no_ephemeral)
+  bound_ephemeral None bound = none_is_zero s
+  bound_ephemeral (Some n) bound = λ above. (bound n refl).1
+
+  context_in : (made : Made) (j : ℕ) → NamesContextRef s (context_ref a made j)
+  context_in made j = go (made.contexts j)
+    where
+      go : (o : Option ℕ) → NamesContextRef s (context_or o (a.contexts j))
+      go None = bound_context (a.contexts j) (names.context j)
+      go (Some place) = tt
+
+  ephemeral_in : (made : Made) (k : ℕ) → NamesEphemeralRef s (ephemeral_ref a made k)
+  ephemeral_in made k = go (made.ephemerals k)
+    where
+      go : (o : Option ℕ) → NamesEphemeralRef s (ephemeral_or o (a.ephemerals k))
+      go None = bound_ephemeral (a.ephemerals k) (names.ephemeral k)
+      go (Some place) = tt
+
+  added_in : (made : Made) (create : Bool) (j : ℕ) → NamesContextRef s (added_to a made create j)
+  added_in made true j = choose_named s
+  added_in made false j = context_in made j
+
+  place_in : (made : Made) (place : Place) → NamesContextRef s (place_ref a made place)
+  place_in made NullContext = null_named s
+  place_in made (Context j) = context_in made j
+
+  term_in : (made : Made) (t : Termination) → IsSlot script t → NamesTermRef s (termination_ref a made t)
+  term_in made (termination.Line i) slot = names.line i slot
+  term_in made (termination.Ephemeral k) slot = ephemeral_in made k
+
+  remote_in : (made : Made) (o : Option RemoteOption) → NamesRemoteRef s (option_map (remote_ref a made) o)
+  remote_in made None = tt
+  remote_in made (Some NoneGiven) = tt
+  remote_in made (Some (Peer k)) = ephemeral_in made k
+
+  command_in : (made : Made) (command : Command) → IsCommandOf script command → NamesCommand s (command_of script a made command)
+  command_in made (AddLine create j i o) slot = (added_in made create j, names.line i slot.1, tt)
+  command_in made (AddEphemeral create j k o) slot = (added_in made create j, remote_in made o.remote)
+  command_in made (ModifyLine place i o) slot = (place_in made place, names.line i slot.1, tt)
+  command_in made (ModifyEphemeral place k o) slot = (place_in made place, ephemeral_in made k, remote_in made o.remote)
+  command_in made (MoveLine j i o) slot = (context_in made j, names.line i slot.1, tt)
+  command_in made (MoveEphemeral j k o) slot = (context_in made j, ephemeral_in made k, remote_in made o.remote)
+  command_in made (Subtract j t) slot = (context_in made j, term_in made t slot.1)
+  command_in made (SubtractAll j) slot = context_in made j
+  command_in made (SetTopology j t u topology) slot = (context_in made j, term_in made t slot.1, term_in made u slot.2)
+
+  commands_in : (place : ℕ) (made : Made) (commands : List Command) → All (IsCommandOf script) commands
+      → All (NamesCommand s) (commands_of script a made place commands)
+  commands_in place made [] every = All-nil (NamesCommand s)
+  commands_in place made (command ∷ more) every =
+      All-cons (NamesCommand s) (command_of script a made command) (commands_of script a (made_after made command place) (place + 1) more)
+      (command_in made command (All-head (IsCommandOf script) command more every))
+      (commands_in (place + 1) (made_after made command place) more (All-tail (IsCommandOf script) command more every))
+
+  -- what a state's request names is the shard's
+  pub request_in : IsScript script → (state : ℕ) → IsRequestWithin s (request_of script a state)
+  request_in is state = commands_in 0 none_made (built_by script a state)
+      (built_commands script (bound_by a) (state_of script state).commands (state_commands script is state))
+
+-- ---- results
+
+module _ (script : Script) (s : Scope) where
+  bound_at : (P : ℕ → Type 0) (bound : ℕ → Option ℕ) (name : ℕ) (new : Option ℕ) → ((j n : ℕ) → bound j ≡ Some n → P n) → ((n : ℕ) → new ≡ Some n → P n)
+      → (j n : ℕ) → with_at bound name new j ≡ Some n → P n
+  bound_at P bound name new before now j n = go (j == name)
+    where
+      go : (test : Bool) → (if test then new else bound j) ≡ Some n → P n
+      go true is = now n is
+      go false is = before j n is
+
+  bound_where : (P : ℕ → Type 0) (create : Bool) (bound : ℕ → Option ℕ) (name : ℕ) (new : Option ℕ) → ((j n : ℕ) → bound j ≡ Some n → P n)
+      → ((n : ℕ) → new ≡ Some n → P n) → (j n : ℕ) → bound_if create bound name new j ≡ Some n → P n
+  bound_where P true bound name new before now = bound_at P bound name new before now
+  bound_where P false bound name new before now = before
+
+  unbound : (P : ℕ → Type 0) (n : ℕ) → None ≡ Some n → P n
+  unbound P n is = absurd (none_is_some n is)
+
+  abbrev HasNames : Agent → Type 0
+  HasNames a = AreOf script s a.lines a.contexts a.ephemerals
+
+  result_names : (a : Agent) (command : Command) (done : Done) (number : ℕ) → HasNames a → IsDoneBy s done → HasNames (after_result a command done number)
+  result_names a (AddLine create j i o) done number names by = record {
+    line = names.line;
+    context = bound_where (IsContextOf s) create a.contexts j done.context names.context by.context;
+    ephemeral = names.ephemeral;
+  }
+  result_names a (AddEphemeral create j k o) done number names by = record {
+    line = names.line;
+    context = bound_where (IsContextOf s) create a.contexts j done.context names.context by.context;
+    ephemeral = bound_at (IsEphemeralOf s) a.ephemerals k done.ephemeral names.ephemeral by.ephemeral;
+  }
+  result_names a (ModifyLine place i o) done number names by = names
+  result_names a (ModifyEphemeral place k o) done number names by = names
+  result_names a (MoveLine j i o) done number names by = names
+  result_names a (MoveEphemeral j k o) done number names by = names
+  result_names a (Subtract j (termination.Line i)) done number names by = names
+  result_names a (Subtract j (termination.Ephemeral k)) done number names by = record {
+    line = names.line;
+    context = names.context;
+    ephemeral = bound_at (IsEphemeralOf s) a.ephemerals k None names.ephemeral (unbound (IsEphemeralOf s));
+  }
+  result_names a (SubtractAll j) done number names by = record {
+    line = names.line;
+    context = bound_at (IsContextOf s) a.contexts j None names.context (unbound (IsContextOf s));
+    ephemeral = λ k n. go k n (is_listed done.ephemerals (a.ephemerals k));
+  }
+    where
+      go : (k n : ℕ) (test : Bool) → (if test then None else a.ephemerals k) ≡ Some n → IsEphemeralOf s n
+      go k n true is = absurd (none_is_some n is)
+      go k n false is = names.ephemeral k n is
+  result_names a (SetTopology j t u topology) done number names by = names
+
+  results_names : (a : Agent) (commands : List Command) (results : List Done) (number : ℕ) → HasNames a → All (IsDoneBy s) results
+      → HasNames (after_results a commands results number)
+  results_names a [] results number names by = names
+  results_names a (command ∷ more) [] number names by = names
+  results_names a (command ∷ more) (done ∷ results) number names by =
+      results_names (after_result a command done number) more results number
+      (result_names a command done number names (All-head (IsDoneBy s) done results by)) (All-tail (IsDoneBy s) done results by)
+
+  -- ---- steps
+
+  abbrev pub GivesWithin : Option Agent → Type 0
+  GivesWithin o = (b : Agent) → o ≡ Some b → IsAgentWithin script s b
+
+  gives_none : GivesWithin None
+  gives_none b e = absurd (none_is_some b e)
+
+  gives : (c : Agent) → IsAgentWithin script s c → GivesWithin (Some c)
+  gives c it b e = subst (IsAgentWithin script s) (the_some c b e) it
+
+  nothing_sent : (request : Request) → Contains [] request → IsRequestWithin s request
+  nothing_sent request among = absurd (none_in request among)
+
+  module _ (is : IsScript script) where
+    enters_with : (a : Agent) (state : ℕ) (empty : Bool) → HasNames a → GivesWithin (entered_with script a state empty)
+    enters_with a state true names = gives (record a { state = state; phase = awaits_pass }) (record { names = names; sends = nothing_sent })
+    enters_with a state false names = numbered (nat_le a.next last_number)
+      where
+        numbered : (room : Bool) → GivesWithin (if room
+            then Some (record a { state = state; phase = awaits_reply (request_of script a state); next = a.next + 1 }) else None)
+        numbered true = gives (record a { state = state; phase = awaits_reply (request_of script a state); next = a.next + 1 }) (record {
+          names = names;
+          sends = λ request among. subst (IsRequestWithin s) (only_one (request_of script a state) request among) (request_in script s a names is state);
+        })
+        numbered false = gives_none
+
+    enters : (a : Agent) (state : ℕ) → HasNames a → GivesWithin (entered script a state)
+    enters a state names = enters_with a state (is_empty (built_by script a state)) names
+
+    rests : (a : Agent) (target : Option ℕ) → HasNames a → GivesWithin (entered_or_rests script a target)
+    rests a None names = gives (record a { phase = resting }) (record { names = names; sends = nothing_sent })
+    rests a (Some state) names = enters a state names
+
+    enters_if : (a : Agent) (target : Option ℕ) → HasNames a → GivesWithin (entered_if script a target)
+    enters_if a None names = gives_none
+    enters_if a (Some state) names = enters a state names
+
+    leads : (was a : Agent) (failure : Option Failure) → HasNames a → GivesWithin (leads_on script was a failure)
+    leads was a None names = rests a (state_of script was.state).ok names
+    leads was a (Some failure) names = enters_if a (state_of script was.state).fault names
+
+    pub replied_within : (a : Agent) (reply : Reply) → IsAgentWithin script s a → IsReplyWithin s reply → GivesWithin (replied script a reply)
+    replied_within a reply within by = in_phase a.phase
+      where
+        answered : (fits : Bool) → GivesWithin (if fits
+            then leads_on script a (after_results a (built_by script a a.state) reply.results reply.number) reply.failure else None)
+        answered true = leads a (after_results a (built_by script a a.state) reply.results reply.number) reply.failure
+            (results_names a (built_by script a a.state) reply.results reply.number within.names by)
+        answered false = gives_none
+
+        in_phase : (phase : Phase) → GivesWithin (replied_to script a phase reply)
+        in_phase (awaits_reply request) = answered (answers reply request)
+        in_phase awaits_pass = gives_none
+        in_phase resting = gives_none
+
+    pub passed_within : (a : Agent) → IsAgentWithin script s a → GivesWithin (passed script a)
+    passed_within a within = in_phase a.phase
+      where
+        in_phase : (phase : Phase) → GivesWithin (passed_in script a phase)
+        in_phase awaits_pass = rests a (state_of script a.state).ok within.names
+        in_phase (awaits_reply request) = gives_none
+        in_phase resting = gives_none
+
+    pub timed_within : (a : Agent) → IsAgentWithin script s a → GivesWithin (timed script a)
+    timed_within a within = at_rest (is_resting a.phase)
+      where
+        at_rest : (rest : Bool) → GivesWithin (if rest then entered_if script a (state_of script a.state).timer else None)
+        at_rest true = enters_if a (state_of script a.state).timer within.names
+        at_rest false = gives_none
+
+    pub heard_within : (a : Agent) (association : ℕ) → IsAgentWithin script s a → GivesWithin (heard script a association)
+    heard_within a association within = newer (nat_lt a.association association)
+      where
+        newer : (test : Bool) → GivesWithin (if test then entered script (forgotten a association) script.restart else None)
+        newer true = enters (forgotten a association) script.restart (record {
+          line = within.names.line;
+          context = λ j n e. absurd (none_is_some n e);
+          ephemeral = λ k n e. absurd (none_is_some n e);
+        })
+        newer false = gives_none
+
+    pub noted_within : (a : Agent) (slots : List ℕ) (sent : SentNote) → IsAgentWithin script s a → GivesWithin (noted script a slots sent)
+    noted_within a slots sent within = accepting (may_accept script a sent)
+      where
+        b : Agent
+        b = record a { accepted = (with_accepted (inbox_of a) sent.number).accepted }
+
+        goes : (target : Option ℕ) → GivesWithin (entered_or_stays script b target)
+        goes None = gives b (record { names = within.names; sends = within.sends })
+        goes (Some state) = enters b state within.names
+
+        accepting : (test : Bool) → GivesWithin (if test then entered_or_stays script b (target_of script b (line_in b sent.line slots) sent.note) else None)
+        accepting true = goes (target_of script b (line_in b sent.line slots) sent.note)
+        accepting false = gives_none
+
+-- an agent of an opening, and one that begins on the lines of another
+pub opened_within : (script : Script) (s : Scope) (call : ℕ) (lines : ℕ → ℕ) → ((i : ℕ) → i < length script.lines → s.lines (lines i) ≡ true)
+    → IsAgentWithin script s (opened script call lines)
+opened_within script s call lines own = record {
+  names = record { line = own; context = λ j n e. absurd (none_is_some n e); ephemeral = λ k n e. absurd (none_is_some n e) };
+  sends = nothing_sent script s;
+}
+
+pub begun_within : (script : Script) (s : Scope) (call : ℕ) (old : Agent) → IsAgentWithin script s old → IsAgentWithin script s (begun script call old)
+begun_within script s call old within = record {
+  names = record { line = within.names.line; context = λ j n e. absurd (none_is_some n e); ephemeral = λ k n e. absurd (none_is_some n e) };
+  sends = nothing_sent script s;
+}

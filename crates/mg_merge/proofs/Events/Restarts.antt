@@ -1,0 +1,76 @@
+-- A restart of a shard beside that of the merge: one restart of the merge stands for those of all shards.
+use Rattle.std.proofs.Common.{◌≡◌, ◌∙◌, ◌+◌, ℕ, false, Option, Some, None, is_some, refl, sym, ap}
+use Rattle.mg_names.specs.declared.identifiers.TermId.{TermId}
+use Rattle.mg_names.specs.declared.identifiers.TermId.TheVariants.{Line, Eph}
+use Rattle.mg_model.specs.declared.rows.Row.{Row}
+use Rattle.mg_model.specs.Board.{Board, place_in}
+use Rattle.mg_model.specs.Gateway.{restarted, board_restarted, link_restarted, row_restarted}
+use Rattle.mg_model.specs.LineEvents.{cleared}
+use Rattle.mg_model.specs.Script.{Script}
+use Rattle.mg_model.specs.World.{World, with_gateway}
+use Rattle.mg_model.proofs.Cases.{false_not_true, none_is_some}
+use Rattle.mg_merge.proofs.Scopes.{Scope, IsWithin}
+use Rattle.mg_merge.proofs.Events.Worlds.{IsContained, IsBeside, IsMerge}
+
+gone : (k : ℕ) (row : Option Row) → is_some (row_restarted (Eph k) row) ≡ false
+gone k None = refl
+gone k (Some row) = refl
+
+in_null : (t : TermId) (row : Option Row) → place_in (row_restarted t row) ≡ 0
+in_null t None = refl
+in_null (Line l) (Some row) = refl
+in_null (Eph x) (Some row) = refl
+
+within_restarted : (s : Scope) (b : Board) → IsWithin s b → IsWithin s (board_restarted b)
+within_restarted s b within = record {
+  class = within.class;
+  outside = λ t other. in_null t (b.row t);
+  places = λ t real. absurd (real (in_null t (b.row t)));
+  ephemerals = λ k there. absurd (false_not_true (sym (gone k (b.row (Eph k))) ∙ there));
+}
+
+pub contained_restarted : (script : Script) (s : Scope) (w : World) → IsContained script s w → IsContained script s (with_gateway w (restarted w.gateway))
+contained_restarted script s w contained = record {
+  board = within_restarted s w.gateway.board contained.board;
+  holder = contained.holder;
+  creator = λ k c is. absurd (none_is_some c is);
+  link = λ c answer is. absurd (none_is_some answer is);
+  agents = contained.agents;
+  requests = contained.requests;
+  replies = contained.replies;
+}
+
+pub beside_restarted : (s : Scope) (w m : World) → IsBeside s w m → IsBeside s (with_gateway w (restarted w.gateway)) (with_gateway m (restarted m.gateway))
+beside_restarted s w m along = record {
+  association = ap (λ (n : ℕ). n + 1) along.association;
+  board = record {
+    class = along.board.class;
+    row = λ t own. ap (row_restarted t) (along.board.row t own);
+    cut = λ t u own also. refl;
+    used_context = λ n own. refl;
+    used_ephemeral = λ n own. refl;
+    members = λ t real class. absurd (real (in_null t (m.gateway.board.row t)));
+  };
+  line = λ l own. ap cleared (along.line l own);
+  holder = along.holder;
+  creator = λ k own. refl;
+  link = λ c own. ap link_restarted (along.link c own);
+  retired = along.retired;
+  agent = along.agent;
+  requests = along.requests;
+  replies = along.replies;
+  notes = along.notes;
+  own_holder = along.own_holder;
+  own_creator = λ k c is own. absurd (none_is_some c is);
+}
+
+pub merge_restarted : (m : World) → IsMerge (with_gateway m (restarted m.gateway))
+merge_restarted m = record {
+  board = record {
+    places = λ t real. absurd (real (in_null t (m.gateway.board.row t)));
+    zeroth = gone 0 (m.gateway.board.row (Eph 0));
+  };
+  contexts = λ c. (λ used. absurd (false_not_true used), λ there. absurd (there.0 (sym there.1.1 ∙ in_null there.1.0 (m.gateway.board.row there.1.0))));
+  ephemerals = λ k. sym (gone k (m.gateway.board.row (Eph k)));
+  creator = λ k none. refl;
+}
