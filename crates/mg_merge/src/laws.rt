@@ -1,5 +1,5 @@
 //! The law of the merge.
-ghost use Rattle.mg_model.specs.Shards.{MergesAreRuns};
+ghost use Rattle.mg_merge.specs.Laws.{MergesAreRuns};
 
 /// Where the history of each shard is a run from an opening of its calls, no call, line or identifier is of two shards, all shards were
 /// restarted equally often, and identifiers were left before each event, the merge of their histories (association by association, in each

@@ -5,7 +5,6 @@ use Rattle.std.specs.Prelude.{◌≡◌, ℕ, zero, suc, ◌+◌, ◌<◌, ◌�
 use Rattle.std.specs.List.{flat_map}
 use Rattle.mg_model.specs.declared.events.Event.{Event}
 use Rattle.mg_model.specs.declared.events.Event.TheVariants.{OfCall, Restart}
-use Rattle.mg_model.specs.Accepted.{IsScript}
 use Rattle.mg_model.specs.Board.{Board}
 use Rattle.mg_model.specs.Items.{IsRising, is_context_number, is_ephemeral_number}
 use Rattle.mg_model.specs.Messages.{Request}
@@ -127,10 +126,3 @@ pub record IsMergedRun (script : Script) (shards : List Shard) (restarts : ℕ) 
   pub opens : IsOpening script (all_calls shards) start
   pub runs : Runs script (merged (histories shards) restarts) start end
   pub agrees : (shard : Shard) → Contains shards shard → AgreesWith end shard
-
--- where the script is as its reader accepts it, each shard's history is a run, nothing is of two shards, and all were restarted equally often, the merge is a run
-abbrev pub MergesAreRuns : Type 0
-MergesAreRuns =
-    (script : Script) (first : Shard) (others : List Shard) (restarts : ℕ) → IsScript script
-    → ((shard : Shard) → Contains (first ∷ others) shard → IsShardRun script shard × (restarts_in shard.history ≡ restarts))
-    → AreAllApart script (first ∷ others) → IsMergedRun script (first ∷ others) restarts

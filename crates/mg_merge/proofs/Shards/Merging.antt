@@ -8,7 +8,8 @@ use Rattle.mg_model.specs.Accepted.{IsScript}
 use Rattle.mg_model.specs.Gateway.{restarted}
 use Rattle.mg_model.specs.Numbers.{last_association}
 use Rattle.mg_model.specs.Script.{Script}
-use Rattle.mg_model.specs.Shards.{History, Shard, IsShardRun, IsEventOf, AgreesWith, AreAllApart, MergesAreRuns, RunsWithin, cut_at_restarts, histories, merged_from, restarts_in}
+use Rattle.mg_merge.specs.Laws.{MergesAreRuns}
+use Rattle.mg_model.specs.Shards.{History, Shard, IsShardRun, IsEventOf, AgreesWith, AreAllApart, RunsWithin, cut_at_restarts, histories, merged_from, restarts_in}
 use Rattle.mg_model.specs.World.{World, Runs, with_gateway}
 use Rattle.mg_model.proofs.Single.{first_in, none_in}
 use Rattle.mg_merge.proofs.Lists.{later_in, first_or_later}
