@@ -3,3 +3,4 @@ pub mod BoardLaws
 pub mod AgentLaws
 pub mod CallLaws
 pub mod OpeningLaws
+pub mod DistinctLines

@@ -21,8 +21,9 @@ use Rattle.mg_model.specs.Messages.{Request, Reply, SentNote}
 use Rattle.mg_model.specs.Script.{Script}
 use Rattle.mg_model.specs.declared.events.CallEvent.{CallEvent}
 use Rattle.mg_model.specs.declared.events.CallEvent.TheVariants as to_call
+use Rattle.mg_model.specs.declared.events.Event.{Event}
 use Rattle.mg_model.specs.declared.events.Event.TheVariants.{Restart}
-use Rattle.mg_model.specs.World.{World, execute, OccursTo, Occurs, Opened, IsOpening, IsGood}
+use Rattle.mg_model.specs.World.{World, execute, OccursTo, Occurs, Runs, Opened, IsOpening, IsGood}
 use Rattle.mg_model.specs.Board.{null_row}
 
 -- nothing but the replies that were sent
@@ -83,6 +84,12 @@ abbrev pub LinesAreApart : Script → World → Type 0
 LinesAreApart script w =
     (call other : ℕ) (a b : Agent) (i j : ℕ) → w.agent call ≡ Some a → w.agent other ≡ Some b → i < length script.lines
     → j < length script.lines → a.lines i ≡ b.lines j → call ≡ other
+
+-- in every world of every run
+abbrev pub LinesStayDistinct : Type 0
+LinesStayDistinct =
+    (script : Script) (calls : List Opened) (events : List Event) (opening end : World) → IsOpening script calls opening
+    → Runs script events opening end → LinesAreApart script end
 
 abbrev pub CallsStayApart : Type 0
 CallsStayApart =

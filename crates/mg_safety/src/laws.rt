@@ -1,6 +1,6 @@
 //! Small laws of worlds, openings and events.
 ghost use Rattle.mg_safety.specs.MessageNumbers.{MessagesAreNamedByNumber};
-ghost use Rattle.mg_safety.specs.Laws.{OldRequestsDoNothing, RestartsClearLines, EventsKeepOthers, OpeningsAreGood, CallsStayApart, CommandsKeepOthers, PathsStayInside, SidesAgree};
+ghost use Rattle.mg_safety.specs.Laws.{OldRequestsDoNothing, RestartsClearLines, EventsKeepOthers, OpeningsAreGood, LinesStayDistinct, CallsStayApart, CommandsKeepOthers, PathsStayInside, SidesAgree};
 
 /// A request whose number is not above the last one executed of its call changes nothing, but that the kept reply may be
 /// sent once more (H.248.1 Annex D.1.1: a transaction is executed at most once).
@@ -28,6 +28,11 @@ pub fn messages_are_named_by_number()
 /// An opening is a good world.
 pub fn openings_are_good()
     ensures { OpeningsAreGood }
+{}
+
+/// Calls are on lines distinct at each moment: in every world of every run no line is a line of two calls that are open.
+pub fn lines_stay_distinct()
+    ensures { LinesStayDistinct }
 {}
 
 /// In a good world, in which no line is a line of two calls, no line of one call is joined with a line of another.

@@ -1,4 +1,4 @@
--- What a step of an agent sends has the next number of its call.
+-- What a step of an agent sends has the next number of its call, and no step changes its lines.
 use Rattle.std.proofs.Common.{◌≡◌, ◌+◌, ◌<◌, ◌≤◌, ℕ, Bool, true, false, List, Option, Some, None, refl, sym, ap, subst, arith, true≢false}
 use Rattle.std.specs.Prelude.{◌==◌, ◌&&◌, not, if◌then◌else◌, nat_lt, nat_le, Contains}
 use Rattle.mg_model.specs.declared.failures.Failure.{Failure}
@@ -19,97 +19,102 @@ abbrev IsNext : (call number : ℕ) → Phase → Type 0
 IsNext call number phase = (request : Request) → Contains (sent_in phase) request → (request.call ≡ call) × (request.number ≡ number)
 
 -- where a step sends something, numbers go on; they never go back
-pub record GoesOn (call next : ℕ) (b : Agent) : Type 0 where
+pub record GoesOn (call next : ℕ) (lines : ℕ → ℕ) (b : Agent) : Type 0 where
   pub call_is : b.call ≡ call
+  pub lines_are : b.lines ≡ lines
   pub next_is : next ≤ b.next
   pub sent : (request : Request) → Contains (sent_in b.phase) request → (request.call ≡ call) × ((request.number ≡ next) × (next < b.next))
 
-abbrev pub GivesNext : (call next : ℕ) → Option Agent → Type 0
-GivesNext call next o = (b : Agent) → o ≡ Some b → GoesOn call next b
+abbrev pub GivesNext : (call next : ℕ) → (ℕ → ℕ) → Option Agent → Type 0
+GivesNext call next lines o = (b : Agent) → o ≡ Some b → GoesOn call next lines b
 
-gives_none : (call next : ℕ) → GivesNext call next None
-gives_none call next b e = absurd (none_is_some b e)
+gives_none : (call next : ℕ) (lines : ℕ → ℕ) → GivesNext call next lines None
+gives_none call next lines b e = absurd (none_is_some b e)
 
-gives : (call next : ℕ) (c : Agent) → GoesOn call next c → GivesNext call next (Some c)
-gives call next c goes b e = subst (GoesOn call next) (the_some c b e) goes
+gives : (call next : ℕ) (lines : ℕ → ℕ) (c : Agent) → GoesOn call next lines c → GivesNext call next lines (Some c)
+gives call next lines c goes b e = subst (GoesOn call next lines) (the_some c b e) goes
 
 -- nothing is sent
-silent : (a : Agent) (phase : Phase) → ((request : Request) → Contains (sent_in phase) request → ⊥) → GoesOn a.call a.next (record a { phase = phase })
-silent a phase none = record { call_is = refl; next_is = omega arith; sent = λ request among. absurd (none request among) }
+silent : (a : Agent) (phase : Phase) → ((request : Request) → Contains (sent_in phase) request → ⊥) → GoesOn a.call a.next a.lines (record a { phase = phase })
+silent a phase none = record { call_is = refl; lines_are = refl; next_is = omega arith; sent = λ request among. absurd (none request among) }
 
 nothing_sent : (request : Request) → Contains (sent_in resting) request → ⊥
 nothing_sent request among = none_in request among
 
-entered_next : (script : Script) (a : Agent) (state : ℕ) (empty : Bool) → GivesNext a.call a.next (entered_with script a state empty)
+entered_next : (script : Script) (a : Agent) (state : ℕ) (empty : Bool) → GivesNext a.call a.next a.lines (entered_with script a state empty)
 entered_next script a state true =
-    gives a.call a.next (record a { state = state; phase = awaits_pass })
-    (record { call_is = refl; next_is = omega arith; sent = λ request among. absurd (none_in request among) })
+    gives a.call a.next a.lines (record a { state = state; phase = awaits_pass })
+    (record { call_is = refl; lines_are = refl; next_is = omega arith; sent = λ request among. absurd (none_in request among) })
 entered_next script a state false = numbered (nat_le a.next last_number)
   where
-    numbered : (room : Bool) → GivesNext a.call a.next (if room
+    numbered : (room : Bool) → GivesNext a.call a.next a.lines (if room
         then Some (record a { state = state; phase = awaits_reply (request_of script a state); next = a.next + 1 }) else None)
-    numbered true = gives a.call a.next (record a { state = state; phase = awaits_reply (request_of script a state); next = a.next + 1 }) (record {
+    numbered true = gives a.call a.next a.lines (record a { state = state; phase = awaits_reply (request_of script a state); next = a.next + 1 }) (record {
       call_is = refl;
+      lines_are = refl;
       next_is = omega arith;
       sent = λ request among. let is = only_one (request_of script a state) request among in
           (ap (λ (r : Request). r.call) (sym is), (ap (λ (r : Request). r.number) (sym is), omega arith));
     })
-    numbered false = gives_none a.call a.next
+    numbered false = gives_none a.call a.next a.lines
 
-enters_next : (script : Script) (a : Agent) (state : ℕ) → GivesNext a.call a.next (entered script a state)
+enters_next : (script : Script) (a : Agent) (state : ℕ) → GivesNext a.call a.next a.lines (entered script a state)
 enters_next script a state = entered_next script a state (is_empty (built_by script a state))
 
-rests_next : (script : Script) (a : Agent) (target : Option ℕ) → GivesNext a.call a.next (entered_or_rests script a target)
-rests_next script a None = gives a.call a.next (record a { phase = resting }) (silent a resting nothing_sent)
+rests_next : (script : Script) (a : Agent) (target : Option ℕ) → GivesNext a.call a.next a.lines (entered_or_rests script a target)
+rests_next script a None = gives a.call a.next a.lines (record a { phase = resting }) (silent a resting nothing_sent)
 rests_next script a (Some state) = enters_next script a state
 
-if_next : (script : Script) (a : Agent) (target : Option ℕ) → GivesNext a.call a.next (entered_if script a target)
-if_next script a None = gives_none a.call a.next
+if_next : (script : Script) (a : Agent) (target : Option ℕ) → GivesNext a.call a.next a.lines (entered_if script a target)
+if_next script a None = gives_none a.call a.next a.lines
 if_next script a (Some state) = enters_next script a state
 
-leads_next : (script : Script) (was a : Agent) (failure : Option Failure) → GivesNext a.call a.next (leads_on script was a failure)
+leads_next : (script : Script) (was a : Agent) (failure : Option Failure) → GivesNext a.call a.next a.lines (leads_on script was a failure)
 leads_next script was a None = rests_next script a (state_of script was.state).ok
 leads_next script was a (Some failure) = if_next script a (state_of script was.state).fault
 
-pub replied_next : (script : Script) (a : Agent) (reply : Reply) → GivesNext a.call a.next (replied script a reply)
+pub replied_next : (script : Script) (a : Agent) (reply : Reply) → GivesNext a.call a.next a.lines (replied script a reply)
 replied_next script a reply = in_phase a.phase
   where
-    answered : (request : Request) (fits : Bool) → GivesNext a.call a.next (if fits
+    answered : (request : Request) (fits : Bool) → GivesNext a.call a.next a.lines (if fits
         then leads_on script a (after_results a (built_by script a a.state) reply.results reply.number) reply.failure else None)
     answered request true =
         let keeps = results_keep a (built_by script a a.state) reply.results reply.number in
-        subst (λ call. GivesNext call a.next (leads_on script a (after_results a (built_by script a a.state) reply.results reply.number) reply.failure)) keeps.call
-        (subst (λ next. GivesNext (after_results a (built_by script a a.state) reply.results reply.number).call next
+        subst (λ call. GivesNext call a.next a.lines (leads_on script a (after_results a (built_by script a a.state) reply.results reply.number) reply.failure)) keeps.call
+        (subst (λ next. GivesNext (after_results a (built_by script a a.state) reply.results reply.number).call next a.lines
         (leads_on script a (after_results a (built_by script a a.state) reply.results reply.number) reply.failure)) keeps.next
-        (leads_next script a (after_results a (built_by script a a.state) reply.results reply.number) reply.failure))
-    answered request false = gives_none a.call a.next
+        (subst (λ lines. GivesNext (after_results a (built_by script a a.state) reply.results reply.number).call
+        (after_results a (built_by script a a.state) reply.results reply.number).next lines
+        (leads_on script a (after_results a (built_by script a a.state) reply.results reply.number) reply.failure)) keeps.lines
+        (leads_next script a (after_results a (built_by script a a.state) reply.results reply.number) reply.failure)))
+    answered request false = gives_none a.call a.next a.lines
 
-    in_phase : (phase : Phase) → GivesNext a.call a.next (replied_to script a phase reply)
+    in_phase : (phase : Phase) → GivesNext a.call a.next a.lines (replied_to script a phase reply)
     in_phase (awaits_reply request) = answered request (answers reply request)
-    in_phase awaits_pass = gives_none a.call a.next
-    in_phase resting = gives_none a.call a.next
+    in_phase awaits_pass = gives_none a.call a.next a.lines
+    in_phase resting = gives_none a.call a.next a.lines
 
-pub passed_next : (script : Script) (a : Agent) → GivesNext a.call a.next (passed script a)
+pub passed_next : (script : Script) (a : Agent) → GivesNext a.call a.next a.lines (passed script a)
 passed_next script a = in_phase a.phase
   where
-    in_phase : (phase : Phase) → GivesNext a.call a.next (passed_in script a phase)
+    in_phase : (phase : Phase) → GivesNext a.call a.next a.lines (passed_in script a phase)
     in_phase awaits_pass = rests_next script a (state_of script a.state).ok
-    in_phase (awaits_reply request) = gives_none a.call a.next
-    in_phase resting = gives_none a.call a.next
+    in_phase (awaits_reply request) = gives_none a.call a.next a.lines
+    in_phase resting = gives_none a.call a.next a.lines
 
-pub timed_next : (script : Script) (a : Agent) → GivesNext a.call a.next (timed script a)
+pub timed_next : (script : Script) (a : Agent) → GivesNext a.call a.next a.lines (timed script a)
 timed_next script a = at_rest (is_resting a.phase)
   where
-    at_rest : (rests : Bool) → GivesNext a.call a.next (if rests then entered_if script a (state_of script a.state).timer else None)
+    at_rest : (rests : Bool) → GivesNext a.call a.next a.lines (if rests then entered_if script a (state_of script a.state).timer else None)
     at_rest true = if_next script a (state_of script a.state).timer
-    at_rest false = gives_none a.call a.next
+    at_rest false = gives_none a.call a.next a.lines
 
-pub heard_next : (script : Script) (a : Agent) (association : ℕ) → GivesNext a.call a.next (heard script a association)
+pub heard_next : (script : Script) (a : Agent) (association : ℕ) → GivesNext a.call a.next a.lines (heard script a association)
 heard_next script a association = newer (nat_lt a.association association)
   where
-    newer : (is_newer : Bool) → GivesNext a.call a.next (if is_newer then entered script (forgotten a association) script.restart else None)
+    newer : (is_newer : Bool) → GivesNext a.call a.next a.lines (if is_newer then entered script (forgotten a association) script.restart else None)
     newer true = enters_next script (forgotten a association) script.restart
-    newer false = gives_none a.call a.next
+    newer false = gives_none a.call a.next a.lines
 
 -- a call at rest has no request outstanding
 rest_silent : (phase : Phase) → is_resting phase ≡ true → (request : Request) → Contains (sent_in phase) request → ⊥
@@ -117,20 +122,20 @@ rest_silent resting at_rest request among = none_in request among
 rest_silent awaits_pass at_rest request among = true≢false (sym at_rest)
 rest_silent (awaits_reply sent) at_rest request among = true≢false (sym at_rest)
 
-pub noted_next : (script : Script) (a : Agent) (slots : List ℕ) (sent : SentNote) → GivesNext a.call a.next (noted script a slots sent)
+pub noted_next : (script : Script) (a : Agent) (slots : List ℕ) (sent : SentNote) → GivesNext a.call a.next a.lines (noted script a slots sent)
 noted_next script a slots sent = accepted (may_accept script a sent) refl
   where
     entered_or_same : (target : Option ℕ) → is_resting a.phase ≡ true
-        → GivesNext a.call a.next (entered_or_stays script (record a { accepted = with_at a.accepted sent.number true }) target)
-    entered_or_same None at_rest = gives a.call a.next (record a { accepted = with_at a.accepted sent.number true })
-        (record { call_is = refl; next_is = omega arith; sent = λ request among. absurd (rest_silent a.phase at_rest request among) })
+        → GivesNext a.call a.next a.lines (entered_or_stays script (record a { accepted = with_at a.accepted sent.number true }) target)
+    entered_or_same None at_rest = gives a.call a.next a.lines (record a { accepted = with_at a.accepted sent.number true })
+        (record { call_is = refl; lines_are = refl; next_is = omega arith; sent = λ request among. absurd (rest_silent a.phase at_rest request among) })
     entered_or_same (Some state) at_rest = enters_next script (record a { accepted = with_at a.accepted sent.number true }) state
 
-    accepted : (may : Bool) → may_accept script a sent ≡ may → GivesNext a.call a.next (if may
+    accepted : (may : Bool) → may_accept script a sent ≡ may → GivesNext a.call a.next a.lines (if may
         then entered_or_stays script (record a { accepted = with_at a.accepted sent.number true }) (target_of script a (line_in a sent.line slots) sent.note)
         else None)
     accepted true e = entered_or_same (target_of script a (line_in a sent.line slots) sent.note)
         (and_first (is_resting a.phase) (not (state_of script a.state).is_end)
         (and_first (is_resting a.phase && not (state_of script a.state).is_end) (is_new (arrival (inbox_of a) sent.association sent.number))
         (and_second (sent.call == a.call) _ e)))
-    accepted false e = gives_none a.call a.next
+    accepted false e = gives_none a.call a.next a.lines

@@ -33,7 +33,7 @@ sent_once (awaits_reply request) = one_once (λ (r : Request). r.call) (λ (r : 
 sent_once awaits_pass = none_once (λ (r : Request). r.call) (λ (r : Request). r.number)
 sent_once resting = none_once (λ (r : Request). r.call) (λ (r : Request). r.number)
 
-module _ (w : World) (was : IsNumbered w) (call : ℕ) (before a : Agent) (there : w.agent call ≡ Some before) (goes : GoesOn before.call before.next a) where
+module _ (w : World) (was : IsNumbered w) (call : ℕ) (before a : Agent) (there : w.agent call ≡ Some before) (goes : GoesOn before.call before.next before.lines a) where
   abbrev stepped : World
   stepped = agent_steps w call a
 
@@ -109,7 +109,7 @@ module _ (w : World) (was : IsNumbered w) (call : ℕ) (before a : Agent) (there
         (λ c known open_call. (open_call, refl)) was.notes;
   }
 
-pub agent_numbered : (w after : World) (call : ℕ) (step : Agent → Option Agent) → ((a : Agent) → GivesNext a.call a.next (step a)) → IsNumbered w
+pub agent_numbered : (w after : World) (call : ℕ) (step : Agent → Option Agent) → ((a : Agent) → GivesNext a.call a.next a.lines (step a)) → IsNumbered w
     → AgentSteps w call step after → IsNumbered after
 agent_numbered w after call step next was s =
     subst IsNumbered (sym s.after_is) (step_numbered w was call s.before s.agent s.open_call (next s.before s.agent s.steps))
