@@ -1,4 +1,5 @@
 pub mod Placings
+pub mod PlanRows
 pub mod SameRequests
 pub mod SameEvents
 pub mod SameReports
