@@ -1,7 +1,7 @@
 -- What the report of a plan says of each call. A reader should check which message each step of a plan delivers, that a step which can't happen is
 -- counted idle, that a call is told as if it alone, with all that begin on its lines, was run on a gateway of its own, and that the restarts of other
 -- calls may stand anywhere among its steps. This profile's own.
-use Rattle.std.specs.Prelude.{◌≡◌, ℕ, suc, ◌+◌, ◌≤◌, ◌==◌, Bool, true, false, ◌&&◌, if◌then◌else◌, List, [], ◌∷◌, ◌++◌, Contains, Option, Some, None, ◌⊎◌, codes}
+use Rattle.std.specs.Prelude.{◌≡◌, ℕ, suc, ◌+◌, ◌≤◌, ◌==◌, Bool, true, false, ◌&&◌, IsTrue, if◌then◌else◌, List, [], ◌∷◌, ◌++◌, Contains, Option, Some, None, ◌⊎◌, codes}
 use Rattle.std.specs.List.{find}
 use Rattle.mg_model.specs.declared.failures.ChosenRefusal.{ChosenRefusal}
 use Rattle.mg_model.specs.declared.failures.Refusal.TheVariants.{InternalFailure}
@@ -162,6 +162,8 @@ pub record IsReported (script : Script) (one : Opened) (steps : List PlanStep) (
   pub end : Progress
   pub agent : Agent
   pub opens : IsOpening script (one ∷ []) start
+  -- its gateway may give every number
+  pub every_number : (n : ℕ) → IsTrue (start.gateway.board.class n)
   pub runs : StepsRun script one.call placed (start_as one start) end
   pub stands : end.world.agent end.standing ≡ Some agent
   pub lines_are : lines ≡ end.retired ++ line_now script agent end ∷ []
