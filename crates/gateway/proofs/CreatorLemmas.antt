@@ -1,5 +1,5 @@
 -- Which call created an ephemeral: what a request creates wasn't used before, and what stands after it stood before it or was created by it.
-use Rattle.std.proofs.Common.{◌≡◌, ◌∙◌, ℕ, ◌+◌, ◌==◌, Bool, true, false, ◌&&◌, ◌||◌, if◌then◌else◌, List, [], ◌∷◌, ◌++◌, Option, Some, None, is_some, ◌⊎◌, inl, inr, refl, sym, ap, rules, subst}
+use Rattle.std.proofs.Common.{◌≡◌, ◌∙◌, ℕ, ◌+◌, ◌==◌, Bool, true, false, ◌&&◌, ◌||◌, if◌then◌else◌, List, [], ◌∷◌, ◌++◌, Option, Some, None, is_some, ◌⊎◌, inl, inr, refl, sym, ap, rules}
 use Rattle.std.proofs.Common.{IsTrue, Result, Ok, Err, OnOk, true≢false, ◌<◌, ◌≤◌, take, drop, length, get_or}
 use Rattle.std.proofs.lemmas.List.{take_more, take_all, take-append-drop}
 use Rattle.std.specs.declared.alloc.AllocError.{AllocError}
@@ -7,7 +7,7 @@ use Rattle.std.proofs.lemmas.Bool.{eqb-true}
 use Rattle.std.proofs.lemmas.List.Folds.{list_any-append}
 use Rattle.mg_names.specs.declared.codes.Code.TheVariants.{UnknownTermination}
 use Rattle.mg_names.specs.declared.identifiers.TermId.{TermId}
-use Rattle.mg_names.specs.declared.identifiers.TermId.TheVariants.{Line, Eph}
+use Rattle.mg_names.specs.declared.identifiers.TermId.TheVariants.{Eph}
 use Rattle.mg_model.specs.declared.failures.ChosenRefusal.{ChosenRefusal}
 use Rattle.mg_model.specs.declared.failures.Failure.{Failure}
 use Rattle.mg_model.specs.declared.items.Added.TheVariants as added
@@ -20,7 +20,7 @@ use Rattle.mg_model.specs.Messages.{RequestCommand}
 use Rattle.mg_model.specs.RequestRun.{Running, RunsFrom, Succeeds, item_at}
 use Rattle.contexts.proofs.ExecLemmas.{both_known}
 use Rattle.contexts.proofs.TermLemmas.{same_is, by_value}
-use Rattle.gateway.specs.Creators.{creator_at, creator_on, is_that, is_created, any_created}
+use Rattle.gateway.specs.Creators.{creator_at, creator_on, is_that, is_created, any_created, IsKeptOrNoted}
 
 either : (a b : Bool) → (a || b) ≡ true → (a ≡ true) ⊎ (b ≡ true)
 either true b h = inl refl
@@ -192,15 +192,23 @@ pub noted_all : (results : List Done) (place call : ℕ) (before now : List (ℕ
     (k : ℕ) → creator_at now k ≡ (if any_created results k then Some call else creator_at before k)
 noted_all results place call before now past so_far k = so_far k ∙ ap (λ (ds : List Done). if any_created ds k then Some call else creator_at before k) (take_all place results past)
 
-none_before : (results : List Done) (place k : ℕ) → any_created results k ≡ false → any_created (take place results) k ≡ false
-none_before results place k none = first_false _ _ (sym (list_any-append (λ (d : Done). is_created d k) (take place results) (drop place results)) ∙ ap (λ (ds : List Done). any_created ds k) (take-append-drop place results) ∙ none)
-  where
-    first_false : (a b : Bool) → (a || b) ≡ false → a ≡ false
-    first_false true b h = absurd (search rules)
-    first_false false b h = refl
+made_whole : (results : List Done) (place k : ℕ) → any_created (take place results) k ≡ true → any_created results k ≡ true
+made_whole results place k made =
+    sym (ap (λ (ds : List Done). any_created ds k) (take-append-drop place results)) ∙ list_any-append (λ (d : Done). is_created d k) (take place results) (drop place results) ∙ first_true _ _ made
 
-pub others_kept : (results : List Done) (place call : ℕ) (before now : List (ℕ × ℕ)) → NotedTo results place call before now → (k : ℕ) → any_created results k ≡ false → creator_at now k ≡ creator_at before k
-others_kept results place call before now so_far k none = so_far k ∙ rw (none_before results place k none) refl
+pub kept_or_noted : (results : List Done) (place call : ℕ) (before now : List (ℕ × ℕ)) → NotedTo results place call before now → (k : ℕ) → IsKeptOrNoted call results before now k
+kept_or_noted results place call before now so_far k = by_value (any_created (take place results) k)
+    (λ made. inr (made_whole results place k made, so_far k ∙ rw made refl))
+    (λ none. inl (so_far k ∙ rw none refl))
+
+-- what was noted shows only under numbers that commands created
+pub others_kept : (results : List Done) (call : ℕ) (before now : List (ℕ × ℕ)) → ((k : ℕ) → IsKeptOrNoted call results before now k)
+    → (k : ℕ) → any_created results k ≡ false → creator_at now k ≡ creator_at before k
+others_kept results call before now noted k none = by (noted k)
+  where
+    by : IsKeptOrNoted call results before now k → creator_at now k ≡ creator_at before k
+    by (inl same) = same
+    by (inr (made, is)) = let bad : true ≡ false = sym made ∙ none in absurd (true≢false bad)
 
 pub on_ok : {P Q : Type 0} (r : Result (Unit {0}) AllocError) → OnOk r P → (P → Q) → OnOk r Q
 on_ok (Ok done) h f = f h

@@ -10,9 +10,10 @@ use Rattle.line_events.specs.declared.fault.LineFault.{LineFault}
 use Rattle.line_events.specs.Raising.{is_raised}
 use Rattle.requests.specs.Connected.{Connected, board_in, line_in, has_line, answer_where, lines_after}
 use Rattle.gateway.specs.Answers.{CannotOccur, IsSame, SameOpen}
-use Rattle.gateway.specs.Calls.{OpenCall, call_in, line_entry, link_of, holder_of, with_call, counting}
+use Rattle.gateway.specs.Calls.{OpenCall, call_entry, call_in, open_entry, is_retired_in, line_entry, link_of, holder_of, with_call, counting}
 use Rattle.gateway.specs.Creators.{creator_on}
-use Rattle.gateway.specs.GatewayValue.{GatewayValue, AreTied, gateway_of, holder_in, is_open}
+use Rattle.gateway.specs.GatewayValue.{GatewayValue, AreTied, is_held_by, has_line_among, gateway_of, holder_in, is_open}
+use Rattle.gateway.proofs.TieLemmas.{Entry, same_number, same_retired}
 
 some_is : {X : Type 0} (a b : X) → Some a ≡ Some b → a ≡ b
 some_is a b e = cc
@@ -26,7 +27,11 @@ there_held w tied l call e = tied.lines l ∙ ap is_some (held_entry (line_entry
 
 pub open_held : (w : GatewayValue) → AreTied w → (l call : ℕ) → Some call ≡ holder_in w l → call_in w.calls call ≡ None → ⊥
 open_held w tied l call e closed =
-    true≢false (sym (tied.holders l call (held_entry (line_entry w.holders l) call e)) ∙ ap is_some closed)
+    true≢false (sym (held_by (holder_in w l) e) ∙ tied.holders l call ∙ ap (λ (o : Option OpenCall). has_line_among o l) closed)
+  where
+    held_by : (holder : Option ℕ) → Some call ≡ holder → is_held_by holder call ≡ true
+    held_by None e = cc
+    held_by (Some other) e = ap (λ (n : ℕ). n == call) (sym (some_is call other e)) ∙ same_number call
 
 -- ---- what can't happen
 
@@ -100,19 +105,20 @@ raised_answered there o found note e h =
     ap is_raised told.1.1.0 ∙ ap is_some told.1.1.1 ∙ ap is_some e
 
 -- the gateway after: the row of the line and the link of the call changed
-abbrev with_both : GatewayValue → Connected → List (ℕ × OpenCall) → GatewayValue
+abbrev with_both : GatewayValue → Connected → List (ℕ × Option OpenCall) → GatewayValue
 with_both w c calls = record { association = w.association; connected = c; holders = w.holders; calls = calls; creators = w.creators }
 
-happens_is : (w : GatewayValue) (new : Connected) (calls : List (ℕ × OpenCall)) (l : ℕ) (event : LineEvent) (call : ℕ) (note : Option Note) (sent : List SentNote)
+happens_is : (w : GatewayValue) (new : Connected) (calls : List (ℕ × Option OpenCall)) (l : ℕ) (event : LineEvent) (call : ℕ) (note : Option Note) (sent : List SentNote)
     → Some call ≡ holder_in w l
     → Ok note ≡ answer_where (has_line (board_in w.connected) l) (outcome_of (line_in w.connected l) event)
     → board_in new ≡ board_in w.connected
     → line_in new ≡ lines_after (has_line (board_in w.connected) l) (line_in w.connected) l (outcome_of (line_in w.connected l) event)
     → sent ≡ notes_from (gateway_of w) call l note → (link_of (call_in w.calls call)).notes + length sent ≤ last_number
     → ((n : ℕ) → link_of (call_in calls n) ≡ (if n == call then record { last = (link_of (call_in w.calls call)).last; notes = (link_of (call_in w.calls call)).notes + length sent } else link_of (call_in w.calls n)))
+    → ((n : ℕ) → is_retired_in calls n ≡ is_retired_in w.calls n)
     → Happens (gateway_of w) l event (gateway_of (with_both w new calls)) sent
 unfolding gateway_of
-happens_is w new calls l event call note sent held answered board lines sent_are room links =
+happens_is w new calls l event call note sent held answered board lines sent_are room links retired =
     let found = outcome_answered _ _ note answered in
     let outcome : Outcome = found.1.0 in
     let rows : line_in new ≡ lines_after true (line_in w.connected) l (Some outcome) =
@@ -125,7 +131,7 @@ happens_is w new calls l event call note sent held answered board lines sent_are
       happens = found.1.1.0;
       notes_are = sent_are ∙ ap (notes_from (gateway_of w) call l) (sym found.1.1.1);
       room = room;
-      after_is = λ i. record (gateway_of w) { board = board i; line = rows i; creator = creator_on (board i) w.creators; link = λ n. links n i };
+      after_is = λ i. record (gateway_of w) { board = board i; line = rows i; creator = creator_on (board i) w.creators; link = λ n. links n i; retired = λ n. retired n i };
     }
 
 links_same : (calls : ℕ → Option OpenCall) (call n : ℕ) (same : Bool) → (n == call) ≡ same
@@ -143,28 +149,30 @@ pub silent_event : (w : GatewayValue) (new : Connected) (l : ℕ) (event : LineE
 unfolding is_open
 silent_event w new l event call found nothing held answered board lines few = (
   happens_is w new w.calls l event call found [] held answered board lines (ap (notes_from (gateway_of w) call l) (sym nothing)) (omega arith)
-      (λ n. links_same (call_in w.calls) call n (n == call) refl),
+      (λ n. links_same (call_in w.calls) call n (n == call) refl) (λ n. refl),
   λ c. refl,
 )
 
-links_counted : (calls : ℕ → Option OpenCall) (call : ℕ) (state : OpenCall) (last : ℕ) (n : ℕ) (same : Bool) → calls call ≡ Some state → last ≡ state.notes
-    → link_of (if same then option_map (counting (last + 1)) (calls call) else calls n)
-    ≡ (if same then record { last = (link_of (calls call)).last; notes = (link_of (calls call)).notes + 1 } else link_of (calls n))
-links_counted calls call state last n true e k = by_state (calls call) e
+links_counted : (entries : ℕ → Entry) (call : ℕ) (state : OpenCall) (last : ℕ) (n : ℕ) (same : Bool) → open_entry (entries call) ≡ Some state → last ≡ state.notes
+    → link_of (open_entry (if same then option_map (option_map (counting (last + 1))) (entries call) else entries n))
+    ≡ (if same then record { last = (link_of (open_entry (entries call))).last; notes = (link_of (open_entry (entries call))).notes + 1 } else link_of (open_entry (entries n)))
+links_counted entries call state last n true e k = by_state (entries call) e
   where
-    by_state : (o : Option OpenCall) → o ≡ Some state → link_of (option_map (counting (last + 1)) o) ≡ record { last = (link_of o).last; notes = (link_of o).notes + 1 }
+    by_state : (o : Entry) → open_entry o ≡ Some state
+        → link_of (open_entry (option_map (option_map (counting (last + 1))) o)) ≡ record { last = (link_of (open_entry o)).last; notes = (link_of (open_entry o)).notes + 1 }
     by_state None e = cc
-    by_state (Some c) e = let same : c ≡ state = cc in
+    by_state (Some None) e = cc
+    by_state (Some (Some c)) e = let same : c ≡ state = cc in
         ap (λ (m : ℕ). record { last = c.last; notes = m + 1 }) (k ∙ ap (λ (x : OpenCall). x.notes) (sym same))
-links_counted calls call state last n false e k = refl
+links_counted entries call state last n false e k = refl
 
-pub noted_event : (w : GatewayValue) (new : Connected) (calls : List (ℕ × OpenCall)) (l : ℕ) (event : LineEvent) (call : ℕ) (state : OpenCall) (last : ℕ) (found : Option Note) (note : Note) (sent : SentNote)
+pub noted_event : (w : GatewayValue) (new : Connected) (calls : List (ℕ × Option OpenCall)) (l : ℕ) (event : LineEvent) (call : ℕ) (state : OpenCall) (last : ℕ) (found : Option Note) (note : Note) (sent : SentNote)
     → found ≡ Some note → Some call ≡ holder_in w l → Ok found ≡ answer_where (has_line (board_in w.connected) l) (outcome_of (line_in w.connected l) event)
     → board_in new ≡ board_in w.connected
     → line_in new ≡ lines_after (has_line (board_in w.connected) l) (line_in w.connected) l (outcome_of (line_in w.connected l) event)
     → call_in w.calls call ≡ Some state → last ≡ state.notes → last + 1 ≤ last_number
     → sent ≡ record { call = call; association = w.association; number = last + 1; line = l; note = note }
-    → ((n : ℕ) → call_in calls n ≡ with_call (call_in w.calls) call (counting (last + 1)) n)
+    → ((n : ℕ) → call_entry calls n ≡ with_call (call_entry w.calls) call (counting (last + 1)) n)
     → (Happens (gateway_of w) l event (gateway_of (with_both w new calls)) (sent ∷ []))
 unfolding gateway_of
 noted_event w new calls l event call state last found note sent found_is held answered board lines is_state last_is room sent_is changed =
@@ -174,4 +182,5 @@ noted_event w new calls l event call state last found note sent found_is held an
     ∙ ap (λ (n : ℕ). record { call = call; association = w.association; number = n + 1; line = l; note = note } ∷ []) last_link
     ∙ ap (notes_from (gateway_of w) call l) (sym found_is))
     (omega arith)
-    (λ n. ap link_of (changed n) ∙ links_counted (call_in w.calls) call state last n (n == call) is_state last_is)
+    (λ n. ap (λ (e : Entry). link_of (open_entry e)) (changed n) ∙ links_counted (call_entry w.calls) call state last n (n == call) is_state last_is)
+    (same_retired (call_entry w.calls) (call_entry calls) call (counting (last + 1)) changed)

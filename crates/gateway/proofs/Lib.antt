@@ -3,7 +3,14 @@ pub mod OpeningLemmas
 pub mod NoteLemmas
 pub mod OfferLemmas
 pub mod TieLemmas
+pub mod OpenTieLemmas
+pub mod BeginLemmas
+pub mod MayLemmas
+pub mod RestartLemmas
 pub mod JudgeLemmas
 pub mod HappenLemmas
 pub mod StartLemmas
 pub mod CreatorLemmas
+pub mod CreatedLemmas
+pub mod NotedLemmas
+pub mod ListLemmas

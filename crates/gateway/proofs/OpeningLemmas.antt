@@ -39,7 +39,7 @@ pub idled_more : (b : Board) (l : LineNo) (lines : List LineNo) (t : TermId) →
 idled_more b l lines (Line m) = idled_line b.row l.0 m.0 (m.0 == l.0) (names_line lines m.0) refl
 idled_more b l lines (Eph k) = refl
 
-there_idle : (row : Option Row) → is_some (idle_row row) ≡ is_some row
+pub there_idle : (row : Option Row) → is_some (idle_row row) ≡ is_some row
 there_idle None = refl
 there_idle (Some row) = by_test (row.place.0 == 0)
   where

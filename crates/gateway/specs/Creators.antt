@@ -1,6 +1,6 @@
 -- Which call created an ephemeral, by its number. A reader should check that a number at which no ephemeral exists has no creator,
 -- whatever was noted.
-use Rattle.std.specs.Prelude.{ℕ, ◌==◌, Bool, false, if◌then◌else◌, List, Option, Some, None}
+use Rattle.std.specs.Prelude.{◌≡◌, ◌⊎◌, ℕ, ◌==◌, Bool, true, false, if◌then◌else◌, List, Option, Some, None}
 use Rattle.std.specs.Ordering.{nat_cmp}
 use Rattle.std.specs.BTreeMap.{is_at}
 use Rattle.std.specs.List.{list_any}
@@ -28,3 +28,8 @@ is_created done k = is_that done.ephemeral k
 -- one of the commands did
 abbrev pub any_created : List Done → ℕ → Bool
 any_created results k = list_any (λ (done : Done). is_created done k) results
+
+-- what was noted under a number is what was, or the call whose commands created its ephemeral
+abbrev pub IsKeptOrNoted : ℕ → List Done → (old new : List (ℕ × ℕ)) → ℕ → Type 0
+IsKeptOrNoted call results old new k =
+    (creator_at new k ≡ creator_at old k) ⊎ ((any_created results k ≡ true) × (creator_at new k ≡ Some call))

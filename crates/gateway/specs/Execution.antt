@@ -1,6 +1,7 @@
 -- What is found of a request before it runs, and what its run leaves to be put in place. A reader should check each variant against
 -- the answer that it leads to.
-use Rattle.std.specs.Prelude.{◌≡◌, ℕ, ◌+◌, ◌≤◌, true, false, if◌then◌else◌, List, length, Option, Some, ◌⊎◌}
+use Rattle.std.specs.Prelude.{◌≡◌, ℕ, ◌+◌, ◌≤◌, true, false, if◌then◌else◌, List, length, Option, Some, ◌⊎◌, Result, OnOk, option_map}
+use Rattle.std.specs.declared.alloc.AllocError.{AllocError}
 use Rattle.mg_model.specs.Board.{Board}
 use Rattle.mg_model.specs.Items.{Done}
 use Rattle.mg_model.specs.RequestRun.{RaisedNote}
@@ -15,7 +16,7 @@ use Rattle.gateway.specs.declared.execute.Judged.{Judged}
 use Rattle.gateway.specs.declared.execute.Judged.TheVariants.{New, Again, Nothing, Full, NoMemory}
 use Rattle.gateway.specs.Answers.{IsAddressed, HasNoRoom}
 use Rattle.gateway.specs.Creators.{creator_at, any_created}
-use Rattle.gateway.specs.Calls.{OpenCall, call_in, delivery_link}
+use Rattle.gateway.specs.Calls.{OpenCall, call_entry, call_in, open_entry, with_call, creating, is_among, delivery_link}
 use Rattle.gateway.specs.GatewayValue.{GatewayValue, gateway_of}
 
 -- the request is new to its call, whose last note has this number, and there is room for its notes
@@ -50,7 +51,23 @@ pub record IsRun (start : Connected) (request : Request) (refusal : Option Chose
 abbrev pub AreNew : Board → List Done → Type 0
 AreNew b results = (k : ℕ) → any_created results k ≡ true → b.used_ephemeral k ≡ false
 
--- a call is noted as the creator of what commands created, and nothing else is changed
+-- the numbers of what commands created are noted in the entry of a call, where the call is open; where memory runs out some may be
+pub record HasNoted (old new : Option OpenCall) (results : List Done) (result : Result (Unit {0}) AllocError) : Type 0 where
+  pub created : List ℕ
+  pub entry : new ≡ option_map (creating created) old
+  pub kept : (c : OpenCall) (k : ℕ) → old ≡ Some c → is_among c.created k ≡ true → is_among created k ≡ true
+  pub noted : (c : OpenCall) → old ≡ Some c → OnOk result ((k : ℕ) → any_created results k ≡ true → is_among created k ≡ true)
+
+-- the numbers of what commands created are noted of a call, where it is open; where memory runs out some may be
+pub record HasCreated (old new : ℕ → Option (Option OpenCall)) (call : ℕ) (results : List Done) (result : Result (Unit {0}) AllocError) : Type 0 where
+  pub created : List ℕ
+  pub entries : (n : ℕ) → new n ≡ with_call old call (creating created) n
+  pub kept : (c : OpenCall) (k : ℕ) → open_entry (old call) ≡ Some c → is_among c.created k ≡ true → is_among created k ≡ true
+  pub noted : (c : OpenCall) → open_entry (old call) ≡ Some c → OnOk result ((k : ℕ) → any_created results k ≡ true → is_among created k ≡ true)
+
+-- a call is noted as the creator of what commands created, and those numbers are noted of the call; nothing else is changed
 pub record IsNoted (call : ℕ) (results : List Done) (old new : GatewayValue) : Type 0 where
-  pub rest : new ≡ record old { creators = new.creators }
+  pub created : List ℕ
+  pub rest : new ≡ record old { calls = new.calls; creators = new.creators }
+  pub calls : (n : ℕ) → call_entry new.calls n ≡ with_call (call_entry old.calls) call (creating created) n
   pub creators : (k : ℕ) → creator_at new.creators k ≡ (if any_created results k then Some call else creator_at old.creators k)

@@ -4,5 +4,6 @@ pub mod GatewayValue
 pub mod Standby
 pub mod Openings
 pub mod Faults
+pub mod Beginnings
 pub mod Answers
 pub mod Execution

@@ -28,6 +28,7 @@ first_gateway class lines = record {
   holder = λ l. None;
   creator = λ k. None;
   link = λ call. record { last = None; notes = 0 };
+  retired = λ call. false;
 }
 
 -- ---- an opening
@@ -56,6 +57,7 @@ opened g call lines = record {
   holder = λ l. if names_line lines l then Some call else g.holder l;
   creator = g.creator;
   link = λ c. if c == call then record { last = None; notes = 0 } else g.link c;
+  retired = g.retired;
 }
 
 -- ---- what is answered
@@ -74,16 +76,16 @@ are_there b lines = list_all (λ (l : LineNo). has_line b l.0) lines
 abbrev pub are_free : Board → (ℕ → Option ℕ) → List LineNo → Bool
 are_free b holder lines = list_all (is_free b holder) lines && not (has_twice lines)
 
--- the first fault that applies, by whether the call is open
+-- the first fault that applies, by whether a call of this number was opened
 abbrev pub opening_on : Board → (ℕ → Option ℕ) → Bool → List LineNo → Result (Unit {0}) OpenFault
-opening_on b holder call_is_open lines =
+opening_on b holder is_taken lines =
     if not (are_there b lines) then Err UnknownLine
-    else if call_is_open then Err Taken
+    else if is_taken then Err Taken
     else if not (are_free b holder lines) then Err Taken
     else Ok tt
 
 abbrev pub opening : Gateway → Bool → List LineNo → Result (Unit {0}) OpenFault
-opening g call_is_open lines = opening_on g.board g.holder call_is_open lines
+opening g is_taken lines = opening_on g.board g.holder is_taken lines
 
 -- the fault says that memory ran out
 abbrev pub is_memory : OpenFault → Bool

@@ -13,7 +13,7 @@ pub enum Answer {
     },
     /// It was executed before: its reply once more.
     Kept(Reply),
-    /// It does nothing: its call isn't open, its association is another one, or its number is lower than the last one's or 0.
+    /// It does nothing: its call isn't open or was retired, its association is another one, or its number is lower than the last one's or 0.
     Discarded,
     /// The numbers of notes could run out (this profile's own).
     CannotHappen,

@@ -1,8 +1,9 @@
 //! A request reaches the gateway.
-ghost use Rattle.std.specs.Prelude.{◌≡◌, IfOk, OnOk, OnErr};
+ghost use Rattle.std.specs.Prelude.{◌≡◌, true, IfOk, OnOk, OnErr};
 ghost use Rattle.requests.specs.Connected.{board_in};
 ghost use Rattle.gateway.specs.Answers.{IsAnswered, IsSame};
 ghost use Rattle.gateway.specs.Execution.{IsJudged, IsNew, IsRun, AreNew, IsNoted};
+ghost use Rattle.gateway.specs.GatewayValue.{is_open};
 
 use crate::answer::Answer;
 use crate::gateway::Gateway;
@@ -97,13 +98,16 @@ impl Gateway {
         })
     }
 
-    /// Notes the request's call as the creator of the ephemerals that it created. Nothing shows it before the request is put in place.
+    /// Notes of the request's call what it created, and the call as the creator. Nothing shows it before the request is put in place.
     fn note_creators(&mut self, request: &Request, results: &[Done]) -> Result<(), AllocError>
-        requires { AreNew (board_in self.old.connected) results.now }
+        requires new { AreNew (board_in self.old.connected) results.now }
+        requires open { is_open self.old request.now.call ≡ true }
         ensures noted { OnOk result (IsNoted request.now.call results.now self.old self.new) }
         ensures unchanged { IsSame self.old self.new }
     {
-        creators::note(&mut self.creators, results, request.call().0)
+        let call = request.call().0;
+        calls::note_created(&mut self.calls, call, results)?;
+        creators::note(&mut self.creators, results, call)
     }
 
     /// Where a request ended is put in place, unless memory runs out.

@@ -14,8 +14,9 @@ use std::alloc::{AllocError, Global};
 use std::collections::BTreeMap;
 use std::marker::Model;
 
-/// A media gateway: its association, its connections, an entry for each line with the call that holds it, the open calls, and which call
-/// created an ephemeral. A line has its entry from the start, so that opening a call needs none. A request and an opening run on a standby of the connections, which
+/// A media gateway: its association, its connections, an entry for each line with the call that holds it, an entry for each call that was
+/// opened, and which call created an ephemeral. A line has its entry from the start, so that opening a call needs none; of a call that was
+/// retired an empty entry is left. A request and an opening run on a standby of the connections, which
 /// then changes places with them, so that running out of memory changes nothing and many open calls cost a request no copy.
 #[derive(Drop)]
 pub struct Gateway {

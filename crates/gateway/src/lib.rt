@@ -6,8 +6,10 @@
 
 mod active_and_standby;
 mod answer;
+mod begin;
 mod call;
 mod calls;
+mod created;
 mod creators;
 mod execute;
 mod fault;
@@ -22,7 +24,7 @@ mod restart;
 pub use answer::Answer;
 pub use contexts::{Board, Done};
 pub use digits::{Dialled, DigitMap, MapFault};
-pub use fault::{CannotHappen, OpenFault};
+pub use fault::{BeginFault, CannotHappen, OpenFault};
 pub use gateway::Gateway;
 pub use line_events::{EventList, LineRow, ListItem, Note};
 pub use mg_model::failures::{ChosenRefusal, Failure, Refusal};

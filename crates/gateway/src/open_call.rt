@@ -1,17 +1,18 @@
 //! The opening of a call.
-ghost use Rattle.std.specs.Prelude.{◌≡◌, ℕ, ◌==◌, ◌||◌, Ok, OnOk, OnErr};
+ghost use Rattle.std.specs.Prelude.{◌≡◌, ℕ, ◌==◌, ◌||◌, Ok, IfOk, OnOk, OnErr};
 ghost use Rattle.std.specs.List.{list_all};
 ghost use Rattle.contexts.specs.BoardValue.{names_line};
 ghost use Rattle.requests.specs.Connected.{board_in};
 ghost use Rattle.gateway.specs.Openings.{opened, opening, opening_on, has_twice, are_there, are_free, is_free, is_memory};
 ghost use Rattle.mg_model.specs.Memory.{IsOrNoMemory};
-ghost use Rattle.gateway.specs.GatewayValue.{gateway_of, holder_in, is_open};
+ghost use Rattle.gateway.specs.GatewayValue.{gateway_of, holder_in, is_open, is_taken};
 
+use crate::call::CallState;
 use crate::fault::OpenFault;
 use crate::gateway::Gateway;
 use crate::{calls, holders};
 use mg_names::identifiers::{CallNo, LineNo};
-use std::alloc::AllocError;
+use std::alloc::{AllocError, Global};
 
 /// Whether a line is among others.
 fn is_among(lines: &[LineNo], line: LineNo) -> bool
@@ -30,6 +31,13 @@ fn has_twice(lines: &[LineNo]) -> bool
         }
     }
     false
+}
+
+/// A copy of lines.
+fn copied(alloc: Global, lines: &[LineNo]) -> Result<Vec<LineNo>, AllocError>
+    ensures { IfOk result (λ copied. copied.items ≡ lines.now) }
+{
+    lines.iter().copied().collect(alloc)
 }
 
 impl Gateway {
@@ -69,14 +77,14 @@ impl Gateway {
     }
 
     /// Whether a call can be opened on lines.
-    #[tactic(auto, unfolding(crate::specs::GatewayValue::is_open))]
+    #[tactic(auto, unfolding(crate::specs::GatewayValue::is_taken))]
     fn can_open(&self, call: CallNo, lines: &[LineNo]) -> Result<(), OpenFault>
-        ensures { result ≡ opening_on (board_in self.now.connected) (holder_in self.now) (is_open self.now call.0) lines.now }
+        ensures { result ≡ opening_on (board_in self.now.connected) (holder_in self.now) (is_taken self.now call.0) lines.now }
     {
         if !self.are_there(lines) {
             return Err(OpenFault::UnknownLine);
         }
-        if calls::call(&self.calls, call.0).is_some() {
+        if calls::is_taken(&self.calls, call.0) {
             return Err(OpenFault::Taken);
         }
         if !self.are_free(lines) {
@@ -87,15 +95,17 @@ impl Gateway {
 
     /// Opens a call on lines that are free; only running out of memory keeps it from that.
     fn open_free(&mut self, call: CallNo, lines: &[LineNo]) -> Result<(), AllocError>
-        requires { opening_on (board_in self.old.connected) (holder_in self.old) (is_open self.old call.0) lines.now ≡ Ok tt }
+        requires { opening_on (board_in self.old.connected) (holder_in self.old) (is_taken self.old call.0) lines.now ≡ Ok tt }
         ensures opened { OnOk result (gateway_of self.new ≡ opened (gateway_of self.old) call.0 lines.now) }
         ensures open_calls { OnOk result ((other : ℕ) → is_open self.new other ≡ ((other == call.0) || is_open self.old other)) }
         ensures unchanged { OnErr result (self.new ≡ self.old) }
     {
+        let held = copied(self.alloc, lines)?;
+        let state = CallState::new(self.alloc, self.association, held);
         let Ok(connections) = self.connections.opened(lines) else {
             return Err(AllocError);
         };
-        let Ok(()) = calls::open(&mut self.calls, call.0, self.association) else {
+        let Ok(()) = calls::open(&mut self.calls, call.0, state) else {
             return Err(AllocError);
         };
         holders::hold(&mut self.holders, lines, call.0);
@@ -104,10 +114,10 @@ impl Gateway {
     }
 
     /// Opens a call on lines (this profile's own). Each of them is Inactive and silent, armed by `al/of` with `strict=exact` alone, with
-    /// RequestID 0, and held by the call; no reply is kept and no note was sent. The fault of the lowest number that applies is answered,
-    /// or `NoMemory` in its place.
+    /// RequestID 0, and held by the call; no reply is kept and no note was sent. A call was opened that is open or was retired. The fault of
+    /// the lowest number that applies is answered, or `NoMemory` in its place.
     pub fn open_call(&mut self, call: CallNo, lines: &[LineNo]) -> Result<(), OpenFault>
-        ensures answer { IsOrNoMemory is_memory result (opening (gateway_of self.old) (is_open self.old call.0) lines.now) }
+        ensures answer { IsOrNoMemory is_memory result (opening (gateway_of self.old) (is_taken self.old call.0) lines.now) }
         ensures opened { OnOk result (gateway_of self.new ≡ opened (gateway_of self.old) call.0 lines.now) }
         ensures open_calls { OnOk result ((other : ℕ) → is_open self.new other ≡ ((other == call.0) || is_open self.old other)) }
         ensures unchanged { OnErr result (self.new ≡ self.old) }

@@ -54,7 +54,7 @@ impl Gateway {
         calls::call(&self.calls, call.0).is_some()
     }
 
-    /// The open calls, in rising order.
+    /// The open calls, in rising order. It looks at each call that was opened, retired ones too.
     #[tactic(auto, unfolding(crate::specs::GatewayValue::is_open))]
     pub fn calls(&self) -> Result<Vec<CallNo>, AllocError>
         ensures { IfOk result (λ calls. Lists (is_open self.now) (map (λ c. c.0) calls.items)) }

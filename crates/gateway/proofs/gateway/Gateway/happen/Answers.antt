@@ -2,12 +2,14 @@ use Rattle.std.proofs.Common.{◌≡◌, ◌∙◌, ◌+◌, ◌≤◌, true, So
 use Rattle.mg_model.specs.Numbers.{last_number}
 use Rattle.mg_model.specs.Gateway.{outcome_of}
 use Rattle.line_events.specs.Raising.{is_raised}
-use Rattle.requests.specs.Connected.{line_in}
+use Rattle.mg_names.specs.declared.identifiers.TermId.TheVariants.{Eph}
+use Rattle.mg_model.specs.Board.{Board, exists}
+use Rattle.requests.specs.Connected.{board_in, line_in, has_line}
 use Rattle.gateway.specs.Answers.{CannotOccur, IsSame, IsHappened}
 use Rattle.gateway.specs.Calls.{call_in, counting, link_of}
 use Rattle.gateway.specs.GatewayValue.{GatewayValue}
 use Rattle.gateway.proofs.HappenLemmas.{open_held, cannot_unheld, cannot_full, cannot_answered, raised_answered, silent_event, noted_event}
-use Rattle.gateway.proofs.TieLemmas.{open_still}
+use Rattle.gateway.proofs.TieLemmas.{open_still, tied_still}
 use Rattle.gateway.proofs.gateway.Gateway.happen.Goals as goal
 use Rattle.gateway.proofs.gateway.Gateway.happen.Goals.{else-last-via-then-last+else-raises, else-last-via-else-last}
 
@@ -68,3 +70,11 @@ returns c =
           (sym c.in-Some-call.ensures) c.notes-last.ensures room c.new.ensures c.count.ensures,
       open_still v new c.in-Some.call (counting (c.notes-last.result + 1)) c.count.ensures,
     )
+
+pub invariant_of-self-2 : goal.invariant_of-self-2
+invariant_of-self-2 c =
+    let v : GatewayValue = record { association = c.self.inside.association.0; connected = c.self.inside.connections; holders = c.self.inside.holders.entries; calls = c.self.inside.calls.entries; creators = c.self.inside.creators.entries } in
+    let board : board_in c.happen.new.self ≡ board_in v.connected = c.happen.ensures.board in
+    tied_still v _ c.in-Some.call (counting (c.notes-last.result + 1)) refl refl refl (λ s. refl) (λ s. refl) (λ s. refl)
+    (λ l. ap (λ (b : Board). has_line b l) board) c.count.ensures
+    (λ k. ap (λ (b : Board). b.used_ephemeral k) board ∙ c.self.invariant.settled k ∙ ap (λ (b : Board). exists b (Eph k)) (sym board)) c.self.invariant
