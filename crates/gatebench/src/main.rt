@@ -1,6 +1,7 @@
 //! `gatebench CALLS REQUESTS`: opens so many calls with a line each, then executes so many requests, one call after the other, and says
-//! how many contexts there are. Each request adds the call's line to a new context and a new ephemeral beside it, and subtracts both again. `tools/bench` times
-//! it; it promises nothing else.
+//! how many contexts there are. Each request adds the call's line to a new context and a new ephemeral beside it, and subtracts both again.
+//! `gatebench CALLS BEGINNINGS begin`: opens so many calls with two lines each, and then so many new calls begin, one after the other, each on
+//! the lines of the call that is open the longest. `tools/bench` times it; it promises nothing else.
 #![tactic(auto)]
 
 use gateway::{Answer, Gateway};
@@ -21,21 +22,52 @@ enum Failure {
     Refused,
 }
 
-/// The lines 1 to the number of calls.
-fn lines(alloc: Global, calls: u32) -> Result<Vec<LineNo>, Failure> {
+/// The lines from 1 on, so many.
+fn lines(alloc: Global, count: u32) -> Result<Vec<LineNo>, Failure> {
     let mut found = Vec::new(alloc);
-    for call in 0..calls {
-        let Ok(_) = found.push(LineNo(call.saturating_add(1))) else {
+    for before in 0..count {
+        let Ok(_) = found.push(LineNo(before.saturating_add(1))) else {
             return Err(Failure::Memory);
         };
     }
     Ok(found)
 }
 
+/// What is done after the calls were opened.
+#[derive(Clone, Copy, Debug, PartialEq, Eq)]
+enum Work {
+    /// So many requests.
+    Requests(u32),
+    /// So many new calls on the lines of ended ones.
+    Beginnings(u32),
+}
+
 /// Opens each call on its line.
 fn open_calls(gateway: &mut Gateway, calls: u32) -> Result<(), Failure> {
     for call in 0..calls {
         let Ok(()) = gateway.open_call(CallNo(call), &[LineNo(call.saturating_add(1))]) else {
+            return Err(Failure::Refused);
+        };
+    }
+    Ok(())
+}
+
+/// Opens each call on its two lines.
+fn open_wide(gateway: &mut Gateway, calls: u32) -> Result<(), Failure> {
+    for call in 0..calls {
+        let first = call.saturating_mul(2).saturating_add(1);
+        let lines = [LineNo(first), LineNo(first.saturating_add(1))];
+        let Ok(()) = gateway.open_call(CallNo(call), &lines) else {
+            return Err(Failure::Refused);
+        };
+    }
+    Ok(())
+}
+
+/// So many calls begin on the lines of those that are open the longest.
+fn begin(gateway: &mut Gateway, calls: u32, count: u32) -> Result<(), Failure> {
+    for old in 0..count {
+        let Ok(()) = gateway.begin(CallNo(old), CallNo(calls.saturating_add(old))) else {
             return Err(Failure::Refused);
         };
     }
@@ -96,44 +128,78 @@ fn execute(alloc: Global, gateway: &mut Gateway, call: u32, number: u32) -> Resu
     }
 }
 
-fn run(alloc: Global, calls: u32, count: u32) -> Result<usize, Failure> {
-    let lines = lines(alloc, calls)?;
+/// So many requests, one call after the other.
+fn execute_all(
+    alloc: Global,
+    gateway: &mut Gateway,
+    calls: u32,
+    count: u32,
+) -> Result<(), Failure> {
+    if calls == 0 {
+        return Ok(());
+    }
+    for number in 0..count {
+        execute(alloc, gateway, number % calls, number.saturating_add(1))?;
+    }
+    Ok(())
+}
+
+/// The lines that so many calls need.
+fn needed(calls: u32, work: Work) -> u32 {
+    match work {
+        Work::Requests(_) => calls,
+        Work::Beginnings(_) => calls.saturating_mul(2),
+    }
+}
+
+fn run(alloc: Global, calls: u32, work: Work) -> Result<usize, Failure> {
+    let lines = lines(alloc, needed(calls, work))?;
     let Ok(mut gateway) = Gateway::new(alloc, lines.as_slice()) else {
         return Err(Failure::Memory);
     };
-    open_calls(&mut gateway, calls)?;
-    if calls == 0 {
-        return Ok(0);
-    }
-    for number in 0..count {
-        execute(
-            alloc,
-            &mut gateway,
-            number % calls,
-            number.saturating_add(1),
-        )?;
+    match work {
+        Work::Requests(count) => {
+            open_calls(&mut gateway, calls)?;
+            execute_all(alloc, &mut gateway, calls, count)?;
+        }
+        Work::Beginnings(count) => {
+            open_wide(&mut gateway, calls)?;
+            begin(&mut gateway, calls, count)?;
+        }
     }
     Ok(gateway.board().contexts())
 }
 
-/// The two numbers of the command line.
-fn numbers(rt: &HostRuntime) -> io::Result<Option<(u32, u32)>> {
+/// What a count of the command line and the word after it ask for.
+fn work_of(count: u32, word: &[String]) -> Option<Work> {
+    match word {
+        [] => Some(Work::Requests(count)),
+        [word] if word.as_str() == "begin" => Some(Work::Beginnings(count)),
+        _ => None,
+    }
+}
+
+/// The number of calls and the work of the command line.
+fn asked(rt: &HostRuntime) -> io::Result<Option<(u32, Work)>> {
     let words: Vec<String> = env::args(rt)?.collect(rt.alloc())?;
-    let [_, calls, count] = words.as_slice() else {
+    let [_, calls, count, word @ ..] = words.as_slice() else {
         return Ok(None);
     };
     let (Ok(calls), Ok(count)) = (calls.as_str().parse::<u32>(), count.as_str().parse::<u32>())
     else {
         return Ok(None);
     };
-    Ok(Some((calls, count)))
+    match work_of(count, word) {
+        Some(work) => Ok(Some((calls, work))),
+        None => Ok(None),
+    }
 }
 
 fn measured(rt: &HostRuntime) -> Result<usize, Failure> {
-    let Ok(Some((calls, count))) = numbers(rt) else {
+    let Ok(Some((calls, work))) = asked(rt) else {
         return Err(Failure::Words);
     };
-    run(rt.alloc(), calls, count)
+    run(rt.alloc(), calls, work)
 }
 
 fn main(rt: HostRuntime) -> ExitCode {

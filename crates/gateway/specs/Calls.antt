@@ -90,11 +90,6 @@ restarting association c = record c { association = association; last = None; cr
 unfoldable pub is_among : List ℕ → ℕ → Bool
 is_among numbers n = list_any (λ m. n == m) numbers
 
--- whether a number is among those that a call created
-abbrev pub has_created : Option OpenCall → ℕ → Bool
-has_created None k = false
-has_created (Some c) k = is_among c.created k
-
 -- ---- the reply that a link of delivery keeps
 
 abbrev pub reply_in : Option (ℕ × Reply) → Option Reply

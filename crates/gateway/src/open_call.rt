@@ -114,7 +114,7 @@ impl Gateway {
     }
 
     /// Opens a call on lines (this profile's own). Each of them is Inactive and silent, armed by `al/of` with `strict=exact` alone, with
-    /// RequestID 0, and held by the call; no reply is kept and no note was sent. A call was opened that is open or was retired. The fault of
+    /// RequestID 0, and held by the call; no reply is kept and no note was sent. A number is taken where a call of it is open or was retired. The fault of
     /// the lowest number that applies is answered, or `NoMemory` in its place.
     pub fn open_call(&mut self, call: CallNo, lines: &[LineNo]) -> Result<(), OpenFault>
         ensures answer { IsOrNoMemory is_memory result (opening (gateway_of self.old) (is_taken self.old call.0) lines.now) }
