@@ -1,0 +1,3 @@
+pub mod Fours
+pub mod AgentLemmas
+pub mod StepLemmas

@@ -1,0 +1,6 @@
+use Rattle.agent.specs.Parts.{agent_in}
+use Rattle.agent.proofs.bindings.Bindings.lose_ephemerals.Goals as goal
+
+pub returns : goal.returns
+unfolding agent_in
+returns c = λ i. record (agent_in c.args.self.now) { ephemerals = c.all_kept-self.ensures i }

@@ -1,0 +1,20 @@
+-- What can't be entered is no step.
+use Rattle.std.proofs.Common.{◌≡◌, ◌∙◌, Option, Err, sym, ap, subst}
+use Rattle.std.proofs.lemmas.Result.{err_from_is_err_and}
+use Rattle.mg_model.specs.Agent.{Agent}
+use Rattle.mg_model.specs.Agent as model
+use Rattle.mg_model.specs.Tables.{state_of}
+use Rattle.agent.specs.AgentValue.{agent_of}
+use Rattle.agent.specs.Entering.{IsEntered}
+use Rattle.agent.proofs.StepLemmas.{refused, times}
+use Rattle.agent.proofs.plain.Plain.timer.Goals as goal
+
+pub returns-in_err-entered : goal.returns-in_err-entered
+returns-in_err-entered c =
+    let script = c.args.script.now in
+    let a : Agent = agent_of c.args.self.now in
+    let fault = c.in_err-entered.field-0.0 in
+    let p = err_from_is_err_and c.from_residual.result c.from_residual.ensures.1 in
+    let steps : model.timed script a ≡ model.entered_if script a c.timer_of-target.result =
+    times script a c.timer_of-target.result c.if-not-is_resting.ensures (c.timer_of-target.ensures ∙ ap (λ s. (state_of script s).timer) c.state.ensures) in
+    rw (p.1, p.2) (refused _ a c.args.self.now fault (subst (λ (s : Option Agent). IsEntered s a (Err fault)) (sym steps) (c.in_err-entered.ensures a c.start.ensures)))

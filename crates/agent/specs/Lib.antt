@@ -1,0 +1,5 @@
+pub mod Faults
+pub mod AgentValue
+pub mod Steps
+pub mod Parts
+pub mod Entering

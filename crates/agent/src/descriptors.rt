@@ -1,0 +1,133 @@
+//! The descriptors that a script's names stand for (H.248.1 sections 7.1.9, 7.1.11 and 7.1.14).
+ghost use Rattle.std.specs.Prelude.{◌≡◌, IfOk, None, map, option_map};
+ghost use Rattle.mg_model.specs.ListContents.{list_item, list_of, same_signal, names_signal, set_of};
+
+use line_events::{EventList, ListItem};
+use mg_model::commands::{EventsName, LineOptions, SignalsName};
+use mg_model::line_events::SignalSet;
+use mg_model::references::SettingsRef;
+use mg_model::transitions::EventItem;
+use mg_names::signals::Signal;
+use requests::LineDescriptors;
+use script_table::Script;
+use std::alloc::{AllocError, Global};
+
+/// An item of a script's list, with its digit map. A map that the script doesn't have would be one without alternatives, and there is
+/// none to be had: such an item is answered as one for which memory ran out.
+fn list_item(alloc: Global, script: &Script, item: &EventItem<u8>) -> Result<ListItem, AllocError>
+    ensures { IfOk result (λ found. found ≡ list_item script.now item.now) }
+{
+    match *item {
+        EventItem::OnHook(strict) => Ok(EventItem::OnHook(strict)),
+        EventItem::OffHook(strict) => Ok(EventItem::OffHook(strict)),
+        EventItem::Flash => Ok(EventItem::Flash),
+        EventItem::Digits(place) => match script.map(place) {
+            Some(map) => Ok(EventItem::Digits(map.copy(alloc)?)),
+            None => Err(AllocError),
+        },
+    }
+}
+
+/// The items of a script's list, each with its digit map, in their order.
+fn list_items(
+    alloc: Global,
+    script: &Script,
+    items: &[EventItem<u8>],
+) -> Result<Vec<ListItem>, AllocError>
+    ensures { IfOk result (λ found. found.items ≡ map (list_item script.now) items.now) }
+{
+    let mut found = Vec::new(alloc);
+    for item in items {
+        let item = list_item(alloc, script, item)?;
+        found.push(item)?;
+    }
+    Ok(found)
+}
+
+/// The list of an Events descriptor that a name stands for.
+pub(crate) fn events(
+    alloc: Global,
+    script: &Script,
+    name: EventsName,
+) -> Result<EventList, AllocError>
+    ensures { IfOk result (λ list. list ≡ list_of script.now name) }
+{
+    let items = list_items(alloc, script, script.list(name))?;
+    Ok(EventList::new(items))
+}
+
+/// Whether two signals are one.
+fn is_same(signal: Signal, other: Signal) -> bool
+    ensures { result ≡ same_signal signal other }
+{
+    signal == other
+}
+
+/// Whether signals name this one.
+fn has(signals: &[Signal], signal: Signal) -> bool
+    ensures { result ≡ names_signal signals.now signal }
+{
+    signals.iter().any(|other| is_same(signal, *other))
+}
+
+/// The set of a Signals descriptor that a name stands for.
+pub(crate) fn signals(script: &Script, name: SignalsName) -> SignalSet
+    ensures { result ≡ set_of script.now name }
+{
+    let signals = script.signals(name);
+    SignalSet {
+        ring: has(signals, Signal::Ring),
+        dial_tone: has(signals, Signal::DialTone),
+        ringing_tone: has(signals, Signal::RingingTone),
+        busy_tone: has(signals, Signal::BusyTone),
+        congestion_tone: has(signals, Signal::CongestionTone),
+    }
+}
+
+/// The list of an Events descriptor, where a command has one.
+fn events_given(
+    alloc: Global,
+    script: &Script,
+    name: Option<EventsName>,
+) -> Result<Option<EventList>, AllocError>
+    ensures { IfOk result (λ list. list ≡ option_map (list_of script.now) name) }
+{
+    match name {
+        Some(name) => Ok(Some(events(alloc, script, name)?)),
+        None => Ok(None),
+    }
+}
+
+/// The set of a Signals descriptor, where a command has one.
+fn signals_given(script: &Script, name: Option<SignalsName>) -> Option<SignalSet>
+    ensures { result ≡ option_map (set_of script.now) name }
+{
+    match name {
+        Some(name) => Some(signals(script, name)),
+        None => None,
+    }
+}
+
+/// The descriptors of a command on a line; what it leaves out stays.
+pub(crate) fn of_line(
+    alloc: Global,
+    script: &Script,
+    options: &LineOptions,
+) -> Result<LineDescriptors, AllocError>
+    ensures { IfOk result (λ d. (d.events ≡ option_map (list_of script.now) options.now.events) × (d.signals ≡ option_map (set_of script.now) options.now.signals)) }
+{
+    Ok(LineDescriptors {
+        events: events_given(alloc, script, options.events)?,
+        signals: signals_given(script, options.signals),
+    })
+}
+
+/// What a command sets of a line on the connection model: its mode alone.
+pub(crate) fn line_settings(options: &LineOptions) -> SettingsRef
+    ensures { result ≡ record { mode = options.now.mode; remote = None } }
+{
+    SettingsRef {
+        mode: options.mode,
+        remote: None,
+    }
+}
