@@ -239,6 +239,29 @@ fn a_retired_call_is_gone_for_good(rt: HostRuntime) -> Result<(), Fail> {
     Ok(())
 }
 
+/// Whether a call begins, at once or after memory was refused once; where it was, nothing had changed.
+fn begins_at_last(gateway: &mut Gateway, old: CallNo, new: CallNo) -> bool {
+    match gateway.begin(old, new) {
+        Ok(()) => true,
+        Err(BeginFault::NoMemory) => {
+            let held = gateway.holder(LineNo(1)) == Some(old);
+            let same = held && gateway.is_open(old) && !gateway.is_open(new);
+            same && gateway.begin(old, new).is_ok()
+        }
+        Err(_) => false,
+    }
+}
+
+#[test]
+fn many_calls_begin_one_after_the_other(rt: HostRuntime) -> Result<(), Fail> {
+    let mut gateway = gateway(rt.alloc())?;
+    for old in 0..100u32 {
+        assert!(rt; begins_at_last(&mut gateway, CallNo(old), CallNo(old + 1)));
+    }
+    assert!(rt; is_alone(&gateway, CallNo(100)));
+    Ok(())
+}
+
 #[test]
 fn faults_of_a_beginning_have_numbers_and_names(rt: HostRuntime) {
     assert_eq!(rt; BeginFault::NoMemory.number(), 0);
