@@ -53,6 +53,7 @@ impl Plain {
         }
         script.target_of(self.state, line, note.note().kind())
     }
+
     /// Goes on from an empty request, which counts as answered without a failure. It can't where another one is awaited or none.
     pub fn pass(&mut self, script: &Script) -> Result<(), PlainFault>
         ensures { IsStepped (model.passed script.now (agent_of self.old)) self.old self.new result }
