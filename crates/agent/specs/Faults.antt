@@ -1,4 +1,4 @@
--- The faults of an agent's steps: their numbers and names. A reader should check that the numbers are those of the pages.
+-- The faults of an agent's steps: their numbers and names. A reader should check that no two have one number.
 use Rattle.std.specs.Prelude.{ℕ, List, codes}
 use Rattle.agent.specs.declared.fault.PlainFault.{PlainFault}
 use Rattle.agent.specs.declared.fault.PlainFault.TheVariants.{NotEnabled, NoMemory}

@@ -23,6 +23,9 @@ pub(crate) struct Bindings {
     pub(crate) expected: [Option<u32>; 4],
 }
 
+/// No name is bound.
+const UNBOUND: [Option<u32>; 4] = [None; 4];
+
 /// The number of a line at a place; 0 where there is none.
 fn number_at(lines: &[LineNo], place: usize) -> u32
     ensures { result ≡ slice_index_or (map (λ l. l.0) lines.now) place 0 }
@@ -63,8 +66,8 @@ impl Bindings {
                 number_at(lines, 2),
                 number_at(lines, 3),
             ],
-            contexts: [None; 4],
-            ephemerals: [None; 4],
+            contexts: UNBOUND,
+            ephemerals: UNBOUND,
             expected: [
                 opening(script, 0),
                 opening(script, 1),
@@ -121,21 +124,6 @@ impl Bindings {
         Names::new(contexts, ephemerals)
     }
 
-    /// The same where nothing is bound and nothing expected, as a new association begins.
-    pub(crate) fn forgotten(&self) -> Bindings
-        ensures lines { (agent_in result).lines ≡ (agent_in self.now).lines }
-        ensures contexts { (agent_in result).contexts ≡ (λ j. None) }
-        ensures ephemerals { (agent_in result).ephemerals ≡ (λ k. None) }
-        ensures expected { (agent_in result).expected ≡ (λ i. None) }
-    {
-        Bindings {
-            contexts: [None; 4],
-            ephemerals: [None; 4],
-            expected: [None; 4],
-            ..*self
-        }
-    }
-
     /// The same where a call begins on the lines: nothing is bound.
     pub(crate) fn unbound(&self) -> Bindings
         ensures lines { (agent_in result).lines ≡ (agent_in self.now).lines }
@@ -147,6 +135,19 @@ impl Bindings {
             contexts: [None; 4],
             ephemerals: [None; 4],
             ..*self
+        }
+    }
+
+    /// The same where nothing is bound and nothing expected, as a new association begins.
+    pub(crate) fn forgotten(&self) -> Bindings
+        ensures lines { (agent_in result).lines ≡ (agent_in self.now).lines }
+        ensures contexts { (agent_in result).contexts ≡ (λ j. None) }
+        ensures ephemerals { (agent_in result).ephemerals ≡ (λ k. None) }
+        ensures expected { (agent_in result).expected ≡ (λ i. None) }
+    {
+        Bindings {
+            expected: [None; 4],
+            ..self.unbound()
         }
     }
 

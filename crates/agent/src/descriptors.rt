@@ -12,8 +12,8 @@ use requests::LineDescriptors;
 use script_table::Script;
 use std::alloc::{AllocError, Global};
 
-/// An item of a script's list, with its digit map. A map that the script doesn't have would be one without alternatives, and there is
-/// none to be had: such an item is answered as one for which memory ran out.
+/// An item of a script's list, with its digit map. A map that the script doesn't have reads as one without alternatives, and no such map
+/// can be made: an item that names one is answered as if memory ran out.
 fn list_item(alloc: Global, script: &Script, item: &EventItem<u8>) -> Result<ListItem, AllocError>
     ensures { IfOk result (λ found. found ≡ list_item script.now item.now) }
 {

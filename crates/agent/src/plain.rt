@@ -84,7 +84,7 @@ impl Plain {
         self.state
     }
 
-    /// The association of the call.
+    /// The association of the call, from 1.
     pub fn association(&self) -> Assoc
         ensures { result.0 ≡ (agent_of self.now).association }
     {
@@ -102,7 +102,7 @@ impl Plain {
         }
     }
 
-    /// The request whose reply is awaited.
+    /// The request whose reply is awaited (H.248.1 section 8.2.1), which is sent again as it is; `None` where none is.
     pub fn request(&self) -> Option<&Request>
         ensures { option_map (λ r. r.now) result ≡ outstanding (agent_of self.now).phase }
     {

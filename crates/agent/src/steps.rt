@@ -1,4 +1,4 @@
-//! The steps of an agent. On any fault nothing changes.
+//! The steps of an agent. On any fault nothing changes: all that may want memory comes first, and then the change.
 ghost use Rattle.std.specs.Prelude.{◌≡◌};
 ghost use Rattle.mg_model.specs.Agent as model;
 ghost use Rattle.mg_model.specs.Tables.{line_places};
@@ -53,7 +53,9 @@ impl Plain {
         }
         script.target_of(self.state, line, note.note().kind())
     }
-    /// Goes on from an empty request, which counts as answered without a failure. It can't where another one is awaited or none.
+
+    /// Goes on from an empty request, which was not sent and counts as answered without a failure (this profile's own). `NotEnabled`
+    /// where the call doesn't wait for that, or where no number is left for the next request.
     pub fn pass(&mut self, script: &Script) -> Result<(), PlainFault>
         ensures { IsStepped (model.passed script.now (agent_of self.old)) self.old self.new result }
     {
@@ -66,7 +68,8 @@ impl Plain {
         Ok(())
     }
 
-    /// The state's timer ends. It can't but at rest in a state that has one.
+    /// The timer of the state ends (this profile's own). `NotEnabled` but at rest in a state that has one, or where no number is left for
+    /// the next request.
     pub fn timer(&mut self, script: &Script) -> Result<(), PlainFault>
         ensures { IsStepped (model.timed script.now (agent_of self.old)) self.old self.new result }
     {
@@ -79,8 +82,9 @@ impl Plain {
         Ok(())
     }
 
-    /// The call hears of an association, in any phase: of a newer one it enters the script's restart state in it, and nothing is bound,
-    /// expected or accepted.
+    /// The call hears of an association, in any phase (H.248.1 section 11.2 on ServiceChange): of a newer one it enters the script's
+    /// restart state in it, and nothing is bound, expected or accepted. `NotEnabled` where it isn't newer, or where no number is left for
+    /// the next request.
     pub fn hear(&mut self, script: &Script, association: Assoc) -> Result<(), PlainFault>
         ensures { IsStepped (model.heard script.now (agent_of self.old) association.0) self.old self.new result }
     {
@@ -94,8 +98,9 @@ impl Plain {
         Ok(())
     }
 
-    /// The reply to the outstanding request is taken: what its commands created is bound, and the call goes on by whether there was a
-    /// failure. Any other reply is not taken.
+    /// The reply to the outstanding request (H.248.1 section 8.2.2): what its commands created is bound, what they subtracted is not, and
+    /// the call goes on by whether there was a failure. `NotEnabled` where it is no reply to that request, where it has a failure and
+    /// the state has no target for one, or where no number is left for the next request.
     pub fn reply(&mut self, script: &Script, reply: &Reply) -> Result<(), PlainFault>
         ensures { IsStepped (model.replied script.now (agent_of self.old) reply.now) self.old self.new result }
     {
@@ -110,8 +115,9 @@ impl Plain {
         Ok(())
     }
 
-    /// A note reaches the call: it is accepted at rest, in a state that isn't an end and where it is new, and leads on where its RequestID
-    /// is the one that is expected of its line.
+    /// A note reaches the call (H.248.1 section 7.2.7): it is accepted at rest, in a state that isn't an end and where it is new, and leads
+    /// on where its RequestID is the one that is expected of its line. `NotEnabled` where it isn't accepted, or where no number is
+    /// left for the next request.
     pub fn note(&mut self, script: &Script, note: &SentNote) -> Result<(), PlainFault>
         ensures { IsStepped (model.noted script.now (agent_of self.old) (line_places script.now) note.now) self.old self.new result }
     {
