@@ -18,6 +18,7 @@ test:
 	rt ci
 	tools/wrong_bodies
 	tools/wrong_models
+	tools/refused_uses
 	tools/readme
 	tools/cases
 	tools/refusals

@@ -1,6 +1,6 @@
 -- What entering a state comes to, by the parts of an agent that it goes by. A reader should check that whatever is entered, the
 -- lines, what is bound, what is expected, the association and the notes stay.
-use Rattle.std.specs.Prelude.{◌≡◌, ℕ, Option, Some, None, Result, Ok, Err}
+use Rattle.std.specs.Prelude.{◌≡◌, ℕ, Bool, is_some, Option, Some, None, Result, Ok, Err}
 use Rattle.mg_model.specs.Agent.{Agent, entered_or_rests, entered_if}
 use Rattle.mg_model.specs.Script.{Script}
 use Rattle.mg_model.specs.Tables.{state_of}
@@ -32,6 +32,10 @@ IsEntered entered a (Err NoMemory) = Unit {0}
 -- every agent that starts so enters so
 abbrev pub IsEntering : (Agent → Option Agent) → Start → Result Entered PlainFault → Type 0
 IsEntering entered start result = (a : Agent) → Starts start a → IsEntered (entered a) a result
+
+-- the test says of every agent that starts so whether it enters
+abbrev pub CanEnter : (Agent → Option Agent) → Start → Bool → Type 0
+CanEnter entered start result = (a : Agent) → Starts start a → result ≡ is_some (entered a)
 
 -- where a reply leads from a state
 abbrev pub leads_from : Script → ℕ → Agent → Option Failure → Option Agent

@@ -3,3 +3,5 @@ pub mod AgentValue
 pub mod Steps
 pub mod Parts
 pub mod Entering
+pub mod CallValue
+pub mod Calls

@@ -102,7 +102,7 @@ impl Plain {
         }
     }
 
-    /// The request whose reply is awaited (H.248.1 section 8.2.1), which is sent again as it is; `None` where none is.
+    /// The request whose reply is awaited (H.248.1 section 8.2.1); `None` where none is.
     pub fn request(&self) -> Option<&Request>
         ensures { option_map (λ r. r.now) result ≡ outstanding (agent_of self.now).phase }
     {

@@ -16,7 +16,7 @@ use script_table::Script;
 impl Plain {
     /// Whether this reply is awaited.
     #[tactic(auto, unfolding(crate::specs::AgentValue::agent_of))]
-    fn awaits(&self, reply: &Reply) -> bool
+    pub(crate) fn awaits(&self, reply: &Reply) -> bool
         ensures { result ≡ is_awaited (agent_of self.now).phase reply.now }
     {
         match &self.phase {
@@ -32,7 +32,7 @@ impl Plain {
 
     /// Whether a note is accepted: one to this call, at rest in a state that isn't an end, that is new.
     #[tactic(auto, unfolding(crate::specs::AgentValue::agent_of))]
-    fn may_accept(&self, script: &Script, note: &SentNote) -> bool
+    pub(crate) fn may_accept(&self, script: &Script, note: &SentNote) -> bool
         ensures { result ≡ model.may_accept script.now (agent_of self.now) note.now }
     {
         note.call() == self.call
@@ -43,7 +43,7 @@ impl Plain {
 
     /// Where a note leads.
     #[tactic(auto, unfolding(crate::specs::AgentValue::agent_of, crate::specs::Parts::agent_in))]
-    fn target_of(&self, script: &Script, note: &SentNote) -> Option<u8>
+    pub(crate) fn target_of(&self, script: &Script, note: &SentNote) -> Option<u8>
         ensures { result ≡ model.target_of script.now (agent_of self.now) (model.line_in (agent_of self.now) note.now.line (line_places script.now)) note.now.note }
     {
         let line = self.bindings.line_of(script, note.line())?;

@@ -15,15 +15,15 @@ use script_table::Script;
 use std::alloc::Global;
 use std::test::Fail;
 
-const CALL: CallNo = CallNo(7);
+pub(crate) const CALL: CallNo = CallNo(7);
 
 /// The lines of the gateway for the lines `a` and `b` of the script.
-const LINES: [LineNo; 2] = [LineNo(11), LineNo(12)];
+pub(crate) const LINES: [LineNo; 2] = [LineNo(11), LineNo(12)];
 
 const NOT_ENABLED: Result<(), PlainFault> = Err(PlainFault::NotEnabled);
 
 /// A message of the call in association 1.
-fn id(number: u32) -> MessageId {
+pub(crate) fn id(number: u32) -> MessageId {
     MessageId {
         call: CALL,
         association: Assoc(1),
@@ -32,7 +32,7 @@ fn id(number: u32) -> MessageId {
 }
 
 /// Note 1 of the call: line `a` went off hook, with this RequestID.
-fn off_hook(alloc: Global, request: u32) -> Option<SentNote> {
+pub(crate) fn off_hook(alloc: Global, request: u32) -> Option<SentNote> {
     let list = EventList::new(Vec::from_array(alloc, [EventItem::OffHook(Strict::Exact)]).ok()?);
     let mut lines = LineSet::new(alloc);
     lines.add_line(LINES[0]).ok()?;
@@ -46,7 +46,7 @@ fn off_hook(alloc: Global, request: u32) -> Option<SentNote> {
 }
 
 /// The result of the first command of `talk`, which creates the context.
-fn added(alloc: Global) -> Option<Done> {
+pub(crate) fn added(alloc: Global) -> Option<Done> {
     let mut board = Board::new(alloc, &LINES).ok()?;
     let add = Item::Add {
         context: ContextId::CHOOSE,
@@ -60,7 +60,7 @@ fn added(alloc: Global) -> Option<Done> {
 }
 
 /// The reply to request 1 with the results of the first command, if it was done, and a failure of the next one.
-fn failed(alloc: Global, first: Option<Done>) -> Option<Reply> {
+pub(crate) fn failed(alloc: Global, first: Option<Done>) -> Option<Reply> {
     let mut results = Vec::new(alloc);
     if let Some(done) = first {
         results.push(done).ok()?;

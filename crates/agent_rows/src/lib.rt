@@ -6,3 +6,5 @@
 mod agents;
 #[cfg(test)]
 mod basic;
+#[cfg(test)]
+mod calls;

@@ -1,0 +1,57 @@
+//! Why a call doesn't take a step.
+ghost use Rattle.std.specs.Prelude.{◌≡◌};
+ghost use Rattle.agent.specs.Calls.{number_of, name_of, refusal_of};
+
+use crate::fault::PlainFault;
+use thiserror::Error;
+
+/// Why a call doesn't take a step; it is handed back as it was.
+#[derive(Clone, Copy, Debug, PartialEq, Eq, Error)]
+pub enum Refusal {
+    /// The step can't be taken by this call, or no number is left for the request that it would send (this profile's own).
+    #[error("the step is not enabled")]
+    NotEnabled,
+    /// The call is not among the slots of the runner that it was given to. No call answers so by itself.
+    #[error("the runner has {slot_count} slots")]
+    Behind {
+        /// How many slots the runner has.
+        slot_count: usize,
+    },
+    /// Memory ran out.
+    #[error("out of memory")]
+    NoMemory,
+}
+
+impl Refusal {
+    /// The refusal's number, from 1 to 3.
+    pub fn number(&self) -> u8
+        ensures { result ≡ number_of self.now }
+    {
+        match self {
+            Refusal::NotEnabled => 1,
+            Refusal::Behind { .. } => 2,
+            Refusal::NoMemory => 3,
+        }
+    }
+
+    /// The variant's name.
+    pub fn name(&self) -> &'static str
+        ensures { result.now ≡ name_of self.now }
+    {
+        match self {
+            Refusal::NotEnabled => "NotEnabled",
+            Refusal::Behind { .. } => "Behind",
+            Refusal::NoMemory => "NoMemory",
+        }
+    }
+
+    /// The refusal of a call whose agent doesn't take a step.
+    pub(crate) fn of(fault: PlainFault) -> Refusal
+        ensures { result ≡ refusal_of fault }
+    {
+        match fault {
+            PlainFault::NotEnabled => Refusal::NotEnabled,
+            PlainFault::NoMemory => Refusal::NoMemory,
+        }
+    }
+}
