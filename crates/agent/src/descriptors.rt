@@ -2,6 +2,7 @@
 ghost use Rattle.std.specs.Prelude.{◌≡◌, IfOk, None, map, option_map};
 ghost use Rattle.mg_model.specs.ListContents.{list_item, list_of, same_signal, names_signal, set_of};
 
+use digits::DigitMap;
 use line_events::{EventList, ListItem};
 use mg_model::commands::{EventsName, LineOptions, SignalsName};
 use mg_model::line_events::SignalSet;
@@ -12,8 +13,7 @@ use requests::LineDescriptors;
 use script_table::Script;
 use std::alloc::{AllocError, Global};
 
-/// An item of a script's list, with its digit map. A map that the script doesn't have reads as one without alternatives, and no such map
-/// can be made: an item that names one is answered as if memory ran out.
+/// An item of a script's list, with its digit map. A map that the script doesn't have reads as one without alternatives.
 fn list_item(alloc: Global, script: &Script, item: &EventItem<u8>) -> Result<ListItem, AllocError>
     ensures { IfOk result (λ found. found ≡ list_item script.now item.now) }
 {
@@ -23,7 +23,7 @@ fn list_item(alloc: Global, script: &Script, item: &EventItem<u8>) -> Result<Lis
         EventItem::Flash => Ok(EventItem::Flash),
         EventItem::Digits(place) => match script.map(place) {
             Some(map) => Ok(EventItem::Digits(map.copy(alloc)?)),
-            None => Err(AllocError),
+            None => Ok(EventItem::Digits(DigitMap::empty(alloc))),
         },
     }
 }

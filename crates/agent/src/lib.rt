@@ -13,7 +13,6 @@ mod entering;
 mod fault;
 mod logged;
 mod made;
-mod notes;
 mod phase;
 mod plain;
 mod references;

@@ -1,6 +1,7 @@
 //! The agent of a call.
 ghost use Rattle.std.specs.Prelude.{◌≡◌, ◌≤◌, OnOk, OnErr, length, map, option_map, slice_index_or};
 ghost use Rattle.mg_model.specs.Agent as model;
+ghost use Rattle.mg_model.specs.Delivery.{arrival, is_new};
 ghost use Rattle.agent.specs.AgentValue.{agent_of};
 ghost use Rattle.agent.specs.Entering.{Starts, having};
 ghost use Rattle.agent.specs.Parts.{agent_in, bound_as};
@@ -8,9 +9,9 @@ ghost use Rattle.agent.specs.Steps.{accepting, is_passing, outstanding};
 
 use crate::bindings::Bindings;
 use crate::entering::{Entered, Start};
-use crate::notes::Notes;
 use crate::phase::Phase;
 use crate::results;
+use delivery::{Arrival, Inbox};
 use mg_names::identifiers::{Assoc, CallNo, LineNo};
 use requests::{Reply, Request};
 use script_table::Script;
@@ -28,7 +29,7 @@ pub struct Plain {
     pub(crate) phase: Phase,
     pub(crate) next: u64,
     pub(crate) bindings: Bindings,
-    pub(crate) notes: Notes,
+    pub(crate) notes: Inbox,
 }
 
 impl Model for Plain {
@@ -54,7 +55,7 @@ impl Plain {
             phase: Phase::Resting,
             next: 1,
             bindings: Bindings::opened(script, lines),
-            notes: Notes::new(alloc, Assoc::FIRST),
+            notes: Inbox::new(alloc, Assoc::FIRST),
         }
     }
 
@@ -190,12 +191,24 @@ impl Plain {
         self.notes.restart(association);
     }
 
+    /// Whether a note of this association and number is new.
+    #[tactic(auto, unfolding(crate::specs::AgentValue::agent_of))]
+    pub(crate) fn is_new(&self, association: Assoc, number: u32) -> bool
+        ensures { result ≡ is_new (arrival (model.inbox_of (agent_of self.now)) association.0 number) }
+    {
+        match self.notes.arrival(association, number) {
+            Arrival::New => true,
+            Arrival::Seen | Arrival::Old => false,
+        }
+    }
+
     /// Accepts a note of the association.
     pub(crate) fn accept(&mut self, number: u32) -> Result<(), AllocError>
         ensures accepted { OnOk result (agent_of self.new ≡ accepting (agent_of self.old) number) }
         ensures unchanged { OnErr result (self.new ≡ self.old) }
     {
-        self.notes.accept(number)
+        self.notes.accept(self.notes.association(), number)?;
+        Ok(())
     }
 
     /// Puts what was entered in place.

@@ -11,10 +11,10 @@ pub enum Refusal {
     /// The step can't be taken by this call, or no number is left for the request that it would send (this profile's own).
     #[error("the step is not enabled")]
     NotEnabled,
-    /// The call is not among the slots of the runner that it was given to. No call answers so by itself.
-    #[error("the runner has {slot_count} slots")]
+    /// The slot that stands for the call counts another number of events than its transcript has. No call answers so by itself.
+    #[error("the slot of the call counts {slot_count} events")]
     Behind {
-        /// How many slots the runner has.
+        /// How many events of the call its slot counts.
         slot_count: usize,
     },
     /// Memory ran out.

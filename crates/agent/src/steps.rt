@@ -38,7 +38,7 @@ impl Plain {
         note.call() == self.call
             && self.is_resting()
             && !script.ends_in(self.state)
-            && self.notes.is_new(note.association(), note.number())
+            && self.is_new(note.association(), note.number())
     }
 
     /// Where a note leads.

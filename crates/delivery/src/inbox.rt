@@ -55,6 +55,20 @@ impl Inbox {
         self.association
     }
 
+    /// What a note of this association and number is, where it arrives.
+    pub fn arrival(&self, association: Assoc, note: u32) -> Arrival
+        ensures { arrived result ≡ arrival (inbox_of self.now) association.0 note }
+    {
+        if association != self.association {
+            return Arrival::Old;
+        }
+        if numbers::has(&self.accepted, note) {
+            Arrival::Seen
+        } else {
+            Arrival::New
+        }
+    }
+
     /// A note of this association and number arrives. Where memory runs out nothing changes, and only a new number needs memory.
     pub fn accept(&mut self, association: Assoc, note: u32) -> Result<Arrival, AllocError>
         ensures answer { IfOk result (λ found. arrived found ≡ arrival (inbox_of self.old) association.0 note) }

@@ -5,6 +5,14 @@ ghost use Rattle.delivery.specs.Inboxes.{is_among};
 use std::alloc::AllocError;
 use std::collections::BTreeSet;
 
+/// Whether a number is among these.
+#[tactic(auto, using(crate::proofs::Members::among_by_order))]
+pub(crate) fn has(numbers: &BTreeSet<u32>, number: u32) -> bool
+    ensures { result ≡ is_among numbers.now.keys number }
+{
+    numbers.contains(&number)
+}
+
 /// Adds a number, and says whether it is new.
 #[tactic(auto, using(crate::proofs::Members::among_by_order))]
 pub(crate) fn add(numbers: &mut BTreeSet<u32>, number: u32) -> Result<bool, AllocError>

@@ -1,5 +1,5 @@
 //! A digit map.
-ghost use Rattle.std.specs.Prelude.{◌≡◌, IfOk, IfErr, IsTrue, map, length, nat_le};
+ghost use Rattle.std.specs.Prelude.{◌≡◌, [], IfOk, IfErr, IsTrue, map, length, nat_le};
 ghost use Rattle.std.specs.List.{list_all};
 ghost use Rattle.mg_model.specs.Memory.{Answers};
 ghost use Rattle.digits.specs.Faults.{is_memory};
@@ -46,6 +46,15 @@ impl DigitMap {
         ensures refused { IfErr result (IsRefused text.now) }
     {
         parsed(alloc, text)
+    }
+
+    /// The map without alternatives, which no digits match. It takes no memory.
+    pub fn empty(alloc: Global) -> DigitMap
+        ensures { result ≡ [] }
+    {
+        DigitMap {
+            alternatives: Vec::new(alloc),
+        }
     }
 
     /// An equal map.
