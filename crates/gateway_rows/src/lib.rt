@@ -3,12 +3,12 @@
 #![tactic(auto)]
 
 #[cfg(test)]
-mod beginnings;
+mod commands;
 #[cfg(test)]
 mod failing_requests;
 #[cfg(test)]
 mod gateways;
 #[cfg(test)]
-mod not_ended;
-#[cfg(test)]
 mod numbers;
+#[cfg(test)]
+mod steps;
