@@ -11,7 +11,7 @@ use Rattle.mg_model.specs.Entries.{Entry, IsPointOf, IsCovered, HasPoints, HaveP
 use Rattle.configuration.specs.Config.{configuration_of}
 use Rattle.configuration.specs.declared.step.Step.{Step}
 use Rattle.entry_table.proofs.Products.{at}
-use Rattle.closure.specs.declared.first_fault.Broken.{Broken}
+use Rattle.closure.specs.declared.broken.Broken.{Broken}
 use Rattle.closure.specs.Findings.{AreCovered, AreCoveredBelow, EntriesAreKeptBelow, ConfigurationFinding, IsEntryKept, IsFirstUncovered, IsKept, NumberFinding, PointsFinding}
 use Rattle.closure.specs.Shown.{shown}
 

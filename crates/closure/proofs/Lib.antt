@@ -6,3 +6,6 @@ pub mod ObligationOrder
 pub mod RequestLemmas
 pub mod SettleLemmas
 pub mod SubtractLemmas
+pub mod VisitLemmas
+pub mod CoveringLemmas
+pub mod WalkLemmas

@@ -9,8 +9,8 @@ use Rattle.mg_model.specs.Configuration.{Configuration}
 use Rattle.mg_model.specs.Steps.{Step, steps_of, opening, reset}
 use Rattle.mg_model.specs.Entries.{Entry, IsPointOf, IsCovered, numbered}
 use Rattle.mg_model.specs.Obligations.{JoinedAreMarked, EndedIsCleared, CreatedAreUnbound, NamesAreLive, Claim, OpeningCovered, ResetCovered, Marked, Cleared, Unbound, Live, StepCovered, AtPoint, Holds, KeyBefore, ComesBefore, key_of, NoneBroken, IsFirstFault}
-use Rattle.closure.specs.declared.first_fault.Broken.{Broken}
-use Rattle.closure.specs.declared.first_fault.Broken.TheVariants.{JoinedLines, EndedCall, CreatedNames, DeadNames, UncoveredStep}
+use Rattle.closure.specs.declared.broken.Broken.{Broken}
+use Rattle.closure.specs.declared.broken.Broken.TheVariants.{JoinedLines, EndedCall, CreatedNames, DeadNames, UncoveredStep}
 use Rattle.closure.specs.Answer.{IsAnswer}
 use Rattle.closure.specs.Findings.{AreCoveredBelow, AreKeptBelow, EntriesAreKeptBelow, IsFirstBroken, IsFirstEntry, IsKept, PointsFinding, fault_at, whole_fault}
 

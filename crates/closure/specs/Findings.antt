@@ -9,8 +9,8 @@ use Rattle.mg_model.specs.Configuration.{Configuration}
 use Rattle.mg_model.specs.Steps.{Step, steps_of}
 use Rattle.mg_model.specs.Entries.{Entry, IsPointOf, IsCovered, Includes}
 use Rattle.mg_model.specs.Obligations.{JoinedAreMarked, EndedIsCleared, CreatedAreUnbound, NamesAreLive}
-use Rattle.closure.specs.declared.first_fault.Broken.{Broken}
-use Rattle.closure.specs.declared.first_fault.Broken.TheVariants.{JoinedLines, EndedCall, CreatedNames, DeadNames, UncoveredStep}
+use Rattle.closure.specs.declared.broken.Broken.{Broken}
+use Rattle.closure.specs.declared.broken.Broken.TheVariants.{JoinedLines, EndedCall, CreatedNames, DeadNames, UncoveredStep}
 
 -- the entry at a place has the configuration
 abbrev pub PlaceIncludes : List Entry → Configuration → ℕ → Type 0

@@ -4,3 +4,5 @@ pub mod Groups
 pub mod Shown
 pub mod Tests
 pub mod Elementwise
+pub mod Visits
+pub mod Walk

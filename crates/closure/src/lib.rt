@@ -2,8 +2,14 @@
 //! broken; and how many points a certificate has.
 #![tactic(auto)]
 
+mod broken;
+mod collected;
+pub mod cover;
+mod covering;
 pub mod effects;
 pub mod first_fault;
 pub mod obligations;
 pub mod requests;
 pub mod steps;
+mod visitor;
+mod walk;

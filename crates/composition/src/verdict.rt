@@ -5,7 +5,7 @@ ghost use Rattle.composition.specs.Verdicts.{IsVerdict};
 
 use certificate::laws::accepted_certificates;
 use certificate::{CertFault, read_cert};
-use closure::first_fault::{first_fault, points};
+use closure::first_fault::Finding;
 use entry_table::Cert;
 use mg_model::faults::Fault;
 use mg_safety::runs::every_run_is_good;
@@ -123,19 +123,17 @@ pub fn check(alloc: Global, script: &[u8], certificate: &[u8]) -> Result<Verdict
         Err(CertFault::NoMemory) => return Err(CheckFault::NoMemory),
         Err(fault) => return Err(CheckFault::Cert(fault)),
     };
-    match first_fault(alloc, &script, &cert) {
-        Ok(None) => {
+    match closure::first_fault::check(&script, &cert) {
+        Finding::Kept(points) => {
             accepted_scripts();
             accepted_certificates();
             every_run_is_good();
-            let points = points(&cert);
             Ok(Verdict::Yes(Checked {
                 script,
                 cert,
                 points,
             }))
         }
-        Ok(Some(fault)) => Ok(Verdict::No(fault)),
-        Err(_) => Err(CheckFault::NoMemory),
+        Finding::Broken(fault) => Ok(Verdict::No(fault)),
     }
 }

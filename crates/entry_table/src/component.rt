@@ -34,7 +34,28 @@ pub enum Component {
     Cuts(Termination, Termination, Vec<bool>),
 }
 
+#[tactic(auto, using(crate::proofs::Products::choice_at, crate::proofs::Products::no_choice))]
 impl Component {
+    /// Gives a configuration the value at a place; none where there is no such place.
+    pub fn choose(&self, place: usize, config: &mut Config)
+        ensures { configuration_of config.new
+            ≡ (slice_index_or (choices_of (shown self.now)) place same_choice) (configuration_of config.old) }
+    {
+        if place >= self.count() {
+            return;
+        }
+        match self {
+            Component::Links(values) => config.set_link(values[place]),
+            Component::Spots(t, values) => config.set_spot(*t, values[place]),
+            Component::Modes(t, values) => config.set_mode(*t, values[place]),
+            Component::Events(line, values) => config.set_events(*line, values[place]),
+            Component::Plays(line, values) => config.set_plays(*line, values[place]),
+            Component::Contexts(name, values) => config.set_context(*name, values[place]),
+            Component::Remotes(name, values) => config.set_remote(*name, values[place]),
+            Component::Cuts(t, u, values) => config.set_cut(*t, *u, values[place]),
+        }
+    }
+
     /// How many values it has.
     pub fn count(&self) -> usize
         ensures { result ≡ length (choices_of (shown self.now)) }
@@ -65,26 +86,5 @@ pub(crate) fn allows(component: &Component, config: &Config) -> bool
         Component::Contexts(name, values) => values.contains(&config.context(*name)),
         Component::Remotes(name, values) => values.contains(&config.remote(*name)),
         Component::Cuts(t, u, values) => values.contains(&config.cut(*t, *u)),
-    }
-}
-
-/// Makes the choice at a place; none where there is no such place.
-#[tactic(auto, using(crate::proofs::Products::choice_at, crate::proofs::Products::no_choice))]
-pub(crate) fn choose(component: &Component, place: usize, config: &mut Config)
-    ensures { configuration_of config.new
-        ≡ (slice_index_or (choices_of (shown component.now)) place same_choice) (configuration_of config.old) }
-{
-    if place >= component.count() {
-        return;
-    }
-    match component {
-        Component::Links(values) => config.set_link(values[place]),
-        Component::Spots(t, values) => config.set_spot(*t, values[place]),
-        Component::Modes(t, values) => config.set_mode(*t, values[place]),
-        Component::Events(line, values) => config.set_events(*line, values[place]),
-        Component::Plays(line, values) => config.set_plays(*line, values[place]),
-        Component::Contexts(name, values) => config.set_context(*name, values[place]),
-        Component::Remotes(name, values) => config.set_remote(*name, values[place]),
-        Component::Cuts(t, u, values) => config.set_cut(*t, *u, values[place]),
     }
 }

@@ -7,7 +7,7 @@ ghost use Rattle.configuration.specs.Config.{configuration_of};
 ghost use Rattle.entry_table.specs.Listed.{Allows, Includes, IsPointOf, choices_of, numbered, size_of};
 ghost use Rattle.entry_table.specs.Shown.{shown, shown_all};
 
-use crate::component::{Component, allows, choose};
+use crate::component::{Component, allows};
 use configuration::config::Config;
 use configuration::well_formed::is_well_formed;
 use mg_model::commands::EventsName;
@@ -36,6 +36,15 @@ impl Model for Entry {
     ghost view = { λ e. record { state = e.state; lines = e.lines; components = shown_all e.components.items } };
 
     ghost invariant = { λ e. (e.lines ≤ 4) × (0 < e.product) × (e.product ≡ size_of (shown_all e.components.items)) };
+}
+
+/// What the points of an entry are made of: a configuration, and components that are given their values in it, in their order.
+#[derive(Drop)]
+pub struct Turning<'e> {
+    /// The configuration.
+    pub base: Config,
+    /// The components that are given their values.
+    pub components: &'e [Component],
 }
 
 /// How many choices some components have together, or the last number of 64 bits where that is more.
@@ -73,7 +82,7 @@ fn choose_all(components: &[Component], size: u64, number: u64, config: &mut Con
     let mut left = number;
     for component in components {
         rest /= component.count() as u64;
-        choose(component, (left / rest) as usize, config);
+        component.choose((left / rest) as usize, config);
         left %= rest;
     }
 }
@@ -122,6 +131,23 @@ impl Entry {
             return false;
         }
         is_well_formed(config)
+    }
+
+    /// What its points are made of: the configuration with a number is the one in which the components have the choices with this number.
+    pub fn turning(&self) -> Turning<'_>
+        ensures size { size_of (shown_all result.components.now) ≡ size_of self.now.components }
+        ensures numbers { (k : ℕ) → k < size_of self.now.components
+            → numbered self.now k ≡ chosen (map choices_of (shown_all result.components.now)) k (configuration_of result.base) }
+    {
+        Turning {
+            base: Config::unused(
+                self.lines,
+                self.state,
+                LinkPhase::Resting,
+                EventsName::Empty,
+            ),
+            components: self.components.as_slice(),
+        }
     }
 
     /// The configuration with a number, well formed or not.

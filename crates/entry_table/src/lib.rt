@@ -10,4 +10,4 @@ mod entry;
 
 pub use cert::Cert;
 pub use component::Component;
-pub use entry::{Entry, product_of};
+pub use entry::{Entry, Turning, product_of};

@@ -1,7 +1,7 @@
 -- Both tests say together that the names are live.
 use Rattle.std.proofs.Common.{sym, ◌∙◌}
 use Rattle.configuration.specs.Config.{configuration_of}
-use Rattle.closure.proofs.LiveLemmas.{tests_live, live_contexts, live_remotes}
+use Rattle.closure.proofs.LiveLemmas.{tests_live, live_remotes}
 use Rattle.closure.proofs.obligations.is_live.Goals as goal
 
 pub returns-then-contexts : goal.returns-then-contexts

@@ -1,0 +1,26 @@
+//! The obligation of a point that is broken first.
+use mg_model::steps::StepName;
+
+/// The obligation of a configuration that is broken first.
+#[derive(Clone, Copy, Debug)]
+pub(crate) enum Broken {
+    /// Lines are joined that the state doesn't mark.
+    JoinedLines,
+    /// A call has ended, and is not cleared.
+    EndedCall,
+    /// A name that the state creates is bound.
+    CreatedNames,
+    /// A name stands for what has been deleted or destroyed.
+    DeadNames,
+    /// The result of this step is in no entry.
+    UncoveredStep(StepName),
+}
+
+/// A point of an entry that breaks an obligation.
+#[derive(Clone, Copy, Debug)]
+pub(crate) struct Found {
+    /// Its number.
+    pub(crate) number: u32,
+    /// The obligation that it breaks first.
+    pub(crate) broken: Broken,
+}
