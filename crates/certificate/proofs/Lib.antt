@@ -9,3 +9,4 @@ pub mod Parts
 pub mod Passing
 pub mod RowLemmas
 pub mod Trees
+pub mod VariedLemmas
