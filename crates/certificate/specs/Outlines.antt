@@ -5,10 +5,14 @@ use Rattle.std.specs.List.{list_any}
 use Rattle.mg_model.specs.Script.{Script}
 use Rattle.mg_model.specs.declared.commands.Termination.{Termination}
 use Rattle.mg_model.specs.declared.commands.Termination.TheVariants.{Line, Ephemeral}
-use Rattle.mg_model.specs.Entries.{Component}
+use Rattle.mg_model.specs.Entries.{Component, cuts}
 use Rattle.entry_table.specs.Listed.{Listed, choices_of}
 use Rattle.certificate.specs.Certificate.{listed_meant, has_empty, is_large, some_below}
+use Rattle.certificate.specs.Components.{set_or}
+use Rattle.certificate.specs.Naming.{cut_named}
+use Rattle.certificate.specs.Ranks.{switch_rank}
 use Rattle.certificate.specs.Written as written
+use Rattle.certificate.specs.Written.{Text}
 use Rattle.certificate.specs.declared.fault.CertFault.{CertFault}
 use Rattle.certificate.specs.declared.fault.CertFault.TheVariants.{EmptySet, TooManyEntries, TooManyPoints}
 use Rattle.certificate.specs.declared.key.Key.{Key}
@@ -40,6 +44,10 @@ is_left_out entry (key.Plays i) = length entry.lines == 0
 is_left_out entry (key.Context j) = length entry.contexts == 0
 is_left_out entry (key.Remote k) = length entry.ephemerals == 0
 is_left_out entry (key.Cut source sink) = length entry.cuts == 0
+
+-- the cuts of a pair of terminations, by what is written for it
+abbrev pub cuts_meant : Termination → Termination → Option (List Text) → Option Component
+cuts_meant source sink words = option_map (cuts source sink) (set_or switch_rank cut_named false words)
 
 abbrev pub outlined_for : List Outline → ℕ → ℕ
 outlined_for outlines state = count_by (λ outline. outline.state == state) outlines

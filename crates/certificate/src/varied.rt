@@ -2,16 +2,17 @@
 //! value empties no entry and makes none larger. For most keys of an entry nothing is written, and then nothing is made for them.
 ghost use Rattle.std.specs.Prelude.{◌≡◌, ◌==◌, ◌++◌, length, map, option_map, OnOk};
 ghost use Rattle.std.specs.List.{flat_map};
-ghost use Rattle.certificate.specs.Components.{component_meant};
+ghost use Rattle.certificate.specs.Components.{component_meant, cut_at};
 ghost use Rattle.certificate.specs.Naming.{Resolves};
-ghost use Rattle.certificate.specs.Outlines.{has_none_like, is_left_out, varied};
+ghost use Rattle.certificate.specs.Outlines.{cuts_meant, has_none_like, is_left_out, varied};
 ghost use Rattle.entry_table.specs.Shown.{shown, shown_all};
 ghost use Rattle.typed_values.specs.Shape.{each};
 
-use crate::component::read_component;
+use crate::component::{cut, read_component};
 use crate::fault::CertFault;
 use crate::key::Key;
 use crate::reads::Row;
+use crate::vocabulary::{Cuts, read_set};
 use crate::written::WrittenEntry;
 use entry_table::Component;
 use mg_model::commands::Termination;
@@ -84,6 +85,27 @@ fn keep(component: Component, found: &mut Vec<Component>) -> Result<(), AllocErr
     Ok(())
 }
 
+/// Keeps the cuts that an entry gives a pair of terminations, unless they have one value. Nothing is made where nothing is written.
+fn keep_cuts(
+    alloc: Global,
+    script: &Script,
+    entry: &WrittenEntry,
+    source: &Termination,
+    sink: &Termination,
+    found: &mut Vec<Component>,
+) -> Result<(), CertFault>
+    ensures { Resolves (λ _. shown_all found.new.items) result
+        (option_map (λ component. shown_all found.old.items ++ varied component)
+        (cuts_meant source.now sink.now (cut_at script.now source.now sink.now entry.now.cuts))) }
+{
+    let Some(words) = cut(script, entry, source, sink) else {
+        return Ok(());
+    };
+    let values = read_set(alloc, &Cuts, words.as_slice())?;
+    keep(Component::Cuts(*source, *sink, values), found)?;
+    Ok(())
+}
+
 /// Keeps the component that an entry gives for a key, unless it has one value.
 #[tactic(auto, using(crate::proofs::VariedLemmas::left_out))]
 fn keep_at(
@@ -98,6 +120,9 @@ fn keep_at(
 {
     if is_left_out(entry, key) {
         return Ok(());
+    }
+    if let Key::Cut(source, sink) = key {
+        return keep_cuts(alloc, script, entry, source, sink, found);
     }
     let component = read_component(alloc, script, entry, key)?;
     keep(component, found)?;
