@@ -8,4 +8,6 @@ pub mod OutlineLemmas
 pub mod Parts
 pub mod Passing
 pub mod RowLemmas
+pub mod Sources
 pub mod Trees
+pub mod VariedLemmas

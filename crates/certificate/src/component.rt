@@ -75,7 +75,7 @@ fn context<'a>(script: &Script, entry: &'a WrittenEntry, context: Slot) -> Optio
 }
 
 /// What is written for a pair of terminations.
-fn cut<'a>(
+pub(crate) fn cut<'a>(
     script: &Script,
     entry: &'a WrittenEntry,
     source: &Termination,

@@ -1,12 +1,12 @@
 //! Entries whose names were looked up, before the limits are checked.
-ghost use Rattle.std.specs.Prelude.{◌≡◌, ◌==◌, is_some, length, false, IfOk};
+ghost use Rattle.std.specs.Prelude.{◌≡◌, ◌==◌, is_some, length, nat_lt, false, IfOk};
 ghost use Rattle.std.specs.List.{list_all, list_any};
-ghost use Rattle.script_table.specs.Table.{place_of};
+ghost use Rattle.script_table.specs.Table.{place_of, state_named};
 ghost use Rattle.certificate.specs.Certificate.{are_known, has_empty, is_large, listed_meant};
 ghost use Rattle.certificate.specs.Components.{component_meant, keys_of};
-ghost use Rattle.entry_table.specs.Listed.{choices_of};
+ghost use Rattle.entry_table.specs.Listed.{choices_of, size_of};
 ghost use Rattle.certificate.specs.Naming.{Resolves, pair_named};
-ghost use Rattle.typed_values.specs.Shape.{each};
+ghost use Rattle.typed_values.specs.Shape.{each, only_if};
 ghost use Rattle.entry_table.specs.Shown.{shown_all};
 
 use crate::component::read_component;
@@ -84,6 +84,16 @@ fn are_known(script: &Script, entry: &WrittenEntry) -> bool
     cuts_known(script, entry)
 }
 
+/// The state of an entry, where each key that is a name stands for what its place asks for.
+pub(crate) fn state_of(script: &Script, entry: &WrittenEntry) -> Option<u8>
+    ensures { result ≡ only_if (are_known script.now entry.now) (state_named entry.now.state script.now.states) }
+{
+    if !are_known(script, entry) {
+        return None;
+    }
+    script.state_named(entry.state.as_str())
+}
+
 /// The components of an entry, for their keys in order.
 fn components(
     alloc: Global,
@@ -110,10 +120,7 @@ pub(crate) fn read_draft(
     requires { keys.now ≡ keys_of script.now }
     ensures { Resolves (λ d. d) result (listed_meant script.now entry.now) }
 {
-    if !are_known(script, entry) {
-        return Err(CertFault::Unknown);
-    }
-    let Some(state) = script.state_named(entry.state.as_str()) else {
+    let Some(state) = state_of(script, entry) else {
         return Err(CertFault::Unknown);
     };
     let components = components(alloc, script, entry, keys)?;
@@ -149,7 +156,8 @@ pub(crate) fn has_empty(draft: &Draft) -> bool
     any_empty(draft.components.as_slice())
 }
 
-fn any_empty(components: &[Component]) -> bool
+/// Whether one of some components has no values.
+pub(crate) fn any_empty(components: &[Component]) -> bool
     ensures { result ≡ list_any (λ component. length (choices_of component) == 0) (shown_all components.now) }
 {
     for component in components {
@@ -160,11 +168,18 @@ fn any_empty(components: &[Component]) -> bool
     false
 }
 
+/// Whether some components have more points together than an entry may have.
+pub(crate) fn are_large(components: &[Component]) -> bool
+    ensures { result ≡ nat_lt 65536 (size_of (shown_all components.now)) }
+{
+    product_of(components) > u64::from(POINTS)
+}
+
 /// Whether an entry has more points than it may.
 pub(crate) fn is_large(draft: &Draft) -> bool
     ensures { result ≡ is_large draft.now }
 {
-    product_of(draft.components.as_slice()) > u64::from(POINTS)
+    are_large(draft.components.as_slice())
 }
 
 /// The entry of a draft.

@@ -13,6 +13,7 @@ mod outline;
 mod ranked;
 mod reader;
 mod reads;
+mod varied;
 mod vocabulary;
 mod written;
 

@@ -2,7 +2,7 @@
 ghost use Rattle.std.specs.Prelude.{◌≡◌, find, option_map, is_some};
 ghost use Rattle.std.specs.List.{list_all};
 ghost use Rattle.certificate.specs.Components.{is_slot, is_pair};
-ghost use Rattle.certificate.specs.Naming.{different, pair_named, pair_of, parts_of, termination_named};
+ghost use Rattle.certificate.specs.Naming.{different, is_termination, pair_named, pair_of, parts_of, source_named, termination_named};
 
 use crate::reads::Row;
 use crate::vocabulary::Vocabulary;
@@ -43,10 +43,32 @@ fn pair(script: &Script, key: &str) -> Option<(Termination, Termination)>
     Some((source, sink))
 }
 
-/// Whether a key of the cuts names these two terminations.
+/// The termination that the first part of a key of the cuts names.
+fn source_of(script: &Script, key: &str) -> Option<Termination>
+    ensures { result ≡ source_named script.now key.now }
+{
+    let (source, _) = parts(key)?;
+    termination(script, source)
+}
+
+/// Whether the first part of a key of the cuts names this termination.
+fn is_source(script: &Script, key: &str, source: &Termination) -> bool
+    ensures { result ≡ is_termination (source_named script.now key.now) source.now }
+{
+    match source_of(script, key) {
+        Some(named) => is_same(&named, source),
+        None => false,
+    }
+}
+
+/// Whether a key of the cuts names these two terminations. Most keys are told by their first part alone.
+#[tactic(auto, using(crate::proofs::Sources::no_pair))]
 fn is_pair(script: &Script, key: &str, source: &Termination, sink: &Termination) -> bool
     ensures { result ≡ is_pair (pair_named script.now key.now) source.now sink.now }
 {
+    if !is_source(script, key, source) {
+        return false;
+    }
     match pair(script, key) {
         Some((first, second)) => is_same(&first, source) && is_same(&second, sink),
         None => false,

@@ -8,9 +8,10 @@ ghost use Rattle.certificate.specs.Naming.{Resolves};
 ghost use Rattle.certificate.specs.Outlines.{has_crowd_in, limit_passed, outline_meant, outline_of, outlined_for};
 ghost use Rattle.typed_values.specs.Shape.{each};
 
-use crate::draft::{has_empty, is_large, read_draft};
+use crate::draft::{self, are_large, state_of};
 use crate::fault::CertFault;
 use crate::key::Key;
+use crate::varied::varied;
 use crate::written::WrittenEntry;
 use script_table::Script;
 use std::alloc::Global;
@@ -27,6 +28,7 @@ pub(crate) struct Outline {
 }
 
 /// The outline of an entry. The keys are those of the script.
+#[tactic(auto, using(crate::proofs::VariedLemmas::outlined, crate::proofs::VariedLemmas::unknown_state, crate::proofs::VariedLemmas::unknown_word))]
 fn read_outline(
     alloc: Global,
     script: &Script,
@@ -36,11 +38,14 @@ fn read_outline(
     requires { keys.now ≡ keys_of script.now }
     ensures { Resolves (λ o. o) result (outline_meant script.now entry.now) }
 {
-    let draft = read_draft(alloc, script, keys, entry)?;
+    let Some(state) = state_of(script, entry) else {
+        return Err(CertFault::Unknown);
+    };
+    let varied = varied(alloc, script, entry, keys)?;
     Ok(Outline {
-        state: draft.state,
-        is_empty: has_empty(&draft),
-        is_large: is_large(&draft),
+        state,
+        is_empty: draft::any_empty(varied.as_slice()),
+        is_large: are_large(varied.as_slice()),
     })
 }
 

@@ -52,11 +52,13 @@ fn read_written(
     Ok(entries)
 }
 
-/// The entries of a document.
-fn read_value(alloc: Global, script: &Script, value: &Value) -> Result<Vec<Entry>, CertFault>
-    ensures { Answers is_memory (λ v. v.items) result (document_read script.now (view value.now)) }
+/// The entries of a document. Its tree, which takes several times the memory of what is written in it, is let go once that is read.
+fn read_value(alloc: Global, script: &Script, value: Value) -> Result<Vec<Entry>, CertFault>
+    ensures { Answers is_memory (λ v. v.items) result (document_read script.now (view value)) }
 {
-    match read_document(alloc, value) {
+    let read = read_document(alloc, &value);
+    drop(value);
+    match read {
         Ok(written) => read_written(alloc, script, &written),
         Err(Missing::Nothing) => Err(CertFault::BadKey),
         Err(Missing::Memory) => Err(CertFault::NoMemory),
@@ -84,6 +86,6 @@ pub fn read_cert(alloc: Global, bytes: &[u8], script: &Script) -> Result<Cert, C
     ensures { ReadsCertificate script.now bytes.now result }
 {
     let value = parse(alloc, bytes)?;
-    let entries = read_value(alloc, script, &value)?;
+    let entries = read_value(alloc, script, value)?;
     Ok(Cert::new(alloc, entries)?)
 }

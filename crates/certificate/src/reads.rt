@@ -15,6 +15,9 @@ use serde_json::{Map, Value};
 use std::alloc::{AllocError, Global};
 use typed_values::{Missing, Word, Words, is_among};
 
+/// How many places a list has from the start, if it comes to so many. Most lists of a certificate have one value, and take the room of one.
+const FIRST_ROOM: usize = 4;
+
 /// A type of values that a document holds.
 pub(crate) trait Reads: Drop {
     ghost Seen: { Type 0 };
@@ -123,7 +126,7 @@ impl<T: Reads> Reads for Vec<T> {
         let Some(array) = value.as_array() else {
             return Err(Missing::Nothing);
         };
-        let mut found = Vec::new(alloc);
+        let mut found = Vec::with_capacity(alloc, array.len().min(FIRST_ROOM))?;
         for item in array {
             found.push(T::read(alloc, item)?)?;
         }
@@ -167,7 +170,7 @@ fn rows<T: Reads>(alloc: Global, value: &Value) -> Result<Vec<Row<T>>, Missing>
     ensures { Gives (λ v. map (λ r. (r.name, T.seen r.value)) v.items) result (table_of T.meaning (view value.now)) }
 {
     let members = entries(alloc, object(value)?)?;
-    let mut found = Vec::new(alloc);
+    let mut found = Vec::with_capacity(alloc, members.len().min(FIRST_ROOM))?;
     for (name, value) in &members {
         found.push(read_row(alloc, name.as_str(), value)?)?;
     }

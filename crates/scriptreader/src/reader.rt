@@ -40,12 +40,14 @@ fn of_document(alloc: Global, document: &Document) -> Result<Script, ScriptFault
     in_scope(alloc, &scope, document)
 }
 
-/// The script that a tree is.
+/// The script that a tree is. The tree, which takes several times the memory of its document, is let go once that is read.
 #[tactic(auto, unfolding(crate::specs::Reading::tree_read))]
-fn of_tree(alloc: Global, tree: &Table) -> Result<Script, ScriptFault>
-    ensures { Answers result (tree_read (table_view tree.now)) }
+fn of_tree(alloc: Global, tree: Table) -> Result<Script, ScriptFault>
+    ensures { Answers result (tree_read (table_view tree)) }
 {
-    match tables::document(alloc, tree) {
+    let read = tables::document(alloc, &tree);
+    drop(tree);
+    match read {
         Ok(document) => of_document(alloc, &document),
         Err(Missing::Nothing) => Err(ScriptFault::BadKey),
         Err(Missing::Memory) => Err(ScriptFault::NoMemory),
@@ -62,7 +64,7 @@ pub fn read_script(alloc: Global, bytes: &[u8]) -> Result<Script, ScriptFault>
     ensures answered { (tree : Members) → is_some (tree_read tree) ≡ true }
 {
     match toml::table_from_slice(alloc, bytes) {
-        Ok(tree) => of_tree(alloc, &tree),
+        Ok(tree) => of_tree(alloc, tree),
         Err(error) => {
             if error.is_memory() {
                 return Err(ScriptFault::NoMemory);

@@ -13,6 +13,9 @@ use std::alloc::{AllocError, Global};
 use toml::{Table, Value};
 use typed_values::{Missing, Word, is_among};
 
+/// How many places a list has from the start, if it comes to so many. Most lists of a script are short, and take no more room than they need.
+const FIRST_ROOM: usize = 4;
+
 /// A type of values that a TOML document holds: `meaning` says what of a tree a value of the type is read from, and
 /// `seen` what a value says.
 pub trait Reads: Drop {
@@ -103,7 +106,7 @@ fn items<T: Reads>(alloc: Global, value: &Value) -> Result<Vec<T>, Missing>
     let Some(array) = value.as_array() else {
         return Err(Missing::Nothing);
     };
-    let mut found = Vec::new(alloc);
+    let mut found = Vec::with_capacity(alloc, array.len().min(FIRST_ROOM))?;
     for item in array {
         found.push(T::read(alloc, item)?)?;
     }

@@ -10,7 +10,7 @@ use Rattle.certificate.proofs.reads.VecReads.read.Goals as goal
 pub returns-in_err-read : goal.returns-in_err-read
 returns-in_err-read g c =
     let vs = c.deref-item-items.result.now in
-    let p = err_from_is_err_and c.from_residual.result c.from_residual.ensures.1 in
+    let p = err_from_is_err_and c.from_residual-in_err-read.result c.from_residual-in_err-read.ensures.1 in
     rw (p.1, p.2) (bad_key_passes _ _ _ (λ none.
     list_read g.T.Reads.meaning (view c.args.value.now) vs _ (ap (λ xs. Some (items_view xs)) c.deref-item-items.ensures.value ∙ c.in-Some.ensures)
     (read_none (λ v. g.T.Reads.meaning (view v)) vs c.loop-item.item-index c.item-item.result _ c.loop-item-test.true c.item-item.is none c.loop-item.invariant))
