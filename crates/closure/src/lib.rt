@@ -1,5 +1,5 @@
-//! The steps of a configuration, each with its result; the first broken obligation of a certificate, or that none is
-//! broken; and how many points a certificate has.
+//! The steps of a configuration, each with its result; and the first broken obligation of a certificate, or that none is
+//! broken and how many points it has.
 #![tactic(auto)]
 
 mod broken;
