@@ -11,3 +11,6 @@ invariant_of-result c =
       safe = c.every_run_is_good.ensures c.in-Ok.script c.in-Ok-read_cert.cert is_script listed c.in-Kept.ensures.0;
       counted = c.in-Kept.ensures.1;
     }
+
+pub returns-in-Kept : goal.returns-in-Kept
+returns-in-Kept c = (record { reads = c.in-Ok.ensures.reads; lists = c.in-Ok-read_cert.ensures }, invariant_of-result c)
