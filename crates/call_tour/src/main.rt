@@ -12,7 +12,7 @@ mod trip;
 use crate::failure::Failure;
 use crate::trip::Trip;
 use agent::{Call, Next};
-use gateway::{Gateway, Hook};
+use gateway::{Gateway, Hook, OpenFault};
 use mg_names::identifiers::{CallNo, LineNo};
 use script_table::Script;
 use std::process::ExitCode;
@@ -26,9 +26,11 @@ const LINES: [LineNo; 2] = [LineNo(11), LineNo(12)];
 /// A gateway with the lines, on which the first call is open.
 fn opened<'r>(rt: &'r HostRuntime, script: &'r Script) -> Result<Trip<'r>, Failure> {
     let mut gateway = Gateway::new(rt.alloc(), &LINES)?;
-    let Ok(()) = gateway.open_call(FIRST, &LINES) else {
-        return Err(Failure::Refused);
-    };
+    match gateway.open_call(FIRST, &LINES) {
+        Ok(()) => {}
+        Err(OpenFault::NoMemory) => return Err(Failure::Memory),
+        Err(_) => return Err(Failure::Refused),
+    }
     Ok(Trip {
         rt,
         script,

@@ -15,7 +15,11 @@ fn name_of(script: &Script, state: u8) -> &str {
 
 /// A request, by its number and how many commands it has.
 fn request(rt: &HostRuntime, request: &Request) -> Result<(), Failure> {
-    println!(rt; "  request {}, commands: {}", request.number(), request.commands().len())?;
+    println!(rt;
+        "  request {}, commands: {}",
+        request.number(),
+        request.commands().len()
+    )?;
     Ok(())
 }
 
@@ -28,7 +32,10 @@ pub(crate) fn step(
 ) -> Result<(), Failure> {
     match next {
         Next::Resting(call) => println!(rt; "{step}: rests in {}", name_of(script, call.state()))?,
-        Next::Ended(call) => println!(rt; "{step}: has ended in {}", name_of(script, call.state()))?,
+        Next::Ended(call) => println!(rt;
+            "{step}: has ended in {}",
+            name_of(script, call.state())
+        )?,
         Next::Waiting(call) => {
             println!(rt; "{step}: waits in {}", name_of(script, call.state()))?;
             if let Some(sent) = call.request() {

@@ -2,7 +2,7 @@
 use crate::failure::Failure;
 use crate::{once_more, pages};
 use agent::{Call, Ended, Next, Resting, Waiting};
-use gateway::{Answer, Gateway, Hook, LineEvent, Reply, SentNote};
+use gateway::{Answer, BeginFault, Gateway, Hook, LineEvent, Reply, SentNote};
 use mg_model::events::{CallEvent, Event};
 use mg_names::identifiers::{CallNo, LineNo};
 use script_table::Script;
@@ -109,9 +109,11 @@ impl<'r> Trip<'r> {
     /// Another call begins on the lines of this one, which is retired.
     pub(crate) fn begin(&mut self, next: Next<'r>, new: CallNo) -> Result<Next<'r>, Failure> {
         let call = ended(next)?;
-        let Ok(()) = self.gateway.begin(call.call(), new) else {
-            return Err(Failure::Refused);
-        };
+        match self.gateway.begin(call.call(), new) {
+            Ok(()) => {}
+            Err(BeginFault::NoMemory) => return Err(Failure::Memory),
+            Err(_) => return Err(Failure::Refused),
+        }
         let (next, retired) = once_more::begin(call, new)?;
         self.tell("begin", &next)?;
         pages::transcript(self.rt, retired.transcript.as_slice())?;

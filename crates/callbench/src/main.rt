@@ -86,8 +86,10 @@ fn asked(rt: &HostRuntime) -> io::Result<Option<(u32, u32)>> {
     let [_, notes, stride] = words.as_slice() else {
         return Ok(None);
     };
-    let (Ok(notes), Ok(stride)) = (notes.as_str().parse::<u32>(), stride.as_str().parse::<u32>())
-    else {
+    let (Ok(notes), Ok(stride)) = (
+        notes.as_str().parse::<u32>(),
+        stride.as_str().parse::<u32>(),
+    ) else {
         return Ok(None);
     };
     Ok(Some((notes, stride)))
