@@ -26,4 +26,5 @@ test:
 bench: build
 	cd crates/boardbench && rt run boardbench -- 100 20 1000 6
 	cd crates/gatebench && rt run gatebench -- 10 20
+	cd crates/callbench && rt run callbench -- 12 5
 	tools/bench
