@@ -2,8 +2,13 @@
 //! them, and the two that it starts from. Layers above see a configuration by its components alone.
 #![tactic(auto)]
 
+mod codes;
 pub mod config;
+mod cuts;
+mod fields;
 mod places;
+mod rows;
 pub mod spots;
+mod standing;
 pub mod step;
 pub mod well_formed;

@@ -1,30 +1,50 @@
--- Where nothing new is arrived at, what is reached is all that a path reaches.
-use Rattle.std.proofs.Common.{◌<◌, arith, sym, ◌∙◌, length, length-set}
-use Rattle.mg_model.specs.declared.commands.Termination.TheVariants.{Line}
-use Rattle.configuration.specs.Config.{configuration_of}
-use Rattle.configuration.proofs.SlotLemmas.{absent_past_eight}
-use Rattle.configuration.proofs.PathLemmas.{found_next, missing-set, arrives_goes, all_arrived-set, reached_goes, closed, closed_reaches, goes_on_line}
+-- Each turn adds what is arrived at; where nothing is added, all paths are found.
+use Rattle.std.proofs.Common.{◌≡◌, ℕ, ◌-◌, ◌<◌, ◌≤◌, ◌==◌, not, ap, sym, ◌∙◌, arith}
+use Rattle.configuration.specs.Bits.{has}
+use Rattle.configuration.specs.Fields.{field_of}
+use Rattle.configuration.proofs.SearchLemmas.{alone, alone_small, none_arrived, next_arrived, search_ends}
 use Rattle.configuration.proofs.config.paths.goes.Goals as goal
 
-pub loop-slot-smaller : goal.loop-slot-smaller
-loop-slot-smaller c =
-    let next = found_next (configuration_of c.args.config.now) c.args.from c.loop-slot.arrived c.in-Some.slot (sym c.next_arrival.ensures ∙ c.in-Some.is) in
-    let within : c.in-Some.slot < length c.loop-slot.arrived = omega (arith, next.small, c.loop-slot.invariant.0) in
-    rw c.index.ensures.value (missing-set c.loop-slot.arrived c.in-Some.slot within next.new)
+less_left : (m n : ℕ) → m ≤ n → (m ≡ n → ⊥) → n < 256 → 256 - n < 256 - m
+less_left m n h other l = omega arith
 
-pub loop-slot-preserved : goal.loop-slot-preserved
-loop-slot-preserved c =
-    let next = found_next (configuration_of c.args.config.now) c.args.from c.loop-slot.arrived c.in-Some.slot (sym c.next_arrival.ensures ∙ c.in-Some.is) in
-    let arrival = arrives_goes (configuration_of c.args.config.now) c.args.from c.loop-slot.arrived c.in-Some.slot c.loop-slot.invariant.1 next.arrives in (
-      simp length-set c.loop-slot.invariant.0,
-      rw c.index.ensures.value (all_arrived-set (configuration_of c.args.config.now) c.args.from c.loop-slot.arrived c.in-Some.slot c.loop-slot.invariant.1 arrival),
-    )
+bit_read : (n r p : ℕ) → n ≡ field_of r p 1 → not (n == 0) ≡ has r p
+unfolding has
+bit_read n r p e = ap (λ m. not (m == 0)) e
+
+pub loop-mask-init : goal.loop-mask-init
+loop-mask-init c = record {
+  small = rw c.index.ensures.value (alone_small c.args.from c.index.ensures.in_range);
+  small_more = c.next-more.ensures.small;
+  below = c.next-more.ensures.more;
+  start = rw c.index.ensures.value (alone c.args.from c.index.ensures.in_range);
+  arrived = λ config rows crossings. rw c.index.ensures.value (none_arrived c.args.rows c.args.crossings c.args.from c.index.ensures.in_range config);
+  lines = c.next-more.ensures.lines;
+  ephemerals = c.next-more.ensures.ephemerals;
+}
+
+pub next-more-requires-in-loop-mask : goal.next-more-requires-in-loop-mask
+next-more-requires-in-loop-mask c = c.loop-mask.invariant.small_more
+
+pub loop-mask-smaller : goal.loop-mask-smaller
+loop-mask-smaller c = less_left c.loop-mask.mask c.loop-mask.more c.loop-mask.invariant.below c.loop-mask-test.true c.loop-mask.invariant.small_more
+
+pub loop-mask-preserved : goal.loop-mask-preserved
+loop-mask-preserved c = record {
+  small = c.loop-mask.invariant.small_more;
+  small_more = c.next-more-in-loop-mask.ensures.small;
+  below = c.next-more-in-loop-mask.ensures.more;
+  start = λ t h. c.loop-mask.invariant.lines t h ∙ c.loop-mask.invariant.start t h;
+  arrived = next_arrived c.args.rows c.args.crossings c.args.from c.loop-mask.mask c.loop-mask.more c.index.ensures.in_range c.loop-mask.invariant;
+  lines = c.next-more-in-loop-mask.ensures.lines;
+  ephemerals = c.next-more-in-loop-mask.ensures.ephemerals;
+}
 
 pub returns : goal.returns
-returns c =
-    let config = configuration_of c.args.config.now in
-    let all_closed = closed config c.args.from c.loop-slot.arrived (sym c.next_arrival.ensures ∙ c.in_default.is) in (
-      λ reached. reached_goes config c.args.from c.loop-slot.arrived (Line c.args.to) c.loop-slot.invariant.1 (sym c.is_reached.ensures ∙ reached),
-      λ path. c.is_reached.ensures ∙ closed_reaches config c.args.from c.loop-slot.arrived (absent_past_eight c.args.config.now) all_closed
-          (Line c.args.from) path.0 (Line c.args.to) (goes_on_line config c.args.from c.loop-slot.arrived) path.1,
-    )
+returns c config rows crossings small =
+    let sink = rw c.index-2.ensures.value at c.field.ensures.value in
+    let bit = bit_read c.field.result c.reached.result c.args.to sink in
+    let both = search_ends c.args.rows c.args.crossings c.args.from c.args.to c.loop-mask.mask c.loop-mask.more c.reached.result
+    c.index.ensures.in_range c.index-2.ensures.in_range c.loop-mask.invariant c.loop-mask-test.false
+    (c.reached.ensures c.args.to (omega (arith, c.index-2.ensures.in_range))) config rows crossings small in
+    (λ yes. both.0 (sym bit ∙ yes), λ path. bit ∙ both.1 path)

@@ -1,13 +1,11 @@
--- What the search has arrived at, and how much is left.
-use Rattle.std.proofs.Common.{◌≡◌, length}
-use Rattle.configuration.specs.Config.{configuration_of}
-use Rattle.configuration.proofs.PathLemmas.{AllArrived, missing}
+-- What the mask has is reached, and what comes next.
+use Rattle.std.proofs.Common.{◌-◌}
+use Rattle.configuration.proofs.SearchLemmas.{IsSearched}
 use Rattle.configuration.proofs.config.paths.goes.Given as goal
 
--- media from the line has a way to whatever it has arrived at
-abbrev pub invariant-loop-slot : goal.invariant-loop-slot
-invariant-loop-slot l = (length l.arrived ≡ 4) × AllArrived (configuration_of l.config) l.from l.arrived
+abbrev pub invariant-loop-mask : goal.invariant-loop-mask
+invariant-loop-mask l = IsSearched l.rows l.crossings l.fn.from l.mask l.more
 
--- how many ephemerals it has not arrived at
-abbrev pub decreases-loop-slot : goal.decreases-loop-slot
-decreases-loop-slot l = missing l.arrived
+-- the numbers that the mask hasn't come to
+abbrev pub decreases-loop-mask : goal.decreases-loop-mask
+decreases-loop-mask l = 256 - l.mask
