@@ -5,7 +5,7 @@ use Rattle.configuration.specs.Config.{configuration_of}
 use Rattle.entry_table.specs.Index.{places_of}
 use Rattle.closure.specs.Findings.{PlaceIncludes}
 use Rattle.closure.proofs.CoverLemmas.{covered_by_place, place_covers}
-use Rattle.closure.proofs.cover.covers.Goals as goal
+use Rattle.closure.proofs.cover.covers_first.Goals as goal
 
 pub returns : goal.returns
 returns c =
