@@ -16,5 +16,6 @@ pub mod PathLemmas
 pub mod RowLemmas
 pub mod RowLoops
 pub mod SearchLemmas
+pub mod WayLemmas
 pub mod SlotLemmas
 pub mod WellFormedLemmas

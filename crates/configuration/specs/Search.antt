@@ -1,6 +1,6 @@
--- Words of the search for a path: what its words of bits say, and what it asks in each turn. No public clause speaks of
--- them.
-use Rattle.std.specs.Prelude.{◌≡◌, ℕ, ◌+◌, ◌*◌, ◌<◌, ◌==◌, Bool, ◌&&◌, ◌||◌, IsTrue, List, [], ◌∷◌}
+-- Words of the search for a path: what its words of bits say, and what it asks in each turn. Public clauses speak of `IsWays`
+-- alone.
+use Rattle.std.specs.Prelude.{◌≡◌, ℕ, ◌+◌, ◌*◌, ◌<◌, ◌==◌, Bool, ◌&&◌, ◌||◌, IsTrue, ◌↔◌, List, [], ◌∷◌}
 use Rattle.std.specs.List.{list_any}
 use Rattle.mg_model.specs.declared.commands.Termination.{Termination}
 use Rattle.mg_model.specs.declared.commands.Termination.TheVariants.{Line, Ephemeral}
@@ -27,6 +27,10 @@ IsCrossings c word = (k i : ℕ) → k < 4 → i < 4 → has word (8 * k + i) �
 -- media goes from line i to line j, which may be the same
 abbrev pub Goes : Configuration → ℕ → ℕ → Type 0
 Goes c i j = (crossings : List (ℕ × ℕ)) × IsTrue (goes_over c (Line i) crossings (Line j))
+
+-- for each line, a byte of those that media goes to from it
+abbrev pub IsWays : Configuration → ℕ → Type 0
+IsWays c word = (i j : ℕ) → i < 4 → j < 4 → IsTrue (has word (8 * i + j)) ↔ Goes c i j
 
 -- a byte of some of eight, those in the mask, has this bit
 abbrev pub row_has : ℕ → ℕ → ℕ → ℕ → Bool

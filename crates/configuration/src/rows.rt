@@ -1,6 +1,7 @@
 //! Where media goes from each termination of a configuration, a byte of a word for each.
-ghost use Rattle.std.specs.Prelude.{◌≡◌, ℕ, ◌+◌, ◌*◌, ◌/◌, ◌%◌, ◌≤◌, ◌<◌, ◌==◌, ◌&&◌};
+ghost use Rattle.std.specs.Prelude.{false, ◌≡◌, ℕ, ◌+◌, ◌*◌, ◌/◌, ◌%◌, ◌≤◌, ◌<◌, ◌==◌, ◌&&◌};
 ghost use Rattle.mg_model.specs.Paths.{hops, crosses, passes_in, passes_out};
+ghost use Rattle.mg_model.specs.declared.commands.Termination.TheVariants.{Line};
 ghost use Rattle.configuration.specs.Bits.{has};
 ghost use Rattle.configuration.specs.Config.{configuration_of};
 ghost use Rattle.configuration.specs.Packed.{pair_place};
@@ -26,6 +27,14 @@ fn mode_number(config: &Config, place: u32) -> u64
     } else {
         field(config.ephemerals_word(), 8 * (place - 4) + 3, 2)
     }
+}
+
+/// Whether some line lets media into its context.
+pub fn lets_media_in(config: &Config) -> bool
+    ensures { result ≡ false → (i : ℕ) → i < 4 → passes_in ((configuration_of config.now).mode (Line i)) ≡ false }
+{
+    let low = mode_number(config, 0) | mode_number(config, 1);
+    low | (mode_number(config, 2) | mode_number(config, 3)) >= 2
 }
 
 /// The bit of one of eight terminations among those that let media out, which stand by their contexts.

@@ -1,16 +1,17 @@
 //! Paths of media between the lines of a configuration.
-ghost use Rattle.std.specs.Prelude.{◌≡◌, ℕ, ◌+◌, ◌*◌, ◌≤◌, ◌<◌, ◌↔◌, ◌||◌, ◌&&◌, IsTrue};
+ghost use Rattle.std.specs.Prelude.{false, ◌≡◌, ℕ, ◌+◌, ◌*◌, ◌≤◌, ◌<◌, ◌↔◌, ◌||◌, ◌&&◌, IsTrue};
 ghost use Rattle.mg_model.specs.Configuration.{Configuration};
 ghost use Rattle.mg_model.specs.Paths.{AreJoined};
 ghost use Rattle.configuration.specs.Places.{AbsentPastEight};
 ghost use Rattle.configuration.specs.Bits.{has};
 ghost use Rattle.configuration.specs.Config.{configuration_of};
-ghost use Rattle.configuration.specs.Search.{IsRows, IsCrossings, Goes, reaches, crosses_to};
+ghost use Rattle.configuration.specs.Search.{IsRows, IsCrossings, IsWays, Goes, reaches, crosses_to};
 
 use crate::config::Config;
-use crate::fields::field;
-use crate::rows::{crossings, rows};
+use crate::fields::{field, put};
+use crate::rows::{crossings, lets_media_in, rows};
 use mg_names::slots::Slot;
+use std::marker::Model;
 
 /// A byte of a word, where a mask has this bit.
 fn part(word: u64, place: u32, mask: u64, bit: u32) -> u64
@@ -62,9 +63,11 @@ fn next(rows: u64, crossings: u64, mask: u64) -> u64
     mask | crossed(crossings, reached) << 4
 }
 
-/// Whether media goes from one line to one that may be the same.
-fn goes(rows: u64, crossings: u64, from: Slot, to: Slot) -> bool
-    ensures { (c : Configuration) → IsRows c rows → IsCrossings c crossings → AbsentPastEight c → IsTrue result ↔ Goes c from to }
+/// The lines that media goes to from a line, a bit for each.
+fn heard(rows: u64, crossings: u64, from: Slot) -> u64
+    ensures lines { (c : Configuration) → IsRows c rows → IsCrossings c crossings → AbsentPastEight c
+        → (j : ℕ) → j < 4 → IsTrue (has result j) ↔ Goes c from j }
+    ensures small { result < 16 }
 {
     let mut mask = 1 << from.index();
     let mut more = next(rows, crossings, mask);
@@ -72,20 +75,85 @@ fn goes(rows: u64, crossings: u64, from: Slot, to: Slot) -> bool
         mask = more;
         more = next(rows, crossings, mask);
     }
-    field(reached(rows, mask), to.index() as u32, 1) != 0
+    field(reached(rows, mask), 0, 4)
 }
 
-/// Whether two different lines are joined: there is a path of media from one to the other, either way.
-pub fn are_joined(config: &Config, one: Slot, other: Slot) -> bool
-    ensures { IsTrue result ↔ AreJoined (configuration_of config.now) one other }
+/// Whether media goes from no line to an ephemeral of its context.
+fn stays_at_lines(rows: u64) -> bool
+    ensures { IsTrue result → (i k : ℕ) → i < 4 → k < 4 → has rows (8 * i + (4 + k)) ≡ false }
 {
-    if one.index() == other.index() {
-        return false;
+    let low = field(rows, 4, 4) | field(rows, 12, 4);
+    low | (field(rows, 20, 4) | field(rows, 28, 4)) == 0
+}
+
+/// Where media goes from each line, as many crossings as it takes.
+fn all_heard(rows: u64, crossings: u64) -> u64
+    ensures { (c : Configuration) → IsRows c rows → IsCrossings c crossings → AbsentPastEight c → IsWays c result }
+{
+    let slots = Slot::all();
+    let first = put(0, 0, 8, heard(rows, crossings, slots[0]));
+    let second = put(first, 8, 8, heard(rows, crossings, slots[1]));
+    let third = put(second, 16, 8, heard(rows, crossings, slots[2]));
+    put(third, 24, 8, heard(rows, crossings, slots[3]))
+}
+
+/// Which lines media of a configuration goes between.
+#[derive(Clone, Copy, Debug)]
+pub struct Ways {
+    /// For each line a byte, with a bit for each line that media goes to from it.
+    lines: u64,
+}
+
+impl Model for Ways {
+    ghost use Rattle.std.specs.Prelude.{ℕ};
+
+    ghost Value = { ℕ };
+
+    ghost view = { λ w. w.lines };
+
+    ghost inverse = { λ n. record { lines = n } };
+}
+
+impl Ways {
+    /// Those of a configuration.
+    pub fn of(config: &Config) -> Ways
+        ensures { IsWays (configuration_of config.now) result }
+    {
+        if !lets_media_in(config) {
+            return Ways { lines: 0 };
+        }
+        let rows = rows(config);
+        if stays_at_lines(rows) {
+            return Ways { lines: rows };
+        }
+        Ways {
+            lines: all_heard(rows, crossings(config)),
+        }
     }
-    let rows = rows(config);
-    let crossings = crossings(config);
-    if goes(rows, crossings, one, other) {
-        return true;
+
+    fn lines(&self) -> u64
+        ensures { result ≡ self.now }
+    {
+        self.lines
     }
-    goes(rows, crossings, other, one)
+
+    /// Whether media goes from one line to one that may be the same.
+    fn lead(&self, from: Slot, to: Slot) -> bool
+        ensures { (c : Configuration) → IsWays c self.now → IsTrue result ↔ Goes c from to }
+    {
+        field(self.lines(), 8 * from.index() as u32 + to.index() as u32, 1) != 0
+    }
+
+    /// Whether two different lines are joined: there is a path of media from one to the other, either way.
+    pub fn join(&self, one: Slot, other: Slot) -> bool
+        ensures { (c : Configuration) → IsWays c self.now → IsTrue result ↔ AreJoined c one other }
+    {
+        if one.index() == other.index() {
+            return false;
+        }
+        if self.lead(one, other) {
+            return true;
+        }
+        self.lead(other, one)
+    }
 }
