@@ -198,3 +198,12 @@ joined_other_way c i j b d other ways e back = (
   λ holds. other_way c i j other (back.0 holds),
   λ joined. back.1 (left_over c i j (ruled_out b (Goes c i j) e ways.1) joined),
 )
+
+nothing_goes : (c : Configuration) (w : ℕ) → w ≡ 0 → IsWays c w → (i j : ℕ) → i < 4 → j < 4 → Goes c i j → ⊥
+nothing_goes c w none ways i j hi hj way =
+    no_bit (8 * i + j) (sym (ap (λ n. has n (8 * i + j)) none) ∙ (ways i j hi hj).1 way)
+
+-- where no word has a bit, no lines are joined
+pub none_joined : (c : Configuration) (w : ℕ) → IsTrue (w == 0) → IsWays c w → (i j : ℕ) → i < 4 → j < 4 → AreJoined c i j → ⊥
+none_joined c w h ways i j hi hj (inl path) = nothing_goes c w (eq_zero w h) ways i j hi hj (path.crossings, path.goes)
+none_joined c w h ways i j hi hj (inr path) = nothing_goes c w (eq_zero w h) ways j i hj hi (path.crossings, path.goes)

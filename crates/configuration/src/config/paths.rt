@@ -144,6 +144,13 @@ impl Ways {
         field(self.lines(), 8 * from.index() as u32 + to.index() as u32, 1) != 0
     }
 
+    /// Whether media goes from no line to any line.
+    pub fn are_none(&self) -> bool
+        ensures { IsTrue result → (c : Configuration) → IsWays c self.now → (i j : ℕ) → i < 4 → j < 4 → AreJoined c i j → ⊥ }
+    {
+        self.lines() == 0
+    }
+
     /// Whether two different lines are joined: there is a path of media from one to the other, either way.
     pub fn join(&self, one: Slot, other: Slot) -> bool
         ensures { (c : Configuration) → IsWays c self.now → IsTrue result ↔ AreJoined c one other }
