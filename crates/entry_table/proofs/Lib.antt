@@ -1,1 +1,3 @@
 pub mod Products
+pub mod ChoiceLemmas
+pub mod TurnedLemmas

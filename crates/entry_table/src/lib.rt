@@ -7,6 +7,8 @@
 mod cert;
 mod component;
 mod entry;
+mod numbers;
+mod turned;
 
 pub use cert::Cert;
 pub use component::Component;
