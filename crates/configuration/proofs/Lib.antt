@@ -18,3 +18,5 @@ pub mod RowLoops
 pub mod SearchLemmas
 pub mod SlotLemmas
 pub mod WellFormedLemmas
+pub mod NumberLemmas
+pub mod RegionLemmas

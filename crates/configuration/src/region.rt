@@ -2,7 +2,7 @@
 use crate::config::Config;
 use crate::fields::field;
 use crate::three_words::ThreeWords;
-use crate::value_set::ValueSet;
+use crate::value_set::{ValueSet, are_in};
 use std::alloc::{AllocError, Global};
 use std::marker::Model;
 
@@ -65,11 +65,11 @@ impl Region {
         ensures within { OnOk result ((w : Words) → is_within self.new w ≡ (is_within self.old w && is_in set w)) }
         ensures kept { IfErr result (λ e. self.new ≡ self.old) }
     {
-        let (word, at, bits) = (set.word(), set.place(), set.size());
-        let low = set.allowed().trailing_zeros();
-        if low < 1 << bits && set.allowed() == 1 << low && field(self.mask.word(word), at, bits) == 0 {
-            self.fix(word, at, bits, u64::from(low));
-            return Ok(());
+        if let Some(number) = set.number() {
+            if field(self.mask.word(set.word()), set.place(), set.size()) == 0 {
+                self.fix(set.word(), set.place(), set.size(), number);
+                return Ok(());
+            }
         }
         self.wide.push(set)?;
         Ok(())
@@ -80,14 +80,6 @@ impl Region {
         ensures value { result ≡ is_within self.now config.now }
         ensures packed { IsPacked config.now }
     {
-        if !self.base.is_like(&self.mask, config) {
-            return false;
-        }
-        for set in self.wide.as_slice() {
-            if !set.has(config) {
-                return false;
-            }
-        }
-        true
+        self.base.is_like(&self.mask, config) && are_in(self.wide.as_slice(), config)
     }
 }

@@ -24,6 +24,7 @@ impl Model for ThreeWords {
 impl ThreeWords {
     ghost use Rattle.std.specs.Prelude.{◌≡◌, ◌+◌, ◌^◌, ◌<◌, ◌≤◌, ◌==◌};
     ghost use Rattle.configuration.specs.Fields.{IsPut};
+    ghost use Rattle.configuration.specs.Packed.{IsPacked};
     ghost use Rattle.configuration.specs.Regions.{word_at, with_word, are_alike};
 
     /// Three words with no bit set.
@@ -73,7 +74,8 @@ impl ThreeWords {
 
     /// Whether a configuration's words agree with these in the bits of others.
     pub(crate) fn is_like(&self, mask: &ThreeWords, config: &Config) -> bool
-        ensures { result ≡ are_alike config.now self.now mask.now }
+        ensures value { result ≡ are_alike config.now self.now mask.now }
+        ensures packed { IsPacked config.now }
     {
         let lines = (config.lines_word() ^ self.lines) & mask.lines;
         let ephemerals = (config.ephemerals_word() ^ self.ephemerals) & mask.ephemerals;

@@ -1,5 +1,7 @@
 //! A set of values for one component of a configuration, asked of the words.
 ghost use Rattle.std.specs.Prelude.{◌≡◌, ◌+◌, ◌≤◌, ◌<◌};
+ghost use Rattle.std.specs.List.{list_all};
+ghost use Rattle.configuration.specs.Regions.{is_in, word_at};
 
 use crate::config::Config;
 use crate::fields::field;
@@ -42,8 +44,34 @@ impl Model for ValueSet {
     ghost inverse = { λ s. record { word = s.word; at = s.at; bits = s.bits; allowed = s.allowed } };
 }
 
+/// A configuration's word with a number.
+fn config_word(config: &Config, number: u8) -> u64
+    ensures { result ≡ word_at config.now number }
+{
+    match number {
+        0 => config.lines_word(),
+        1 => config.ephemerals_word(),
+        _ => config.cuts_word(),
+    }
+}
+
+/// Whether a configuration has its values in some sets.
+pub(crate) fn are_in(sets: &[ValueSet], config: &Config) -> bool
+    ensures { result ≡ list_all (λ set. is_in set config.now) sets.now }
+{
+    for set in sets {
+        if !set.has(config) {
+            return false;
+        }
+    }
+    true
+}
+
 /// The parts of a set.
 impl ValueSet {
+    ghost use Rattle.std.specs.Prelude.{◌^◌, ◌==◌, IfSome};
+    ghost use Rattle.configuration.specs.Fields.{field_of};
+    ghost use Rattle.configuration.specs.Packed.{Words};
     ghost use Rattle.configuration.specs.Regions.{is_in, word_at};
 
     fn of_field(word: u8, at: u32, bits: u8, allowed: u64) -> ValueSet
@@ -93,13 +121,24 @@ impl ValueSet {
     pub(crate) fn has(&self, config: &Config) -> bool
         ensures { result ≡ is_in self.now config.now }
     {
-        let word = match self.word() {
-            0 => config.lines_word(),
-            1 => config.ephemerals_word(),
-            _ => config.cuts_word(),
-        };
+        let word = config_word(config, self.word());
         let number = field(word, self.place(), self.size()) as u32;
         field(self.allowed(), number, 1) != 0
+    }
+
+    /// The number of the value, where there is one alone.
+    pub(crate) fn number(&self) -> Option<u64>
+        ensures { IfSome result (λ n. (n < 2 ^ self.now.bits)
+            × ((w : Words) → is_in self.now w ≡ (field_of (word_at w self.now.word) self.now.at self.now.bits == n))) }
+    {
+        let low = self.allowed().trailing_zeros();
+        if low >> self.size() != 0 {
+            return None;
+        }
+        if self.allowed() != 1 << low {
+            return None;
+        }
+        Some(u64::from(low))
     }
 }
 
