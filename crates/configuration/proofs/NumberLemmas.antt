@@ -1,9 +1,10 @@
 -- A word gets a bit for the number of each value of a list.
-use Rattle.std.proofs.Common.{◌≡◌, ◌⊎◌, inl, inr, ℕ, zero, suc, ◌+◌, ◌*◌, ◌%◌, ◌^◌, ◌<◌, ◌==◌, ◌↔◌, Bool, true, false, ◌||◌, List, [], ◌∷◌, Contains, length, drop, drop-cons, add-one, refl, sym, ap, ◌∙◌, subst, arith}
+use Rattle.std.proofs.Common.{◌≡◌, ◌⊎◌, inl, inr, ℕ, zero, suc, ◌+◌, ◌*◌, ◌%◌, ◌^◌, ◌<◌, ◌≤◌, ◌==◌, ◌↔◌, Bool, true, false, ◌||◌, List, [], ◌∷◌, Contains, length, drop, drop-cons, add-one, refl, sym, ap, ◌∙◌, subst, arith}
 use Rattle.std.specs.List.{slice_index_or}
 use Rattle.std.specs.Int.RustNames.{bit_or}
 use Rattle.std.proofs.lemmas.Grind.{common_steps}
 use Rattle.configuration.specs.Bits.{has}
+use Rattle.configuration.specs.Codes.{line_spot_code, line_spot_at}
 use Rattle.configuration.proofs.BitLemmas.{has_or, has_one, has_none}
 
 -- what is left begins with the element at the place
@@ -85,3 +86,7 @@ all_numbered code value_at all left bits none were n l e =
       where
         nothing : {A : Type 0} → Contains [] (value_at n) → A
         nothing (k, l, e) = absurd (omega arith)
+
+-- the number of where a line stands
+pub line_spot_same : (n : ℕ) → n ≤ 5 → line_spot_code (line_spot_at n) ≡ n
+line_spot_same n h = grind (arith, common_steps)

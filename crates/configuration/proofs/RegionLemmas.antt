@@ -309,6 +309,11 @@ pushed w base mask wide wide' set e =
     last true false f = refl
     last false l f = refl
 
+pub asked : (w base mask : Words) (wide : List ValueSet) (a l : Bool) → a ≡ are_alike w base mask → l ≡ list_all (λ set. is_in set w) wide →
+    (a && l) ≡ is_within (record { base = base; mask = mask; wide = wide }) w
+unfolding is_within
+asked w base mask wide a l p q = ap₂ (λ b c. b && c) p q
+
 -- both parts of a state's number
 pub state_within : (w : Words) (s low high : ℕ) (all first both : Bool) → all ≡ true → low ≡ s → high ≡ s →
     first ≡ (all && field_of w.lines 0 6 == low % 64) → both ≡ (first && field_of w.lines 60 2 == high / 64) →
