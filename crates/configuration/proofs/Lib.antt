@@ -19,4 +19,6 @@ pub mod SearchLemmas
 pub mod SlotLemmas
 pub mod WellFormedLemmas
 pub mod NumberLemmas
+pub mod AgreementLemmas
 pub mod RegionLemmas
+pub mod ValueSetLemmas

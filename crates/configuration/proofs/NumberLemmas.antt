@@ -1,10 +1,9 @@
 -- A word gets a bit for the number of each value of a list.
-use Rattle.std.proofs.Common.{◌≡◌, ◌⊎◌, inl, inr, ℕ, zero, suc, ◌+◌, ◌*◌, ◌%◌, ◌^◌, ◌<◌, ◌≤◌, ◌==◌, ◌↔◌, Bool, true, false, ◌||◌, List, [], ◌∷◌, Contains, length, drop, drop-cons, add-one, refl, sym, ap, ◌∙◌, subst, arith}
+use Rattle.std.proofs.Common.{◌≡◌, ◌⊎◌, inl, inr, ℕ, zero, suc, ◌+◌, ◌*◌, ◌%◌, ◌^◌, ◌<◌, ◌==◌, ◌↔◌, Bool, true, false, ◌||◌, List, [], ◌∷◌, Contains, length, drop, drop-cons, add-one, refl, sym, ap, ◌∙◌, subst, arith}
 use Rattle.std.specs.List.{slice_index_or}
 use Rattle.std.specs.Int.RustNames.{bit_or}
 use Rattle.std.proofs.lemmas.Grind.{common_steps}
 use Rattle.configuration.specs.Bits.{has}
-use Rattle.configuration.specs.Codes.{line_spot_code, line_spot_at}
 use Rattle.configuration.proofs.BitLemmas.{has_or, has_one, has_none}
 
 -- what is left begins with the element at the place
@@ -48,7 +47,8 @@ one_numbered code value_at all left bits x number is small back were n l e =
     same : n ≡ number → x ≡ value_at n
     same p = sym back ∙ ap value_at (sym (p ∙ is))
 
-    by_bits : (b d : Bool) → has bits n ≡ b → (n == number) ≡ d → (b || d) ≡ true → (has bits n ≡ true) ⊎ Contains (x ∷ left) (value_at n)
+    by_bits : (b d : Bool) → has bits n ≡ b → (n == number) ≡ d → (b || d) ≡ true →
+        (has bits n ≡ true) ⊎ Contains (x ∷ left) (value_at n)
     by_bits true d p q r = inl p
     by_bits false true p q r = inr (contains_here x (value_at n) left (same (grind (arith, common_steps))))
     by_bits false false p q r = absurd (cc)
@@ -75,7 +75,8 @@ one_numbered code value_at all left bits x number is small back were n l e =
     after (inl h) = inl (bit ∙ first (has bits n) (n == number) h)
     after (inr c) = found (contained x (value_at n) left c)
 
-pub all_numbered : {X : Type 0} (code : X → ℕ) (value_at : ℕ → X) (all left : List X) (bits : ℕ) → left ≡ [] → IsNumbered code value_at all bits left →
+pub all_numbered : {X : Type 0} (code : X → ℕ) (value_at : ℕ → X) (all left : List X) (bits : ℕ) → left ≡ [] →
+    IsNumbered code value_at all bits left →
     (n : ℕ) → n < 64 → code (value_at n) ≡ n → (has bits n ≡ true) ↔ Contains all (value_at n)
 all_numbered code value_at all left bits none were n l e =
     (λ h. (were n l e).0 (inl h), λ c. by_side ((were n l e).1 c))
@@ -86,7 +87,3 @@ all_numbered code value_at all left bits none were n l e =
       where
         nothing : {A : Type 0} → Contains [] (value_at n) → A
         nothing (k, l, e) = absurd (omega arith)
-
--- the number of where a line stands
-pub line_spot_same : (n : ℕ) → n ≤ 5 → line_spot_code (line_spot_at n) ≡ n
-line_spot_same n h = grind (arith, common_steps)

@@ -1,5 +1,5 @@
 -- The words agree, and the other sets have the values.
-use Rattle.std.proofs.Common.{◌≡◌, ◌&&◌, refl, sym, ap, ◌∙◌}
+use Rattle.std.proofs.Common.{◌&&◌, refl, sym, ap, ◌∙◌}
 use Rattle.std.specs.List.{list_all}
 use Rattle.configuration.specs.Regions.{Region, is_in, is_within}
 use Rattle.configuration.proofs.RegionLemmas.{asked}
@@ -16,5 +16,6 @@ pub returns-else-is_like-clause-value : goal.returns-else-is_like-clause-value
 returns-else-is_like-clause-value c =
     let sets = list_all (λ set. is_in set c.args.config.now) c.self.inside.wide.items in
     c.if-is_like.false ∙ ap (λ b. b && sets) (sym c.if-is_like.false)
-    ∙ asked c.args.config.now c.self.inside.base c.self.inside.mask c.self.inside.wide.items c.is_like.result sets c.is_like.ensures.value refl
+    ∙ asked c.args.config.now c.self.inside.base c.self.inside.mask c.self.inside.wide.items c.is_like.result sets
+    c.is_like.ensures.value refl
     ∙ ap (λ (r : Region). is_within r c.args.config.now) c.self.view_is

@@ -2,7 +2,8 @@
 use Rattle.std.proofs.Common.{ap, ◌∙◌, arith}
 use Rattle.configuration.specs.Fields.{field_of}
 use Rattle.configuration.specs.Packed.{Words}
-use Rattle.configuration.proofs.RegionLemmas.{field_none, all_within, state_within}
+use Rattle.configuration.proofs.AgreementLemmas.{field_none}
+use Rattle.configuration.proofs.RegionLemmas.{all_within, state_within}
 use Rattle.configuration.proofs.region.Region.of_state.Goals as goal
 
 pub fix-requires-clause-free : goal.fix-requires-clause-free

@@ -1,11 +1,9 @@
 -- A cut by its bit.
-use Rattle.std.proofs.Common.{◌≡◌, ◌<◌, ℕ, subst, sym, arith}
+use Rattle.std.proofs.Common.{◌<◌, ℕ, subst, sym, arith}
 use Rattle.configuration.specs.Bits.{has}
-use Rattle.configuration.specs.Places.{index_of}
 use Rattle.configuration.specs.Codes.{flag_code, flag_at}
-use Rattle.configuration.specs.Config.{configuration_of}
 use Rattle.configuration.proofs.CutLemmas.{cut_bit}
-use Rattle.configuration.proofs.RegionLemmas.{told}
+use Rattle.configuration.proofs.ValueSetLemmas.{told}
 use Rattle.configuration.proofs.WordLemmas.{flag_back, small}
 use Rattle.configuration.proofs.value_set.ValueSet.cuts.Goals as goal
 

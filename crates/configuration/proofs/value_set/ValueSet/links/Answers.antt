@@ -2,7 +2,7 @@
 use Rattle.std.proofs.Common.{arith, refl}
 use Rattle.configuration.specs.Codes.{link_code, link_at}
 use Rattle.configuration.specs.Config.{configuration_of}
-use Rattle.configuration.proofs.RegionLemmas.{told}
+use Rattle.configuration.proofs.ValueSetLemmas.{told}
 use Rattle.configuration.proofs.WordLemmas.{link_back, small}
 use Rattle.configuration.proofs.value_set.ValueSet.links.Goals as goal
 
