@@ -31,7 +31,7 @@ pub field_here : (d at bits : ℕ) → d < 2 ^ bits → field_of (d * 2 ^ at) at
 unfolding field_of
 field_here d at bits h = ap (λ x. x % 2 ^ bits) (shl-shr d at) ∙ mod-eq_of_lt h
 
-power_le : (i j : ℕ) → i ≤ j → 2 ^ i ≤ 2 ^ j
+pub power_le : (i j : ℕ) → i ≤ j → 2 ^ i ≤ 2 ^ j
 power_le i j h = pow-le-pow_right two h
   where
     two : 0 < 2

@@ -19,3 +19,7 @@ pub mod SearchLemmas
 pub mod WayLemmas
 pub mod SlotLemmas
 pub mod WellFormedLemmas
+pub mod NumberLemmas
+pub mod AgreementLemmas
+pub mod RegionLemmas
+pub mod ValueSetLemmas

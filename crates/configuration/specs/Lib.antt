@@ -8,3 +8,4 @@ pub mod Unused
 pub mod Words
 pub mod Search
 pub mod Tests
+pub mod Regions
