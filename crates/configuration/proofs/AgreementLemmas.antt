@@ -75,8 +75,10 @@ or_zeros a b c = or_zero a (bit_or b c) ∙ ap (λ d. a == 0 && d) (or_zero b c)
 
 -- nothing is in any field
 pub field_none : (at bits : ℕ) → field_of 0 at bits ≡ 0
-field_none at bits =
-    same_bits _ 0 (λ p. has_field 0 at bits p ∙ ap (λ b. nat_lt p bits && b) (has_none (at + p)) ∙ and_false (nat_lt p bits) ∙ sym (has_none p))
+field_none at bits = same_bits (field_of 0 at bits) 0 (λ p. has_field 0 at bits p ∙ none p ∙ sym (has_none p))
+  where
+    none : (p : ℕ) → (nat_lt p bits && has 0 (at + p)) ≡ false
+    none p = ap (λ b. nat_lt p bits && b) (has_none (at + p)) ∙ and_false (nat_lt p bits)
 
 -- ---- agreement by bits
 
