@@ -3,3 +3,4 @@ pub mod Listed
 pub mod Shown
 pub mod Numbers
 pub mod Turned
+pub mod Regions

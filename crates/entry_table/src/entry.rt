@@ -7,9 +7,11 @@ ghost use Rattle.configuration.specs.Config.{configuration_of};
 ghost use Rattle.entry_table.specs.Listed.{Allows, Includes, IsPointOf, choices_of, numbered, size_of};
 ghost use Rattle.entry_table.specs.Shown.{shown, shown_all};
 
-use crate::component::{Component, allows};
+use crate::component::Component;
+use crate::regions::region_of;
 use crate::turned::{Turned, parted};
 use configuration::config::Config;
+use configuration::region::Region;
 use configuration::well_formed::is_well_formed;
 use mg_model::commands::EventsName;
 use mg_names::phases::LinkPhase;
@@ -27,6 +29,8 @@ pub struct Entry {
     components: Vec<Component>,
     /// What its points are made of.
     turned: Turned,
+    /// What it allows.
+    region: Region,
 }
 
 impl Model for Entry {
@@ -41,11 +45,13 @@ impl Model for Entry {
     ghost use Rattle.configuration.specs.Config.{configuration_of};
     ghost use Rattle.entry_table.specs.Shown.{shown, shown_all};
     ghost use Rattle.entry_table.specs.Turned.{IsTurned};
+    ghost use Rattle.entry_table.specs.Regions.{IsRegion};
 
     ghost view = { λ e. record { state = e.state; lines = e.lines; components = shown_all e.components.items } };
 
     ghost invariant = { λ e. (e.lines ≤ 4) × (0 < e.product) × (e.product ≡ size_of (shown_all e.components.items))
-        × IsTurned (shown_all e.components.items) (unused e.lines e.state Resting Empty) (shown_all e.turned.components.items) (configuration_of e.turned.base) };
+        × IsTurned (shown_all e.components.items) (unused e.lines e.state Resting Empty) (shown_all e.turned.components.items) (configuration_of e.turned.base)
+        × IsRegion e.region e.state (shown_all e.components.items) };
 }
 
 /// What the points of an entry are made of: a configuration, and components that are given their values in it, in their order.
@@ -66,19 +72,6 @@ pub fn product_of(components: &[Component]) -> u64
         size = size.saturating_mul(component.count() as u64);
     }
     size
-}
-
-fn each_allows(components: &[Component], config: &Config) -> bool
-    ensures { IsTrue result ↔ All (λ component. Allows (configuration_of config.now) (shown component)) components.now }
-{
-    components.iter().all(|component| allows(component, config))
-}
-
-/// Whether each component has a configuration's value.
-fn all_allow(components: &[Component], config: &Config) -> bool
-    ensures { IsTrue result ↔ All (Allows (configuration_of config.now)) (shown_all components.now) }
-{
-    each_allows(components, config)
 }
 
 /// Makes the choices with a number, in order.
@@ -114,12 +107,14 @@ impl Entry {
         let product = product_of(components.as_slice()) as u32;
         let first = Config::unused(lines, state, LinkPhase::Resting, EventsName::Empty);
         let turned = parted(alloc, first, components.as_slice())?;
+        let region = region_of(alloc, state, components.as_slice())?;
         Ok(Entry {
             state,
             lines,
             product,
             components,
             turned,
+            region,
         })
     }
 
@@ -142,10 +137,7 @@ impl Entry {
     pub fn contains(&self, config: &Config) -> bool
         ensures { IsTrue result ↔ Includes self.now (configuration_of config.now) }
     {
-        if config.state() != self.state {
-            return false;
-        }
-        if !all_allow(self.components.as_slice(), config) {
+        if !self.region.has(config) {
             return false;
         }
         is_well_formed(config)

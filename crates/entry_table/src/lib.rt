@@ -8,6 +8,7 @@ mod cert;
 mod component;
 mod entry;
 mod numbers;
+mod regions;
 mod turned;
 
 pub use cert::Cert;
