@@ -1,4 +1,4 @@
--- Single bits of a word. No public clause speaks of them.
+-- Single bits of a word.
 use Rattle.std.specs.Prelude.{ℕ, Bool}
 use Rattle.configuration.specs.Fields.{field_of}
 use Rattle.configuration.specs.Codes.{flag_at}
