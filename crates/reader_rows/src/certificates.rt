@@ -1,15 +1,11 @@
-//! A certificate for one script: its entries, their sizes and points, and the limit of points at its edge; and configurations as
+//! A certificate for one script: its entries, their sizes and points, and the limit of points at its edge; and a configuration in
 //! words.
 use certificate::{CertFault, laws, read_cert};
 use configuration::config::Config;
 use entry_table::Cert;
-use mg_model::commands::{EventsName, Termination};
-use mg_model::components::{Remote, Spot};
+use mg_model::commands::EventsName;
 use mg_model::transitions::EventItem;
-use mg_names::context_values::ContextValue;
-use mg_names::modes::Mode;
 use mg_names::phases::LinkPhase;
-use mg_names::slots::Slot;
 use mg_names::strictness::Strict;
 use script_table::{EventsList, Script, State, Tables};
 use std::alloc::{AllocError, Global};
@@ -93,31 +89,6 @@ fn sizes(rt: HostRuntime) -> Result<(), Fail> {
 fn opening(rt: HostRuntime) {
     let opening = Config::unused(2, 0, LinkPhase::Resting, EventsName::Armed);
     assert_eq!(rt; opening.words(), [16_785_600, 0, 0]);
-}
-
-/// Every kind of component, each in its own place.
-#[test]
-fn words(rt: HostRuntime) {
-    let mut config = Config::unused(2, 0, LinkPhase::Resting, EventsName::Armed);
-    let [first, second, third, fourth] = Slot::all();
-    let [line, ephemeral] = [Termination::Line(second), Termination::Ephemeral(fourth)];
-    config.set_state(5);
-    config.set_link(LinkPhase::Answered);
-    config.set_spot(line, Spot::In(third));
-    config.set_mode(line, Mode::SendReceive);
-    config.set_plays(first, true);
-    config.set_context(third, ContextValue::Live);
-    // 5 + 2^6 + 2^13 + 2^18 + 3 * 2^19 + 3 * 2^22 + 2^24 + 2^56
-    assert_eq!(rt; config.words(), [72_057_594_069_131_333, 0, 0]);
-    config.set_spot(ephemeral, Spot::In(third));
-    config.set_mode(ephemeral, Mode::SendOnly);
-    config.set_remote(fourth, Remote::To(first));
-    // 3 * 2^24 + 2^27 + 2 * 2^29
-    assert_eq!(rt; config.words()[1], 1_258_291_200);
-    config.set_cut(line, ephemeral, true);
-    config.set_cut(ephemeral, line, true);
-    // 2^13 + 2^50
-    assert_eq!(rt; config.words()[2], 1_125_899_906_850_816);
 }
 
 #[test]
