@@ -183,17 +183,17 @@ pub(crate) fn is_large(draft: &Draft) -> bool
 }
 
 /// The entry of a draft.
-fn sized(draft: Draft) -> Entry
+fn sized(alloc: Global, draft: Draft) -> Result<Entry, AllocError>
     requires some { has_empty draft ≡ false }
     requires within { is_large draft ≡ false }
-    ensures { result ≡ draft }
+    ensures { IfOk result (λ entry. entry ≡ draft) }
 {
     let Draft {
         state,
         lines,
         components,
     } = draft;
-    Entry::new(state, lines, components)
+    Entry::new(alloc, state, lines, components)
 }
 
 /// The entries of drafts that are within the limits.
@@ -204,7 +204,7 @@ pub(crate) fn entries(alloc: Global, drafts: Vec<Draft>) -> Result<Vec<Entry>, A
 {
     let mut found = Vec::new(alloc);
     for draft in drafts {
-        found.push(sized(draft))?;
+        found.push(sized(alloc, draft)?)?;
     }
     Ok(found)
 }

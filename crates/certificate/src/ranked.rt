@@ -71,7 +71,7 @@ impl Ranked for EventsName {
         match self {
             EventsName::Empty => 0,
             EventsName::Armed => 1,
-            EventsName::Own(list) => 2 + u16::from(list),
+            EventsName::Own(list) => 2 + list.index() as u16,
         }
     }
 }

@@ -18,18 +18,34 @@ fn entry_contains(cert: &Cert, place: usize, config: &Config) -> bool
     }
 }
 
-/// Whether the entry at some of these places has a configuration.
-fn any_contains(cert: &Cert, places: &[usize], config: &Config) -> bool
+/// Whether the entry at some of these places has a configuration; if so, the place is kept.
+fn any_contains(cert: &Cert, places: &[usize], config: &Config, kept: &mut usize) -> bool
     ensures { IsTrue result ↔ Any (PlaceIncludes cert.now (configuration_of config.now)) places.now }
 {
-    places
-        .iter()
-        .any(|place| entry_contains(cert, *place, config))
+    for place in places {
+        if entry_contains(cert, *place, config) {
+            *kept = *place;
+            return true;
+        }
+    }
+    false
+}
+
+/// Whether some entry has a configuration: first the one at the place that is kept, then those of its state. The place of
+/// the one that has it is kept: often the next configuration of its state is in it too.
+pub(crate) fn covers_first(cert: &Cert, config: &Config, kept: &mut usize) -> bool
+    ensures { IsTrue result ↔ IsCovered cert.now (configuration_of config.now) }
+{
+    if entry_contains(cert, *kept, config) {
+        return true;
+    }
+    any_contains(cert, cert.of_state(config.state()), config, kept)
 }
 
 /// Whether some entry has a configuration. Only those of its state are asked.
 pub fn covers(cert: &Cert, config: &Config) -> bool
     ensures { IsTrue result ↔ IsCovered cert.now (configuration_of config.now) }
 {
-    any_contains(cert, cert.of_state(config.state()), config)
+    let mut kept = 0;
+    covers_first(cert, config, &mut kept)
 }

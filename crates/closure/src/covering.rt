@@ -3,7 +3,7 @@ ghost use Rattle.std.specs.Prelude.{◌≡◌, ◌↔◌, IsTrue};
 ghost use Rattle.mg_model.specs.Entries.{IsCovered};
 ghost use Rattle.configuration.specs.Config.{configuration_of};
 
-use crate::cover::covers;
+use crate::cover::covers_first;
 use crate::visitor::Visitor;
 use configuration::config::Config;
 use entry_table::Cert;
@@ -12,7 +12,21 @@ use mg_model::steps::StepName;
 /// Looks at the results of steps, up to the first that is in no entry.
 #[derive(Drop)]
 pub(crate) struct Covering<'c> {
-    pub(crate) cert: &'c Cert,
+    cert: &'c Cert,
+    /// For each state the place of the entry that had one of its configurations last.
+    kept: [usize; 256],
+}
+
+impl<'c> Covering<'c> {
+    /// Nobody was told of a step.
+    pub(crate) fn new(cert: &'c Cert) -> Covering<'c>
+        ensures { result.cert.now ≡ cert.now }
+    {
+        Covering {
+            cert,
+            kept: [0; 256],
+        }
+    }
 }
 
 impl Visitor for Covering<'_> {
@@ -26,10 +40,10 @@ impl Visitor for Covering<'_> {
     ghost stopped = { λ entries name steps. IsFirstUncovered entries steps name };
 
     fn visit(&mut self, name: StepName, leads_to: &Config) -> Result<(), StepName> {
-        if covers(self.cert, leads_to) {
-            Ok(())
-        } else {
-            Err(name)
-        }
+        let state = leads_to.state() as usize;
+        let mut kept = self.kept[state];
+        let covered = covers_first(self.cert, leads_to, &mut kept);
+        self.kept[state] = kept;
+        if covered { Ok(()) } else { Err(name) }
     }
 }

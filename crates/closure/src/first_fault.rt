@@ -6,6 +6,7 @@ ghost use Rattle.closure.specs.Walk.{AreWalked};
 
 use crate::broken::Broken;
 use crate::cover::covers;
+use crate::covering::Covering;
 use crate::steps::{opening, reset};
 use crate::walk::walk;
 use entry_table::Cert;
@@ -57,9 +58,10 @@ fn whole_fault(obligation: Obligation) -> Fault
 fn walk_all(script: &Script, cert: &Cert) -> Finding
     ensures { AreWalked script.now cert.now result }
 {
+    let mut covering = Covering::new(cert);
     let mut points = 0u128;
     for (place, entry) in cert.entries().iter().enumerate() {
-        match walk(script, cert, entry) {
+        match walk(script, entry, &mut covering) {
             Ok(count) => points += u128::from(count),
             Err(found) => return Finding::Broken(fault_at(place, found.number, &found.broken)),
         }

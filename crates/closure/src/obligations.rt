@@ -7,11 +7,12 @@ ghost use Rattle.mg_model.specs.Obligations.{JoinedAreMarked, IsCleared, EndedIs
 ghost use Rattle.mg_names.specs.declared.context_values.ContextValue.TheVariants as ContextValue;
 ghost use Rattle.mg_model.specs.declared.components.Remote.TheVariants as Remote;
 ghost use Rattle.configuration.specs.Config.{configuration_of};
+ghost use Rattle.configuration.specs.Search.{IsWays};
 ghost use Rattle.closure.specs.Tests.{PairIsMarked, PairBelowIsMarked, line_is_cleared, ephemeral_is_absent, context_stands, remote_stands};
 
 use crate::requests::are_names_unbound;
 use configuration::config::Config;
-use configuration::config::paths::are_joined;
+use configuration::config::paths::Ways;
 use configuration::spots;
 use configuration::well_formed::at_rest;
 use mg_model::commands::Termination;
@@ -34,10 +35,11 @@ fn is_marked(talk: &[Pair], one: Slot, other: Slot) -> bool
 }
 
 /// Whether two lines are marked in the configuration's state, if they are two that are joined.
-fn pair_is_marked(script: &Script, config: &Config, one: Slot, other: Slot) -> bool
+fn pair_is_marked(script: &Script, config: &Config, ways: Ways, one: Slot, other: Slot) -> bool
+    requires ways { IsWays (configuration_of config.now) ways }
     ensures { IsTrue result ↔ PairIsMarked script.now (configuration_of config.now) one other }
 {
-    if !are_joined(config, one, other) {
+    if !ways.join(one, other) {
         return true;
     }
     is_marked(script.talk_of(config.state()), one, other)
@@ -47,25 +49,28 @@ fn pair_is_marked(script: &Script, config: &Config, one: Slot, other: Slot) -> b
 fn pair_below_is_marked(
     script: &Script,
     config: &Config,
+    ways: Ways,
     lines: usize,
     one: Slot,
     other: Slot,
 ) -> bool
+    requires ways { IsWays (configuration_of config.now) ways }
     ensures { IsTrue result ↔ PairBelowIsMarked script.now (configuration_of config.now) lines one other }
 {
     if one.index() >= lines || other.index() >= lines {
         return true;
     }
-    pair_is_marked(script, config, one, other)
+    pair_is_marked(script, config, ways, one, other)
 }
 
 /// Whether a line is marked with each line that it is joined with.
-fn line_is_marked(script: &Script, config: &Config, lines: usize, one: Slot) -> bool
+fn line_is_marked(script: &Script, config: &Config, ways: Ways, lines: usize, one: Slot) -> bool
+    requires ways { IsWays (configuration_of config.now) ways }
     ensures { IsTrue result ↔ ((j : ℕ) → j < 4 → PairBelowIsMarked script.now (configuration_of config.now) lines one j) }
 {
     let others = Slot::all();
     for other in &others {
-        if !pair_below_is_marked(script, config, lines, one, *other) {
+        if !pair_below_is_marked(script, config, ways, lines, one, *other) {
             return false;
         }
     }
@@ -73,12 +78,13 @@ fn line_is_marked(script: &Script, config: &Config, lines: usize, one: Slot) -> 
 }
 
 /// Whether each of so many lines is marked with each that it is joined with.
-fn lines_are_marked(script: &Script, config: &Config, lines: usize) -> bool
+fn lines_are_marked(script: &Script, config: &Config, ways: Ways, lines: usize) -> bool
+    requires ways { IsWays (configuration_of config.now) ways }
     ensures { IsTrue result ↔ ((i : ℕ) → i < 4 → (j : ℕ) → j < 4 → PairBelowIsMarked script.now (configuration_of config.now) lines i j) }
 {
     let slots = Slot::all();
     for one in &slots {
-        if !line_is_marked(script, config, lines, *one) {
+        if !line_is_marked(script, config, ways, lines, *one) {
             return false;
         }
     }
@@ -89,7 +95,12 @@ fn lines_are_marked(script: &Script, config: &Config, lines: usize) -> bool
 pub fn joined_are_marked(script: &Script, config: &Config) -> bool
     ensures { IsTrue result ↔ JoinedAreMarked script.now (configuration_of config.now) }
 {
-    lines_are_marked(script, config, script.lines())
+    let lines = script.lines();
+    let ways = Ways::of(config);
+    if ways.are_none() {
+        return true;
+    }
+    lines_are_marked(script, config, ways, lines)
 }
 
 /// Whether an events list is exactly `al/of` with `strict=exact`.

@@ -1,16 +1,15 @@
 -- The search for a path: what has been arrived at is reached over some crossings, and a set that nothing new is arrived
 -- from holds every path.
-use Rattle.std.proofs.Common.{◌≡◌, ℕ, ◌+◌, suc, zero, ◌<◌, ◌≤◌, Bool, true, false, ◌&&◌, ◌||◌, not, List, [], ◌∷◌, ◌++◌, slice_index_or, slice_set, length, refl, subst, sym, ◌∙◌, arith, rules, IsTrue, ◌==◌, ◌≢◌, nat_lt, get_or-set_other}
+use Rattle.std.proofs.Common.{◌≡◌, ℕ, suc, zero, ◌<◌, ◌≤◌, Bool, true, false, ◌&&◌, ◌||◌, List, [], ◌∷◌, ◌++◌, slice_index_or, refl, arith, rules, IsTrue, nat_lt}
 use Rattle.std.proofs.lemmas.Grind.{common_steps}
-use Rattle.std.specs.Prelude.{Some, None, cond}
-use Rattle.std.specs.List.{find, list_any, list_all}
+use Rattle.std.specs.List.{list_any}
 use Rattle.mg_model.specs.declared.commands.Termination.{Termination}
 use Rattle.mg_model.specs.declared.commands.Termination.TheVariants.{Line, Ephemeral}
 use Rattle.mg_model.specs.declared.components.Spot.TheVariants.{Absent}
 use Rattle.mg_model.specs.Configuration.{Configuration, is_present}
 use Rattle.mg_model.specs.Paths.{hops, crosses, goes_over}
 use Rattle.configuration.specs.Places.{index_of, AbsentPastEight}
-use Rattle.configuration.specs.Search.{hops_from, is_reached, crosses_from, arrives_at, is_new}
+use Rattle.configuration.specs.Search.{hops_from, is_reached, crosses_from, arrives_at}
 
 -- each slot stands at its own place
 pub slot_at : (k d : ℕ) → k < 4 → slice_index_or (0 ∷ 1 ∷ 2 ∷ 3 ∷ []) k d ≡ k
@@ -25,28 +24,12 @@ abbrev pub IsArrival : Configuration → ℕ → ℕ → Type 0
 IsArrival c line k =
     (crossings : List (ℕ × ℕ)) × ((sink : Termination) → IsTrue (hops c (Ephemeral k) sink) → IsTrue (goes_over c (Line line) crossings sink))
 
-abbrev pub AllArrived : Configuration → ℕ → List Bool → Type 0
-AllArrived c line arrived = (k : ℕ) → slice_index_or arrived k false ≡ true → IsArrival c line k
+abbrev pub AllArrived : Configuration → ℕ → (ℕ → Bool) → Type 0
+AllArrived c line arrived = (k : ℕ) → arrived k ≡ true → IsArrival c line k
 
 -- nothing is arrived at that has not been
-abbrev pub IsClosed : Configuration → ℕ → List Bool → Type 0
-IsClosed c line arrived = (k : ℕ) → k < 4 → arrives_at c line arrived k ≡ true → slice_index_or arrived k false ≡ true
-
--- how many have not been arrived at
-abbrev pub missing : List Bool → ℕ
-missing [] = 0
-missing (b ∷ bs) = one b + missing bs
-  where
-    one : Bool → ℕ
-    one true = 0
-    one false = 1
-
-pub missing-set : (bs : List Bool) (k : ℕ) → k < length bs → slice_index_or bs k false ≡ false → missing (slice_set bs k true) < missing bs
-missing-set [] k h e = absurd (omega arith)
-missing-set (true ∷ bs) zero h e = cc
-missing-set (false ∷ bs) zero h e = grind (arith, common_steps)
-missing-set (true ∷ bs) (suc k) h e = let more : missing (slice_set bs k true) < missing bs = missing-set bs k (omega arith) e in grind (arith, common_steps)
-missing-set (false ∷ bs) (suc k) h e = let more : missing (slice_set bs k true) < missing bs = missing-set bs k (omega arith) e in grind (arith, common_steps)
+abbrev pub IsClosed : Configuration → ℕ → (ℕ → Bool) → Type 0
+IsClosed c line arrived = (k : ℕ) → k < 4 → arrives_at c line arrived k ≡ true → arrived k ≡ true
 
 pub split_and : (a b : Bool) → IsTrue (a && b) → IsTrue a × IsTrue b
 split_and true b h = (search rules, h)
@@ -65,53 +48,6 @@ goes_over-append c source (crossing ∷ more) e k sink g x h =
     let first = split_and (hops c source (Ephemeral crossing.0) && crosses c crossing.0 crossing.1) (goes_over c (Ephemeral crossing.1) more (Ephemeral e)) g in
     let rest : IsTrue (goes_over c (Ephemeral crossing.1) (more ++ (e, k) ∷ []) sink) = goes_over-append c (Ephemeral crossing.1) more e k sink first.1 x h in
     both (hops c source (Ephemeral crossing.0) && crosses c crossing.0 crossing.1) _ first.0 rest
-
--- what is found is new, and is one of the slots
-pub found_new : (p : ℕ → Bool) (k : ℕ) → find p (0 ∷ 1 ∷ 2 ∷ 3 ∷ []) ≡ Some k → (p k ≡ true) × (k < 4)
-found_new p k h = first (p 0) refl h
-  where
-    fourth : (b : Bool) → p 3 ≡ b → cond b (Some 3) None ≡ Some k → (p k ≡ true) × (k < 4)
-    fourth true e h = grind (arith, common_steps)
-    fourth false e h = cc
-
-    third : (b : Bool) → p 2 ≡ b → cond b (Some 2) (cond (p 3) (Some 3) None) ≡ Some k → (p k ≡ true) × (k < 4)
-    third true e h = grind (arith, common_steps)
-    third false e h = fourth (p 3) refl h
-
-    second : (b : Bool) → p 1 ≡ b → cond b (Some 1) (cond (p 2) (Some 2) (cond (p 3) (Some 3) None)) ≡ Some k → (p k ≡ true) × (k < 4)
-    second true e h = grind (arith, common_steps)
-    second false e h = third (p 2) refl h
-
-    first : (b : Bool) → p 0 ≡ b → cond b (Some 0) (cond (p 1) (Some 1) (cond (p 2) (Some 2) (cond (p 3) (Some 3) None))) ≡ Some k → (p k ≡ true) × (k < 4)
-    first true e h = grind (arith, common_steps)
-    first false e h = second (p 1) refl h
-
-pub all_missed : (p : ℕ → Bool) (xs : List ℕ) → find p xs ≡ None → list_all (λ k. not (p k)) xs ≡ true
-all_missed p [] e = refl
-all_missed p (x ∷ xs) e = by_test (p x) refl e (all_missed p xs)
-  where
-    by_test : (b : Bool) → p x ≡ b → cond b (Some x) (find p xs) ≡ None →
-        (find p xs ≡ None → list_all (λ k. not (p k)) xs ≡ true) → (not (p x) && list_all (λ k. not (p k)) xs) ≡ true
-    by_test true q e more = cc
-    by_test false q e more = rw q (more e)
-
--- where nothing is found, no slot is new
-pub none_new : (p : ℕ → Bool) → find p (0 ∷ 1 ∷ 2 ∷ 3 ∷ []) ≡ None → (k : ℕ) → k < 4 → p k ≡ false
-none_new p h zero l = let every = all_missed p (0 ∷ 1 ∷ 2 ∷ 3 ∷ []) h in grind (arith, common_steps)
-none_new p h (suc zero) l = let every = all_missed p (0 ∷ 1 ∷ 2 ∷ 3 ∷ []) h in grind (arith, common_steps)
-none_new p h (suc (suc zero)) l = let every = all_missed p (0 ∷ 1 ∷ 2 ∷ 3 ∷ []) h in grind (arith, common_steps)
-none_new p h (suc (suc (suc zero))) l = let every = all_missed p (0 ∷ 1 ∷ 2 ∷ 3 ∷ []) h in grind (arith, common_steps)
-none_new p h (suc (suc (suc (suc k)))) l = absurd (omega arith)
-
-pub closed : (c : Configuration) (line : ℕ) (arrived : List Bool) →
-    find (is_new c line arrived) (0 ∷ 1 ∷ 2 ∷ 3 ∷ []) ≡ None → IsClosed c line arrived
-closed c line arrived h k l e =
-    let old : is_new c line arrived k ≡ false = none_new (is_new c line arrived) h k l in
-    by_test (slice_index_or arrived k false) refl (rw e at old)
-  where
-    by_test : (b : Bool) → slice_index_or arrived k false ≡ b → (not (slice_index_or arrived k false) && true) ≡ false → slice_index_or arrived k false ≡ true
-    by_test true q old = q
-    by_test false q old = let bad : (not false && true) ≡ false = rw q at old in cc
 
 -- some slot passes
 pub any_slot : (p : ℕ → Bool) → list_any p (0 ∷ 1 ∷ 2 ∷ 3 ∷ []) ≡ true → (k : ℕ) × (p k ≡ true)
@@ -140,7 +76,7 @@ any_slot_from p (suc (suc zero)) l h = grind (arith, common_steps)
 any_slot_from p (suc (suc (suc zero))) l h = grind (arith, common_steps)
 any_slot_from p (suc (suc (suc (suc k)))) l h = absurd (omega arith)
 
-pub reached_goes : (c : Configuration) (line : ℕ) (arrived : List Bool) (sink : Termination) → AllArrived c line arrived →
+pub reached_goes : (c : Configuration) (line : ℕ) (arrived : ℕ → Bool) (sink : Termination) → AllArrived c line arrived →
     is_reached c line arrived sink ≡ true → (crossings : List (ℕ × ℕ)) × IsTrue (goes_over c (Line line) crossings sink)
 reached_goes c line arrived sink all h = by_test (hops c (Line line) sink) refl h
   where
@@ -149,47 +85,36 @@ reached_goes c line arrived sink all h = by_test (hops c (Line line) sink) refl 
     by_test true e h = ([], search rules)
     by_test false e h =
         let some = any_slot (hops_from c arrived sink) h in
-        let parts = split_and (slice_index_or arrived some.0 false) (hops c (Ephemeral some.0) sink) some.1 in
+        let parts = split_and (arrived some.0) (hops c (Ephemeral some.0) sink) some.1 in
         let arrival = all some.0 parts.0 in
         (arrival.0, arrival.1 sink parts.1)
 
-pub arrives_goes : (c : Configuration) (line : ℕ) (arrived : List Bool) (k : ℕ) → AllArrived c line arrived →
+pub arrives_goes : (c : Configuration) (line : ℕ) (arrived : ℕ → Bool) (k : ℕ) → AllArrived c line arrived →
     arrives_at c line arrived k ≡ true → IsArrival c line k
 arrives_goes c line arrived k all h =
     let some = any_slot (crosses_from c line arrived k) h in
-    let parts = split_and (crosses c some.0 k) (is_reached c line arrived (Ephemeral some.0)) some.1 in
-    let way = reached_goes c line arrived (Ephemeral some.0) all parts.1 in
-    (way.0 ++ (some.0, k) ∷ [], λ sink hop. goes_over-append c (Line line) way.0 some.0 k sink way.1 parts.0 hop)
-
-pub all_arrived-set : (c : Configuration) (line : ℕ) (arrived : List Bool) (k : ℕ) → AllArrived c line arrived →
-    IsArrival c line k → AllArrived c line (slice_set arrived k true)
-all_arrived-set c line arrived k all new j h = by_test (j == k) refl
-  where
-    by_test : (b : Bool) → (j == k) ≡ b → IsArrival c line j
-    by_test true e = let same : j ≡ k = grind (arith, common_steps) in subst (λ (i : ℕ). IsArrival c line i) (sym same) new
-    by_test false e =
-        let other : j ≢ k = grind (arith, common_steps) in
-        let before : slice_index_or arrived j false ≡ true = sym (get_or-set_other arrived k j true false other) ∙ h in
-        all j before
+    let parts = split_and (is_reached c line arrived (Ephemeral some.0)) (crosses c some.0 k) some.1 in
+    let way = reached_goes c line arrived (Ephemeral some.0) all parts.0 in
+    (way.0 ++ (some.0, k) ∷ [], λ sink hop. goes_over-append c (Line line) way.0 some.0 k sink way.1 parts.1 hop)
 
 -- whatever an ephemeral that was arrived at hops to is reached
-pub goes_on_arrived : (c : Configuration) (line : ℕ) (arrived : List Bool) (k : ℕ) → k < 4 → slice_index_or arrived k false ≡ true →
+pub goes_on_arrived : (c : Configuration) (line : ℕ) (arrived : ℕ → Bool) (k : ℕ) → k < 4 → arrived k ≡ true →
     (t : Termination) → IsTrue (hops c (Ephemeral k) t) → IsTrue (is_reached c line arrived t)
 goes_on_arrived c line arrived k l h t hop =
     let some : list_any (hops_from c arrived t) (0 ∷ 1 ∷ 2 ∷ 3 ∷ []) ≡ true =
-    any_slot_from (hops_from c arrived t) k l (both (slice_index_or arrived k false) (hops c (Ephemeral k) t) h hop) in
+    any_slot_from (hops_from c arrived t) k l (both (arrived k) (hops c (Ephemeral k) t) h hop) in
     by_test (hops c (Line line) t) some
   where
     by_test : (b : Bool) → list_any (hops_from c arrived t) (0 ∷ 1 ∷ 2 ∷ 3 ∷ []) ≡ true → IsTrue (b || list_any (hops_from c arrived t) (0 ∷ 1 ∷ 2 ∷ 3 ∷ []))
     by_test true some = search rules
     by_test false some = some
 
-pub goes_on_line : (c : Configuration) (line : ℕ) (arrived : List Bool) (t : Termination) → IsTrue (hops c (Line line) t) →
+pub goes_on_line : (c : Configuration) (line : ℕ) (arrived : ℕ → Bool) (t : Termination) → IsTrue (hops c (Line line) t) →
     IsTrue (is_reached c line arrived t)
 goes_on_line c line arrived t hop = grind (arith, common_steps)
 
 -- whatever the source hops to is reached
-abbrev pub GoesOn : Configuration → ℕ → List Bool → Termination → Type 0
+abbrev pub GoesOn : Configuration → ℕ → (ℕ → Bool) → Termination → Type 0
 GoesOn c line arrived source = (t : Termination) → IsTrue (hops c source t) → IsTrue (is_reached c line arrived t)
 
 pub past : (i : ℕ) → nat_lt i 4 ≡ false → 8 ≤ index_of (Ephemeral i)
@@ -205,7 +130,7 @@ crosses_small c e k small x =
         let gone : c.spot (Ephemeral i) ≡ Absent = small (Ephemeral i) (past i q) in
         let bad : IsTrue (is_present Absent) = rw gone at p in absurd (search rules)
 
-pub closed_reaches : (c : Configuration) (line : ℕ) (arrived : List Bool) → AbsentPastEight c → IsClosed c line arrived →
+pub closed_reaches : (c : Configuration) (line : ℕ) (arrived : ℕ → Bool) → AbsentPastEight c → IsClosed c line arrived →
     (source : Termination) (crossings : List (ℕ × ℕ)) (sink : Termination) → GoesOn c line arrived source →
     IsTrue (goes_over c source crossings sink) → IsTrue (is_reached c line arrived sink)
 closed_reaches c line arrived small closed source [] sink on g = on sink g
@@ -215,27 +140,6 @@ closed_reaches c line arrived small closed source (crossing ∷ more) sink on g 
     let sizes = crosses_small c crossing.0 crossing.1 small inner.1 in
     let reached : IsTrue (is_reached c line arrived (Ephemeral crossing.0)) = on (Ephemeral crossing.0) inner.0 in
     let arrives : arrives_at c line arrived crossing.1 ≡ true =
-    any_slot_from (crosses_from c line arrived crossing.1) crossing.0 sizes.0 (both (crosses c crossing.0 crossing.1) _ inner.1 reached) in
-    let here : slice_index_or arrived crossing.1 false ≡ true = closed crossing.1 sizes.1 arrives in
+    any_slot_from (crosses_from c line arrived crossing.1) crossing.0 sizes.0 (both (is_reached c line arrived (Ephemeral crossing.0)) _ reached inner.1) in
+    let here : arrived crossing.1 ≡ true = closed crossing.1 sizes.1 arrives in
     closed_reaches c line arrived small closed (Ephemeral crossing.1) more sink (goes_on_arrived c line arrived crossing.1 sizes.1 here) outer.1
-
--- what the search finds has not been arrived at, and is arrived at
-pub record IsNext (c : Configuration) (line : ℕ) (arrived : List Bool) (k : ℕ) : Type 0 where
-  pub new : slice_index_or arrived k false ≡ false
-  pub arrives : arrives_at c line arrived k ≡ true
-  pub small : k < 4
-
-pub found_next : (c : Configuration) (line : ℕ) (arrived : List Bool) (k : ℕ) →
-    find (is_new c line arrived) (0 ∷ 1 ∷ 2 ∷ 3 ∷ []) ≡ Some k → IsNext c line arrived k
-found_next c line arrived k h =
-    let new = found_new (is_new c line arrived) k h in
-    let parts = split_and (not (slice_index_or arrived k false)) (arrives_at c line arrived k) new.0 in
-    record {
-      new = by_test (slice_index_or arrived k false) parts.0;
-      arrives = parts.1;
-      small = new.1;
-    }
-  where
-    by_test : (b : Bool) → not b ≡ true → b ≡ false
-    by_test true h = cc
-    by_test false h = refl

@@ -1,4 +1,11 @@
+pub mod Fields
+pub mod Codes
+pub mod Bits
+pub mod Packed
 pub mod Places
 pub mod Config
+pub mod Unused
+pub mod Words
 pub mod Search
 pub mod Tests
+pub mod Regions

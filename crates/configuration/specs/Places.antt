@@ -1,4 +1,4 @@
--- The places of terminations in the tables of a `Config`.
+-- The places of terminations among the eight that a script can name.
 use Rattle.std.specs.Prelude.{◌≡◌, ℕ, ◌+◌, ◌≤◌, ◌<◌, IsTrue, nat_lt, if◌then◌else◌}
 use Rattle.mg_model.specs.declared.commands.Termination.{Termination}
 use Rattle.mg_model.specs.declared.commands.Termination.TheVariants.{Line, Ephemeral}

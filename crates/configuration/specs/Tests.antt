@@ -1,6 +1,5 @@
 -- Words of the tests that make up the test for well formed configurations. No public clause speaks of them.
-use Rattle.std.specs.Prelude.{ℕ, Bool, true, false, not, ◌&&◌, ◌||◌, [], ◌∷◌}
-use Rattle.std.specs.List.{list_all}
+use Rattle.std.specs.Prelude.{◌≡◌, ℕ, ◌+◌, ◌-◌, ◌/◌, ◌%◌, nat_lt, Bool, true, false, ◌&&◌, ◌||◌, if◌then◌else◌, IsTrue}
 use Rattle.mg_names.specs.declared.modes.Mode.{Mode}
 use Rattle.mg_names.specs.declared.modes.Mode.TheVariants.{Inactive, SendOnly, ReceiveOnly, SendReceive}
 use Rattle.mg_model.specs.declared.commands.Termination.{Termination}
@@ -9,21 +8,13 @@ use Rattle.mg_model.specs.declared.components.Spot.{Spot}
 use Rattle.mg_model.specs.declared.components.Spot.TheVariants.{Absent, Null, In}
 use Rattle.mg_model.specs.declared.components.Remote.{Remote}
 use Rattle.mg_model.specs.declared.components.Remote.TheVariants.{Unset, Gone, To}
-use Rattle.mg_model.specs.Configuration.{Configuration, terminations, stands_in, is_live, is_present}
+use Rattle.mg_model.specs.Configuration.{Configuration, stands_in, is_live, is_present}
 use Rattle.mg_model.specs.Paths.{is_shared}
+use Rattle.configuration.specs.Words.{termination_at}
 
--- the context that a spot is in is live
-abbrev pub spot_is_live : Configuration → Spot → Bool
-spot_is_live c Absent = true
-spot_is_live c Null = true
-spot_is_live c (In j) = is_live (c.context j)
-
-abbrev pub is_termination_right : Configuration → Termination → Bool
-is_termination_right c t = spot_is_live c (c.spot t)
-
--- something stands in a context that is live
-abbrev pub is_context_right : Configuration → ℕ → Bool
-is_context_right c j = not (is_live (c.context j)) || stands_in c.spot j
+-- a context is live exactly where something stands in it
+abbrev pub AreContextsRight : Configuration → Type 0
+AreContextsRight c = (j : ℕ) → is_live (c.context j) ≡ stands_in c.spot j
 
 abbrev pub is_inactive : Mode → Bool
 is_inactive Inactive = true
@@ -40,13 +31,23 @@ abbrev pub is_ephemeral_right : Configuration → ℕ → Bool
 is_ephemeral_right c k =
     remote_is_right c (is_present (c.spot (Ephemeral k))) (is_inactive (c.mode (Ephemeral k))) (c.remote k)
 
-abbrev pub is_pair_right : Configuration → Termination → Termination → Bool
-is_pair_right c t u = not (c.cut t u) || is_shared (c.spot t) (c.spot u)
+-- what is cut stands in one context
+abbrev pub AreCutsRight : Configuration → Type 0
+AreCutsRight c = (t u : Termination) → IsTrue (c.cut t u) → IsTrue (is_shared (c.spot t) (c.spot u))
 
-abbrev pub are_pairs_right : Configuration → Termination → Bool
-are_pairs_right c t = list_all (is_pair_right c t) terminations
+-- the number of the context that a spot is in, from 1
+abbrev pub context_number : Spot → ℕ
+context_number Absent = 0
+context_number Null = 0
+context_number (In j) = j + 1
 
-abbrev pub passes_all : Configuration → Bool
-passes_all c =
-    list_all (is_termination_right c) terminations && list_all (is_context_right c) (0 ∷ 1 ∷ 2 ∷ 3 ∷ [])
-    && list_all (is_ephemeral_right c) (0 ∷ 1 ∷ 2 ∷ 3 ∷ []) && list_all (are_pairs_right c) terminations
+-- the two terminations that a bit of the cuts is about
+abbrev pub source_of : ℕ → ℕ
+source_of place = if nat_lt place 56 then place / 7 else place - 56
+
+abbrev pub sink_of : ℕ → ℕ
+sink_of place =
+    if nat_lt place 56 then (if nat_lt (place % 7) (place / 7) then place % 7 else place % 7 + 1) else place - 56
+
+abbrev pub is_bit_right : Configuration → ℕ → Bool
+is_bit_right c place = is_shared (c.spot (termination_at (source_of place))) (c.spot (termination_at (sink_of place)))

@@ -1,26 +1,88 @@
 //! A configuration as data, with a reader and a setter for each component.
 pub mod paths;
+mod terminations;
+mod unused;
+mod words;
 
-use crate::places::{place_of, unused_events, unused_spot};
+use crate::codes;
+use crate::fields::{field, put};
+use crate::places::{context_place, ephemeral_place, line_place, pair_place, place_of};
 use mg_model::commands::{EventsName, Termination};
 use mg_model::components::{Remote, Spot};
 use mg_names::context_values::ContextValue;
 use mg_names::modes::Mode;
 use mg_names::phases::LinkPhase;
 use mg_names::slots::Slot;
+use std::marker::Model;
 
-/// A configuration of one call. Slots that the script has no name for are absent, free, and not cut.
+/// A configuration of one call, packed into three words. Slots that the script has no name for are absent, free, and not
+/// cut.
 #[derive(Clone, Copy, Debug)]
 pub struct Config {
-    state: u8,
-    link: LinkPhase,
-    spots: [Spot; 8],
-    modes: [Mode; 8],
-    events: [EventsName; 4],
-    plays: [bool; 4],
-    contexts: [ContextValue; 4],
-    remotes: [Remote; 4],
-    cuts: [[bool; 8]; 8],
+    /// State and link, the four lines, and the four contexts.
+    lines: u64,
+    /// The four ephemerals.
+    ephemerals: u64,
+    /// A bit for each pair of terminations.
+    cuts: u64,
+}
+
+impl Model for Config {
+    ghost use Rattle.configuration.specs.Packed.{Words, IsPacked};
+
+    ghost Value = { Words };
+
+    ghost view = { λ c. record { lines = c.lines; ephemerals = c.ephemerals; cuts = c.cuts } };
+
+    ghost invariant = { λ c. IsPacked (record { lines = c.lines; ephemerals = c.ephemerals; cuts = c.cuts }) };
+
+    ghost inverse = { λ w. record { lines = w.lines; ephemerals = w.ephemerals; cuts = w.cuts } };
+}
+
+/// The words themselves, read and written whole.
+impl Config {
+    ghost use Rattle.std.specs.Prelude.{◌≡◌};
+    ghost use Rattle.configuration.specs.Packed.{IsPacked, IsPackedLines, IsPackedEphemerals};
+
+    pub(crate) fn lines_word(&self) -> u64
+        ensures value { result ≡ self.now.lines }
+        ensures packed { IsPacked self.now }
+    {
+        self.lines
+    }
+
+    pub(crate) fn ephemerals_word(&self) -> u64
+        ensures value { result ≡ self.now.ephemerals }
+        ensures packed { IsPacked self.now }
+    {
+        self.ephemerals
+    }
+
+    pub(crate) fn cuts_word(&self) -> u64
+        ensures { result ≡ self.now.cuts }
+    {
+        self.cuts
+    }
+
+    fn set_lines_word(&mut self, word: u64)
+        requires { IsPackedLines word }
+        ensures { self.new ≡ record self.old { lines = word } }
+    {
+        self.lines = word;
+    }
+
+    fn set_ephemerals_word(&mut self, word: u64)
+        requires { IsPackedEphemerals word }
+        ensures { self.new ≡ record self.old { ephemerals = word } }
+    {
+        self.ephemerals = word;
+    }
+
+    fn set_cuts_word(&mut self, word: u64)
+        ensures { self.new ≡ record self.old { cuts = word } }
+    {
+        self.cuts = word;
+    }
 }
 
 #[tactic(auto, unfolding(crate::specs::Config::configuration_of))]
@@ -36,21 +98,33 @@ impl Config {
     pub fn state(&self) -> u8
         ensures { result ≡ (configuration_of self.now).state }
     {
-        self.state
+        let word = self.lines_word();
+        (field(word, 0, 6) + 64 * field(word, 60, 2)) as u8
     }
 
     /// How far the state's request has come.
     pub fn link(&self) -> LinkPhase
         ensures { result ≡ (configuration_of self.now).link }
     {
-        self.link
+        codes::link_at(field(self.lines_word(), 6, 2))
     }
 
     /// Where a termination stands.
     pub fn spot(&self, termination: Termination) -> Spot
         ensures { result ≡ (configuration_of self.now).spot termination }
     {
-        self.spots[place_of(termination)]
+        match termination {
+            Termination::Line(line) => {
+                codes::line_spot_at(field(self.lines_word(), line_place(line), 3))
+            }
+            Termination::Ephemeral(ephemeral) => {
+                codes::ephemeral_spot_at(field(
+                    self.ephemerals_word(),
+                    ephemeral_place(ephemeral),
+                    3,
+                ))
+            }
+        }
     }
 
     /// The mode of a termination.
@@ -58,21 +132,28 @@ impl Config {
         ensures value { result ≡ (configuration_of self.now).mode termination }
         ensures slots { (k : ℕ) → 4 ≤ k → (configuration_of self.now).mode (Ephemeral k) ≡ Mode.Inactive }
     {
-        self.modes[place_of(termination)]
+        match termination {
+            Termination::Line(line) => {
+                codes::mode_at(field(self.lines_word(), line_place(line) + 3, 2))
+            }
+            Termination::Ephemeral(ephemeral) => {
+                codes::mode_at(field(self.ephemerals_word(), ephemeral_place(ephemeral) + 3, 2))
+            }
+        }
     }
 
     /// The events list of a line.
     pub fn events(&self, line: Slot) -> EventsName
         ensures { result ≡ (configuration_of self.now).events line }
     {
-        self.events[line.index()]
+        codes::events_at(field(self.lines_word(), line_place(line) + 5, 5))
     }
 
     /// Whether a line may play a signal.
     pub fn plays(&self, line: Slot) -> bool
         ensures { result ≡ (configuration_of self.now).plays line }
     {
-        self.plays[line.index()]
+        codes::flag_at(field(self.lines_word(), line_place(line) + 10, 1))
     }
 
     /// What a context name stands for.
@@ -80,7 +161,7 @@ impl Config {
         ensures value { result ≡ (configuration_of self.now).context context }
         ensures slots { (j : ℕ) → 4 ≤ j → (configuration_of self.now).context j ≡ ContextValue.Free }
     {
-        self.contexts[context.index()]
+        codes::context_at(field(self.lines_word(), context_place(context), 2))
     }
 
     /// The Remote of an ephemeral.
@@ -88,49 +169,58 @@ impl Config {
         ensures value { result ≡ (configuration_of self.now).remote ephemeral }
         ensures slots { (k : ℕ) → 4 ≤ k → (configuration_of self.now).remote k ≡ Remote.Unset }
     {
-        self.remotes[ephemeral.index()]
+        codes::remote_at(field(self.ephemerals_word(), ephemeral_place(ephemeral) + 5, 3))
     }
 
     /// Whether media from one termination to another is cut.
     pub fn cut(&self, source: Termination, sink: Termination) -> bool
         ensures { result ≡ (configuration_of self.now).cut source sink }
     {
-        let row = &self.cuts[place_of(source)];
-        row[place_of(sink)]
+        let place = pair_place(place_of(source), place_of(sink));
+        codes::flag_at(field(self.cuts_word(), place, 1))
     }
 
     /// Sets the state.
     pub fn set_state(&mut self, state: u8)
         ensures { configuration_of self.new ≡ record (configuration_of self.old) { state = state } }
     {
-        self.state = state;
+        let low = put(self.lines_word(), 0, 6, u64::from(state) % 64);
+        let word = put(low, 60, 2, u64::from(state) / 64);
+        self.set_lines_word(word);
     }
 
     /// Sets the link.
     pub fn set_link(&mut self, link: LinkPhase)
         ensures { configuration_of self.new ≡ record (configuration_of self.old) { link = link } }
     {
-        self.link = link;
+        let word = put(self.lines_word(), 6, 2, codes::link_code(link));
+        self.set_lines_word(word);
     }
 
     /// Sets where a termination stands.
+    #[tactic(auto)]
     pub fn set_spot(&mut self, termination: Termination, spot: Spot)
         ensures { configuration_of self.new ≡ record (configuration_of self.old) {
           spot = with_of (configuration_of self.old).spot termination spot;
         } }
     {
-        let place = place_of(termination);
-        self.spots[place] = spot;
+        match termination {
+            Termination::Line(line) => self.set_line_spot(line, spot),
+            Termination::Ephemeral(ephemeral) => self.set_ephemeral_spot(ephemeral, spot),
+        }
     }
 
     /// Sets the mode of a termination.
+    #[tactic(auto)]
     pub fn set_mode(&mut self, termination: Termination, mode: Mode)
         ensures { configuration_of self.new ≡ record (configuration_of self.old) {
           mode = with_of (configuration_of self.old).mode termination mode;
         } }
     {
-        let place = place_of(termination);
-        self.modes[place] = mode;
+        match termination {
+            Termination::Line(line) => self.set_line_mode(line, mode),
+            Termination::Ephemeral(ephemeral) => self.set_ephemeral_mode(ephemeral, mode),
+        }
     }
 
     /// Sets the events list of a line.
@@ -139,8 +229,13 @@ impl Config {
           events = with_at (configuration_of self.old).events line events;
         } }
     {
-        let place = line.index();
-        self.events[place] = events;
+        let word = put(
+            self.lines_word(),
+            line_place(line) + 5,
+            5,
+            codes::events_code(events),
+        );
+        self.set_lines_word(word);
     }
 
     /// Sets whether a line may play a signal.
@@ -149,8 +244,13 @@ impl Config {
           plays = with_at (configuration_of self.old).plays line plays;
         } }
     {
-        let place = line.index();
-        self.plays[place] = plays;
+        let word = put(
+            self.lines_word(),
+            line_place(line) + 10,
+            1,
+            codes::flag_code(plays),
+        );
+        self.set_lines_word(word);
     }
 
     /// Sets what a context name stands for.
@@ -159,8 +259,13 @@ impl Config {
           context = with_at (configuration_of self.old).context context value;
         } }
     {
-        let place = context.index();
-        self.contexts[place] = value;
+        let word = put(
+            self.lines_word(),
+            context_place(context),
+            2,
+            codes::context_code(value),
+        );
+        self.set_lines_word(word);
     }
 
     /// Sets the Remote of an ephemeral.
@@ -169,8 +274,9 @@ impl Config {
           remote = with_at (configuration_of self.old).remote ephemeral remote;
         } }
     {
-        let place = ephemeral.index();
-        self.remotes[place] = remote;
+        let place = ephemeral_place(ephemeral) + 5;
+        let word = put(self.ephemerals_word(), place, 3, codes::remote_code(remote));
+        self.set_ephemerals_word(word);
     }
 
     /// Sets whether media from one termination to another is cut.
@@ -179,45 +285,8 @@ impl Config {
           cut = with_pair (configuration_of self.old).cut source sink cut;
         } }
     {
-        let row = &mut self.cuts[place_of(source)];
-        row[place_of(sink)] = cut;
-    }
-}
-
-impl Config {
-    ghost use Rattle.std.specs.Prelude.{◌≡◌, ◌≤◌};
-    ghost use Rattle.mg_model.specs.Steps.{unused};
-    ghost use Rattle.configuration.specs.Config.{configuration_of};
-
-    /// The configuration in which so many lines stand in the null context, Inactive and silent, and nothing else is.
-    pub fn unused(lines: usize, state: u8, link: LinkPhase, events: EventsName) -> Config
-        requires { lines ≤ 4 }
-        ensures { configuration_of result ≡ unused lines state link events }
-    {
-        Config {
-            state,
-            link,
-            spots: [
-                unused_spot(0, lines),
-                unused_spot(1, lines),
-                unused_spot(2, lines),
-                unused_spot(3, lines),
-                Spot::Absent,
-                Spot::Absent,
-                Spot::Absent,
-                Spot::Absent,
-            ],
-            modes: [Mode::Inactive; 8],
-            events: [
-                unused_events(0, lines, events),
-                unused_events(1, lines, events),
-                unused_events(2, lines, events),
-                unused_events(3, lines, events),
-            ],
-            plays: [false; 4],
-            contexts: [ContextValue::Free; 4],
-            remotes: [Remote::Unset; 4],
-            cuts: [[false; 8]; 8],
-        }
+        let place = pair_place(place_of(source), place_of(sink));
+        let word = put(self.cuts_word(), place, 1, codes::flag_code(cut));
+        self.set_cuts_word(word);
     }
 }

@@ -1,14 +1,12 @@
-//! Tests of single values of a configuration: where a termination stands, what a name stands for, which way media passes.
+//! Tests of single values of a configuration: where a termination stands, what a name stands for.
 ghost use Rattle.std.specs.Prelude.{◌≡◌, ℕ, ◌<◌, ◌||◌, not, length, slice_index_or};
 ghost use Rattle.std.specs.List.{list_all, list_any};
 ghost use Rattle.mg_names.specs.declared.context_values.ContextValue.TheVariants.{Free};
 ghost use Rattle.mg_model.specs.Configuration.{is_same, is_in, is_live, is_free, is_null, is_present, is_to};
-ghost use Rattle.mg_model.specs.Paths.{passes_in, passes_out, is_shared};
 
 use mg_model::commands::Termination;
 use mg_model::components::{Remote, Spot};
 use mg_names::context_values::ContextValue;
-use mg_names::modes::Mode;
 use mg_names::slots::Slot;
 
 /// Whether two terminations are one.
@@ -60,17 +58,6 @@ pub fn is_null(spot: Spot) -> bool
     }
 }
 
-/// Whether two spots are in one context that is not the null context.
-pub fn is_shared(one: Spot, other: Spot) -> bool
-    ensures { result ≡ is_shared one other }
-{
-    match one {
-        Spot::In(slot) => is_in(other, slot),
-        Spot::Null => false,
-        Spot::Absent => false,
-    }
-}
-
 /// Whether a context exists.
 pub fn is_live(value: ContextValue) -> bool
     ensures { result ≡ is_live value }
@@ -101,25 +88,5 @@ pub fn is_to(remote: Remote, ephemeral: Slot) -> bool
         Remote::To(slot) => slot.index() == ephemeral.index(),
         Remote::Gone => false,
         Remote::Unset => false,
-    }
-}
-
-/// Whether a mode lets received media into the context.
-pub fn passes_in(mode: Mode) -> bool
-    ensures { result ≡ passes_in mode }
-{
-    match mode {
-        Mode::ReceiveOnly | Mode::SendReceive => true,
-        Mode::Inactive | Mode::SendOnly => false,
-    }
-}
-
-/// Whether a mode lets media of the context out.
-pub fn passes_out(mode: Mode) -> bool
-    ensures { result ≡ passes_out mode }
-{
-    match mode {
-        Mode::SendOnly | Mode::SendReceive => true,
-        Mode::Inactive | Mode::ReceiveOnly => false,
     }
 }

@@ -1,1 +1,4 @@
 pub mod Products
+pub mod ChoiceLemmas
+pub mod TurnedLemmas
+pub mod RegionLemmas

@@ -1,3 +1,6 @@
 pub mod Index
 pub mod Listed
 pub mod Shown
+pub mod Numbers
+pub mod Turned
+pub mod Regions

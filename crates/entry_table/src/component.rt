@@ -1,8 +1,8 @@
 //! A component of a configuration with the values that an entry gives it, as choices that make a configuration.
-ghost use Rattle.std.specs.Prelude.{◌≡◌, ◌↔◌, IsTrue, length, slice_index_or};
+ghost use Rattle.std.specs.Prelude.{◌≡◌, length, slice_index_or};
 ghost use Rattle.mg_model.specs.Entries.{same_choice};
 ghost use Rattle.configuration.specs.Config.{configuration_of};
-ghost use Rattle.entry_table.specs.Listed.{Allows, choices_of};
+ghost use Rattle.entry_table.specs.Listed.{choices_of};
 ghost use Rattle.entry_table.specs.Shown.{shown};
 
 use configuration::config::Config;
@@ -70,21 +70,5 @@ impl Component {
             Component::Remotes(_, values) => values.len(),
             Component::Cuts(_, _, values) => values.len(),
         }
-    }
-}
-
-/// Whether a component has a configuration's value.
-pub(crate) fn allows(component: &Component, config: &Config) -> bool
-    ensures { IsTrue result ↔ Allows (configuration_of config.now) (shown component.now) }
-{
-    match component {
-        Component::Links(values) => values.contains(&config.link()),
-        Component::Spots(t, values) => values.contains(&config.spot(*t)),
-        Component::Modes(t, values) => values.contains(&config.mode(*t)),
-        Component::Events(line, values) => values.contains(&config.events(*line)),
-        Component::Plays(line, values) => values.contains(&config.plays(*line)),
-        Component::Contexts(name, values) => values.contains(&config.context(*name)),
-        Component::Remotes(name, values) => values.contains(&config.remote(*name)),
-        Component::Cuts(t, u, values) => values.contains(&config.cut(*t, *u)),
     }
 }

@@ -1,5 +1,5 @@
 //! Entries: for a state a set of values for each component of a configuration.
-ghost use Rattle.std.specs.Prelude.{◌≡◌, ◌↔◌, ◌^◌, ◌-◌, ◌*◌, ◌<◌, ◌≤◌, ℕ, IsTrue, IfSome, IfNone, map, min, length, List};
+ghost use Rattle.std.specs.Prelude.{◌≡◌, ◌↔◌, ◌^◌, ◌-◌, ◌*◌, ◌<◌, ◌≤◌, ℕ, IsTrue, IfOk, IfSome, IfNone, map, min, length, List};
 ghost use Rattle.std.specs.List.{All};
 ghost use Rattle.mg_model.specs.Configuration.{IsWellFormed};
 ghost use Rattle.mg_model.specs.Entries.{chosen, product};
@@ -7,11 +7,15 @@ ghost use Rattle.configuration.specs.Config.{configuration_of};
 ghost use Rattle.entry_table.specs.Listed.{Allows, Includes, IsPointOf, choices_of, numbered, size_of};
 ghost use Rattle.entry_table.specs.Shown.{shown, shown_all};
 
-use crate::component::{Component, allows};
+use crate::component::Component;
+use crate::regions::region_of;
+use crate::turned::{Turned, parted};
 use configuration::config::Config;
+use configuration::region::Region;
 use configuration::well_formed::is_well_formed;
 use mg_model::commands::EventsName;
 use mg_names::phases::LinkPhase;
+use std::alloc::{AllocError, Global};
 use std::marker::Model;
 
 /// An entry of a certificate: a state, and a set of values for each component of a configuration. It denotes the
@@ -23,6 +27,10 @@ pub struct Entry {
     lines: usize,
     product: u32,
     components: Vec<Component>,
+    /// What its points are made of.
+    turned: Turned,
+    /// What it allows.
+    region: Region,
 }
 
 impl Model for Entry {
@@ -31,11 +39,19 @@ impl Model for Entry {
 
     ghost Value = { Listed };
 
+    ghost use Rattle.mg_names.specs.declared.phases.LinkPhase.TheVariants.{Resting};
+    ghost use Rattle.mg_model.specs.declared.commands.EventsName.TheVariants.{Empty};
+    ghost use Rattle.mg_model.specs.Steps.{unused};
+    ghost use Rattle.configuration.specs.Config.{configuration_of};
     ghost use Rattle.entry_table.specs.Shown.{shown, shown_all};
+    ghost use Rattle.entry_table.specs.Turned.{IsTurned};
+    ghost use Rattle.entry_table.specs.Regions.{IsRegion};
 
     ghost view = { λ e. record { state = e.state; lines = e.lines; components = shown_all e.components.items } };
 
-    ghost invariant = { λ e. (e.lines ≤ 4) × (0 < e.product) × (e.product ≡ size_of (shown_all e.components.items)) };
+    ghost invariant = { λ e. (e.lines ≤ 4) × (0 < e.product) × (e.product ≡ size_of (shown_all e.components.items))
+        × IsTurned (shown_all e.components.items) (unused e.lines e.state Resting Empty) (shown_all e.turned.components.items) (configuration_of e.turned.base)
+        × IsRegion e.region e.state (shown_all e.components.items) };
 }
 
 /// What the points of an entry are made of: a configuration, and components that are given their values in it, in their order.
@@ -58,19 +74,6 @@ pub fn product_of(components: &[Component]) -> u64
     size
 }
 
-fn each_allows(components: &[Component], config: &Config) -> bool
-    ensures { IsTrue result ↔ All (λ component. Allows (configuration_of config.now) (shown component)) components.now }
-{
-    components.iter().all(|component| allows(component, config))
-}
-
-/// Whether each component has a configuration's value.
-fn all_allow(components: &[Component], config: &Config) -> bool
-    ensures { IsTrue result ↔ All (Allows (configuration_of config.now)) (shown_all components.now) }
-{
-    each_allows(components, config)
-}
-
 /// Makes the choices with a number, in order.
 fn choose_all(components: &[Component], size: u64, number: u64, config: &mut Config)
     requires some { 0 < size }
@@ -89,20 +92,30 @@ fn choose_all(components: &[Component], size: u64, number: u64, config: &mut Con
 
 impl Entry {
     /// The entry of a state, for a script of so many lines, with these components in their order. Its points have to be
-    /// some, and to be fewer than 32 bits count; `product_of` tests both.
-    pub fn new(state: u8, lines: usize, components: Vec<Component>) -> Entry
+    /// some, and to be fewer than 32 bits count; `product_of` tests both. The only error is running out of memory.
+    pub fn new(
+        alloc: Global,
+        state: u8,
+        lines: usize,
+        components: Vec<Component>,
+    ) -> Result<Entry, AllocError>
         requires lines { lines ≤ 4 }
         requires some { 0 < size_of (shown_all components.items) }
         requires within { size_of (shown_all components.items) < 2 ^ 32 }
-        ensures { result ≡ record { state = state; lines = lines; components = shown_all components.items } }
+        ensures { IfOk result (λ entry. entry ≡ record { state = state; lines = lines; components = shown_all components.items }) }
     {
         let product = product_of(components.as_slice()) as u32;
-        Entry {
+        let first = Config::unused(lines, state, LinkPhase::Resting, EventsName::Empty);
+        let turned = parted(alloc, first, components.as_slice())?;
+        let region = region_of(alloc, state, components.as_slice())?;
+        Ok(Entry {
             state,
             lines,
             product,
             components,
-        }
+            turned,
+            region,
+        })
     }
 
     /// The state, by its place in the script.
@@ -124,10 +137,7 @@ impl Entry {
     pub fn contains(&self, config: &Config) -> bool
         ensures { IsTrue result ↔ Includes self.now (configuration_of config.now) }
     {
-        if config.state() != self.state {
-            return false;
-        }
-        if !all_allow(self.components.as_slice(), config) {
+        if !self.region.has(config) {
             return false;
         }
         is_well_formed(config)
@@ -140,29 +150,20 @@ impl Entry {
             → numbered self.now k ≡ chosen (map choices_of (shown_all result.components.now)) k (configuration_of result.base) }
     {
         Turning {
-            base: Config::unused(
-                self.lines,
-                self.state,
-                LinkPhase::Resting,
-                EventsName::Empty,
-            ),
-            components: self.components.as_slice(),
+            base: self.turned.base,
+            components: self.turned.components.as_slice(),
         }
     }
 
     /// The configuration with a number, well formed or not.
     fn numbered(&self, number: u32) -> Config
+        requires { number < size_of self.now.components }
         ensures { configuration_of result ≡ numbered self.now number }
     {
-        let mut config = Config::unused(
-            self.lines,
-            self.state,
-            LinkPhase::Resting,
-            EventsName::Empty,
-        );
-        let components = self.components.as_slice();
+        let turning = self.turning();
+        let mut config = turning.base;
         choose_all(
-            components,
+            turning.components,
             u64::from(self.size()),
             u64::from(number),
             &mut config,

@@ -7,6 +7,9 @@
 mod cert;
 mod component;
 mod entry;
+mod numbers;
+mod regions;
+mod turned;
 
 pub use cert::Cert;
 pub use component::Component;

@@ -1,3 +1,4 @@
+use mg_names::list_places::ListPlace;
 use mg_names::modes::Mode;
 use mg_names::slots::Slot;
 use mg_names::topologies::Topology;
@@ -28,7 +29,7 @@ pub enum EventsName {
     /// The list `armed`, which is `al/of` with `strict=exact` alone.
     Armed,
     /// An own list.
-    Own(u8),
+    Own(ListPlace),
 }
 
 /// A signals list: the predefined one, or one of the script's own by its place from 0.

@@ -7,6 +7,7 @@ pub mod context_values;
 pub mod events;
 pub mod identifiers;
 pub mod kinds;
+pub mod list_places;
 pub mod modes;
 pub mod obligations;
 pub mod phases;

@@ -1,7 +1,11 @@
-//! A certificate for one script: its entries, their sizes and points, and the limit of points at its edge.
+//! A certificate for one script: its entries, their sizes and points, and the limit of points at its edge; and a configuration in
+//! words.
 use certificate::{CertFault, laws, read_cert};
+use configuration::config::Config;
 use entry_table::Cert;
+use mg_model::commands::EventsName;
 use mg_model::transitions::EventItem;
+use mg_names::phases::LinkPhase;
 use mg_names::strictness::Strict;
 use script_table::{EventsList, Script, State, Tables};
 use std::alloc::{AllocError, Global};
@@ -78,6 +82,13 @@ fn sizes(rt: HostRuntime) -> Result<(), Fail> {
     assert_eq!(rt; fault.number(), 6);
     assert_eq!(rt; fault.name(), "TooManyPoints");
     Ok(())
+}
+
+/// The configuration that a call of two lines opens in: the link has 3 at bit 6, the list `armed` of a line 1 at bits 13 and 24.
+#[test]
+fn opening(rt: HostRuntime) {
+    let opening = Config::unused(2, 0, LinkPhase::Resting, EventsName::Armed);
+    assert_eq!(rt; opening.words(), [16_785_600, 0, 0]);
 }
 
 #[test]

@@ -7,6 +7,7 @@ use crate::lists::EventsList;
 use crate::script::Script;
 use crate::state::State;
 use mg_model::commands::EventsName;
+use mg_names::list_places::ListPlace;
 use mg_names::slots::Slot;
 
 /// The place of a name among names.
@@ -83,6 +84,6 @@ impl Script {
             return Some(EventsName::Armed);
         }
         let place = list_among(self.tables.lists.as_slice(), name)?;
-        Some(EventsName::Own(place as u8))
+        Some(EventsName::Own(ListPlace::new(place)?))
     }
 }

@@ -8,7 +8,7 @@ use Rattle.scriptreader.specs.declared.syntax.Options.{Options}
 use Rattle.typed_values.specs.Names.{is_among}
 use Rattle.typed_values.specs.Shape.{◌>>=◌, each, optional_at}
 use Rattle.scriptreader.specs.Faults.{Scope, is_known, option_passes, is_events_list, is_signals_list, is_remote, line_options_known, ephemeral_options_known, termination_known}
-use Rattle.scriptreader.specs.Meaning.{slot_for, number_for, events_for, signals_for, remote_for, termination_for, place_for, line_options_for, ephemeral_options_for}
+use Rattle.scriptreader.specs.Meaning.{slot_for, number_for, list_place_for, events_for, signals_for, remote_for, termination_for, place_for, line_options_for, ephemeral_options_for}
 use Rattle.scriptreader.proofs.BooleanTests.{and_left, and_right}
 
 -- ---- options that are there
@@ -68,12 +68,20 @@ number_found names name few e =
     let small : nat_lt place 256 ≡ true = grind (arith, lt, few) in
     rw (there, small) refl
 
+list_place_found : (names : List (List ℕ)) (name : List ℕ) → length names ≤ 16 → is_among name names ≡ true → is_some (list_place_for names name) ≡ true
+list_place_found names name few e =
+    let place = position_or_len (λ other. bytes_eq name other) names in
+    let lt : place < length names = within (λ other. bytes_eq name other) names e in
+    let there : nat_lt place (length names) ≡ true = grind (arith, lt) in
+    let small : nat_lt place 16 ≡ true = grind (arith, lt, few) in
+    rw (there, small) refl
+
 -- the names of each kind are within the limits
 pub record Fits (k : Scope) : Type 0 where
   pub lines : length k.lines ≤ 4
   pub contexts : length k.contexts ≤ 4
   pub ephemerals : length k.ephemerals ≤ 4
-  pub events : length k.events ≤ 64
+  pub events : length k.events ≤ 16
   pub signals : length k.signals ≤ 64
   pub maps : length k.maps ≤ 64
   pub states : length k.states ≤ 64
@@ -92,9 +100,9 @@ module _ (k : Scope) (fits : Fits k) where
   events_found None e = refl
   events_found (Some name) e =
       given (events_for k name) _
-      (predefined (bytes_eq name (codes "none")) (bytes_eq name (codes "armed") || is_among name k.events) Empty (if bytes_eq name (codes "armed") then Some Armed else number_for k.events name >>= λ place. Some (Own place)) e
-      (λ e2. predefined (bytes_eq name (codes "armed")) (is_among name k.events) Armed (number_for k.events name >>= λ place. Some (Own place)) e2
-      (λ e3. given (number_for k.events name) (λ place. Some (Own place)) (number_found k.events name fits.events e3) (λ place. refl))))
+      (predefined (bytes_eq name (codes "none")) (bytes_eq name (codes "armed") || is_among name k.events) Empty (if bytes_eq name (codes "armed") then Some Armed else list_place_for k.events name >>= λ place. Some (Own place)) e
+      (λ e2. predefined (bytes_eq name (codes "armed")) (is_among name k.events) Armed (list_place_for k.events name >>= λ place. Some (Own place)) e2
+      (λ e3. given (list_place_for k.events name) (λ place. Some (Own place)) (list_place_found k.events name fits.events e3) (λ place. refl))))
       (λ x. refl)
 
   signals_found : (o : Option (List ℕ)) → option_passes (is_signals_list k) o ≡ true → is_some (optional_at (signals_for k) o) ≡ true

@@ -102,8 +102,8 @@ maps_found (m ∷ ms) e =
 
 -- ---- the document
 
-few_names : {A : Type 0} (f : A → List ℕ) (xs : List A) → length xs ≤ 64 → length (map f xs) ≤ 64
-few_names f xs e = rw (length-map xs f) e
+few_names : {A : Type 0} (f : A → List ℕ) (n : ℕ) (xs : List A) → length xs ≤ n → length (map f xs) ≤ n
+few_names f n xs e = rw (length-map xs f) e
 
 fitting : (d : Document) → IsSmall d → Fits (scope_of d)
 fitting d s =
@@ -111,10 +111,10 @@ fitting d s =
       lines = s.lines;
       contexts = s.contexts;
       ephemerals = s.ephemerals;
-      states = few_names (λ s. s.name) d.states s.states;
-      events = few_names (λ s. s.name) d.events (let h = s.events in omega arith);
-      signals = few_names (λ s. s.name) d.signals (let h = s.signals in omega arith);
-      maps = few_names (λ s. s.name) d.maps (let h = s.maps in omega arith);
+      states = few_names (λ s. s.name) 64 d.states s.states;
+      events = few_names (λ s. s.name) 16 d.events s.events;
+      signals = few_names (λ s. s.name) 64 d.signals (let h = s.signals in omega arith);
+      maps = few_names (λ s. s.name) 64 d.maps (let h = s.maps in omega arith);
     }
 
 state_at_found : (d : Document) → Fits (scope_of d) → (o : Option (List ℕ)) → names_state d o ≡ true → is_some (state_at (scope_of d) o) ≡ true

@@ -45,7 +45,11 @@ use Rattle.scriptreader.specs.Faults.{Scope, scope_of, is_too_large}
 abbrev pub slot_for : List (List ℕ) → List ℕ → Option ℕ
 slot_for names name = place_of name names >>= λ place. only_if (nat_lt place 4) (Some place)
 
--- the place of a list, a map or a state, a number of 8 bits
+-- the place of an events list, of which there are sixteen at most
+abbrev pub list_place_for : List (List ℕ) → List ℕ → Option ℕ
+list_place_for names name = place_of name names >>= λ place. only_if (nat_lt place 16) (Some place)
+
+-- the place of a signals list, a map or a state, a number of 8 bits
 abbrev pub number_for : List (List ℕ) → List ℕ → Option ℕ
 number_for names name = place_of name names >>= λ place. only_if (nat_lt place 256) (Some place)
 
@@ -54,7 +58,7 @@ abbrev pub events_for : Scope → List ℕ → Option EventsName
 events_for k name =
     if bytes_eq name (codes "none") then Some Empty
     else if bytes_eq name (codes "armed") then Some Armed
-    else number_for k.events name >>= λ place. Some (Own place)
+    else list_place_for k.events name >>= λ place. Some (Own place)
 
 abbrev pub signals_for : Scope → List ℕ → Option SignalsName
 signals_for k name =

@@ -1,7 +1,7 @@
 //! What the names of a document stand for: their places among those that it declares.
 ghost use Rattle.std.specs.Prelude.{◌≡◌};
 ghost use Rattle.typed_values.specs.Shape.{optional_at, Gives};
-ghost use Rattle.scriptreader.specs.Meaning.{slot_for, number_for, events_for, signals_for, remote_for, termination_for, place_for, line_options_for, ephemeral_options_for};
+ghost use Rattle.scriptreader.specs.Meaning.{slot_for, number_for, list_place_for, events_for, signals_for, remote_for, termination_for, place_for, line_options_for, ephemeral_options_for};
 
 use crate::names::Names;
 use crate::scope::Scope;
@@ -9,6 +9,7 @@ use crate::syntax::Options;
 use mg_model::commands::{
     EphemeralOptions, EventsName, LineOptions, Place, RemoteOption, SignalsName, Termination,
 };
+use mg_names::list_places::ListPlace;
 use mg_names::slots::Slot;
 use typed_values::{Missing, Word};
 
@@ -38,6 +39,19 @@ pub(crate) fn number(names: &Names, name: &Word) -> Result<u8, Missing>
     Ok(place as u8)
 }
 
+/// The place of an events list of a name.
+fn list_place(names: &Names, name: &Word) -> Result<ListPlace, Missing>
+    ensures { Gives (λ place. place) result (list_place_for names.now name.now) }
+{
+    let Some(place) = names.place(name.as_str()) else {
+        return Err(Missing::Nothing);
+    };
+    match ListPlace::new(place) {
+        Some(list) => Ok(list),
+        None => Err(Missing::Nothing),
+    }
+}
+
 /// The place of a name, where there is a name.
 pub(crate) fn number_if_given(names: &Names, name: &Option<Word>) -> Result<Option<u8>, Missing>
     ensures { Gives (λ number. number) result (optional_at (number_for names.now) name.now) }
@@ -54,7 +68,7 @@ fn events_name(scope: &Scope, name: &Word) -> Result<EventsName, Missing>
     match name.as_str() {
         "none" => Ok(EventsName::Empty),
         "armed" => Ok(EventsName::Armed),
-        _ => Ok(EventsName::Own(number(&scope.events, name)?)),
+        _ => Ok(EventsName::Own(list_place(&scope.events, name)?)),
     }
 }
 

@@ -1,6 +1,7 @@
 -- One more entry is kept, and adds its points.
-use Rattle.std.proofs.Common.{◌+◌, subst, sym, arith}
-use Rattle.mg_model.specs.Entries.{HasPoints, HavePoints}
+use Rattle.std.proofs.Common.{◌∙◌, ◌+◌, List, subst, sym, arith}
+use Rattle.mg_model.specs.Entries.{Entry, HasPoints, HavePoints}
+use Rattle.closure.specs.Findings.{IsEntryKept}
 use Rattle.closure.proofs.FindingLemmas.{one_more_entry, all_entries, points_with, none_left}
 use Rattle.closure.proofs.first_fault.walk_all.Goals as goal
 
@@ -13,11 +14,14 @@ loop-place-preserved c =
     let n = c.from-points.result in
     let lt = rw c.entries-entry-items.ensures at c.loop-place-test.true in
     let is = rw c.entries-entry-items.ensures at c.entry-item.is in
-    let counted : HasPoints entry n = subst (HasPoints entry) (sym c.from-points.ensures) c.in-Ok.ensures.1 in
+    let walked : IsEntryKept script entries entry × HasPoints entry c.in-Ok.count =
+    subst (λ (es : List Entry). IsEntryKept script es entry × HasPoints entry c.in-Ok.count) c.loop-place.invariant.same c.in-Ok.ensures.walked in
+    let counted : HasPoints entry n = subst (HasPoints entry) (sym c.from-points.ensures) walked.1 in
     record {
       all = c.loop-place.invariant.all;
+      same = c.in-Ok.ensures.same ∙ c.loop-place.invariant.same;
       fits = omega (arith, c.loop-place.invariant.fits, c.from-points.ensures);
-      kept = one_more_entry script entries place entry lt is c.loop-place.invariant.kept c.in-Ok.ensures.0;
+      kept = one_more_entry script entries place entry lt is c.loop-place.invariant.kept walked.0;
       counted = λ rest left. subst (HavePoints entries) (omega arith)
           (c.loop-place.invariant.counted (n + rest) (points_with entries place entry n rest lt is counted left));
     }

@@ -6,15 +6,15 @@ use Rattle.closure.proofs.CoveringLemmas.{one_more_covered, first_uncovered}
 use Rattle.closure.proofs.FindingLemmas.{refuted}
 use Rattle.closure.proofs.covering.CoveringVisitor.visit.Goals as goal
 
-pub returns-then-covers : goal.returns-then-covers
-returns-then-covers c entries before told =
+pub returns-then-covered : goal.returns-then-covered
+returns-then-covered c entries before told =
     let result = configuration_of c.args.leads_to.now in (
       told.0,
-      one_more_covered entries before (c.args.name, result) told.1 (subst (λ (es : List Entry). IsCovered es result) told.0 (c.covers.ensures.0 c.if-covers.true)),
+      one_more_covered entries before (c.args.name, result) told.1 (subst (λ (es : List Entry). IsCovered es result) told.0 (c.covers_first-covered.ensures.0 c.if-covered.true)),
     )
 
-pub returns-else-covers : goal.returns-else-covers
-returns-else-covers c entries before later told =
+pub returns-else-covered : goal.returns-else-covered
+returns-else-covered c entries before later told =
     let result = configuration_of c.args.leads_to.now in
     first_uncovered entries before (c.args.name, result) later told.1
-    (λ covered. refuted c.covers.result c.if-covers.false (c.covers.ensures.1 (subst (λ (es : List Entry). IsCovered es result) (sym told.0) covered)))
+    (λ covered. refuted c.covers_first-covered.result c.if-covered.false (c.covers_first-covered.ensures.1 (subst (λ (es : List Entry). IsCovered es result) (sym told.0) covered)))
