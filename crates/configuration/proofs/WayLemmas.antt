@@ -14,10 +14,10 @@ use Rattle.configuration.specs.Bits.{has}
 use Rattle.configuration.specs.Fields.{field_of}
 use Rattle.configuration.specs.Words.{termination_at}
 use Rattle.configuration.specs.Places.{AbsentPastEight}
-use Rattle.configuration.specs.Search.{IsRows, IsWays, Goes}
+use Rattle.configuration.specs.Search.{IsLineRows, IsCrossings, IsWays, Goes}
 use Rattle.configuration.proofs.BitLemmas.{has_none, has_field}
 use Rattle.configuration.proofs.SearchLemmas.{more_or}
-use Rattle.configuration.proofs.PathLemmas.{split_and, past}
+use Rattle.configuration.proofs.PathLemmas.{split_and, past, crosses_small}
 
 lt_is : (i n : ℕ) → i < n → nat_lt i n ≡ true
 lt_is i n h = grind (arith, common_steps)
@@ -75,17 +75,17 @@ ephemeral_at (suc (suc zero)) h = refl
 ephemeral_at (suc (suc (suc zero))) h = refl
 ephemeral_at (suc (suc (suc (suc k)))) h = absurd (omega arith)
 
-module _ (c : Configuration) (rows : ℕ) (is_rows : IsRows c rows) (small : AbsentPastEight c) where
+module _ (c : Configuration) (rows : ℕ) (is_rows : IsLineRows c rows) (small : AbsentPastEight c) where
   abbrev Stays : ℕ → Type 0
   Stays i = (k : ℕ) → k < 4 → has rows (8 * i + (4 + k)) ≡ false
 
   line_bit : (i j : ℕ) → i < 4 → j < 4 → has rows (8 * i + j) ≡ hops c (Line i) (Line j)
   line_bit i j hi hj =
-      is_rows i j (omega (arith, hi)) (omega (arith, hj)) ∙ ap (λ t. hops c t (termination_at j)) (line_at i hi) ∙ ap (hops c (Line i)) (line_at j hj)
+      is_rows i j hi (omega (arith, hj)) ∙ ap (λ t. hops c t (termination_at j)) (line_at i hi) ∙ ap (hops c (Line i)) (line_at j hj)
 
   ephemeral_bit : (i k : ℕ) → i < 4 → k < 4 → has rows (8 * i + (4 + k)) ≡ hops c (Line i) (Ephemeral k)
   ephemeral_bit i k hi hk =
-      is_rows i (4 + k) (omega (arith, hi)) (omega (arith, hk)) ∙ ap (λ t. hops c t (termination_at (4 + k))) (line_at i hi)
+      is_rows i (4 + k) hi (omega (arith, hk)) ∙ ap (λ t. hops c t (termination_at (4 + k))) (line_at i hi)
       ∙ ap (hops c (Line i)) (ephemeral_at k hk)
 
   no_ephemeral : (i k : ℕ) → i < 4 → Stays i → IsTrue (hops c (Line i) (Ephemeral k)) → ⊥
@@ -106,6 +106,20 @@ module _ (c : Configuration) (rows : ℕ) (is_rows : IsRows c rows) (small : Abs
   rows_are_ways none i j hi hj = (
     λ holds. ([], sym (line_bit i j hi hj) ∙ holds),
     λ way. line_bit i j hi hj ∙ stays i j hi (none i hi) way,
+  )
+
+  -- where no ephemeral's media crosses, none goes further than a hop
+  uncrossed : (crossings i j : ℕ) → IsCrossings c crossings → crossings ≡ 0 → Goes c i j → IsTrue (hops c (Line i) (Line j))
+  uncrossed crossings i j are none ([], way) = way
+  uncrossed crossings i j are none (crossing ∷ more, way) =
+      let crossed = (split_and _ _ (split_and _ _ way).0).1 in
+      let sizes = crosses_small c crossing.0 crossing.1 small crossed in
+      absurd (no_bit (8 * crossing.0 + crossing.1) (sym (ap (λ n. has n (8 * crossing.0 + crossing.1)) none) ∙ are crossing.0 crossing.1 sizes.0 sizes.1 ∙ crossed))
+
+  pub uncrossed_ways : (crossings : ℕ) → IsCrossings c crossings → crossings ≡ 0 → IsWays c rows
+  uncrossed_ways crossings are none i j hi hj = (
+    λ holds. ([], sym (line_bit i j hi hj) ∙ holds),
+    λ way. line_bit i j hi hj ∙ uncrossed crossings i j are none way,
   )
 
 -- ---- bytes

@@ -20,6 +20,10 @@ IsSenders c word =
 abbrev pub IsRows : Configuration → ℕ → Type 0
 IsRows c word = (t u : ℕ) → t < 8 → u < 8 → has word (8 * t + u) ≡ hops c (termination_at t) (termination_at u)
 
+-- the same of the lines alone
+abbrev pub IsLineRows : Configuration → ℕ → Type 0
+IsLineRows c word = (t u : ℕ) → t < 4 → u < 8 → has word (8 * t + u) ≡ hops c (termination_at t) (termination_at u)
+
 -- for each ephemeral, a byte of those that media crosses to from it
 abbrev pub IsCrossings : Configuration → ℕ → Type 0
 IsCrossings c word = (k i : ℕ) → k < 4 → i < 4 → has word (8 * k + i) ≡ crosses c k i

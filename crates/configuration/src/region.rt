@@ -65,6 +65,9 @@ impl Region {
         ensures within { OnOk result ((w : Words) → is_within self.new w ≡ (is_within self.old w && is_in set w)) }
         ensures kept { IfErr result (λ e. self.new ≡ self.old) }
     {
+        if set.is_every() {
+            return Ok(());
+        }
         if let Some(number) = set.number() {
             if field(self.mask.word(set.word()), set.place(), set.size()) == 0 {
                 self.fix(set.word(), set.place(), set.size(), number);

@@ -5,7 +5,7 @@ ghost use Rattle.mg_model.specs.declared.commands.Termination.TheVariants.{Line}
 ghost use Rattle.configuration.specs.Bits.{has};
 ghost use Rattle.configuration.specs.Config.{configuration_of};
 ghost use Rattle.configuration.specs.Packed.{pair_place};
-ghost use Rattle.configuration.specs.Search.{IsSenders, IsRows, IsCrossings};
+ghost use Rattle.configuration.specs.Search.{IsSenders, IsLineRows, IsRows, IsCrossings};
 ghost use Rattle.configuration.specs.Tests.{context_number};
 ghost use Rattle.configuration.specs.Words.{termination_at};
 
@@ -53,7 +53,7 @@ fn sender(config: &Config, place: u32) -> u64
 }
 
 /// Those that let media out, a byte for each context by its number.
-fn senders(config: &Config) -> u64
+pub fn senders(config: &Config) -> u64
     ensures { IsSenders (configuration_of config.now) result }
 {
     let lines = sender(config, 0) | sender(config, 1) | (sender(config, 2) | sender(config, 3));
@@ -91,13 +91,26 @@ fn row(config: &Config, senders: u64, source: u32) -> u64
     field(senders, 8 * number as u32, 8) & !barred
 }
 
-/// Where media goes from each of the eight.
-pub fn rows(config: &Config) -> u64
+/// Where media goes from each line.
+pub fn line_rows(config: &Config, senders: u64) -> u64
+    requires senders { IsSenders (configuration_of config.now) senders }
+    ensures { IsLineRows (configuration_of config.now) result }
+{
+    let mut rows = 0;
+    for source in 0..4 {
+        rows = put(rows, 8 * source, 8, row(config, senders, source));
+    }
+    rows
+}
+
+/// Where media goes from each of the eight, of which these are the lines.
+pub fn rows(config: &Config, senders: u64, lines: u64) -> u64
+    requires senders { IsSenders (configuration_of config.now) senders }
+    requires lines { IsLineRows (configuration_of config.now) lines }
     ensures { IsRows (configuration_of config.now) result }
 {
-    let senders = senders(config);
-    let mut rows = 0;
-    for source in 0..8 {
+    let mut rows = lines;
+    for source in 4..8 {
         rows = put(rows, 8 * source, 8, row(config, senders, source));
     }
     rows

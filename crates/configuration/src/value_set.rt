@@ -69,7 +69,7 @@ pub(crate) fn are_in(sets: &[ValueSet], config: &Config) -> bool
 
 /// The parts of a set.
 impl ValueSet {
-    ghost use Rattle.std.specs.Prelude.{◌^◌, ◌==◌, IfSome};
+    ghost use Rattle.std.specs.Prelude.{◌^◌, ◌==◌, true, IsTrue, IfSome};
     ghost use Rattle.configuration.specs.Fields.{field_of};
     ghost use Rattle.configuration.specs.Packed.{Words};
     ghost use Rattle.configuration.specs.Regions.{is_in, word_at};
@@ -124,6 +124,17 @@ impl ValueSet {
         let word = config_word(config, self.word());
         let number = field(word, self.place(), self.size()) as u32;
         field(self.allowed(), number, 1) != 0
+    }
+
+    /// Whether each number that the field can hold is that of a value in the set.
+    pub(crate) fn is_every(&self) -> bool
+        ensures { IsTrue result → (w : Words) → is_in self.now w ≡ true }
+    {
+        match self.size() {
+            1 => self.allowed() == 0b11,
+            2 => self.allowed() == 0b1111,
+            _ => false,
+        }
     }
 
     /// The number of the value, where there is one alone.

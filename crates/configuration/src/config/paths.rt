@@ -9,7 +9,7 @@ ghost use Rattle.configuration.specs.Search.{IsRows, IsCrossings, IsWays, Goes, 
 
 use crate::config::Config;
 use crate::fields::{field, put};
-use crate::rows::{crossings, lets_media_in, rows};
+use crate::rows::{crossings, lets_media_in, line_rows, rows, senders};
 use mg_names::slots::Slot;
 use std::marker::Model;
 
@@ -122,12 +122,17 @@ impl Ways {
         if !lets_media_in(config) {
             return Ways { lines: 0 };
         }
-        let rows = rows(config);
-        if stays_at_lines(rows) {
-            return Ways { lines: rows };
+        let senders = senders(config);
+        let lines = line_rows(config, senders);
+        if stays_at_lines(lines) {
+            return Ways { lines };
+        }
+        let crossings = crossings(config);
+        if crossings == 0 {
+            return Ways { lines };
         }
         Ways {
-            lines: all_heard(rows, crossings(config)),
+            lines: all_heard(rows(config, senders, lines), crossings),
         }
     }
 
