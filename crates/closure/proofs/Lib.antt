@@ -3,7 +3,9 @@ pub mod CoverLemmas
 pub mod FindingLemmas
 pub mod LiveLemmas
 pub mod ObligationOrder
+pub mod OneFinding
 pub mod RequestLemmas
+pub mod RunLemmas
 pub mod SettleLemmas
 pub mod SubtractLemmas
 pub mod VisitLemmas

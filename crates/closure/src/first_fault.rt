@@ -1,8 +1,8 @@
 //! The first broken obligation of a certificate, or how many points it has: found in one walk.
 ghost use Rattle.std.specs.Prelude.{◌≡◌};
-ghost use Rattle.closure.specs.Answer.{IsAnswer, IsFinding};
+ghost use Rattle.closure.specs.Answer.{IsAnswer, IsFinding, IsWholeAnswer};
 ghost use Rattle.closure.specs.Findings.{fault_at, whole_fault};
-ghost use Rattle.closure.specs.Walk.{AreWalked};
+ghost use Rattle.closure.specs.Runs.{IsOfRun};
 
 use crate::broken::Broken;
 use crate::cover::covers;
@@ -43,7 +43,7 @@ fn fault_at(place: usize, number: u32, broken: &Broken) -> Fault
 }
 
 /// The fault of an obligation of no point.
-fn whole_fault(obligation: Obligation) -> Fault
+fn fault_of(obligation: Obligation) -> Fault
     ensures { result ≡ whole_fault obligation }
 {
     Fault {
@@ -54,13 +54,30 @@ fn whole_fault(obligation: Obligation) -> Fault
     }
 }
 
-/// Walks over the points of all entries, and counts them, or finds the first that breaks an obligation.
-fn walk_all(script: &Script, cert: &Cert) -> Finding
-    ensures { AreWalked script.now cert.now result }
+/// The fault of the configuration that a call opens in, or else of that after a restart, where no entry has it. This profile's own.
+pub fn whole_fault(script: &Script, cert: &Cert) -> Option<Fault>
+    ensures { IsWholeAnswer script.now cert.now result }
+{
+    if !covers(cert, &opening(script)) {
+        return Some(fault_of(Obligation::OpeningCovered));
+    }
+    if !covers(cert, &reset(script)) {
+        return Some(fault_of(Obligation::ResetCovered));
+    }
+    None
+}
+
+/// Walks over the points of a run of entries, those from a place up to another where the certificate has them, and counts them, or
+/// finds the first that breaks an obligation. This profile's own.
+pub fn check_run(script: &Script, cert: &Cert, first: usize, last: usize) -> Finding
+    ensures { IsOfRun script.now cert.now first last result }
 {
     let mut covering = Covering::new(cert);
     let mut points = 0u128;
-    for (place, entry) in cert.entries().iter().enumerate() {
+    for place in first..last {
+        let Some(entry) = cert.entries().get(place) else {
+            return Finding::Kept(points);
+        };
         match walk(script, entry, &mut covering) {
             Ok(count) => points += u128::from(count),
             Err(found) => return Finding::Broken(fault_at(place, found.number, &found.broken)),
@@ -75,13 +92,10 @@ fn walk_all(script: &Script, cert: &Cert) -> Finding
 pub fn check(script: &Script, cert: &Cert) -> Finding
     ensures { IsFinding script.now cert.now result }
 {
-    if !covers(cert, &opening(script)) {
-        return Finding::Broken(whole_fault(Obligation::OpeningCovered));
+    if let Some(fault) = whole_fault(script, cert) {
+        return Finding::Broken(fault);
     }
-    if !covers(cert, &reset(script)) {
-        return Finding::Broken(whole_fault(Obligation::ResetCovered));
-    }
-    walk_all(script, cert)
+    check_run(script, cert, 0, cert.entries().len())
 }
 
 /// The first obligation that a certificate breaks. `None` where none is broken.

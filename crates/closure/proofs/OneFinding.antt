@@ -1,0 +1,134 @@
+-- A certificate has one finding: one first fault where an obligation is broken, and one number of points where none is.
+use Rattle.std.proofs.Common.{◌≡◌, ◌∙◌, ◌⊎◌, inl, inr, ℕ, zero, suc, ◌+◌, ◌<◌, ◌≤◌, List, [], ◌∷◌, length, Option, Some, None, refl, sym, subst, ap, ap₂, arith}
+use Rattle.std.proofs.lemmas.Bool.{cases_lt}
+use Rattle.std.specs.List.{slice_get}
+use Rattle.std.proofs.lemmas.Option.{same_Some}
+use Rattle.mg_names.specs.declared.obligations.Obligation.{Obligation}
+use Rattle.mg_model.specs.declared.faults.Fault.{Fault}
+use Rattle.mg_model.specs.declared.steps.StepName.{StepName}
+use Rattle.mg_model.specs.Script.{Script}
+use Rattle.mg_model.specs.Configuration.{Configuration}
+use Rattle.mg_model.specs.Steps.{Step, steps_of}
+use Rattle.mg_model.specs.Entries.{Entry, HasPoints, HasPointsBelow, HavePoints, IsPointOf, numbered, size_of}
+use Rattle.mg_model.specs.Obligations.{Claim, OpeningCovered, ResetCovered, Marked, Cleared, Unbound, Live, StepCovered, IsFirstFault, KeyBefore, NamesStep, entry_named, key_of, obligation_of, point_named}
+use Rattle.closure.specs.declared.first_fault.Finding.{Finding}
+use Rattle.closure.specs.declared.first_fault.Finding.TheVariants as finding
+use Rattle.closure.specs.Answer.{IsAnswer, IsFinding}
+
+-- ---- the order of claims is total
+
+key_order : (xs ys : List ℕ) → length xs ≡ length ys → KeyBefore xs ys ⊎ ((xs ≡ ys) ⊎ KeyBefore ys xs)
+key_order [] [] same = inr (inl refl)
+key_order [] (y ∷ ys) same = absurd (omega (arith, same))
+key_order (x ∷ xs) [] same = absurd (omega (arith, same))
+key_order (x ∷ xs) (y ∷ ys) same = elim (cases_lt x y) [
+  | inl less ↦ inl (inl less)
+  | inr not_less ↦ elim (cases_lt y x) [
+    | inl less ↦ inr (inr (inl less))
+    | inr not_more ↦
+      let equal : x ≡ y = omega (arith, not_less, not_more) in elim (key_order xs ys (omega (arith, same))) [
+        | inl before ↦ inl (inr (equal, before))
+        | inr rest ↦ elim rest [
+          | inl equals ↦ inr (inl (ap₂ (λ (z : ℕ) (zs : List ℕ). z ∷ zs) equal equals))
+          | inr after ↦ inr (inr (inr (sym equal, after)))
+        ]
+      ]
+  ]
+]
+
+-- the claim of a key
+claim_with : List ℕ → Claim
+claim_with (zero ∷ more) = OpeningCovered
+claim_with (suc zero ∷ more) = ResetCovered
+claim_with (part ∷ e ∷ p ∷ zero ∷ more) = Marked e p
+claim_with (part ∷ e ∷ p ∷ suc zero ∷ more) = Cleared e p
+claim_with (part ∷ e ∷ p ∷ suc (suc zero) ∷ more) = Unbound e p
+claim_with (part ∷ e ∷ p ∷ suc (suc (suc zero)) ∷ more) = Live e p
+claim_with (part ∷ e ∷ p ∷ rank ∷ s ∷ more) = StepCovered e p s
+claim_with _ = OpeningCovered
+
+claim_back : (claim : Claim) → claim_with (key_of claim) ≡ claim
+claim_back OpeningCovered = refl
+claim_back ResetCovered = refl
+claim_back (Marked e p) = refl
+claim_back (Cleared e p) = refl
+claim_back (Unbound e p) = refl
+claim_back (Live e p) = refl
+claim_back (StepCovered e p s) = refl
+
+-- ---- the first fault is one
+
+abbrev fault_with : Obligation → Option ℕ → Option ℕ → Option StepName → Fault
+fault_with obligation entry point step = record { obligation = obligation; entry = entry; point = point; step = step }
+
+same_parts : (fault other : Fault) → fault.obligation ≡ other.obligation → fault.entry ≡ other.entry → fault.point ≡ other.point
+    → fault.step ≡ other.step → fault ≡ other
+same_parts fault other obligation entry point step =
+    ap (λ (o : Obligation). fault_with o fault.entry fault.point fault.step) obligation
+    ∙ ap (λ (e : Option ℕ). fault_with other.obligation e fault.point fault.step) entry
+    ∙ ap (λ (p : Option ℕ). fault_with other.obligation other.entry p fault.step) point
+    ∙ ap (λ (s : Option StepName). fault_with other.obligation other.entry other.point s) step
+
+module _ (script : Script) (entries : List Entry) where
+  one_claim : (fault other : Fault) (is : IsFirstFault script entries fault) (other_is : IsFirstFault script entries other)
+      → is.claim ≡ other_is.claim
+  one_claim fault other is other_is = elim (key_order (key_of is.claim) (key_of other_is.claim) refl) [
+    | inl before ↦ absurd (is.broken (other_is.before is.claim before))
+    | inr rest ↦ elim rest [
+      | inl same ↦ sym (claim_back is.claim) ∙ ap claim_with same ∙ claim_back other_is.claim
+      | inr after ↦ absurd (other_is.broken (is.before other_is.claim after))
+    ]
+  ]
+
+  one_step : (claim : Claim) (name other : Option StepName) → NamesStep script entries claim name → NamesStep script entries claim other → name ≡ other
+  one_step OpeningCovered name other h k = h ∙ sym k
+  one_step ResetCovered name other h k = h ∙ sym k
+  one_step (Marked e p) name other h k = h ∙ sym k
+  one_step (Cleared e p) name other h k = h ∙ sym k
+  one_step (Unbound e p) name other h k = h ∙ sym k
+  one_step (Live e p) name other h k = h ∙ sym k
+  one_step (StepCovered e p s) name other one another =
+      let same_entry : one.0 ≡ another.0 = same_Some one.0 another.0 (sym one.1 ∙ another.1) in
+      let same_point : one.2.0 ≡ another.2.0 = one.2.1.0 ∙ ap (λ (entry : Entry). numbered entry p) same_entry ∙ sym another.2.1.0 in ?
+  one_fault : (fault other : Fault) → IsFirstFault script entries fault → IsFirstFault script entries other → fault ≡ other
+  one_fault fault other is other_is =
+      let same : is.claim ≡ other_is.claim = one_claim fault other is other_is in
+      same_parts fault other
+      (is.obligation ∙ ap obligation_of same ∙ sym other_is.obligation)
+      (is.entry ∙ ap entry_named same ∙ sym other_is.entry)
+      (is.point ∙ ap point_named same ∙ sym other_is.point)
+      (one_step other_is.claim fault.step other.step (subst (λ (claim : Claim). NamesStep script entries claim fault.step) same is.step) other_is.step)
+
+-- ---- the number of points is one
+
+one_count_below : (entry : Entry) (n points other : ℕ) → HasPointsBelow entry n points → HasPointsBelow entry n other → points ≡ other
+one_count_below entry zero points other h k = h ∙ sym k
+one_count_below entry (suc n) points other (inl one) (inl another) =
+    one.1.1.1 ∙ ap (λ m. m + 1) (one_count_below entry n one.1.0 another.1.0 one.1.1.0 another.1.1.0) ∙ sym another.1.1.1
+one_count_below entry (suc n) points other (inl formed) (inr not_formed) = absurd (not_formed.0 formed.0)
+one_count_below entry (suc n) points other (inr not_formed) (inl formed) = absurd (not_formed.0 formed.0)
+one_count_below entry (suc n) points other (inr one) (inr another) = one_count_below entry n points other one.1 another.1
+
+one_count : (entries : List Entry) (points other : ℕ) → HavePoints entries points → HavePoints entries other → points ≡ other
+one_count [] points other h k = h ∙ sym k
+one_count (entry ∷ more) points other one another =
+    one.1.1.1.1
+    ∙ ap₂ (λ (m n : ℕ). m + n) (one_count_below entry (size_of entry.components) one.0 another.0 one.1.1.0 another.1.1.0)
+    (one_count more one.1.0 another.1.0 one.1.1.1.0 another.1.1.1.0)
+    ∙ sym another.1.1.1.1
+
+-- ---- the finding is one
+
+pub one_finding : (script : Script) (entries : List Entry) (found other : Finding) → IsFinding script entries found
+    → IsFinding script entries other → found ≡ other
+one_finding script entries (finding.Kept points) (finding.Kept more) h k = ap finding.Kept (one_count entries points more h.1 k.1)
+one_finding script entries (finding.Kept points) (finding.Broken fault) h k = absurd (k.broken (h.0 k.claim))
+one_finding script entries (finding.Broken fault) (finding.Kept points) h k = absurd (h.broken (k.0 h.claim))
+one_finding script entries (finding.Broken fault) (finding.Broken other) h k = ap finding.Broken (one_fault script entries fault other h k)
+
+pub one_answer : (script : Script) (entries : List Entry) (fault other : Option Fault) → IsAnswer script entries fault
+    → IsAnswer script entries other → fault ≡ other
+one_answer script entries None None h k = refl
+one_answer script entries None (Some other) h k = absurd (k.broken (h k.claim))
+one_answer script entries (Some fault) None h k = absurd (h.broken (k h.claim))
+one_answer script entries (Some fault) (Some other) h k = ap (λ f. Some f) (one_fault script entries fault other h k)

@@ -1,0 +1,6 @@
+//! The check of a certificate in pieces, one job each. The answer is that of the check in one, whatever the number of pieces.
+#![tactic(auto)]
+
+pub mod first_fault;
+mod in_order;
+mod pieces;
