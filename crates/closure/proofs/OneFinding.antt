@@ -48,6 +48,7 @@ claim_with (part ∷ e ∷ p ∷ rank ∷ s ∷ more) = StepCovered e p s
 claim_with _ = OpeningCovered
 
 claim_back : (claim : Claim) → claim_with (key_of claim) ≡ claim
+unfolding claim_with
 claim_back OpeningCovered = refl
 claim_back ResetCovered = refl
 claim_back (Marked e p) = refl
@@ -89,7 +90,11 @@ module _ (script : Script) (entries : List Entry) where
   one_step (Live e p) name other h k = h ∙ sym k
   one_step (StepCovered e p s) name other one another =
       let same_entry : one.0 ≡ another.0 = same_Some one.0 another.0 (sym one.1 ∙ another.1) in
-      let same_point : one.2.0 ≡ another.2.0 = one.2.1.0 ∙ ap (λ (entry : Entry). numbered entry p) same_entry ∙ sym another.2.1.0 in ?
+      let same_point : one.2.0 ≡ another.2.0 = one.2.1.1 ∙ ap (λ (entry : Entry). numbered entry p) same_entry ∙ sym another.2.1.1 in
+      let same_step : one.2.2.0 ≡ another.2.2.0 = same_Some one.2.2.0 another.2.2.0
+          (sym one.2.2.1 ∙ ap (λ (c : Configuration). slice_get (steps_of script c) s) same_point ∙ another.2.2.1) in
+      one.2.2.2 ∙ ap (λ (step : Step). Some step.0) same_step ∙ sym another.2.2.2
+
   one_fault : (fault other : Fault) → IsFirstFault script entries fault → IsFirstFault script entries other → fault ≡ other
   one_fault fault other is other_is =
       let same : is.claim ≡ other_is.claim = one_claim fault other is other_is in

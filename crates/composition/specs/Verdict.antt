@@ -3,6 +3,8 @@
 -- beside a script that is read, and that a checked one breaks no obligation and says of every run of the script that it
 -- is good.
 use Rattle.std.specs.Prelude.{◌≢◌, ℕ, List, Ok, Err}
+use Rattle.std.specs.List.{All}
+use Rattle.mg_model.specs.Accepted.{IsEntryOf, IsScript}
 use Rattle.mg_model.specs.Script.{Script}
 use Rattle.mg_model.specs.Entries.{Entry, HavePoints}
 use Rattle.mg_model.specs.Obligations.{NoneBroken}
@@ -30,6 +32,10 @@ pub record HasCertificateFault (script certificate : List ℕ) (fault : CertFaul
 pub record AreRead (script certificate : List ℕ) (table : Script) (entries : List Entry) : Type 0 where
   pub reads : ReadsScript script (Ok table)
   pub lists : ReadsCertificate table certificate (Ok entries)
+
+-- the script and the entries are as their readers accept them
+abbrev pub AreAccepted : Script → List Entry → Type 0
+AreAccepted table entries = IsScript table × All (IsEntryOf table) entries
 
 -- a certificate that breaks no obligation, and the number of its points; and so every run of any number of calls of the script is good
 pub record IsChecked (table : Script) (entries : List Entry) (points : ℕ) : Type 0 where

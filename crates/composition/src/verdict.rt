@@ -1,7 +1,9 @@
-//! The verdict on a script and a certificate. A `Yes` can be made in no other way than by `check`.
+//! The verdict on a script and a certificate. A `Yes` can be made in no other way than by `check` and `check_par`.
 ghost use Rattle.std.specs.Prelude.{◌≡◌, length};
+ghost use Rattle.closure.specs.Answer.{IsFinding};
 ghost use Rattle.composition.specs.Faults.{name_of, number_of};
-ghost use Rattle.composition.specs.Verdicts.{IsVerdict};
+ghost use Rattle.composition.specs.Verdict.{AreAccepted};
+ghost use Rattle.composition.specs.Verdicts.{IsReading, IsVerdict, IsVerdictOn, YesIsSafe};
 
 use certificate::laws::accepted_certificates;
 use certificate::{CertFault, read_cert};
@@ -12,8 +14,9 @@ use mg_safety::runs::every_run_is_good;
 use script_table::Script;
 use scriptreader::laws::accepted_scripts;
 use scriptreader::{ScriptFault, read_script};
-use std::alloc::Global;
+use std::alloc::{AllocError, Global};
 use std::marker::Model;
+use std::thread::Threads;
 
 /// A script with a certificate that breaks no obligation: every run of any number of calls of the script, on lines distinct at each moment, is good.
 #[derive(Drop)]
@@ -108,10 +111,20 @@ impl CheckFault {
     }
 }
 
-/// The verdict on a script and a certificate. Faults of the script go before those of the certificate; running out of memory
-/// may stand in place of any.
-pub fn check(alloc: Global, script: &[u8], certificate: &[u8]) -> Result<Verdict, CheckFault>
-    ensures { IsVerdict script.now certificate.now result }
+/// A script, and a certificate for it.
+#[derive(Drop)]
+struct Documents {
+    script: Script,
+    cert: Cert,
+}
+
+/// Reads both. Faults of the script go before those of the certificate; running out of memory may stand in place of any.
+fn read_documents(
+    alloc: Global,
+    script: &[u8],
+    certificate: &[u8],
+) -> Result<Documents, CheckFault>
+    ensures { IsReading script.now certificate.now result }
 {
     let script = match read_script(alloc, script) {
         Ok(script) => script,
@@ -123,17 +136,61 @@ pub fn check(alloc: Global, script: &[u8], certificate: &[u8]) -> Result<Verdict
         Err(CertFault::NoMemory) => return Err(CheckFault::NoMemory),
         Err(fault) => return Err(CheckFault::Cert(fault)),
     };
-    match closure::first_fault::check(&script, &cert) {
+    accepted_scripts();
+    accepted_certificates();
+    Ok(Documents { script, cert })
+}
+
+/// The verdict on documents that were read, from what the walk over their points found.
+fn verdict_of(documents: Documents, found: Finding) -> Verdict
+    requires accepted { AreAccepted documents.script documents.cert }
+    requires found { IsFinding documents.script documents.cert found }
+    ensures { IsVerdictOn documents.script documents.cert result }
+{
+    match found {
         Finding::Kept(points) => {
-            accepted_scripts();
-            accepted_certificates();
             every_run_is_good();
-            Ok(Verdict::Yes(Checked {
-                script,
-                cert,
+            Verdict::Yes(Checked {
+                script: documents.script,
+                cert: documents.cert,
                 points,
-            }))
+            })
         }
-        Finding::Broken(fault) => Ok(Verdict::No(fault)),
+        Finding::Broken(fault) => Verdict::No(fault),
+    }
+}
+
+/// The verdict on a script and a certificate. Faults of the script go before those of the certificate; running out of memory
+/// may stand in place of any.
+///
+/// Where it is a yes, then for any number of calls on lines distinct at each moment, in every interleaving of hook, digit, timer, delivery, begin
+/// and restart events with any loss or repeat, an audio path joins two lines only inside one call whose current state marks that
+/// pair as talking, and a call that has ended owns no ephemeral termination and has each line silent in the null context, armed for
+/// off-hook.
+pub fn check(alloc: Global, script: &[u8], certificate: &[u8]) -> Result<Verdict, CheckFault>
+    ensures verdict { IsVerdict script.now certificate.now result }
+    ensures safe { YesIsSafe result }
+{
+    let documents = read_documents(alloc, script, certificate)?;
+    let found = closure::first_fault::check(&documents.script, &documents.cert);
+    Ok(verdict_of(documents, found))
+}
+
+/// The same verdict, from so many pieces of the certificate, one job each; none count as one. Where no thread can be made, or fewer,
+/// those that there are go on.
+pub fn check_par(
+    rt: &(impl Threads + Sync),
+    alloc: Global,
+    script: &[u8],
+    certificate: &[u8],
+    pieces: usize,
+) -> Result<Verdict, CheckFault>
+    ensures verdict { IsVerdict script.now certificate.now result }
+    ensures safe { YesIsSafe result }
+{
+    let documents = read_documents(alloc, script, certificate)?;
+    match parcheck::first_fault::check_par(rt, alloc, &documents.script, &documents.cert, pieces) {
+        Ok(found) => Ok(verdict_of(documents, found)),
+        Err(AllocError) => Err(CheckFault::NoMemory),
     }
 }
