@@ -1,6 +1,8 @@
 -- Two runs after each other are a run, and so are all pieces; one more piece goes on where the last one ends.
-use Rattle.std.proofs.Common.{◌≡◌, ◌∙◌, ℕ, ◌+◌, ◌*◌, ◌^◌, ◌<◌, ◌≤◌, List, [], ◌∷◌, ◌++◌, drop, refl, sym, subst, arith}
+use Rattle.std.proofs.Common.{◌≡◌, ◌∙◌, ℕ, ◌+◌, ◌-◌, ◌*◌, ◌^◌, ◌<◌, ◌≤◌, List, [], ◌∷◌, ◌++◌, length, drop, slice_index_or, min, inl, inr, refl, sym, subst, ap, arith}
+use Rattle.std.proofs.Math.Nat.{min-eq_left}
 use Rattle.std.proofs.lemmas.Bool.{cases_lt}
+use Rattle.entry_table.proofs.Products.{at}
 use Rattle.mg_model.specs.Script.{Script}
 use Rattle.mg_model.specs.Entries.{Entry, HavePoints}
 use Rattle.mg_model.specs.declared.faults.Fault.{Fault}
@@ -52,6 +54,16 @@ module _ (script : Script) (entries : List Entry) (a b c : ℕ) where
     named = found.named;
   }
 
+  -- no count is cut: each entry has fewer points than 32 bits count
+  pub both_of_kept : (points more both : ℕ) → both ≡ min (points + more) (2 ^ 128 - 1) → a ≤ b → b ≤ c → c ≤ 2 ^ 64
+      → IsOfRun script entries a b (finding.Kept points) → IsOfRun script entries b c (finding.Kept more)
+      → IsOfRun script entries a c (finding.Kept both)
+  both_of_kept points more both is rise more_rise small one another =
+      let few : points + more + a * 2 ^ 32 ≤ c * 2 ^ 32 = omega (arith, (one.1 rise).1, (another.1 more_rise).1) in
+      let exact : both ≡ points + more = is ∙ min-eq_left (omega (arith, few, small)) in
+      subst (λ (n : ℕ). IsOfRun script entries a c (finding.Kept n)) (sym exact)
+      (both_kept one.0 another.0, λ within. (both_counted points more (one.1 rise).0 (another.1 more_rise).0, few))
+
 -- a list of runs rises
 pub runs_rise : (first : ℕ) (pieces : List Piece) (last : ℕ) → AreRuns first pieces last → first ≤ last
 runs_rise first [] last same = omega (arith, same)
@@ -67,11 +79,20 @@ one_more_run first (other ∷ pieces) last piece runs from rise =
 
 -- ---- what is found of them
 
+-- a list from one place earlier on
+pub from_before : (findings : List Finding) (n : ℕ) (found : Finding) → 0 < n → n ≤ length findings
+    → found ≡ slice_index_or findings (n - 1) found → drop (n - 1) findings ≡ found ∷ drop n findings
+from_before findings n found some within is =
+    let next : (n - 1) + 1 ≡ n = omega (arith, some) in
+    at findings (n - 1) found (omega (arith, some, within)) is ∙ ap (λ (k : ℕ). found ∷ drop k findings) next
+
 module _ (script : Script) (entries : List Entry) where
   pub none_of_none : (first last : ℕ) → first ≡ last → IsOfRun script entries first last (finding.Kept 0)
   none_of_none first last same = (
     λ place below from entry at. absurd (omega (arith, below, from, same)),
-    λ within. (λ rest left. subst (λ from. HavePoints (drop from entries) rest) (sym same) left, omega (arith, same)),
+    λ within. (
+      λ rest left. subst (HavePoints (drop first entries)) (omega arith) (subst (λ from. HavePoints (drop from entries) rest) (sym same) left),
+      omega (arith, same)),
   )
 
 pub none_found : IsOfPieces [] (finding.Kept 0)

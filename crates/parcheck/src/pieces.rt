@@ -1,5 +1,5 @@
 //! Pieces of a certificate: runs of its entries in file order, cut by the sizes of the entries.
-ghost use Rattle.std.specs.Prelude.{◌≤◌, ◌^◌, length, IfOk};
+ghost use Rattle.std.specs.Prelude.{◌≡◌, ◌≤◌, ◌^◌, length, IfOk};
 ghost use Rattle.parcheck.specs.Pieces.{AreRuns};
 
 use entry_table::Cert;
@@ -12,6 +12,13 @@ pub struct Piece {
     pub first: usize,
     /// The place past its last entry.
     pub last: usize,
+}
+
+/// How many entries there are.
+fn entries_of(cert: &Cert) -> usize
+    ensures { result ≡ length cert.now }
+{
+    cert.entries().len()
 }
 
 /// How many numbers the entries have together, or the last of 64 bits.
@@ -45,7 +52,7 @@ pub(crate) fn pieces_of(
     cert: &Cert,
     count: usize,
 ) -> Result<Vec<Piece>, AllocError>
-    ensures { IfOk result (λ pieces. AreRuns 0 pieces.items (length cert.now)) }
+    ensures { IfOk result (λ pieces. AreRuns 0 pieces.items (length cert.now) × (length cert.now ≤ 2 ^ 64)) }
 {
     let share = numbers_of(cert) / (count as u64).max(1);
     let mut pieces = Vec::new(alloc);
@@ -56,7 +63,7 @@ pub(crate) fn pieces_of(
         pieces.push(Piece { first, last })?;
         first = last;
     }
-    let last = cert.entries().len();
+    let last = entries_of(cert);
     pieces.push(Piece { first, last })?;
     Ok(pieces)
 }
