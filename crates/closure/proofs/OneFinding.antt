@@ -26,13 +26,13 @@ key_order (x ∷ xs) (y ∷ ys) same = elim (cases_lt x y) [
   | inr not_less ↦ elim (cases_lt y x) [
     | inl less ↦ inr (inr (inl less))
     | inr not_more ↦
-      let equal : x ≡ y = omega (arith, not_less, not_more) in elim (key_order xs ys (omega (arith, same))) [
-        | inl before ↦ inl (inr (equal, before))
-        | inr rest ↦ elim rest [
-          | inl equals ↦ inr (inl (ap₂ (λ (z : ℕ) (zs : List ℕ). z ∷ zs) equal equals))
-          | inr after ↦ inr (inr (inr (sym equal, after)))
+        let equal : x ≡ y = omega (arith, not_less, not_more) in elim (key_order xs ys (omega (arith, same))) [
+          | inl before ↦ inl (inr (equal, before))
+          | inr rest ↦ elim rest [
+            | inl equals ↦ inr (inl (ap₂ (λ (z : ℕ) (zs : List ℕ). z ∷ zs) equal equals))
+            | inr after ↦ inr (inr (inr (sym equal, after)))
+          ]
         ]
-      ]
   ]
 ]
 
@@ -92,7 +92,7 @@ module _ (script : Script) (entries : List Entry) where
       let same_entry : one.0 ≡ another.0 = same_Some one.0 another.0 (sym one.1 ∙ another.1) in
       let same_point : one.2.0 ≡ another.2.0 = one.2.1.1 ∙ ap (λ (entry : Entry). numbered entry p) same_entry ∙ sym another.2.1.1 in
       let same_step : one.2.2.0 ≡ another.2.2.0 = same_Some one.2.2.0 another.2.2.0
-          (sym one.2.2.1 ∙ ap (λ (c : Configuration). slice_get (steps_of script c) s) same_point ∙ another.2.2.1) in
+      (sym one.2.2.1 ∙ ap (λ (c : Configuration). slice_get (steps_of script c) s) same_point ∙ another.2.2.1) in
       one.2.2.2 ∙ ap (λ (step : Step). Some step.0) same_step ∙ sym another.2.2.2
 
   one_fault : (fault other : Fault) → IsFirstFault script entries fault → IsFirstFault script entries other → fault ≡ other

@@ -48,7 +48,7 @@ pub run_answer : (script : Script) (entries : List Entry) (found : Finding) → 
     → IsOfRun script entries 0 (length entries) found → IsFinding script entries found
 run_answer script entries (finding.Kept points) opened restarted run = (
   points_answer script entries None opened restarted
-    (λ place entry at. run.0 place (slice_get_within entries place entry at) (omega arith) entry at),
+      (λ place entry at. run.0 place (slice_get_within entries place entry at) (omega arith) entry at),
   subst (HavePoints entries) (omega arith) ((run.1 (omega arith)).0 0 (none_left entries (length entries) (omega arith))),
 )
 run_answer script entries (finding.Broken fault) opened restarted run =

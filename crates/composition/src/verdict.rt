@@ -119,11 +119,7 @@ struct Documents {
 }
 
 /// Reads both. Faults of the script go before those of the certificate; running out of memory may stand in place of any.
-fn read_documents(
-    alloc: Global,
-    script: &[u8],
-    certificate: &[u8],
-) -> Result<Documents, CheckFault>
+fn read_documents(alloc: Global, script: &[u8], certificate: &[u8]) -> Result<Documents, CheckFault>
     ensures { IsReading script.now certificate.now result }
 {
     let script = match read_script(alloc, script) {

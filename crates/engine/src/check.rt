@@ -1,16 +1,18 @@
 //! What the program says of a script and a certificate.
 ghost use Rattle.std.specs.Prelude.{◌≡◌, IfOk, option_map, string_bytes};
+ghost use Rattle.composition.specs.Verdicts.{IsVerdict};
 ghost use Rattle.engine.specs.Replies.{answer_line};
 ghost use Rattle.engine.specs.VerdictLines.{Judges, NamesFault};
 ghost use Rattle.script_table.specs.Words.{words_of};
 
 use crate::answer::{Answer, Broken};
-use composition::{CheckFault, Verdict, check};
+use composition::{CheckFault, Verdict, check, check_par};
 use mg_model::faults::Fault;
 use mg_model::steps::StepName;
 use script_table::Script;
 use scriptreader::read_script;
 use std::alloc::{AllocError, Global};
+use std::thread::Threads;
 
 /// The words of a step, with the names of the script's lines.
 fn words_of(
@@ -44,11 +46,34 @@ fn broken(alloc: Global, bytes: &[u8], fault: &Fault) -> Answer
     }
 }
 
-/// The answer on a script and a certificate.
-pub fn answer(alloc: Global, script: &[u8], certificate: &[u8]) -> Answer
+/// The verdict, by threads where there is more than one piece.
+fn verdict(
+    rt: &(impl Threads + Sync),
+    alloc: Global,
+    script: &[u8],
+    certificate: &[u8],
+    pieces: u8,
+) -> Result<Verdict, CheckFault>
+    ensures { IsVerdict script.now certificate.now result }
+{
+    if pieces > 1 {
+        check_par(rt, alloc, script, certificate, usize::from(pieces))
+    } else {
+        check(alloc, script, certificate)
+    }
+}
+
+/// The answer on a script and a certificate, which is checked in so many pieces.
+pub fn answer(
+    rt: &(impl Threads + Sync),
+    alloc: Global,
+    script: &[u8],
+    certificate: &[u8],
+    pieces: u8,
+) -> Answer
     ensures { Judges script.now certificate.now (answer_line result) }
 {
-    match check(alloc, script, certificate) {
+    match verdict(rt, alloc, script, certificate, pieces) {
         Ok(Verdict::Yes(checked)) => Answer::Yes {
             states: checked.states(),
             entries: checked.entries(),

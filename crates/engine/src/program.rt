@@ -15,25 +15,33 @@ use program_rim::source::Source;
 use program_rim::status::Status;
 use program_rim::words::{Request, WordsFault, read_words};
 use std::alloc::Global;
+use std::thread::Threads;
 
-/// The reply to a whole input within its limit.
-fn reply_to_input(alloc: Global, input: &[u8]) -> Reply
+/// The reply to a whole input within its limit, whose certificate is checked in so many pieces.
+fn reply_to_input(rt: &(impl Threads + Sync), alloc: Global, input: &[u8], pieces: u8) -> Reply
     ensures { IsLineOfSections (pair_of (sections_of input.now)) (line_of result) }
 {
     match two_sections(input) {
-        Some((script, certificate)) => Reply::Checked(answer(alloc, script, certificate)),
+        Some((script, certificate)) => {
+            Reply::Checked(answer(rt, alloc, script, certificate, pieces))
+        },
         None => Reply::Input(InputFault::Sections),
     }
 }
 
-/// Reads the input and checks it. Nothing where a read failed.
-fn reply_to_source<R: Source>(alloc: Global, source: &mut R) -> Option<Reply>
+/// Reads the input and checks it, in so many pieces. Nothing where a read failed.
+fn reply_to_source<R: Source>(
+    rt: &(impl Threads + Sync),
+    alloc: Global,
+    source: &mut R,
+    pieces: u8,
+) -> Option<Reply>
     requires { R.faults source.old < 2 ^ 64 - 1 }
     ensures line { RepliesToSource (R.remaining source.old) (R.remaining source.new) (option_map line_of result) }
     ensures counted { R.faults source.new ≡ R.faults source.old + (if is_some result then 0 else 1) }
 {
     match read_all(alloc, source) {
-        Input::Whole(bytes) => Some(reply_to_input(alloc, bytes.as_slice())),
+        Input::Whole(bytes) => Some(reply_to_input(rt, alloc, bytes.as_slice(), pieces)),
         Input::TooLong => Some(Reply::Input(InputFault::TooLong)),
         Input::NoMemory => Some(Reply::Checked(Answer::NoMemory)),
         Input::Failed => None,
@@ -41,13 +49,18 @@ fn reply_to_source<R: Source>(alloc: Global, source: &mut R) -> Option<Reply>
 }
 
 /// Does what the words ask for. Nothing where a read failed.
-fn reply_to_words<R: Source>(alloc: Global, words: &[String], source: &mut R) -> Option<Reply>
+fn reply_to_words<R: Source>(
+    rt: &(impl Threads + Sync),
+    alloc: Global,
+    words: &[String],
+    source: &mut R,
+) -> Option<Reply>
     requires { R.faults source.old < 2 ^ 64 - 1 }
     ensures line { IsReply (map string_bytes words.now) (R.remaining source.old) (R.remaining source.new) (option_map line_of result) }
     ensures counted { R.faults source.new ≡ R.faults source.old + (if is_some result then 0 else 1) }
 {
     match read_words(alloc, words) {
-        Ok(Request::Check { pieces: _ }) => reply_to_source(alloc, source),
+        Ok(Request::Check { pieces }) => reply_to_source(rt, alloc, source, pieces),
         Err(WordsFault::Refused) => Some(Reply::Usage),
         Err(WordsFault::NoMemory) => Some(Reply::Checked(Answer::NoMemory)),
     }
@@ -79,6 +92,7 @@ pub fn write_reply<W: Sink>(alloc: Global, reply: &Reply, sink: &mut W) -> Statu
 
 /// The whole program. Its status is 6 exactly where the source or the sink failed in this call.
 pub fn engine<R: Source, W: Sink>(
+    rt: &(impl Threads + Sync),
     alloc: Global,
     words: &[String],
     source: &mut R,
@@ -91,7 +105,7 @@ pub fn engine<R: Source, W: Sink>(
     ensures counted { R.faults source.new + W.faults sink.new
         ≡ R.faults source.old + W.faults sink.old + failures_of result }
 {
-    match reply_to_words(alloc, words, source) {
+    match reply_to_words(rt, alloc, words, source) {
         Some(reply) => write_reply(alloc, &reply, sink),
         None => Status::DeviceFailed,
     }

@@ -3,7 +3,7 @@
 //!
 //! The program is `engine`, in the crate of that name, over devices of its own; its contract says which line it writes
 //! for the words and the input, and with which status. What is here binds it to the process: the words of the command
-//! line, standard input and output, and the exit status.
+//! line, standard input and output, its threads, and the exit status.
 #![tactic(auto)]
 
 use engine::answer::Answer;
@@ -13,6 +13,7 @@ use program_rim::host::Host;
 use program_rim::status::Status;
 use std::alloc::Global;
 use std::process::ExitCode;
+use std::thread::Threads;
 use std::{env, io};
 
 /// The words that the process was called with, its own name first.
@@ -29,17 +30,17 @@ fn reply_to_failure(error: &io::Error) -> Reply {
     }
 }
 
-fn run(alloc: Global, rt: &HostRuntime) -> Status {
+fn run(alloc: Global, rt: &HostRuntime, threads: &(impl Threads + Sync)) -> Status {
     let mut sink = Host::new(rt.stdout());
     match arguments(rt) {
         Ok(words) => {
             let mut source = Host::new(rt.stdin());
-            engine(alloc, words.as_slice(), &mut source, &mut sink)
+            engine(threads, alloc, words.as_slice(), &mut source, &mut sink)
         }
         Err(error) => write_reply(alloc, &reply_to_failure(&error), &mut sink),
     }
 }
 
 fn main(rt: HostRuntime) -> ExitCode {
-    ExitCode::from(run(rt.alloc(), &rt).code())
+    ExitCode::from(run(rt.alloc(), &rt, &rt).code())
 }

@@ -69,7 +69,6 @@ pub runs_rise : (first : ℕ) (pieces : List Piece) (last : ℕ) → AreRuns fir
 runs_rise first [] last same = omega (arith, same)
 runs_rise first (piece ∷ pieces) last runs = omega (arith, runs.1, runs_rise piece.last pieces last runs.2)
 
-
 -- one more piece goes on where the last one ends
 pub one_more_run : (first : ℕ) (pieces : List Piece) (last : ℕ) (piece : Piece) → AreRuns first pieces last → piece.first ≡ last
     → last ≤ piece.last → AreRuns first (pieces ++ piece ∷ []) piece.last
@@ -92,7 +91,8 @@ module _ (script : Script) (entries : List Entry) where
     λ place below from entry at. absurd (omega (arith, below, from, same)),
     λ within. (
       λ rest left. subst (HavePoints (drop first entries)) (omega arith) (subst (λ from. HavePoints (drop from entries) rest) (sym same) left),
-      omega (arith, same)),
+      omega (arith, same),
+    ),
   )
 
 pub none_found : IsOfPieces [] (finding.Kept 0)

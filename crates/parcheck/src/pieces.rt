@@ -47,11 +47,7 @@ fn end_of(cert: &Cert, first: usize, wanted: u64, sum: &mut u64) -> usize
 }
 
 /// So many pieces, and the last of them has what is left; at least one.
-pub(crate) fn pieces_of(
-    alloc: Global,
-    cert: &Cert,
-    count: usize,
-) -> Result<Vec<Piece>, AllocError>
+pub(crate) fn pieces_of(alloc: Global, cert: &Cert, count: usize) -> Result<Vec<Piece>, AllocError>
     ensures { IfOk result (λ pieces. AreRuns 0 pieces.items (length cert.now) × (length cert.now ≤ 2 ^ 64)) }
 {
     let share = numbers_of(cert) / (count as u64).max(1);

@@ -66,8 +66,8 @@ returns c =
     let place = c.loop-place.place in (
       run_up_to c.args.script.now entries c.args.first place c.args.last (omega (arith, c.loop-place-test.false)) c.loop-place.invariant.kept,
       λ within.
-      let all : place ≡ c.args.last = omega (arith, c.loop-place.invariant.within within, c.loop-place-test.false) in (
-        subst (λ last. RunHasPoints entries c.args.first last c.loop-place.points) all c.loop-place.invariant.counted,
-        omega (arith, c.loop-place.invariant.fits, all),
-      ),
+          let all : place ≡ c.args.last = omega (arith, c.loop-place.invariant.within within, c.loop-place-test.false) in (
+            subst (λ last. RunHasPoints entries c.args.first last c.loop-place.points) all c.loop-place.invariant.counted,
+            omega (arith, c.loop-place.invariant.fits, all),
+          ),
     )

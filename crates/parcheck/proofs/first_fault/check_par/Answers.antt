@@ -24,10 +24,10 @@ returns-clause-finding g c =
     let collected = c.in_ok-found.ensures in
     let chain = collected.1 in
     let each = slice-AllZip chain.0 c.as_slice.result.now (chain.1 ∙ slice)
-        (λ (piece : Piece) (found : Finding). IsOfRun c.map.result.f.0.now c.map.result.f.1.now piece.first piece.last found)
-        collected.0 chain.2 in
+    (λ (piece : Piece) (found : Finding). IsOfRun c.map.result.f.0.now c.map.result.f.1.now piece.first piece.last found)
+    collected.0 chain.2 in
     let same = subst (λ f. AllZip (λ (piece : Piece) (found : Finding). IsOfRun f.0.now f.1.now piece.first piece.last found)
-        c.as_slice.result.now collected.0) c.map.ensures.f each in
+    c.as_slice.result.now collected.0) c.map.ensures.f each in
     let found = subst (λ (ones : List Piece). AreFound script entries ones collected.0) c.as_slice.ensures.value same in
     let all = subst (AreFound script entries pieces) (sym (c.as_slice-2.ensures.value ∙ collected.2)) found in
     run_answer script entries c.in_order.result c.in_default.ensures.0 c.in_default.ensures.1

@@ -24,6 +24,6 @@ loop-place-preserved c =
     record {
       within = omega (arith, c.loop-place.invariant.within);
       found = subst (λ (all : List Finding). IsOfPieces all c.joined-result.result) (sym more)
-        (one_more_found found c.loop-place.result c.joined-result.result (drop place findings) c.joined-result.ensures
-        c.loop-place.invariant.found);
+          (one_more_found found c.loop-place.result c.joined-result.result (drop place findings) c.joined-result.ensures
+          c.loop-place.invariant.found);
     }
