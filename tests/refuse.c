@@ -43,7 +43,7 @@ __attribute__((destructor)) static void end(void)
 
 static int refuses(void)
 {
-    if (refused_call < 0 || call++ != refused_call)
+    if (refused_call < 0 || __atomic_fetch_add(&call, 1, __ATOMIC_RELAXED) != refused_call)
         return 0;
     refused = 1;
     errno = ENOMEM;

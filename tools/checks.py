@@ -1,8 +1,11 @@
 """Inputs of `mgcall check` that are answered `yes`, and how its time grows with them: what reading takes is told apart, since the same
 input is read, and then answered at once, where the first state's entries have no link at rest."""
 import json
+import os
 import resource
 import subprocess
+import tempfile
+import time
 from pathlib import Path
 
 PROGRAM = Path(__file__).resolve().parent.parent / "crates/mgcall/out/mgcall"
@@ -118,6 +121,54 @@ def ratio(name, half, whole):
     print(name)
     first, second = seconds(*half), seconds(*whole)
     print(f"  ratio {second[0] / first[0]:.2f}, without reading {second[1] / first[1]:.2f}")
+
+
+def at_once(path, pieces, times):
+    """The best of three times by the clock of so many checks of an input at once, each in so many pieces, and the most memory of one, in bytes."""
+    best, most = None, 0
+    for _ in range(3):
+        start = time.perf_counter()
+        command = [PROGRAM, "check", "--pieces", str(pieces)]
+        running = []
+        for _ in range(times):
+            with open(path, "rb") as text:
+                running.append(subprocess.Popen(command, stdin=text, stdout=subprocess.DEVNULL))
+        for process in running:
+            _, status, used = os.wait4(process.pid, 0)
+            process.returncode = os.waitstatus_to_exitcode(status)
+            most = max(most, used.ru_maxrss * 1024)
+            if process.returncode:
+                raise SystemExit(f"a check in {pieces} pieces ended with {process.returncode}")
+        taken = time.perf_counter() - start
+        best = taken if best is None else min(best, taken)
+    return best, most
+
+
+def in_pieces(name, quarter, whole):
+    """One check in four pieces, beside four processes with a quarter of the input each, on the same processors."""
+    with tempfile.TemporaryDirectory() as folder:
+        paths = [Path(folder) / part for part in ("quarter", "whole")]
+        for path, (script_text, certificate_text) in zip(paths, (quarter, whole)):
+            path.write_text(f"{script_text}%%\n{certificate_text}")
+        one, held = at_once(paths[1], 1, 1)
+        four, held_in_four = at_once(paths[1], 4, 1)
+        apart, _ = at_once(paths[0], 1, 4)
+    print(f"{name}, by the clock, {os.cpu_count()} processors")
+    print(f"  one piece {one:.3f} s, four pieces {four:.3f} s, four processes of a quarter each {apart:.3f} s: {apart / four:.2f} of what they reach")
+    print(f"  memory {held_in_four / held:.2f} times that of one piece")
+
+
+def pieces():
+    in_pieces(
+        "four lines, four ephemerals and cuts, 60 states",
+        (rooms_script(15), rooms_certificate(15)),
+        (rooms_script(60), rooms_certificate(60)),
+    )
+    in_pieces(
+        "wide entries with few steps, 64 states",
+        (script(16, 2, 8), certificate(16, 1, 8, ("no", "may"))),
+        (script(64, 2, 8), certificate(64, 1, 8, ("no", "may"))),
+    )
 
 
 def checks():
