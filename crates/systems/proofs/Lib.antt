@@ -1,0 +1,4 @@
+pub mod Deeds
+pub mod LineLists
+pub mod OpenedCalls
+pub mod OpenedLines
