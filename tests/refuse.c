@@ -3,7 +3,7 @@
      REFUSE_READ=N   reads give N bytes, and then fail
      REFUSE_WRITE=N  writes take N bytes, and then fail
      REFUSE_FULL=N   writes take N bytes, and then none
-   At the end a byte on the descriptor REFUSE_TELL says that a growth was refused. */
+   A byte on the descriptor REFUSE_TELL says that a growth was refused, at once: a program with threads may end without its destructors. */
 #define _GNU_SOURCE
 #include <errno.h>
 #include <stdlib.h>
@@ -17,7 +17,6 @@ extern void *__libc_realloc(void *block, size_t size);
 extern void *__libc_memalign(size_t alignment, size_t size);
 
 static long call = 0, refused_call = -1, tell = -1, read_left = -1, write_left = -1, full_left = -1;
-static int refused = 0;
 
 static long number(const char *name)
 {
@@ -35,17 +34,11 @@ __attribute__((constructor)) static void begin(void)
     call = 0;
 }
 
-__attribute__((destructor)) static void end(void)
-{
-    if (refused)
-        syscall(SYS_write, tell, "r", 1);
-}
-
 static int refuses(void)
 {
     if (refused_call < 0 || __atomic_fetch_add(&call, 1, __ATOMIC_RELAXED) != refused_call)
         return 0;
-    refused = 1;
+    syscall(SYS_write, tell, "r", 1);
     errno = ENOMEM;
     return 1;
 }
