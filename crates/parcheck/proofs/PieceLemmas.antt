@@ -10,7 +10,7 @@ use Rattle.closure.specs.Runs.{IsFirstInRun, IsOfRun, RunHasPoints, RunIsKept}
 use Rattle.parcheck.specs.declared.pieces.Piece.{Piece}
 use Rattle.closure.specs.declared.first_fault.Finding.{Finding}
 use Rattle.closure.specs.declared.first_fault.Finding.TheVariants as finding
-use Rattle.parcheck.specs.Pieces.{AreFound, AreRuns, IsOfBoth, IsOfPieces}
+use Rattle.parcheck.specs.Pieces.{AreRuns, IsOfBoth, IsOfPieces}
 
 module _ (script : Script) (entries : List Entry) (a b c : ℕ) where
   pub both_kept : RunIsKept script entries a b → RunIsKept script entries b c → RunIsKept script entries a c

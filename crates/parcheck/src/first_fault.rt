@@ -34,6 +34,7 @@ pub fn check_par(
     let found: Vec<Finding> = pieces
         .as_slice()
         .par_iter()
+        .with_min_len(1)
         .map(
             |piece: &Piece| -> Finding
                 ensures { IsOfRun script.entry.now cert.entry.now piece.now.first piece.now.last result }

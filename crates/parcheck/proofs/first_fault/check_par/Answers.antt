@@ -7,6 +7,9 @@ use Rattle.closure.specs.declared.first_fault.Finding.TheVariants as finding
 use Rattle.parcheck.specs.declared.pieces.Piece.{Piece}
 use Rattle.closure.proofs.OneFinding.{one_finding}
 use Rattle.closure.proofs.RunLemmas.{run_answer}
+use Rattle.rayon.specs.Lists.{min_len_base}
+use Rattle.rayon.specs.declared.iter.min_len.MinLen.{MinLen}
+use Rattle.rayon.specs.declared.slice.Iter.{Iter}
 use Rattle.rayon.proofs.ToStd.{slice-AllZip}
 use Rattle.parcheck.specs.Pieces.{AreFound}
 use Rattle.parcheck.proofs.first_fault.check_par.Goals as goal
@@ -20,7 +23,10 @@ returns-clause-finding g c =
     let script = c.args.script.now in
     let entries = c.args.cert.now in
     let pieces = c.in_ok-pieces.pieces.items in
-    let slice = ap (λ it. it.slice.now) c.map.ensures.base ∙ c.par_iter.ensures in
+    let slice =
+    ap (λ (it : MinLen (Iter Piece)). (min_len_base it).slice.now) c.map.ensures.base
+    ∙ ap (λ (it : Iter Piece). it.slice.now) c.with_min_len.ensures.base
+    ∙ c.par_iter.ensures in
     let collected = c.in_ok-found.ensures in
     let chain = collected.1 in
     let each = slice-AllZip chain.0 c.as_slice.result.now (chain.1 ∙ slice)
