@@ -1,7 +1,9 @@
--- Each deed leads to the same world or is one event, and keeps that the calls are those that the gateway has open. So all deeds make a run.
+-- Each deed leads to the same world or is one event, and keeps that the calls are of the script and are those that the gateway has open. So all
+-- deeds make a run.
 use Rattle.std.proofs.Common.{◌≡◌, ◌∙◌, ℕ, zero, suc, Bool, true, false, List, [], ◌∷◌, ◌++◌, Option, Some, None, Result, Ok, Err, ◌⊎◌, inl, inr, true≢false, refl, sym, subst, ap}
 use Rattle.std.specs.Prelude.{◌==◌, ◌||◌, ◌&&◌, not, if◌then◌else◌, Contains, is_some, option_map}
 use Rattle.std.proofs.lemmas.Bool.{eqb-true}
+use Rattle.std.proofs.lemmas.Option.{same_Some}
 use Rattle.mg_names.specs.declared.identifiers.Assoc.{Assoc}
 use Rattle.mg_model.specs.declared.events.CallEvent.{CallEvent}
 use Rattle.mg_model.specs.declared.events.CallEvent.TheVariants as to_call
@@ -14,7 +16,7 @@ use Rattle.mg_model.specs.Gateway.{Gateway}
 use Rattle.mg_model.specs.Messages.{Request, Reply, SentNote}
 use Rattle.mg_model.specs.Script.{Script}
 use Rattle.mg_model.specs.Tables.{line_places}
-use Rattle.mg_model.specs.World.{World, AgentSteps, Occurs, Runs, execute, on_a_line, begin, sent_in}
+use Rattle.mg_model.specs.World.{World, AgentSteps, HasEnded, Occurs, Runs, execute, on_a_line, begin, sent_in}
 use Rattle.gateway.specs.declared.answer.Answer.{Answer}
 use Rattle.gateway.specs.declared.answer.Answer.TheVariants as answer
 use Rattle.gateway.specs.declared.fault.CannotHappen as fault
@@ -23,7 +25,7 @@ use Rattle.gateway.specs.Calls.{OpenCall, open_entry, is_retired_entry, call_ent
 use Rattle.gateway.specs.GatewayValue.{GatewayValue, gateway_of, is_open, is_taken}
 use Rattle.agent.specs.AgentValue.{agent_of}
 use Rattle.agent.specs.CallValue.{CallValue}
-use Rattle.systems.specs.Systems.{System, Answers, AreOpen, Begins, Does, Happens, Makes, Restarts, Stays, Steps, Takes, agent_in, agents_of, answers, begins, happens, note_told, notes_told, replies_told, restarts, stays, steps, with_call, world_of}
+use Rattle.systems.specs.Systems.{System, Answers, AreOf, AreOpen, Begins, ChangesCall, Does, Happens, Logs, Makes, MakesRoom, Restarts, Steps, Takes, agent_in, agents_of, answers, begins, happens, logs, makes_room, note_told, notes_told, replies_told, restarts, steps, with_call, world_of}
 
 -- ---- worlds by their parts
 
@@ -135,7 +137,7 @@ module _ (script : Script) (s t : System) where
   restarted (Err why) is calls requests replies notes =
       inl (same_world _ _ (ap gateway_of is.1) (ap agents_of calls) requests replies notes)
 
-  stepped : (d : Steps script s t) (step : Agent → Option Agent) → d.taken ≡ step (agent_in d.old)
+  stepped : (d : Steps s t) (step : Agent → Option Agent) → d.taken ≡ step (agent_in d.old)
       → AgentSteps (world_of s) d.number step (world_of t)
   stepped d step is = record {
     before = agent_in d.old;
@@ -145,7 +147,7 @@ module _ (script : Script) (s t : System) where
     after_is = same_world _ _ (ap gateway_of d.gateway) (ap agents_of d.calls ∙ agents_with s.call d.number d.new) d.requests d.replies d.notes;
   }
 
-  taken : (d : Steps script s t) (happens : CallEvent) → Takes script s d.number (agent_in d.old) happens d.taken
+  taken : (d : Steps s t) (happens : CallEvent) → Takes script s d.number (agent_in d.old) happens d.taken
       → Occurs script (world_of s) (OfCall (record { 0 = d.number }) happens) (world_of t)
   taken d (to_call.Reply number) takes =
       (takes.0, (takes.1, takes.2, takes.3), stepped d (λ a. replied script a takes.0) takes.4)
@@ -188,15 +190,26 @@ agents_begun call old new after a is n = at (n == new) (n == old)
     at false false = refl
 
 module _ (script : Script) (s t : System) where
-  begins_lead : AreOpen s → Begins script s t → Leads script s t
-  begins_lead open_calls d =
-      let agent = d.call_begun.agent ∙ ap (λ (own : Script). begun own d.new (agent_in d.before)) d.of_script in
+  stays_lead : (number : ℕ) (old new : CallValue) → new.agent ≡ old.agent → ChangesCall number old new s t → Leads script s t
+  stays_lead number old new same d =
+      inl (same_world _ _ (ap gateway_of d.gateway) (ap agents_of d.calls ∙ agents_stay s.call number old new d.open_call same)
+      d.requests d.replies d.notes)
+
+  steps_lead : AreOf script s → Steps s t → Leads script s t
+  steps_lead of_script d =
+      let takes = subst (λ (own : Script). Takes own s d.number (agent_in d.old) d.happens d.taken) (of_script d.number d.old d.open_call) d.takes in
+      inr (OfCall (record { 0 = d.number }) d.happens, taken script s t d d.happens takes)
+
+  begins_lead : AreOf script s → AreOpen s → Begins s t → Leads script s t
+  begins_lead of_script open_calls d =
+      let own = of_script d.old d.before d.open_call in
+      let agent = d.call_begun.agent ∙ ap (λ (own : Script). begun own d.new (agent_in d.before)) own in
       inr (
         begin d.new d.old,
         record {
           before = agent_in d.before;
           open_call = ap (option_map agent_in) d.open_call;
-          ended = d.ended;
+          ended = subst (λ (own : Script). HasEnded own (world_of s) (agent_in d.before)) own d.ended;
           may = d.begun.2;
           unused = no_call (s.call d.new) (open_calls d.new ∙ not_open s.gateway d.new d.begun.1);
           not_retired = not_retired s.gateway d.new d.begun.1;
@@ -206,15 +219,16 @@ module _ (script : Script) (s t : System) where
         },
       )
 
-  leads : AreOpen s → Does script s t → Leads script s t
-  leads open_calls (answers d) = answered script s t d.call d.request d.refusal d.answer d.sent d.answered d.calls d.requests d.replies d.notes
-  leads open_calls (happens d) = happened script s t d.line d.event d.answer d.happened d.calls d.requests d.replies d.notes
-  leads open_calls (restarts d) = restarted script s t d.answer d.restarted d.others.calls d.others.requests d.others.replies d.others.notes
-  leads open_calls (steps d) = inr (OfCall (record { 0 = d.number }) d.happens, taken script s t d d.happens d.takes)
-  leads open_calls (stays d) =
-      inl (same_world _ _ (ap gateway_of d.gateway) (ap agents_of d.calls ∙ agents_stay s.call d.number d.old d.new d.open_call d.same)
-      d.requests d.replies d.notes)
-  leads open_calls (begins d) = begins_lead open_calls d
+  leads : AreOf script s → AreOpen s → Does s t → Leads script s t
+  leads of_script open_calls (answers d) =
+      answered script s t d.call d.request d.refusal d.answer d.sent d.answered d.calls d.requests d.replies d.notes
+  leads of_script open_calls (happens d) = happened script s t d.line d.event d.answer d.happened d.calls d.requests d.replies d.notes
+  leads of_script open_calls (restarts d) =
+      restarted script s t d.answer d.restarted d.others.calls d.others.requests d.others.replies d.others.notes
+  leads of_script open_calls (steps d) = steps_lead of_script d
+  leads of_script open_calls (logs d) = stays_lead d.number d.old d.new d.logged.agent d.others
+  leads of_script open_calls (makes_room d) = stays_lead d.number d.old _ refl d.others
+  leads of_script open_calls (begins d) = begins_lead of_script open_calls d
 
 -- ---- the calls are those that the gateway has open
 
@@ -251,8 +265,8 @@ module _ (s t : System) (open_calls : AreOpen s) where
       ∙ open_calls n
       ∙ sym (same_gateway gateway n)
 
-  open_begun : (script : Script) → Begins script s t → AreOpen t
-  open_begun script d n =
+  open_begun : Begins s t → AreOpen t
+  open_begun d n =
       ap (λ (call : ℕ → Option CallValue). is_some (call n)) d.calls
       ∙ at (n == d.new) (n == d.old)
       ∙ ap (λ (is : Bool). (n == d.new) || (not (n == d.old) && is)) (open_calls n)
@@ -264,24 +278,57 @@ module _ (s t : System) (open_calls : AreOpen s) where
       at false true = refl
       at false false = refl
 
-  kept : (script : Script) → Does script s t → AreOpen t
-  kept script (answers d) = both_stay d.calls (open_answered d.call d.request d.refusal d.answer d.answered)
-  kept script (happens d) = both_stay d.calls (open_happened d.line d.event d.answer d.happened)
-  kept script (restarts d) = both_stay d.others.calls (open_restarted d.answer d.restarted)
-  kept script (steps d) = open_with d.number d.old d.new d.open_call d.gateway d.calls
-  kept script (stays d) = open_with d.number d.old d.new d.open_call d.gateway d.calls
-  kept script (begins d) = open_begun script d
+  still_open : Does s t → AreOpen t
+  still_open (answers d) = both_stay d.calls (open_answered d.call d.request d.refusal d.answer d.answered)
+  still_open (happens d) = both_stay d.calls (open_happened d.line d.event d.answer d.happened)
+  still_open (restarts d) = both_stay d.others.calls (open_restarted d.answer d.restarted)
+  still_open (steps d) = open_with d.number d.old d.new d.open_call d.gateway d.calls
+  still_open (logs d) = open_with d.number d.old d.new d.others.open_call d.others.gateway d.others.calls
+  still_open (makes_room d) = open_with d.number d.old _ d.others.open_call d.others.gateway d.others.calls
+  still_open (begins d) = open_begun d
+
+-- ---- each call is of the script
+
+module _ (script : Script) (s t : System) (of_script : AreOf script s) where
+  of_same : t.call ≡ s.call → AreOf script t
+  of_same calls n call is = of_script n call (ap (λ (calls : ℕ → Option CallValue). calls n) (sym calls) ∙ is)
+
+  of_with : (number : ℕ) (old new : CallValue) → s.call number ≡ Some old → new.script ≡ old.script → t.call ≡ with_call s.call number new
+      → AreOf script t
+  of_with number old new open_call same calls n call is = at (n == number) (ap (λ (calls : ℕ → Option CallValue). calls n) (sym calls) ∙ is)
+    where
+      at : (one : Bool) → (if one then Some new else s.call n) ≡ Some call → call.script ≡ script
+      at true is = ap (λ (c : CallValue). c.script) (same_Some call new (sym is)) ∙ same ∙ of_script number old open_call
+      at false is = of_script n call is
+
+  of_begun : Begins s t → AreOf script t
+  of_begun d n call is = at (n == d.new) (n == d.old) (ap (λ (calls : ℕ → Option CallValue). calls n) (sym d.calls) ∙ is)
+    where
+      at : (one other : Bool) → (if one then Some d.after else if other then None else s.call n) ≡ Some call → call.script ≡ script
+      at true other is =
+          ap (λ (c : CallValue). c.script) (same_Some call d.after (sym is)) ∙ d.call_begun.script ∙ of_script d.old d.before d.open_call
+      at false true is = absurd (true≢false (sym (ap is_some is)))
+      at false false is = of_script n call is
+
+  still_of : Does s t → AreOf script t
+  still_of (answers d) = of_same d.calls
+  still_of (happens d) = of_same d.calls
+  still_of (restarts d) = of_same d.others.calls
+  still_of (steps d) = of_with d.number d.old d.new d.open_call d.done.1.script d.calls
+  still_of (logs d) = of_with d.number d.old d.new d.others.open_call d.logged.longer.script d.others.calls
+  still_of (makes_room d) = of_with d.number d.old _ d.others.open_call refl d.others.calls
+  still_of (begins d) = of_begun d
 
 -- ---- all deeds
 
-pub runs_from : (script : Script) (n : ℕ) (s t : System) → AreOpen s → Makes script n s t
+pub runs_from : (script : Script) (n : ℕ) (s t : System) → AreOf script s → AreOpen s → Makes n s t
     → (events : List Event) × Runs script events (world_of s) (world_of t)
 unfolding Runs
-runs_from script zero s t open_calls made = ([], ap world_of made)
-runs_from script (suc n) s t open_calls made =
+runs_from script zero s t of_script open_calls made = ([], ap world_of made)
+runs_from script (suc n) s t of_script open_calls made =
     let next = made.0 in
-    let rest = runs_from script n next t (kept s next open_calls script made.1.0) made.1.1 in
-    elim (leads script s next open_calls made.1.0) [
+    let rest = runs_from script n next t (still_of script s next of_script made.1.0) (still_open s next open_calls made.1.0) made.1.1 in
+    elim (leads script s next of_script open_calls made.1.0) [
       | inl same ↦ (rest.0, subst (λ (w : World). Runs script rest.0 w (world_of t)) same rest.1)
       | inr step ↦ (step.0 ∷ rest.0, (world_of next, (step.1, rest.1)))
     ]

@@ -21,14 +21,15 @@ use Rattle.gateway.specs.GatewayValue.{gateway_of, is_open, is_taken}
 use Rattle.gateway.specs.Openings.{are_free, are_there, first_gateway, has_twice, is_free, opened}
 use Rattle.agent.specs.CallValue.{CallValue}
 use Rattle.systems.specs.Openings.{AreOpened, Opens, Starts, line_at}
-use Rattle.systems.specs.Systems.{AreOpen, System, agent_in, agents_of, with_call, world_of}
+use Rattle.systems.specs.Systems.{AreOf, AreOpen, System, agent_in, agents_of, with_call, world_of}
 use Rattle.systems.proofs.Deeds.{not_open}
 use Rattle.systems.proofs.LineLists.{both_hold, named, one_place}
 use Rattle.systems.proofs.OpenedLines.{MayOpen, first_in, later_in, latest_or_earlier, lines_opened, not_held, still_hook}
 
--- an opening, whose lines are on hook, and whose calls are those that the gateway has open
+-- an opening, whose lines are on hook, and whose calls are of the script and are those that the gateway has open
 pub record IsOpened (script : Script) (calls : List Opened) (s : System) : Type 0 where
   pub is_opening : IsOpening script calls (world_of s)
+  pub are_of : AreOf script s
   pub are_open : AreOpen s
   pub on_hook : (l : ℕ) → ((gateway_of s.gateway).line l).hook ≡ new_line.hook
 
@@ -180,6 +181,13 @@ module _ (script : Script) (calls : List Opened) (one : Opened) (s t : System) (
       of_some c a false is at =
           let by = before.is_opening.agents.no_other c a at in (by.0, later_in new calls by.0 by.1, by.2)
 
+  of_script : AreOf script t
+  of_script n call is = at (n == one.call) (ap (λ calls. calls n) (sym d.calls) ∙ is)
+    where
+      at : (one : Bool) → (if one then Some d.call else s.call n) ≡ Some call → call.script ≡ script
+      at true is = ap (λ (c : CallValue). c.script) (same_Some call d.call (sym is)) ∙ d.of_script
+      at false is = before.are_of n call is
+
   opens : AreOpen t
   opens n =
       ap (λ call. is_some (call n)) d.calls ∙ at (n == one.call) ∙ ap (λ (is : Bool). (n == one.call) || is) (before.are_open n) ∙ sym (d.open_calls n)
@@ -202,6 +210,7 @@ module _ (script : Script) (calls : List Opened) (one : Opened) (s t : System) (
         no_note = d.notes ∙ before.is_opening.messages.no_note;
       };
     };
+    are_of = of_script;
     are_open = opens;
     on_hook = λ l. subst (λ (after : Gateway). (after.line l).hook ≡ new_line.hook) (sym d.gateway)
         (still_hook (names_line d.lines l) (g.line l) (before.on_hook l));
@@ -256,6 +265,7 @@ module _ (script : Script) (s : System) (d : Starts s) where
       };
       messages = record { no_request = d.requests; no_answer = d.replies; no_note = d.notes };
     };
+    are_of = λ n call is. absurd (true≢false (sym (ap is_some (ap (λ calls. calls n) (sym d.calls) ∙ is))));
     are_open = λ n. ap (λ call. is_some (call n)) d.calls ∙ sym (d.no_call n);
     on_hook = λ l. subst (λ (g : Gateway). (g.line l).hook ≡ new_line.hook) (sym d.gateway) refl;
   }

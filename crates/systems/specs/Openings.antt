@@ -1,5 +1,5 @@
 -- A new gateway, and calls of a script that are opened on it, one after the other. A reader should check that a call is opened on the gateway and
--- entered on the same lines, in their order, as many as the script has.
+-- entered with the script, on the same lines, in their order, as many as it has.
 use Rattle.std.specs.Prelude.{◌≡◌, ℕ, ◌==◌, ◌||◌, Bool, false, List, [], ◌∷◌, length, map, slice_index_or, Option, None, Ok}
 use Rattle.mg_names.specs.declared.identifiers.LineNo.{LineNo}
 use Rattle.mg_model.specs.Agent as model
@@ -34,6 +34,7 @@ pub record Opens (script : Script) (one : Opened) (s t : System) : Type 0 where
   pub gateway : gateway_of t.gateway ≡ opened (gateway_of s.gateway) one.call lines
   pub open_calls : (other : ℕ) → is_open t.gateway other ≡ ((other == one.call) || is_open s.gateway other)
   pub call : CallValue
+  pub of_script : call.script ≡ script
   pub entered : agent_in call ≡ model.opened script one.call (line_at lines)
   pub calls : t.call ≡ with_call s.call one.call call
   pub requests : t.requests ≡ s.requests

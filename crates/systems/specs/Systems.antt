@@ -48,6 +48,10 @@ world_of s = record {
   notes = s.notes;
 }
 
+-- each call is of this script
+abbrev pub AreOf : Script → System → Type 0
+AreOf script s = (number : ℕ) (call : CallValue) → s.call number ≡ Some call → call.script ≡ script
+
 -- the calls are those that the gateway has open
 abbrev pub AreOpen : System → Type 0
 AreOpen s = (number : ℕ) → is_some (s.call number) ≡ is_open s.gateway number
@@ -121,44 +125,54 @@ Takes script s call a (to_call.Hear association) taken =
     (association.0 ≤ (gateway_of s.gateway).association) × (taken ≡ heard script a association.0)
 Takes script s call a other taken = ⊥
 
--- a step of a call is taken, and the request of the state that it enters is sent; a call whose step isn't taken is as it was
-pub record Steps (script : Script) (s t : System) : Type 0 where
+-- a step of a call is taken, and the request of the state that it enters is sent
+pub record Steps (s t : System) : Type 0 where
   pub number : ℕ
   pub old : CallValue
   pub new : CallValue
   pub happens : CallEvent
   pub taken : Option Agent
   pub open_call : s.call number ≡ Some old
-  pub takes : Takes script s number (agent_in old) happens taken
+  pub takes : Takes old.script s number (agent_in old) happens taken
   pub done : calls.IsDone taken (OfCall (record { 0 = number }) happens) old new (Ok tt)
-  pub gateway : t.gateway ≡ s.gateway
   pub calls : t.call ≡ with_call s.call number new
+  pub gateway : t.gateway ≡ s.gateway
   pub requests : t.requests ≡ sent_in (agent_in new).phase ++ s.requests
   pub replies : t.replies ≡ s.replies
   pub notes : t.notes ≡ s.notes
 
--- a call makes room, or writes down an event that the gateway did, or a step of it is refused: its agent stays
-pub record Stays (s t : System) : Type 0 where
-  pub number : ℕ
-  pub old : CallValue
-  pub new : CallValue
+-- nothing but this call changes
+pub record ChangesCall (number : ℕ) (old new : CallValue) (s t : System) : Type 0 where
   pub open_call : s.call number ≡ Some old
-  pub same : new.agent ≡ old.agent
-  pub gateway : t.gateway ≡ s.gateway
   pub calls : t.call ≡ with_call s.call number new
+  pub gateway : t.gateway ≡ s.gateway
   pub requests : t.requests ≡ s.requests
   pub replies : t.replies ≡ s.replies
   pub notes : t.notes ≡ s.notes
 
+-- a call writes down an event that the gateway did
+pub record Logs (s t : System) : Type 0 where
+  pub number : ℕ
+  pub old : CallValue
+  pub new : CallValue
+  pub event : Event
+  pub logged : calls.IsWithEvent event old new
+  pub others : ChangesCall number old new s t
+
+-- a call makes room for an event
+pub record MakesRoom (s t : System) : Type 0 where
+  pub number : ℕ
+  pub old : CallValue
+  pub others : ChangesCall number old (calls.with_room old) s t
+
 -- a call that has ended gives its lines to another, on the gateway and by itself
-pub record Begins (script : Script) (s t : System) : Type 0 where
+pub record Begins (s t : System) : Type 0 where
   pub old : ℕ
   pub new : ℕ
   pub before : CallValue
   pub after : CallValue
   pub open_call : s.call old ≡ Some before
-  pub of_script : before.script ≡ script
-  pub ended : HasEnded script (world_of s) (agent_in before)
+  pub ended : HasEnded before.script (world_of s) (agent_in before)
   pub begun : IsBegun s.gateway old new t.gateway (Ok tt)
   pub call_begun : calls.IsBegun new before after
   pub calls : t.call ≡ (λ n. if n == new then Some after else if n == old then None else s.call n)
@@ -166,17 +180,18 @@ pub record Begins (script : Script) (s t : System) : Type 0 where
   pub replies : t.replies ≡ s.replies
   pub notes : t.notes ≡ s.notes
 
--- ---- all that is done
+-- ---- all that is done: a call that is refused, and handed back as it was, is no deed
 
-pub data Does (script : Script) (s t : System) : Type 0 where
-  answers : Answers s t → Does script s t
-  happens : Happens s t → Does script s t
-  restarts : Restarts s t → Does script s t
-  steps : Steps script s t → Does script s t
-  stays : Stays s t → Does script s t
-  begins : Begins script s t → Does script s t
+pub data Does (s t : System) : Type 0 where
+  answers : Answers s t → Does s t
+  happens : Happens s t → Does s t
+  restarts : Restarts s t → Does s t
+  steps : Steps s t → Does s t
+  logs : Logs s t → Does s t
+  makes_room : MakesRoom s t → Does s t
+  begins : Begins s t → Does s t
 
 -- so many deeds, one after the other
-abbrev pub Makes : Script → ℕ → System → System → Type 0
-Makes script zero s t = t ≡ s
-Makes script (suc n) s t = (next : System) × (Does script s next × Makes script n next t)
+abbrev pub Makes : ℕ → System → System → Type 0
+Makes zero s t = t ≡ s
+Makes (suc n) s t = (next : System) × (Does s next × Makes n next t)
