@@ -1,104 +1,75 @@
-use contexts::{Board, Done, ExecFault};
-use mg_model::items::{Added, Item, RemoteSetting, Settings};
+//! Commands on a board, what exists on it, and where media goes.
+use crate::commands::{Command, Context, Remote, Set, mode, naming};
+use crate::seen::{EMPTY, NOTHING, Seen, made, made_both, made_ephemeral, one, took_out, two};
+use crate::steps::{Step, answered_anew};
 use mg_names::codes::Code;
-use mg_names::identifiers::{ContextId, LineNo, TermId};
+use mg_names::identifiers::LineNo;
 use mg_names::modes::Mode;
 use mg_names::topologies::Topology;
 use std::alloc::Global;
-use std::test::Fail;
 
 const LINES: [LineNo; 2] = [LineNo(1), LineNo(2)];
 
-/// What is set, by mode and Remote.
-fn settings(mode: Option<Mode>, remote: Option<RemoteSetting>) -> Settings {
-    Settings { mode, remote }
-}
-
-/// Add of a line in a mode.
-fn add_in(context: ContextId, line: u32, mode: Mode) -> Item {
-    Item::Add {
-        context,
-        added: Added::Line(LineNo(line)),
-        settings: settings(Some(mode), None),
-    }
-}
-
 /// Add of a line.
-fn add(context: ContextId, line: u32) -> Item {
-    add_in(context, line, Mode::SendReceive)
+fn add(context: Context, line: u32) -> Step {
+    Step::Does(Command::AddLine(context, line, mode(Mode::SendReceive)))
 }
 
 /// Add of a new ephemeral.
-fn add_new(context: ContextId) -> Item {
-    Item::Add {
-        context,
-        added: Added::NewEphemeral,
-        settings: settings(Some(Mode::SendReceive), None),
-    }
+fn add_new(context: Context) -> Step {
+    Step::Does(Command::AddNew(context, mode(Mode::SendReceive)))
 }
 
-/// The code that an answer has.
-fn code(answer: &Result<Done, ExecFault>) -> Option<Code> {
-    match answer {
-        Err(ExecFault::Code(code)) => Some(*code),
-        _ => None,
-    }
+/// Modify of the ephemeral with this place in the context of the same place.
+fn modify(place: usize, set: Set) -> Step {
+    Step::Does(Command::Modify(place, place, set))
 }
 
-#[test]
-fn a_destroyed_ephemeral_is_unknown(rt: HostRuntime) -> Result<(), Fail> {
-    let mut board = Board::new(rt.alloc(), &LINES)?;
-    let Ok(first) = board.exec(&add(ContextId::CHOOSE, 1)) else {
-        panic!(rt; "a context");
-    };
-    let Some(context) = first.context() else {
-        panic!(rt; "a number");
-    };
-    assert!(rt; code(&board.exec(&add(context, 1))) == Some(Code::AlreadyInContext));
-    let Ok(made) = board.exec(&add_new(context)) else {
-        panic!(rt; "an ephemeral");
-    };
-    let Some(number) = made.ephemeral() else {
-        panic!(rt; "a number");
-    };
-    assert_eq!(rt; board.contexts(), 1);
-    let Ok(gone) = board.exec(&Item::SubtractAll { context }) else {
-        panic!(rt; "all taken out");
-    };
-    assert!(rt; gone.lines() == [LineNo(1)].as_slice());
-    assert!(rt; gone.ephemerals() == [number].as_slice());
-    assert_eq!(rt; board.contexts(), 0);
-    let Ok(again) = board.exec(&add_new(ContextId::CHOOSE)) else {
-        panic!(rt; "a context");
-    };
-    let Some(other) = again.context() else {
-        panic!(rt; "a number");
-    };
-    let named = Item::Add {
-        context: other,
-        added: Added::NewEphemeral,
-        settings: settings(None, Some(RemoteSetting::Ephemeral(number))),
-    };
-    assert!(rt; code(&board.exec(&named)) == Some(Code::UnknownTermination));
-    assert!(rt; code(&board.exec(&Item::SubtractAll { context })) == Some(Code::UnknownContext));
-    let mut copied = board.copy()?;
-    copied.reset();
-    assert_eq!(rt; copied.contexts(), 0);
-    assert_eq!(rt; board.contexts(), 1);
-    assert!(rt; board.get(TermId::Line(LineNo(1))).is_some());
-    Ok(())
+/// The topology from line 1 to line 2 is set in the only context.
+fn sets(topology: Topology) -> Step {
+    Step::Does(Command::SetTopology(0, topology))
 }
 
 #[test]
-fn a_board_tells_what_exists(rt: HostRuntime) -> Result<(), Fail> {
-    let mut board = Board::new(rt.alloc(), &[LineNo(2), LineNo(1)])?;
-    let Some((context, ephemeral)) = beside(&mut board, 1) else {
-        panic!(rt; "a context with an ephemeral");
-    };
-    assert!(rt; board.lines()?.as_slice() == LINES.as_slice());
-    assert!(rt; board.ephemerals()?.as_slice() == [ephemeral].as_slice());
-    assert!(rt; board.context_numbers()?.as_slice() == [context].as_slice());
-    Ok(())
+fn a_destroyed_ephemeral_is_unknown(rt: HostRuntime) {
+    let named = Command::AddNew(Context::At(1), naming(0));
+    let rows = [
+        (add(Context::New, 1), made(0)),
+        (
+            add(Context::At(0), 1),
+            Seen::Refused(Code::AlreadyInContext),
+        ),
+        (add_new(Context::At(0)), made_ephemeral(0)),
+        (Step::Contexts, Seen::Contexts(1)),
+        (
+            Step::Does(Command::SubtractAll(0)),
+            took_out(one(1), one(0)),
+        ),
+        (Step::Contexts, Seen::Contexts(0)),
+        (add_new(Context::New), made_both(1, 1)),
+        (Step::Does(named), Seen::Refused(Code::UnknownTermination)),
+        (
+            Step::Does(Command::SubtractAll(0)),
+            Seen::Refused(Code::UnknownContext),
+        ),
+        (Step::ContextsOfResetCopy, Seen::Contexts(0)),
+        (Step::Contexts, Seen::Contexts(1)),
+        (Step::HasLine(1), Seen::Is(true)),
+    ];
+    assert_eq!(rt; answered_anew(rt.alloc(), &LINES, &rows), rows.len());
+}
+
+#[test]
+fn a_board_tells_what_exists(rt: HostRuntime) {
+    let rows = [
+        (add(Context::New, 1), made(0)),
+        (add_new(Context::At(0)), made_ephemeral(0)),
+        (Step::Lines, Seen::Lists(two(1, 2))),
+        (Step::Ephemerals, Seen::Lists(one(0))),
+        (Step::ContextNumbers, Seen::Lists(one(0))),
+    ];
+    let lines = [LineNo(2), LineNo(1)];
+    assert_eq!(rt; answered_anew(rt.alloc(), &lines, &rows), rows.len());
 }
 
 const MODES: [Mode; 4] = [
@@ -116,141 +87,73 @@ const GOES: [[bool; 4]; 4] = [
     [false, true, false, true],
 ];
 
-/// Lines 1 and 2 in one context.
-#[derive(Drop)]
-struct Pair {
-    board: Board,
-    context: ContextId,
-}
-
-impl Pair {
-    fn new(alloc: Global, one: Mode, two: Mode) -> Option<Pair> {
-        let mut board = Board::new(alloc, &LINES).ok()?;
-        let made = board.exec(&add_in(ContextId::CHOOSE, 1, one)).ok()?;
-        let context = made.context()?;
-        let _added = board.exec(&add_in(context, 2, two)).ok()?;
-        Some(Pair { board, context })
-    }
-
-    /// Sets the topology from line 1 to line 2.
-    fn set(&mut self, topology: Topology) -> bool {
-        let item = Item::SetTopology {
-            context: self.context,
-            first: TermId::Line(LineNo(1)),
-            second: TermId::Line(LineNo(2)),
-            topology,
-        };
-        self.board.exec(&item).is_ok()
-    }
-
-    /// Takes line 2 out of the context and adds it again.
-    fn add_again(&mut self) -> bool {
-        let out = Item::Subtract {
-            context: self.context,
-            termination: TermId::Line(LineNo(2)),
-        };
-        self.board.exec(&out).is_ok() && self.board.exec(&add(self.context, 2)).is_ok()
-    }
-}
-
-/// Lines 1 and 2 in a context each, with an ephemeral in either that names the other one.
-#[derive(Drop)]
-struct Crossed {
-    board: Board,
-    other: ContextId,
-    far: u32,
-}
-
-/// A line in a new context, with an ephemeral beside it: the context and the ephemeral.
-fn beside(board: &mut Board, line: u32) -> Option<(ContextId, u32)> {
-    let done = board.exec(&add(ContextId::CHOOSE, line)).ok()?;
-    let context = done.context()?;
-    let done = board.exec(&add_new(context)).ok()?;
-    Some((context, done.ephemeral()?))
-}
-
-impl Crossed {
-    fn new(alloc: Global) -> Option<Crossed> {
-        let mut board = Board::new(alloc, &LINES).ok()?;
-        let (one, near) = beside(&mut board, 1)?;
-        let (other, far) = beside(&mut board, 2)?;
-        let mut crossed = Crossed { board, other, far };
-        let _there = crossed.modify(one, near, None, Some(RemoteSetting::Ephemeral(far)))?;
-        let _back = crossed.modify(other, far, None, Some(RemoteSetting::Ephemeral(near)))?;
-        Some(crossed)
-    }
-
-    /// Modify of an ephemeral.
-    fn modify(
-        &mut self,
-        context: ContextId,
-        number: u32,
-        mode: Option<Mode>,
-        remote: Option<RemoteSetting>,
-    ) -> Option<Done> {
-        let item = Item::Modify {
-            context,
-            termination: TermId::Eph(number),
-            settings: settings(mode, remote),
-        };
-        self.board.exec(&item).ok()
-    }
-
-    /// Modify of the ephemeral beside line 2.
-    fn modify_far(&mut self, mode: Option<Mode>, remote: Option<RemoteSetting>) -> Option<Done> {
-        self.modify(self.other, self.far, mode, remote)
-    }
-}
-
-/// Whether media goes from line 1 to line 2, and back.
-fn ways(board: &Board) -> (bool, bool) {
-    (
-        board.path(LineNo(1), LineNo(2)),
-        board.path(LineNo(2), LineNo(1)),
-    )
+/// Whether, where lines 1 and 2 stand in one context in these modes, media goes from line 1 to line 2 as is wanted.
+fn goes_by(alloc: Global, first: Mode, second: Mode, goes: bool) -> bool {
+    let rows = [
+        (
+            Step::Does(Command::AddLine(Context::New, 1, mode(first))),
+            made(0),
+        ),
+        (
+            Step::Does(Command::AddLine(Context::At(0), 2, mode(second))),
+            Seen::Did(NOTHING),
+        ),
+        (Step::Path(1, 2), Seen::Is(goes)),
+    ];
+    answered_anew(alloc, &LINES, &rows) == rows.len()
 }
 
 #[test]
 fn media_goes_by_modes(rt: HostRuntime) {
-    for (one, row) in MODES.iter().zip(GOES.iter()) {
-        for (two, goes) in MODES.iter().zip(row.iter()) {
-            let Some(pair) = Pair::new(rt.alloc(), *one, *two) else {
-                panic!(rt; "two lines");
-            };
-            assert_eq!(rt; pair.board.path(LineNo(1), LineNo(2)), *goes);
+    for (first, row) in MODES.iter().zip(GOES.iter()) {
+        for (second, goes) in MODES.iter().zip(row.iter()) {
+            assert!(rt; goes_by(rt.alloc(), *first, *second, *goes));
         }
     }
 }
 
 #[test]
 fn media_goes_by_topology(rt: HostRuntime) {
-    let Some(mut pair) = Pair::new(rt.alloc(), Mode::SendReceive, Mode::SendReceive) else {
-        panic!(rt; "two lines");
-    };
-    assert!(rt; pair.set(Topology::Oneway));
-    assert!(rt; ways(&pair.board) == (true, false));
-    assert!(rt; pair.board.joined(LineNo(2), LineNo(1)));
-    assert!(rt; pair.set(Topology::Isolate));
-    assert!(rt; ways(&pair.board) == (false, false));
-    assert!(rt; !pair.board.joined(LineNo(1), LineNo(2)));
-    assert!(rt; pair.set(Topology::Oneway));
-    assert!(rt; pair.add_again());
-    assert!(rt; ways(&pair.board) == (true, true));
+    let rows = [
+        (add(Context::New, 1), made(0)),
+        (add(Context::At(0), 2), Seen::Did(NOTHING)),
+        (sets(Topology::Oneway), Seen::Did(NOTHING)),
+        (Step::Ways, Seen::Ways(true, false)),
+        (Step::AreJoined(2, 1), Seen::Is(true)),
+        (sets(Topology::Isolate), Seen::Did(NOTHING)),
+        (Step::Ways, Seen::Ways(false, false)),
+        (Step::AreJoined(1, 2), Seen::Is(false)),
+        (sets(Topology::Oneway), Seen::Did(NOTHING)),
+        (
+            Step::Does(Command::SubtractLine(0, 2)),
+            took_out(one(2), EMPTY),
+        ),
+        (add(Context::At(0), 2), Seen::Did(NOTHING)),
+        (Step::Ways, Seen::Ways(true, true)),
+    ];
+    assert_eq!(rt; answered_anew(rt.alloc(), &LINES, &rows), rows.len());
 }
 
+/// Lines 1 and 2 in a context each, with an ephemeral in either that names the other one.
 #[test]
 fn media_crosses_between_ephemerals(rt: HostRuntime) {
-    let Some(mut crossed) = Crossed::new(rt.alloc()) else {
-        panic!(rt; "two contexts");
+    let parted = Set {
+        mode: Some(Mode::SendReceive),
+        remote: Some(Remote::Nothing),
     };
-    assert!(rt; ways(&crossed.board) == (true, true));
-    assert!(rt; crossed.modify_far(Some(Mode::SendOnly), None).is_some());
-    assert!(rt; ways(&crossed.board) == (false, true));
-    assert!(rt;
-        crossed
-            .modify_far(Some(Mode::SendReceive), Some(RemoteSetting::Nothing))
-            .is_some()
-    );
-    assert!(rt; ways(&crossed.board) == (false, false));
-    assert!(rt; !crossed.board.joined(LineNo(1), LineNo(2)));
+    let rows = [
+        (add(Context::New, 1), made(0)),
+        (add_new(Context::At(0)), made_ephemeral(0)),
+        (add(Context::New, 2), made(1)),
+        (add_new(Context::At(1)), made_ephemeral(1)),
+        (modify(0, naming(1)), Seen::Did(NOTHING)),
+        (modify(1, naming(0)), Seen::Did(NOTHING)),
+        (Step::Ways, Seen::Ways(true, true)),
+        (modify(1, mode(Mode::SendOnly)), Seen::Did(NOTHING)),
+        (Step::Ways, Seen::Ways(false, true)),
+        (modify(1, parted), Seen::Did(NOTHING)),
+        (Step::Ways, Seen::Ways(false, false)),
+        (Step::AreJoined(1, 2), Seen::Is(false)),
+    ];
+    assert_eq!(rt; answered_anew(rt.alloc(), &LINES, &rows), rows.len());
 }

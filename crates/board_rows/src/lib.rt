@@ -6,6 +6,14 @@
 #[cfg(test)]
 mod boards;
 #[cfg(test)]
+mod commands;
+#[cfg(test)]
+mod given;
+#[cfg(test)]
 mod numbers;
 #[cfg(test)]
 mod rows_of_terminations;
+#[cfg(test)]
+mod seen;
+#[cfg(test)]
+mod steps;
