@@ -17,3 +17,5 @@ mod rows_of_terminations;
 mod seen;
 #[cfg(test)]
 mod steps;
+#[cfg(test)]
+mod tables;

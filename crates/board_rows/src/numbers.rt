@@ -2,9 +2,9 @@
 use crate::commands::{Command, Context, UNSET, naming};
 use crate::seen::{EMPTY, Seen, made, made_ephemeral, one, took_out};
 use crate::steps::{Step, answered_anew, answered_by_class};
+use crate::tables::{Call, Deed, Heard, Named, heard_anew, heard_of_one};
 use mg_names::codes::Code;
-use mg_names::identifiers::{LineNo, TermId};
-use terminations::{CreateFault, Terms};
+use mg_names::identifiers::LineNo;
 
 const LINES: [LineNo; 3] = [LineNo(1), LineNo(2), LineNo(3)];
 
@@ -94,44 +94,45 @@ fn contexts_are_used_up_until_settled(rt: HostRuntime) {
     assert_eq!(rt; answered, rows.len());
 }
 
-#[test]
-fn no_context_has_the_number_of_choose_or_of_all(rt: HostRuntime) {
-    let rows = [(enters(1), USED_UP)];
-    let answered = answered_by_class(rt.alloc(), &LINES, (0, ALONE), &rows);
-    assert_eq!(rt; answered, rows.len());
-}
+const DESTROYED: Call = Call::Of(Named::Ephemeral(0), Deed::Destroy);
 
 #[test]
 fn an_ephemeral_is_given_again_once_settled(rt: HostRuntime) {
-    let mut terms = Terms::new(rt.alloc());
-    let first = terms.create();
-    let Ok(ephemeral) = first else {
-        panic!(rt; "an ephemeral");
-    };
-    assert!(rt; terms.destroy(ephemeral).is_ok());
-    let second = terms.create();
-    assert!(rt; second.is_ok());
-    assert!(rt; second != first);
-    terms.settle();
-    assert!(rt; terms.create() == first);
+    let rows = [
+        (Call::Create, Heard::Created(0)),
+        (DESTROYED, Heard::Done),
+        (Call::Create, Heard::Created(1)),
+        (Call::Settle, Heard::Done),
+        (Call::Create, Heard::Created(0)),
+    ];
+    assert_eq!(rt; heard_anew(rt.alloc(), &rows), rows.len());
 }
 
 #[test]
 fn ephemerals_are_used_up_until_settled(rt: HostRuntime) {
-    let mut terms = Terms::with_ids(rt.alloc(), 5, ALONE);
-    assert!(rt; terms.create() == Ok(TermId::Eph(5)));
-    assert!(rt; terms.create() == Err(CreateFault::Full));
-    assert!(rt; terms.destroy(TermId::Eph(5)).is_ok());
-    assert!(rt; terms.create() == Err(CreateFault::Full));
-    terms.settle();
-    assert!(rt; terms.create() == Ok(TermId::Eph(5)));
-    terms.reset();
-    assert!(rt; terms.create() == Ok(TermId::Eph(5)));
+    let rows = [
+        (Call::Create, Heard::Created(0)),
+        (Call::Number(0), Heard::Number(5)),
+        (Call::Create, Heard::Full),
+        (DESTROYED, Heard::Done),
+        (Call::Create, Heard::Full),
+        (Call::Settle, Heard::Done),
+        (Call::Create, Heard::Created(0)),
+        (Call::Reset, Heard::Done),
+        (Call::Create, Heard::Created(0)),
+    ];
+    assert_eq!(rt; heard_of_one(rt.alloc(), 5, &rows), rows.len());
 }
 
 #[test]
-fn no_ephemeral_but_the_last_has_the_number_of_the_null_context(rt: HostRuntime) {
-    let mut terms = Terms::with_ids(rt.alloc(), 0, ALONE);
-    assert!(rt; terms.create() == Ok(TermId::Eph(ALONE)));
-    assert!(rt; terms.create() == Err(CreateFault::Full));
+fn no_context_has_the_number_of_choose_or_of_all(rt: HostRuntime) {
+    let of_board = [(enters(1), USED_UP)];
+    let answered = answered_by_class(rt.alloc(), &LINES, (0, ALONE), &of_board);
+    assert_eq!(rt; answered, of_board.len());
+    let of_table = [
+        (Call::Create, Heard::Created(0)),
+        (Call::Number(0), Heard::Number(ALONE)),
+        (Call::Create, Heard::Full),
+    ];
+    assert_eq!(rt; heard_of_one(rt.alloc(), 0, &of_table), of_table.len());
 }

@@ -1,30 +1,37 @@
+//! Each call of a table of terminations.
+use crate::tables::{Call, Deed, Heard, Named, heard_anew};
 use mg_names::codes::Code;
-use mg_names::identifiers::{ContextId, LineNo, TermId};
+use mg_names::identifiers::ContextId;
 use mg_names::modes::Mode;
-use terminations::{AddLineFault, Terms};
+
+const LINE: Named = Named::Line(7);
+
+const EPHEMERAL: Named = Named::Ephemeral(0);
+
+const REMOTE: Option<u32> = Some(9);
 
 #[test]
 fn each_call_once(rt: HostRuntime) {
-    let mut terms = Terms::new(rt.alloc());
-    let line = TermId::Line(LineNo(7));
-    assert!(rt; terms.add_line(LineNo(7)).is_ok());
-    assert!(rt; terms.add_line(LineNo(7)) == Err(AddLineFault::Known));
-    let Ok(ephemeral) = terms.create() else {
-        panic!(rt; "an ephemeral");
-    };
-    assert!(rt; terms.put(line, ContextId(3)).is_ok());
-    assert!(rt; terms.put(line, ContextId(4)) == Err(Code::AlreadyInContext));
-    assert!(rt; terms.set_mode(line, Mode::SendOnly).is_ok());
-    assert!(rt; terms.set_remote(ephemeral, Some(9)).is_ok());
-    assert!(rt; terms.set_remote(line, None) == Err(Code::UnknownTermination));
-    let Ok(mut copied) = terms.copy() else {
-        panic!(rt; "a copy");
-    };
-    assert!(rt; terms.destroy(ephemeral).is_ok());
-    assert!(rt; terms.get(ephemeral).is_none());
-    assert!(rt; copied.get(ephemeral).is_some());
-    assert!(rt; copied.leave(line).is_ok());
-    copied.reset();
-    assert!(rt; copied.get(ephemeral).is_none());
-    assert!(rt; copied.get(line).is_some());
+    let taken = Heard::Refused(Code::AlreadyInContext);
+    let unknown = Heard::Refused(Code::UnknownTermination);
+    let rows = [
+        (Call::AddLine(7), Heard::Done),
+        (Call::AddLine(7), Heard::Known),
+        (Call::Create, Heard::Created(0)),
+        (Call::Of(LINE, Deed::Put(ContextId(3))), Heard::Done),
+        (Call::Of(LINE, Deed::Put(ContextId(4))), taken),
+        (Call::Of(LINE, Deed::SetMode(Mode::SendOnly)), Heard::Done),
+        (Call::Of(EPHEMERAL, Deed::SetRemote(REMOTE)), Heard::Done),
+        (Call::Of(LINE, Deed::SetRemote(None)), unknown),
+        (Call::Copy, Heard::Done),
+        (Call::Of(EPHEMERAL, Deed::Destroy), Heard::Done),
+        (Call::Of(EPHEMERAL, Deed::Exists), Heard::Is(false)),
+        (Call::Swap, Heard::Done),
+        (Call::Of(EPHEMERAL, Deed::Exists), Heard::Is(true)),
+        (Call::Of(LINE, Deed::Leave), Heard::Done),
+        (Call::Reset, Heard::Done),
+        (Call::Of(EPHEMERAL, Deed::Exists), Heard::Is(false)),
+        (Call::Of(LINE, Deed::Exists), Heard::Is(true)),
+    ];
+    assert_eq!(rt; heard_anew(rt.alloc(), &rows), rows.len());
 }
