@@ -1,31 +1,10 @@
 -- A plan: the calls that are run, on which lines, and the steps of each, epoch by epoch. A reader should check that all calls end an epoch before one
 -- restart, so that each call has a restart between two of the plan's epochs, also where it has no steps in them. This profile's own.
-use Rattle.std.specs.Prelude.{ℕ, zero, suc, ◌+◌, ◌-◌, ◌*◌, max, List, [], ◌∷◌, ◌++◌, length, slice_index_or, Option}
-use Rattle.mg_names.specs.declared.signals.Signal.{Signal}
-use Rattle.mg_names.specs.declared.symbols.Symbol.{Symbol}
+use Rattle.std.specs.Prelude.{ℕ, zero, suc, ◌+◌, ◌-◌, ◌*◌, max, List, [], ◌∷◌, ◌++◌, length, slice_index_or}
+use Rattle.mg_model.specs.declared.plans.PlanStep.{PlanStep}
+use Rattle.mg_model.specs.declared.plans.PlanStep.TheVariants.{Restarts}
 use Rattle.mg_model.specs.Numbers.{plan_calls}
 use Rattle.mg_model.specs.World.{Opened}
-
--- a step of a call: what a user does on one of its lines, by the line's place in the script; which of its messages is delivered; that a call
--- begins on its lines; or that the gateway restarts
-pub data PlanStep : Type 0 where
-  goes_off : (line : ℕ) → PlanStep
-  goes_on : (line : ℕ) → PlanStep
-  flashes : (line : ℕ) → PlanStep
-  dials : (line : ℕ) → Symbol → PlanStep
-  pauses : (line : ℕ) → PlanStep
-  ends : (line : ℕ) → Signal → PlanStep
-  -- a request by its number, or the latest; and a place at which it is refused
-  executes : Option ℕ → Option ℕ → PlanStep
-  -- the reply to a number, or the latest
-  takes_reply : Option ℕ → PlanStep
-  passes : PlanStep
-  -- a note by its number, or the oldest that is not accepted
-  takes_note : Option ℕ → PlanStep
-  times_out : PlanStep
-  hears : PlanStep
-  begins : PlanStep
-  restarts : PlanStep
 
 pub record PlanCall : Type 0 where
   -- the line of the gateway for each line of the script
@@ -55,11 +34,11 @@ steps_later (steps ∷ more) = more
 abbrev pub steps_in : (epochs : ℕ) → List (List PlanStep) → List PlanStep
 steps_in zero steps = []
 steps_in (suc zero) steps = steps_first steps
-steps_in (suc (suc more)) steps = steps_first steps ++ restarts ∷ steps_in (suc more) (steps_later steps)
+steps_in (suc (suc more)) steps = steps_first steps ++ Restarts ∷ steps_in (suc more) (steps_later steps)
 
 abbrev pub restarts_among : List PlanStep → ℕ
 restarts_among [] = 0
-restarts_among (restarts ∷ more) = suc (restarts_among more)
+restarts_among (Restarts ∷ more) = suc (restarts_among more)
 restarts_among (step ∷ more) = restarts_among more
 
 -- the `restart` steps of a call

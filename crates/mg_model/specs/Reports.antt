@@ -12,7 +12,9 @@ use Rattle.mg_model.specs.declared.events.Event.TheVariants.{Restart}
 use Rattle.mg_model.specs.Agent.{Agent, Phase, awaits_reply, awaits_pass, resting, inbox_of}
 use Rattle.mg_model.specs.Delivery.{is_new, arrival}
 use Rattle.mg_model.specs.Messages.{Request, Reply, SentNote}
-use Rattle.mg_model.specs.Plans.{PlanStep, goes_off, goes_on, flashes, dials, pauses, ends, executes, takes_reply, passes, takes_note, times_out, hears, begins, restarts, PlanCall, Plan, epochs_of, steps_in, restarts_of_others, opened_as, number_begun}
+use Rattle.mg_model.specs.declared.plans.PlanStep.{PlanStep}
+use Rattle.mg_model.specs.declared.plans.PlanStep.TheVariants.{GoesOff, GoesOn, Flashes, Dials, Pauses, Ends, Executes, TakesReply, Passes, TakesNote, TimesOut, Hears, Begins, Restarts}
+use Rattle.mg_model.specs.Plans.{PlanCall, Plan, epochs_of, steps_in, restarts_of_others, opened_as, number_begun}
 use Rattle.mg_model.specs.Script.{Script}
 use Rattle.mg_model.specs.Tables.{state_of}
 use Rattle.mg_model.specs.World.{World, on_a_line, execute, reply, pass, note, timer, begin, hear, Occurs, Opened, IsOpening}
@@ -46,21 +48,21 @@ refusal_at (Some place) = Some (record { place = place; refusal = InternalFailur
 
 -- the step means the event, in this world, for this agent, where the next call to begin has this number
 abbrev pub Means : World → Agent → (next : ℕ) → PlanStep → Event → Type 0
-Means w a next (goes_off l) event = event ≡ on_a_line a.call (a.lines l) (Hook Off)
-Means w a next (goes_on l) event = event ≡ on_a_line a.call (a.lines l) (Hook On)
-Means w a next (flashes l) event = event ≡ on_a_line a.call (a.lines l) Flash
-Means w a next (dials l s) event = event ≡ on_a_line a.call (a.lines l) (Digit s)
-Means w a next (pauses l) event = event ≡ on_a_line a.call (a.lines l) Pause
-Means w a next (ends l s) event = event ≡ on_a_line a.call (a.lines l) (SignalEnd s)
-Means w a next (executes which place) event =
+Means w a next (GoesOff l) event = event ≡ on_a_line a.call (a.lines l) (Hook Off)
+Means w a next (GoesOn l) event = event ≡ on_a_line a.call (a.lines l) (Hook On)
+Means w a next (Flashes l) event = event ≡ on_a_line a.call (a.lines l) Flash
+Means w a next (Dials l s) event = event ≡ on_a_line a.call (a.lines l) (Digit s)
+Means w a next (Pauses l) event = event ≡ on_a_line a.call (a.lines l) Pause
+Means w a next (Ends l s) event = event ≡ on_a_line a.call (a.lines l) (SignalEnd s)
+Means w a next (Executes which place) event =
     (request : Request) × MeansRequest w a.call which request × (event ≡ execute a.call request.number (refusal_at place))
-Means w a next (takes_reply which) event = (answer : Reply) × MeansReply w a.call which answer × (event ≡ reply a.call answer.number)
-Means w a next passes event = event ≡ pass a.call
-Means w a next (takes_note which) event = (sent : SentNote) × MeansNote w a which sent × (event ≡ note a.call sent.number)
-Means w a next times_out event = event ≡ timer a.call
-Means w a next hears event = event ≡ hear a.call w.gateway.association
-Means w a next begins event = event ≡ begin next a.call
-Means w a next restarts event = event ≡ Restart
+Means w a next (TakesReply which) event = (answer : Reply) × MeansReply w a.call which answer × (event ≡ reply a.call answer.number)
+Means w a next Passes event = event ≡ pass a.call
+Means w a next (TakesNote which) event = (sent : SentNote) × MeansNote w a which sent × (event ≡ note a.call sent.number)
+Means w a next TimesOut event = event ≡ timer a.call
+Means w a next Hears event = event ≡ hear a.call w.gateway.association
+Means w a next Begins event = event ≡ begin next a.call
+Means w a next Restarts event = event ≡ Restart
 
 -- ---- a report's line
 
@@ -108,7 +110,7 @@ line_retired script a p = record (line_now script a p) { phase = codes "retired"
 -- after an event: one more of the standing call. A call that begins stands from then on, with that event as its first. A restart is
 -- no call's event
 abbrev pub after_event : Script → (first : ℕ) → Agent → Progress → PlanStep → World → Progress
-after_event script first a p begins w = record {
+after_event script first a p Begins w = record {
   world = w;
   standing = number_begun first (p.begun + 1);
   begun = p.begun + 1;
@@ -116,7 +118,7 @@ after_event script first a p begins w = record {
   idle = 0;
   retired = p.retired ++ line_retired script a p ∷ [];
 }
-after_event script first a p restarts w = record p { world = w }
+after_event script first a p Restarts w = record p { world = w }
 after_event script first a p step w = record p { world = w; events = p.events + 1 }
 
 -- the step happens
@@ -133,7 +135,7 @@ pub record StepHappens (script : Script) (first : ℕ) (p : Progress) (step : Pl
 pub record StepIsIdle (script : Script) (first : ℕ) (p : Progress) (step : PlanStep) (after : Progress) : Type 0 where
   pub agent : Agent
   pub stands : p.world.agent p.standing ≡ Some agent
-  pub no_restart : step ≡ restarts → ⊥
+  pub no_restart : step ≡ Restarts → ⊥
   pub cannot : (event : Event) (world : World) → Means p.world agent (number_begun first (p.begun + 1)) step event
       → Occurs script p.world event world → ⊥
   pub after_is : after ≡ record p { idle = p.idle + 1 }
@@ -150,7 +152,7 @@ unfoldable pub IsPlacing : List PlanStep → (others : ℕ) → List PlanStep �
 IsPlacing steps others [] = (steps ≡ []) × (others ≡ 0)
 IsPlacing steps others (step ∷ placed) =
     ((more : List PlanStep) × (steps ≡ step ∷ more) × IsPlacing more others placed)
-    ⊎ ((fewer : ℕ) × (step ≡ restarts) × (others ≡ suc fewer) × IsPlacing steps fewer placed)
+    ⊎ ((fewer : ℕ) × (step ≡ Restarts) × (others ≡ suc fewer) × IsPlacing steps fewer placed)
 
 -- ---- the report
 

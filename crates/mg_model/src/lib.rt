@@ -10,6 +10,7 @@ pub mod failures;
 pub mod faults;
 pub mod items;
 pub mod line_events;
+pub mod plans;
 pub mod positions;
 pub mod references;
 pub mod rows;

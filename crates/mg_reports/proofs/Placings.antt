@@ -3,7 +3,8 @@ use Rattle.std.proofs.Common.{◌≡◌, ◌∙◌, ℕ, List, [], ◌∷◌, Op
 use Rattle.std.specs.Prelude.{◌≤◌}
 use Rattle.mg_model.specs.Agent.{Agent}
 use Rattle.mg_model.specs.Messages.{Request, Reply, SentNote}
-use Rattle.mg_model.specs.Plans.{PlanStep, goes_off, goes_on, flashes, dials, pauses, ends, executes, takes_reply, passes, takes_note, times_out, hears, begins, restarts}
+use Rattle.mg_model.specs.declared.plans.PlanStep.{PlanStep}
+use Rattle.mg_model.specs.declared.plans.PlanStep.TheVariants.{GoesOff, GoesOn, Flashes, Dials, Pauses, Ends, Executes, TakesReply, Passes, TakesNote, TimesOut, Hears, Begins, Restarts}
 use Rattle.mg_model.specs.Reports.{MeansNote, IsPlacing, refusal_at}
 use Rattle.mg_model.specs.World.{World, execute, reply, note}
 use Rattle.mg_model.proofs.Cases.{the_some}
@@ -33,20 +34,20 @@ one_note w a None x y first second =
 one_note w a (Some n) x y first second = first.2 ∙ sym second.2
 
 pub one_event : StepsMeanOneEvent
-one_event w a next (goes_off l) one other e f = e ∙ sym f
-one_event w a next (goes_on l) one other e f = e ∙ sym f
-one_event w a next (flashes l) one other e f = e ∙ sym f
-one_event w a next (dials l s) one other e f = e ∙ sym f
-one_event w a next (pauses l) one other e f = e ∙ sym f
-one_event w a next (ends l s) one other e f = e ∙ sym f
-one_event w a next (executes which place) one other (r, found, e) (s, again, f) =
+one_event w a next (GoesOff l) one other e f = e ∙ sym f
+one_event w a next (GoesOn l) one other e f = e ∙ sym f
+one_event w a next (Flashes l) one other e f = e ∙ sym f
+one_event w a next (Dials l s) one other e f = e ∙ sym f
+one_event w a next (Pauses l) one other e f = e ∙ sym f
+one_event w a next (Ends l s) one other e f = e ∙ sym f
+one_event w a next (Executes which place) one other (r, found, e) (s, again, f) =
     e ∙ ap (λ (x : Request). execute a.call x.number (refusal_at place)) (the_some r s (sym found ∙ again)) ∙ sym f
-one_event w a next (takes_reply which) one other (r, found, e) (s, again, f) =
+one_event w a next (TakesReply which) one other (r, found, e) (s, again, f) =
     e ∙ ap (λ (x : Reply). reply a.call x.number) (the_some r s (sym found ∙ again)) ∙ sym f
-one_event w a next passes one other e f = e ∙ sym f
-one_event w a next (takes_note which) one other (x, found, e) (y, again, f) =
+one_event w a next Passes one other e f = e ∙ sym f
+one_event w a next (TakesNote which) one other (x, found, e) (y, again, f) =
     e ∙ ap (λ n. note a.call n) (one_note w a which x y found again) ∙ sym f
-one_event w a next times_out one other e f = e ∙ sym f
-one_event w a next hears one other e f = e ∙ sym f
-one_event w a next begins one other e f = e ∙ sym f
-one_event w a next restarts one other e f = e ∙ sym f
+one_event w a next TimesOut one other e f = e ∙ sym f
+one_event w a next Hears one other e f = e ∙ sym f
+one_event w a next Begins one other e f = e ∙ sym f
+one_event w a next Restarts one other e f = e ∙ sym f

@@ -3,7 +3,9 @@
 use Rattle.std.proofs.Common.{◌≡◌, List, [], ◌∷◌, None, refl, inl, inr}
 use Rattle.mg_model.specs.declared.events.Event.{Event}
 use Rattle.mg_model.specs.declared.events.Event.TheVariants.{Restart}
-use Rattle.mg_model.specs.Plans.{PlanStep, goes_off, takes_note, hears, restarts, PlanCall, Plan, epochs_of, steps_in, restarts_of_others, number_begun}
+use Rattle.mg_model.specs.declared.plans.PlanStep.{PlanStep}
+use Rattle.mg_model.specs.declared.plans.PlanStep.TheVariants.{GoesOff, TakesNote, Hears, Restarts}
+use Rattle.mg_model.specs.Plans.{PlanCall, Plan, epochs_of, steps_in, restarts_of_others, number_begun}
 use Rattle.mg_model.specs.Reports.{IsPlacing}
 use Rattle.mg_model.specs.Shards.{cut_at_restarts, merged_from, merged, restarts_in}
 use Rattle.mg_model.specs.World.{pass, timer}
@@ -11,14 +13,14 @@ use Rattle.mg_model.specs.World.{pass, timer}
 -- ---- plans
 
 off : PlanStep
-off = goes_off 0
+off = GoesOff 0
 
 -- a call of two epochs, and one of a single epoch that has a `restart` step
 long : PlanCall
-long = record { lines = 1 ∷ []; epochs = (off ∷ []) ∷ (hears ∷ []) ∷ [] }
+long = record { lines = 1 ∷ []; epochs = (off ∷ []) ∷ (Hears ∷ []) ∷ [] }
 
 short : PlanCall
-short = record { lines = 2 ∷ []; epochs = (off ∷ restarts ∷ takes_note None ∷ []) ∷ [] }
+short = record { lines = 2 ∷ []; epochs = (off ∷ Restarts ∷ TakesNote None ∷ []) ∷ [] }
 
 plan : Plan
 plan = record { calls = long ∷ short ∷ []; shards = 1 }
@@ -28,11 +30,11 @@ unfolding plan long short off
 two_epochs = refl
 
 -- one restart at the end of the first epoch, also where the call has no second one
-of_long : steps_in 2 long.epochs ≡ off ∷ restarts ∷ hears ∷ []
+of_long : steps_in 2 long.epochs ≡ off ∷ Restarts ∷ Hears ∷ []
 unfolding long
 of_long = refl
 
-of_short : steps_in 2 short.epochs ≡ off ∷ restarts ∷ takes_note None ∷ restarts ∷ []
+of_short : steps_in 2 short.epochs ≡ off ∷ Restarts ∷ TakesNote None ∷ Restarts ∷ []
 unfolding short
 of_short = refl
 
@@ -45,13 +47,13 @@ no_other : restarts_of_others plan short ≡ 0
 unfolding plan long short off
 no_other = refl
 
-placed_first : IsPlacing (off ∷ hears ∷ []) 1 (restarts ∷ off ∷ hears ∷ [])
+placed_first : IsPlacing (off ∷ Hears ∷ []) 1 (Restarts ∷ off ∷ Hears ∷ [])
 unfolding IsPlacing
-placed_first = inr (0, refl, refl, inl (hears ∷ [], refl, inl ([], refl, (refl, refl))))
+placed_first = inr (0, refl, refl, inl (Hears ∷ [], refl, inl ([], refl, (refl, refl))))
 
-placed_last : IsPlacing (off ∷ hears ∷ []) 1 (off ∷ hears ∷ restarts ∷ [])
+placed_last : IsPlacing (off ∷ Hears ∷ []) 1 (off ∷ Hears ∷ Restarts ∷ [])
 unfolding IsPlacing
-placed_last = inl (hears ∷ [], refl, inl ([], refl, inr (0, refl, refl, (refl, refl))))
+placed_last = inl (Hears ∷ [], refl, inl ([], refl, inr (0, refl, refl, (refl, refl))))
 
 -- the second call that begins within call 3 of the plan
 second_begun : number_begun 3 2 ≡ 20003

@@ -4,7 +4,9 @@ use Rattle.std.proofs.lemmas.List.{append_assoc}
 use Rattle.mg_model.specs.declared.events.Event.{Event}
 use Rattle.mg_model.specs.Agent.{Agent}
 use Rattle.mg_model.specs.Messages.{Reply}
-use Rattle.mg_model.specs.Plans.{PlanStep, goes_off, goes_on, flashes, dials, pauses, ends, executes, takes_reply, passes, takes_note, times_out, hears, begins, restarts, number_begun}
+use Rattle.mg_model.specs.declared.plans.PlanStep.{PlanStep}
+use Rattle.mg_model.specs.declared.plans.PlanStep.TheVariants.{GoesOff, GoesOn, Flashes, Dials, Pauses, Ends, Executes, TakesReply, Passes, TakesNote, TimesOut, Hears, Begins, Restarts}
+use Rattle.mg_model.specs.Plans.{number_begun}
 use Rattle.mg_model.specs.Reports.{Means, Progress, StepHappens, StepIsIdle, StepsRun, after_event}
 use Rattle.mg_model.specs.Script.{Script}
 use Rattle.mg_model.specs.World.{World, Occurs}
@@ -26,20 +28,20 @@ Goes script first p step after = StepHappens script first p step after ⊎ StepI
 
 -- the world after an event, whatever is counted
 world_after : (script : Script) (first : ℕ) (a : Agent) (p : Progress) (step : PlanStep) (w : World) → (after_event script first a p step w).world ≡ w
-world_after script first a p (goes_off l) w = refl
-world_after script first a p (goes_on l) w = refl
-world_after script first a p (flashes l) w = refl
-world_after script first a p (dials l s) w = refl
-world_after script first a p (pauses l) w = refl
-world_after script first a p (ends l s) w = refl
-world_after script first a p (executes which place) w = refl
-world_after script first a p (takes_reply which) w = refl
-world_after script first a p passes w = refl
-world_after script first a p (takes_note which) w = refl
-world_after script first a p times_out w = refl
-world_after script first a p hears w = refl
-world_after script first a p begins w = refl
-world_after script first a p restarts w = refl
+world_after script first a p (GoesOff l) w = refl
+world_after script first a p (GoesOn l) w = refl
+world_after script first a p (Flashes l) w = refl
+world_after script first a p (Dials l s) w = refl
+world_after script first a p (Pauses l) w = refl
+world_after script first a p (Ends l s) w = refl
+world_after script first a p (Executes which place) w = refl
+world_after script first a p (TakesReply which) w = refl
+world_after script first a p Passes w = refl
+world_after script first a p (TakesNote which) w = refl
+world_after script first a p TimesOut w = refl
+world_after script first a p Hears w = refl
+world_after script first a p Begins w = refl
+world_after script first a p Restarts w = refl
 
 numbered_after : (script : Script) (first : ℕ) (p : Progress) (step : PlanStep) (after : Progress) → IsNumbered p.world → Goes script first p step after
     → IsNumbered after.world

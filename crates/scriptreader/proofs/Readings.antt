@@ -10,7 +10,8 @@ use Rattle.std.specs.List.{list_any}
 use Rattle.scriptreader.specs.Faults.{fault_of, use_fault_of, state_fault_of, has_bad_name, has_duplicate, has_unknown, has_bad_map, names_state, lacks_fault, has_outcome_without_commands, is_end_that_goes_on, makes_and_subtracts, is_too_large}
 use Rattle.scriptreader.specs.Meaning.{script_meant}
 use Rattle.scriptreader.specs.Documents.{document_in}
-use Rattle.scriptreader.specs.Reading.{Answers, IsText, ReadsScript, document_read, fault_or_table, tree_read}
+use Rattle.toml_values.specs.Text.{IsText}
+use Rattle.scriptreader.specs.Reading.{Answers, ReadsScript, document_read, fault_or_table, tree_read}
 use Rattle.scriptreader.proofs.Meanings.{table_found}
 
 -- where the fault is another one, and the rest is not this fault

@@ -11,8 +11,9 @@ use Rattle.scriptreader.specs.declared.syntax.WrittenTransition.{WrittenTransiti
 use Rattle.scriptreader.specs.Written.{Events, Signals, State, Document}
 use Rattle.typed_values.specs.Names.{is_name}
 use Rattle.typed_values.specs.Shape.{◌>>=◌, only_if}
+use Rattle.typed_values.specs.Texts.{words_of}
 use Rattle.toml_values.specs.Keys.{list_of, needed, optional, listed, has_only}
-use Rattle.scriptreader.specs.Texts.{words_of, item_of, pair_of, command_of}
+use Rattle.scriptreader.specs.Texts.{item_of, pair_of, command_of}
 
 abbrev pub item_meant : Data → Option WrittenItem
 item_meant d = as_str d >>= item_of

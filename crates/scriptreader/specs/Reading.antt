@@ -1,10 +1,9 @@
 -- What the bytes of a script are read as. A reader should check that the shape comes first, then the lowest fault, and
 -- that the table is given only where there is no fault.
 use Rattle.std.specs.Prelude.{◌≡◌, ℕ, List, Option, Some, None, option_map, Result, Ok, Err}
-use Rattle.std.specs.Str.{IsUtf8}
 use Rattle.toml.specs.Data.{Members}
-use Rattle.toml.specs.Parse.{parse_document}
 use Rattle.mg_model.specs.Script.{Script}
+use Rattle.toml_values.specs.Text.{IsText}
 use Rattle.scriptreader.specs.declared.fault.ScriptFault.{ScriptFault}
 use Rattle.scriptreader.specs.declared.fault.ScriptFault.TheVariants.{NotToml, BadKey, NoMemory}
 use Rattle.scriptreader.specs.Written.{Document}
@@ -31,10 +30,6 @@ abbrev pub Answers : Result Script ScriptFault → Option (Result Script ScriptF
 Answers (Err NoMemory) read = Unit {0}
 Answers (Err NotToml) read = ⊥
 Answers answer read = read ≡ Some answer
-
--- the bytes are a TOML text of this tree
-abbrev pub IsText : List ℕ → Members → Type 0
-IsText bytes tree = IsUtf8 bytes × (parse_document bytes ≡ Some tree)
 
 -- the answer is that of the tree, or says that there is no tree; memory may run out
 abbrev pub ReadsScript : List ℕ → Result Script ScriptFault → Type 0

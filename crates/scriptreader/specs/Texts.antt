@@ -1,7 +1,7 @@
 -- The texts of a script: items of events lists, pairs that talk, and commands. A reader should check each form, and that
 -- an option comes at most once. A text that is not of these forms is a bad key.
 use Rattle.std.specs.Prelude.{ℕ, List, [], ◌∷◌, length, drop, Bool, true, false, ◌&&◌, ◌||◌, ◌==◌, nat_lt, is_none, slice_index, codes, if◌then◌else◌, Option, Some, None}
-use Rattle.std.specs.List.{slice_split, before_first, after_first, position_or_len}
+use Rattle.std.specs.List.{before_first, after_first, position_or_len}
 use Rattle.std.specs.Str.{bytes_eq}
 use Rattle.mg_names.specs.Words.{mode_named, event_name_named, strict_named, topology_named}
 use Rattle.mg_names.specs.declared.events.EventName.{EventName}
@@ -15,10 +15,6 @@ use Rattle.scriptreader.specs.declared.syntax.WrittenCommand.{WrittenCommand}
 use Rattle.scriptreader.specs.declared.syntax.WrittenCommand.TheVariants.{Add, Modify, Move, Subtract, SubtractAll, SetTopology}
 use Rattle.typed_values.specs.Names.{is_name}
 use Rattle.typed_values.specs.Shape.{◌>>=◌, only_if}
-
--- the words of a text, with one space between them
-abbrev pub words_of : List ℕ → List (List ℕ)
-words_of text = slice_split (λ byte. byte == 32) text
 
 -- the two parts of a text round the first such byte
 unfoldable pub parts_at : ℕ → List ℕ → Option (List ℕ × List ℕ)

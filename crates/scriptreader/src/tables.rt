@@ -10,7 +10,7 @@ use crate::syntax::{
     Document, WrittenCommand, WrittenEvents, WrittenItem, WrittenMap, WrittenPair, WrittenSignal,
     WrittenSignals, WrittenState, WrittenTransition,
 };
-use crate::{commands, items, texts};
+use crate::{commands, items};
 use mg_names::kinds::Kind;
 use mg_names::signals::Signal;
 use std::alloc::{AllocError, Global};
@@ -18,7 +18,7 @@ use toml::{Table, Value};
 use toml_values::{
     Reads, entries, has_only, listed, member, needed, needed_list, optional, table, text,
 };
-use typed_values::{Missing, Word, is_name};
+use typed_values::{Missing, Word, is_name, words};
 
 impl Reads for WrittenItem {
     ghost use Rattle.scriptreader.specs.Documents.{item_meant};
@@ -83,7 +83,7 @@ impl Reads for WrittenCommand {
 
     fn read(alloc: Global, value: &Value) -> Result<WrittenCommand, Missing> {
         let text = text(value)?;
-        let words = texts::words(alloc, text)?;
+        let words = words(alloc, text)?;
         commands::command(alloc, words.as_slice())
     }
 }

@@ -1,17 +1,10 @@
-//! The parts of texts: words, names, and what a sign divides.
-ghost use Rattle.std.specs.Prelude.{◌≡◌, ◌<◌, IfOk, map, option_map};
+//! The parts of texts: names, and what a sign divides.
+ghost use Rattle.std.specs.Prelude.{◌≡◌, ◌<◌, option_map};
 ghost use Rattle.typed_values.specs.Shape.{Gives};
-ghost use Rattle.scriptreader.specs.Texts.{words_of, parts_at, name_of, marked_of};
+ghost use Rattle.scriptreader.specs.Texts.{parts_at, name_of, marked_of};
 
-use std::alloc::{AllocError, Global};
+use std::alloc::Global;
 use typed_values::{Missing, Word, is_name};
-
-/// The words of a text, between its spaces.
-pub(crate) fn words(alloc: Global, text: &str) -> Result<Vec<&str>, AllocError>
-    ensures { IfOk result (λ v. map (λ w. w.now) v.items ≡ words_of text.now) }
-{
-    text.split(' ').collect(alloc)
-}
 
 /// The two parts of a text round the first such sign.
 pub(crate) fn split_once(text: &str, sign: char) -> Option<(&str, &str)>

@@ -8,8 +8,10 @@
 
 mod missing;
 mod names;
+mod texts;
 mod word;
 
 pub use missing::Missing;
 pub use names::{is_among, is_name, is_reserved};
+pub use texts::words;
 pub use word::{Word, Words};
