@@ -1,0 +1,84 @@
+-- Numbers that come twice, with a set of those before.
+use Rattle.std.proofs.Common.{◌≡◌, ◌∙◌, ℕ, suc, ◌+◌, ◌<◌, ◌++◌, Bool, true, false, List, [], ◌∷◌, length, map, take, drop, get_or, refl, sym, ap, arith, true≢false}
+use Rattle.std.specs.Prelude.{◌==◌, ◌||◌, not, if◌then◌else◌}
+use Rattle.std.specs.List.{list_any}
+use Rattle.std.specs.Ordering.{nat_cmp}
+use Rattle.std.specs.BTreeMap.{is_at}
+use Rattle.std.proofs.lemmas.Bool.Decides.{nat_tests}
+use Rattle.std.proofs.lemmas.List.Folds.{list_any-append}
+use Rattle.std.proofs.lemmas.List.{map-append}
+use Rattle.std.proofs.Math.Seq.{take-suc, drop-cons}
+use Rattle.mg_names.specs.declared.identifiers.LineNo.{LineNo}
+use Rattle.plans.specs.Tables.{is_among, repeats_after}
+
+-- a number is among others exactly where a set of them finds it
+equal_by_order : (n m : ℕ) → (n == m) ≡ is_at (nat_cmp n) m
+equal_by_order n m = grind (arith, nat_tests)
+
+pub found_by_order : (numbers : List ℕ) (n : ℕ) → is_among numbers n ≡ list_any (is_at (nat_cmp n)) numbers
+unfolding is_among
+found_by_order [] n = refl
+found_by_order (m ∷ ms) n =
+    ap (λ b. b || list_any (λ x. n == x) ms) (equal_by_order n m) ∙ ap (λ b. is_at (nat_cmp n) m || b) (found_by_order ms n)
+
+-- ---- the lines so far, and those that are left
+
+one_more : (i : ℕ) → i + 1 ≡ suc i
+one_more i = omega arith
+
+abbrev pub numbers_of : List LineNo → List ℕ
+numbers_of lines = map (λ (line : LineNo). line.0) lines
+
+-- a set that finds what is among these
+abbrev pub Holds : List ℕ → List ℕ → Type 0
+Holds keys front = (n : ℕ) → is_among keys n ≡ is_among front n
+
+abbrev pub GoesOn : List ℕ → List ℕ → List ℕ → Type 0
+GoesOn front rest all = repeats_after front rest ≡ repeats_after [] all
+
+module _ (lines : List LineNo) (i : ℕ) (d : LineNo) (within : i < length lines) where
+  abbrev at : ℕ
+  at = (get_or lines i d).0
+
+  front_more : numbers_of (take (i + 1) lines) ≡ numbers_of (take i lines) ++ at ∷ []
+  front_more = ap (λ n. numbers_of (take n lines)) (one_more i) ∙ ap numbers_of (take-suc lines i d within) ∙ map-append (λ (line : LineNo). line.0) (take i lines) (get_or lines i d ∷ [])
+
+  rest_is : numbers_of (drop i lines) ≡ at ∷ numbers_of (drop (i + 1) lines)
+  rest_is = ap numbers_of (drop-cons lines i d within) ∙ ap (λ n. at ∷ numbers_of (drop n lines)) (sym (one_more i))
+
+  -- the number stands among those before it
+  pub comes_twice : (keys : List ℕ) → Holds keys (numbers_of (take i lines)) → GoesOn (numbers_of (take i lines)) (numbers_of (drop i lines)) (numbers_of lines)
+      → not (is_among keys at) ≡ false → true ≡ repeats_after [] (numbers_of lines)
+  comes_twice keys holds goes found =
+      sym (there (is_among keys at) found (sym (holds at))) ∙ sym (ap (repeats_after (numbers_of (take i lines))) rest_is) ∙ goes
+    where
+      there : (b : Bool) → not b ≡ false → is_among (numbers_of (take i lines)) at ≡ b
+          → repeats_after (numbers_of (take i lines)) (at ∷ numbers_of (drop (i + 1) lines)) ≡ true
+      there true found same = rw same refl
+      there false found same = absurd (true≢false found)
+
+  pub goes_on : (keys : List ℕ) → Holds keys (numbers_of (take i lines)) → GoesOn (numbers_of (take i lines)) (numbers_of (drop i lines)) (numbers_of lines)
+      → not (is_among keys at) ≡ true → GoesOn (numbers_of (take (i + 1) lines)) (numbers_of (drop (i + 1) lines)) (numbers_of lines)
+  goes_on keys holds goes new =
+      ap (λ front. repeats_after front (numbers_of (drop (i + 1) lines))) front_more
+      ∙ sym (not_there (is_among keys at) new (sym (holds at)))
+      ∙ sym (ap (repeats_after (numbers_of (take i lines))) rest_is) ∙ goes
+    where
+      not_there : (b : Bool) → not b ≡ true → is_among (numbers_of (take i lines)) at ≡ b
+          → repeats_after (numbers_of (take i lines)) (at ∷ numbers_of (drop (i + 1) lines))
+          ≡ repeats_after (numbers_of (take i lines) ++ at ∷ []) (numbers_of (drop (i + 1) lines))
+      not_there true new same = absurd (true≢false (sym new))
+      not_there false new same = rw same refl
+
+  pub holds_more : (keys after : List ℕ) → Holds keys (numbers_of (take i lines))
+      → ((n : ℕ) → is_among after n ≡ (if n == at then true else is_among keys n)) → Holds after (numbers_of (take (i + 1) lines))
+  unfolding is_among
+  holds_more keys after holds adds n =
+      adds n ∙ one (n == at) (is_among (numbers_of (take i lines)) n) (holds n)
+      ∙ sym (ap (λ front. is_among front n) front_more ∙ list_any-append (λ other. n == other) (numbers_of (take i lines)) (at ∷ []))
+    where
+      one : (here before : Bool) → is_among keys n ≡ before → (if here then true else is_among keys n) ≡ (before || (here || false))
+      one true true was = refl
+      one true false was = refl
+      one false true was = was
+      one false false was = was
