@@ -27,4 +27,5 @@ bench: build
 	cd crates/boardbench && rt run boardbench -- 100 20 1000 6
 	cd crates/gatebench && rt run gatebench -- 10 20
 	cd crates/callbench && rt run callbench -- 12 5
+	cd crates/planbench && rt run planbench -- plan < stdin
 	tools/bench
