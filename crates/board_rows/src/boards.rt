@@ -1,7 +1,12 @@
 //! Commands on a board, what exists on it, and where media goes.
-use crate::commands::{Command, Context, Remote, Set, mode, naming};
-use crate::seen::{EMPTY, NOTHING, Seen, made, made_both, made_ephemeral, one, took_out, two};
-use crate::steps::{Step, answered_anew};
+use crate::commands::Command::{AddLine, AddNew, Modify, SetTopology, SubtractAll, SubtractLine};
+use crate::commands::Context::{At, New};
+use crate::commands::{Remote, Set};
+use crate::seen::List::One;
+use crate::seen::Seen::{Made, Refused, TookOut};
+use crate::seen::{DID, List, Seen};
+use crate::steps::Step::Does;
+use crate::steps::{Step, answered_anew, assert_answered};
 use mg_names::codes::Code;
 use mg_names::identifiers::LineNo;
 use mg_names::modes::Mode;
@@ -10,66 +15,71 @@ use std::alloc::Global;
 
 const LINES: [LineNo; 2] = [LineNo(1), LineNo(2)];
 
-/// Add of a line.
-fn add(context: Context, line: u32) -> Step {
-    Step::Does(Command::AddLine(context, line, mode(Mode::SendReceive)))
-}
+/// SendReceive is set.
+const SENDS: Set = Set {
+    mode: Some(Mode::SendReceive),
+    remote: None,
+};
 
-/// Add of a new ephemeral.
-fn add_new(context: Context) -> Step {
-    Step::Does(Command::AddNew(context, mode(Mode::SendReceive)))
-}
+/// SendOnly is set.
+const SENDS_ONLY: Set = Set {
+    mode: Some(Mode::SendOnly),
+    remote: None,
+};
 
-/// Modify of the ephemeral with this place in the context of the same place.
-fn modify(place: usize, set: Set) -> Step {
-    Step::Does(Command::Modify(place, place, set))
-}
+/// SendReceive is set, and no Remote.
+const SENDS_ALONE: Set = Set {
+    mode: Some(Mode::SendReceive),
+    remote: Some(Remote::Nothing),
+};
 
-/// The topology from line 1 to line 2 is set in the only context.
-fn sets(topology: Topology) -> Step {
-    Step::Does(Command::SetTopology(0, topology))
-}
+/// A Remote is set that names the first ephemeral.
+const NAMES_FIRST: Set = Set {
+    mode: None,
+    remote: Some(Remote::At(0)),
+};
+
+/// A Remote is set that names the second ephemeral.
+const NAMES_SECOND: Set = Set {
+    mode: None,
+    remote: Some(Remote::At(1)),
+};
 
 #[test]
 fn a_destroyed_ephemeral_is_unknown(rt: HostRuntime) {
-    let named = Command::AddNew(Context::At(1), naming(0));
-    let rows = [
-        (add(Context::New, 1), made(0)),
+    const ROWS: &[(Step, Seen)] = &[
+        (Does(AddLine(New, 1, SENDS)), Made(Some(0), None)),
         (
-            add(Context::At(0), 1),
-            Seen::Refused(Code::AlreadyInContext),
+            Does(AddLine(At(0), 1, SENDS)),
+            Refused(Code::AlreadyInContext),
         ),
-        (add_new(Context::At(0)), made_ephemeral(0)),
+        (Does(AddNew(At(0), SENDS)), Made(None, Some(0))),
         (Step::Contexts, Seen::Contexts(1)),
-        (
-            Step::Does(Command::SubtractAll(0)),
-            took_out(one(1), one(0)),
-        ),
+        (Does(SubtractAll(0)), TookOut(One(1), One(0))),
         (Step::Contexts, Seen::Contexts(0)),
-        (add_new(Context::New), made_both(1, 1)),
-        (Step::Does(named), Seen::Refused(Code::UnknownTermination)),
+        (Does(AddNew(New, SENDS)), Made(Some(1), Some(1))),
         (
-            Step::Does(Command::SubtractAll(0)),
-            Seen::Refused(Code::UnknownContext),
+            Does(AddNew(At(1), NAMES_FIRST)),
+            Refused(Code::UnknownTermination),
         ),
+        (Does(SubtractAll(0)), Refused(Code::UnknownContext)),
         (Step::ContextsOfResetCopy, Seen::Contexts(0)),
         (Step::Contexts, Seen::Contexts(1)),
         (Step::HasLine(1), Seen::Is(true)),
     ];
-    assert_eq!(rt; answered_anew(rt.alloc(), &LINES, &rows), rows.len());
+    assert_answered(&rt, rt.alloc(), &LINES, ROWS);
 }
 
 #[test]
 fn a_board_tells_what_exists(rt: HostRuntime) {
-    let rows = [
-        (add(Context::New, 1), made(0)),
-        (add_new(Context::At(0)), made_ephemeral(0)),
-        (Step::Lines, Seen::Lists(two(1, 2))),
-        (Step::Ephemerals, Seen::Lists(one(0))),
-        (Step::ContextNumbers, Seen::Lists(one(0))),
+    const ROWS: &[(Step, Seen)] = &[
+        (Does(AddLine(New, 1, SENDS)), Made(Some(0), None)),
+        (Does(AddNew(At(0), SENDS)), Made(None, Some(0))),
+        (Step::Lines, Seen::Lists(List::Two(1, 2))),
+        (Step::Ephemerals, Seen::Lists(One(0))),
+        (Step::ContextNumbers, Seen::Lists(One(0))),
     ];
-    let lines = [LineNo(2), LineNo(1)];
-    assert_eq!(rt; answered_anew(rt.alloc(), &lines, &rows), rows.len());
+    assert_answered(&rt, rt.alloc(), &[LineNo(2), LineNo(1)], ROWS);
 }
 
 const MODES: [Mode; 4] = [
@@ -89,15 +99,17 @@ const GOES: [[bool; 4]; 4] = [
 
 /// Whether, where lines 1 and 2 stand in one context in these modes, media goes from line 1 to line 2 as is wanted.
 fn goes_by(alloc: Global, first: Mode, second: Mode, goes: bool) -> bool {
+    let first = Set {
+        mode: Some(first),
+        remote: None,
+    };
+    let second = Set {
+        mode: Some(second),
+        remote: None,
+    };
     let rows = [
-        (
-            Step::Does(Command::AddLine(Context::New, 1, mode(first))),
-            made(0),
-        ),
-        (
-            Step::Does(Command::AddLine(Context::At(0), 2, mode(second))),
-            Seen::Did(NOTHING),
-        ),
+        (Does(AddLine(New, 1, first)), Made(Some(0), None)),
+        (Does(AddLine(At(0), 2, second)), DID),
         (Step::Path(1, 2), Seen::Is(goes)),
     ];
     answered_anew(alloc, &LINES, &rows) == rows.len()
@@ -114,46 +126,39 @@ fn media_goes_by_modes(rt: HostRuntime) {
 
 #[test]
 fn media_goes_by_topology(rt: HostRuntime) {
-    let rows = [
-        (add(Context::New, 1), made(0)),
-        (add(Context::At(0), 2), Seen::Did(NOTHING)),
-        (sets(Topology::Oneway), Seen::Did(NOTHING)),
+    const ROWS: &[(Step, Seen)] = &[
+        (Does(AddLine(New, 1, SENDS)), Made(Some(0), None)),
+        (Does(AddLine(At(0), 2, SENDS)), DID),
+        (Does(SetTopology(0, Topology::Oneway)), DID),
         (Step::Ways, Seen::Ways(true, false)),
         (Step::AreJoined(2, 1), Seen::Is(true)),
-        (sets(Topology::Isolate), Seen::Did(NOTHING)),
+        (Does(SetTopology(0, Topology::Isolate)), DID),
         (Step::Ways, Seen::Ways(false, false)),
         (Step::AreJoined(1, 2), Seen::Is(false)),
-        (sets(Topology::Oneway), Seen::Did(NOTHING)),
-        (
-            Step::Does(Command::SubtractLine(0, 2)),
-            took_out(one(2), EMPTY),
-        ),
-        (add(Context::At(0), 2), Seen::Did(NOTHING)),
+        (Does(SetTopology(0, Topology::Oneway)), DID),
+        (Does(SubtractLine(0, 2)), TookOut(One(2), List::Empty)),
+        (Does(AddLine(At(0), 2, SENDS)), DID),
         (Step::Ways, Seen::Ways(true, true)),
     ];
-    assert_eq!(rt; answered_anew(rt.alloc(), &LINES, &rows), rows.len());
+    assert_answered(&rt, rt.alloc(), &LINES, ROWS);
 }
 
 /// Lines 1 and 2 in a context each, with an ephemeral in either that names the other one.
 #[test]
 fn media_crosses_between_ephemerals(rt: HostRuntime) {
-    let parted = Set {
-        mode: Some(Mode::SendReceive),
-        remote: Some(Remote::Nothing),
-    };
-    let rows = [
-        (add(Context::New, 1), made(0)),
-        (add_new(Context::At(0)), made_ephemeral(0)),
-        (add(Context::New, 2), made(1)),
-        (add_new(Context::At(1)), made_ephemeral(1)),
-        (modify(0, naming(1)), Seen::Did(NOTHING)),
-        (modify(1, naming(0)), Seen::Did(NOTHING)),
+    const ROWS: &[(Step, Seen)] = &[
+        (Does(AddLine(New, 1, SENDS)), Made(Some(0), None)),
+        (Does(AddNew(At(0), SENDS)), Made(None, Some(0))),
+        (Does(AddLine(New, 2, SENDS)), Made(Some(1), None)),
+        (Does(AddNew(At(1), SENDS)), Made(None, Some(1))),
+        (Does(Modify(0, 0, NAMES_SECOND)), DID),
+        (Does(Modify(1, 1, NAMES_FIRST)), DID),
         (Step::Ways, Seen::Ways(true, true)),
-        (modify(1, mode(Mode::SendOnly)), Seen::Did(NOTHING)),
+        (Does(Modify(1, 1, SENDS_ONLY)), DID),
         (Step::Ways, Seen::Ways(false, true)),
-        (modify(1, parted), Seen::Did(NOTHING)),
+        (Does(Modify(1, 1, SENDS_ALONE)), DID),
         (Step::Ways, Seen::Ways(false, false)),
         (Step::AreJoined(1, 2), Seen::Is(false)),
     ];
-    assert_eq!(rt; answered_anew(rt.alloc(), &LINES, &rows), rows.len());
+    assert_answered(&rt, rt.alloc(), &LINES, ROWS);
 }

@@ -37,22 +37,6 @@ pub(crate) const UNSET: Set = Set {
     remote: None,
 };
 
-/// A mode is set.
-pub(crate) fn mode(mode: Mode) -> Set {
-    Set {
-        mode: Some(mode),
-        ..UNSET
-    }
-}
-
-/// A Remote is set.
-pub(crate) fn naming(place: usize) -> Set {
-    Set {
-        remote: Some(Remote::At(place)),
-        ..UNSET
-    }
-}
-
 /// A command.
 #[derive(Clone, Copy)]
 pub(crate) enum Command {
@@ -72,9 +56,11 @@ pub(crate) enum Command {
     SetTopology(usize, Topology),
 }
 
-/// The contexts and the ephemerals that a board made.
+/// The contexts and the ephemerals that a board made, and the class of its numbers: they leave the first where they are divided by the
+/// second.
 #[derive(Clone, Copy)]
 pub(crate) struct Made {
+    pub(crate) class: (u32, u32),
     pub(crate) contexts: Given,
     pub(crate) ephemerals: Given,
 }

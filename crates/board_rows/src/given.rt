@@ -4,7 +4,7 @@
 /// How many numbers a table of rows can name.
 const MOST: usize = 8;
 
-/// Numbers in the order in which each was given first.
+/// Numbers in the order in which each was given first, and then free places.
 #[derive(Clone, Copy)]
 pub(crate) struct Given([Option<u32>; MOST]);
 
@@ -17,55 +17,40 @@ impl Given {
         *self.0.get(place)?
     }
 
+    /// The place of a number that was given, or the first free one.
+    fn place_or_free(&self, number: u32) -> Option<usize> {
+        self.0.iter().position(|known| match known {
+            Some(known) => *known == number,
+            None => true,
+        })
+    }
+
     /// The place of a number that was given.
     pub(crate) fn place(&self, number: u32) -> Option<usize> {
-        self.0.iter().position(|known| *known == Some(number))
+        let place = self.place_or_free(number)?;
+        let _known = self.number(place)?;
+        Some(place)
     }
 
-    /// The same of a number that may be there.
-    pub(crate) fn place_of(&self, number: Option<u32>) -> Option<usize> {
-        self.place(number?)
-    }
-
-    /// How many numbers were given.
-    fn count(&self) -> usize {
-        self.0
-            .iter()
-            .position(|known| known.is_none())
-            .unwrap_or(MOST)
-    }
-
-    /// The place of a number that is given now; where it is new and there is no place for it, that of no number.
+    /// The place of a number that is given now; where it is new and no place is free, that of no number.
     pub(crate) fn give(&mut self, number: u32) -> usize {
-        if let Some(place) = self.place(number) {
-            return place;
-        }
-        let place = self.count();
-        if let Some(free) = self.0.get_mut(place) {
-            *free = Some(number);
+        let place = self.place_or_free(number).unwrap_or(MOST);
+        if let Some(known) = self.0.get_mut(place) {
+            *known = Some(number);
         }
         place
     }
 
-    /// The same of a number that may be given now.
+    /// The same of a number, if one is given.
     pub(crate) fn give_any(&mut self, number: Option<u32>) -> Option<usize> {
         Some(self.give(number?))
     }
 
-    /// Whether numbers were given, each above 0, and leave `first` where they are divided by `stride`.
-    pub(crate) fn are_of_class(&self, first: u32, stride: u32) -> bool {
-        self.0[0].is_some()
-            && self
-                .0
-                .iter()
-                .all(|known| is_of_class(*known, first, stride))
-    }
-}
-
-/// Whether there is no number, or it is above 0 and leaves `first` where it is divided by `stride`.
-fn is_of_class(known: Option<u32>, first: u32, stride: u32) -> bool {
-    match known {
-        Some(number) => number > 0 && number.checked_rem(stride) == Some(first),
-        None => true,
+    /// Whether there is a number at a place that is above 0 and leaves `first` where it is divided by `stride`.
+    pub(crate) fn is_of_class(&self, place: usize, (first, stride): (u32, u32)) -> bool {
+        match self.number(place) {
+            Some(number) => number > 0 && number.checked_rem(stride) == Some(first),
+            None => false,
+        }
     }
 }

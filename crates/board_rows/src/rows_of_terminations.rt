@@ -1,5 +1,5 @@
 //! Each call of a table of terminations.
-use crate::tables::{Call, Deed, Heard, Named, heard_anew};
+use crate::tables::{Call, Deed, Heard, Named, assert_heard};
 use mg_names::codes::Code;
 use mg_names::identifiers::ContextId;
 use mg_names::modes::Mode;
@@ -10,19 +10,21 @@ const EPHEMERAL: Named = Named::Ephemeral(0);
 
 const REMOTE: Option<u32> = Some(9);
 
+const TAKEN: Heard = Heard::Refused(Code::AlreadyInContext);
+
+const UNKNOWN: Heard = Heard::Refused(Code::UnknownTermination);
+
 #[test]
 fn each_call_once(rt: HostRuntime) {
-    let taken = Heard::Refused(Code::AlreadyInContext);
-    let unknown = Heard::Refused(Code::UnknownTermination);
-    let rows = [
+    const ROWS: &[(Call, Heard)] = &[
         (Call::AddLine(7), Heard::Done),
         (Call::AddLine(7), Heard::Known),
         (Call::Create, Heard::Created(0)),
         (Call::Of(LINE, Deed::Put(ContextId(3))), Heard::Done),
-        (Call::Of(LINE, Deed::Put(ContextId(4))), taken),
+        (Call::Of(LINE, Deed::Put(ContextId(4))), TAKEN),
         (Call::Of(LINE, Deed::SetMode(Mode::SendOnly)), Heard::Done),
         (Call::Of(EPHEMERAL, Deed::SetRemote(REMOTE)), Heard::Done),
-        (Call::Of(LINE, Deed::SetRemote(None)), unknown),
+        (Call::Of(LINE, Deed::SetRemote(None)), UNKNOWN),
         (Call::Copy, Heard::Done),
         (Call::Of(EPHEMERAL, Deed::Destroy), Heard::Done),
         (Call::Of(EPHEMERAL, Deed::Exists), Heard::Is(false)),
@@ -33,5 +35,5 @@ fn each_call_once(rt: HostRuntime) {
         (Call::Of(EPHEMERAL, Deed::Exists), Heard::Is(false)),
         (Call::Of(LINE, Deed::Exists), Heard::Is(true)),
     ];
-    assert_eq!(rt; heard_anew(rt.alloc(), &rows), rows.len());
+    assert_heard(&rt, rt.alloc(), ROWS);
 }

@@ -6,79 +6,26 @@ use contexts::{Done, ExecFault};
 use mg_names::codes::Code;
 use mg_names::identifiers::{ContextId, LineNo};
 
-/// A list by its length and its first two members, so that a list of two at most is wanted as a whole.
+/// A list.
 #[derive(Clone, Copy, PartialEq, Eq)]
-pub(crate) struct List {
-    length: usize,
-    first: Option<usize>,
-    second: Option<usize>,
-}
-
-pub(crate) const EMPTY: List = List {
-    length: 0,
-    first: None,
-    second: None,
-};
-
-/// A list of this alone.
-pub(crate) fn one(member: usize) -> List {
-    List {
-        length: 1,
-        first: Some(member),
-        second: None,
-    }
-}
-
-/// A list of these two.
-pub(crate) fn two(first: usize, second: usize) -> List {
-    List {
-        length: 2,
-        first: Some(first),
-        second: Some(second),
-    }
-}
-
-/// A list of lines.
-pub(crate) fn lines(lines: &[LineNo]) -> List {
-    List {
-        length: lines.len(),
-        first: lines.get(0).map(|line| line.0 as usize),
-        second: lines.get(1).map(|line| line.0 as usize),
-    }
-}
-
-/// A list of numbers that were given, by their places.
-pub(crate) fn places(numbers: &[u32], given: &Given) -> List {
-    List {
-        length: numbers.len(),
-        first: given.place_of(numbers.get(0).copied()),
-        second: given.place_of(numbers.get(1).copied()),
-    }
-}
-
-/// The same of contexts.
-pub(crate) fn places_of_contexts(contexts: &[ContextId], given: &Given) -> List {
-    List {
-        length: contexts.len(),
-        first: given.place_of(contexts.get(0).map(|context| context.0)),
-        second: given.place_of(contexts.get(1).map(|context| context.0)),
-    }
-}
-
-/// What a command tells of itself: which context and which ephemeral it created, and which lines and which ephemerals it took out.
-#[derive(Clone, Copy, PartialEq, Eq)]
-pub(crate) struct Told {
-    context: Option<usize>,
-    ephemeral: Option<usize>,
-    lines: List,
-    ephemerals: List,
+pub(crate) enum List {
+    /// Of nothing.
+    Empty,
+    /// Of this alone.
+    One(usize),
+    /// Of these two.
+    Two(usize, usize),
+    /// Another one: longer, or of a number that was not given.
+    Other,
 }
 
 /// What a board answers.
 #[derive(Clone, Copy, PartialEq, Eq)]
 pub(crate) enum Seen {
-    /// The command was done, and tells this.
-    Did(Told),
+    /// The command was done. It created this context and this ephemeral, and took nothing out.
+    Made(Option<usize>, Option<usize>),
+    /// The command was done. It created nothing, and took out these lines and these ephemerals, one at least.
+    TookOut(List, List),
     /// It was refused with this code.
     Refused(Code),
     /// It is done.
@@ -90,72 +37,87 @@ pub(crate) enum Seen {
     /// Whether media goes from line 1 to line 2, and back.
     Ways(bool, bool),
     /// This ephemeral.
-    Ephemeral(usize),
+    Ephemeral(Option<usize>),
     /// These.
     Lists(List),
     /// This number.
-    Number(u32),
+    Number(Option<u32>),
     /// Another answer, want of memory too.
     Other,
 }
 
-/// It created nothing and took nothing out.
-pub(crate) const NOTHING: Told = Told {
-    context: None,
-    ephemeral: None,
-    lines: EMPTY,
-    ephemerals: EMPTY,
-};
+/// The command was done, and created and took out nothing.
+pub(crate) const DID: Seen = Seen::Made(None, None);
 
-/// This context was created.
-pub(crate) fn made(context: usize) -> Seen {
-    Seen::Did(Told {
-        context: Some(context),
-        ..NOTHING
-    })
-}
-
-/// This ephemeral was created.
-pub(crate) fn made_ephemeral(ephemeral: usize) -> Seen {
-    Seen::Did(Told {
-        ephemeral: Some(ephemeral),
-        ..NOTHING
-    })
-}
-
-/// This context was created, with this ephemeral.
-pub(crate) fn made_both(context: usize, ephemeral: usize) -> Seen {
-    Seen::Did(Told {
-        context: Some(context),
-        ephemeral: Some(ephemeral),
-        ..NOTHING
-    })
-}
-
-/// These lines and these ephemerals were taken out.
-pub(crate) fn took_out(lines: List, ephemerals: List) -> Seen {
-    Seen::Did(Told {
-        lines,
-        ephemerals,
-        ..NOTHING
-    })
-}
-
-/// What a command told, whose context and ephemeral are given now.
-fn told_of(made: &mut Made, done: &Done) -> Told {
-    let context = done.context().map(|context| context.0);
-    Told {
-        context: made.contexts.give_any(context),
-        ephemeral: made.ephemerals.give_any(done.ephemeral()),
-        lines: lines(done.lines()),
-        ephemerals: places(done.ephemerals(), &made.ephemerals),
+/// Lines as a list.
+pub(crate) fn lines(lines: &[LineNo]) -> List {
+    match lines {
+        [] => List::Empty,
+        [one] => List::One(one.0 as usize),
+        [one, two] => List::Two(one.0 as usize, two.0 as usize),
+        _ => List::Other,
     }
+}
+
+/// The list of one number, by its place.
+fn one(place: Option<usize>) -> List {
+    match place {
+        Some(place) => List::One(place),
+        None => List::Other,
+    }
+}
+
+/// Ephemerals as a list.
+pub(crate) fn ephemerals(numbers: &[u32], given: &Given) -> List {
+    match numbers {
+        [] => List::Empty,
+        [number] => one(given.place(*number)),
+        _ => List::Other,
+    }
+}
+
+/// Contexts as a list.
+pub(crate) fn contexts(contexts: &[ContextId], given: &Given) -> List {
+    match contexts {
+        [] => List::Empty,
+        [context] => one(given.place(context.0)),
+        _ => List::Other,
+    }
+}
+
+fn number_of(context: Option<ContextId>) -> Option<u32> {
+    Some(context?.0)
+}
+
+/// What is seen of a command that created this and took this out.
+fn seen_by(
+    context: Option<usize>,
+    ephemeral: Option<usize>,
+    lines: List,
+    ephemerals: List,
+) -> Seen {
+    match (lines, ephemerals) {
+        (List::Empty, List::Empty) => Seen::Made(context, ephemeral),
+        _ => match (context, ephemeral) {
+            (None, None) => Seen::TookOut(lines, ephemerals),
+            _ => Seen::Other,
+        },
+    }
+}
+
+/// What is seen of a command that was done, whose context and ephemeral are given now.
+fn seen_of_done(made: &mut Made, done: &Done) -> Seen {
+    let context = made.contexts.give_any(number_of(done.context()));
+    let ephemeral = made.ephemerals.give_any(done.ephemeral());
+    let lines = lines(done.lines());
+    let ephemerals = ephemerals(done.ephemerals(), &made.ephemerals);
+    seen_by(context, ephemeral, lines, ephemerals)
 }
 
 /// What is seen of a command's answer.
 pub(crate) fn seen_of(made: &mut Made, answer: &Result<Done, ExecFault>) -> Seen {
     match answer {
-        Ok(done) => Seen::Did(told_of(made, done)),
+        Ok(done) => seen_of_done(made, done),
         Err(ExecFault::Code(code)) => Seen::Refused(*code),
         Err(ExecFault::NoMemory) => Seen::Other,
     }

@@ -1,11 +1,12 @@
 //! What is done to a board, step by step, and what it answers. A row is a step with the answer that is wanted, so that a test is a table:
-//! it owns no board, whatever it asks.
+//! it owns no board, whatever it asks. A table is a constant: what a test makes as it runs is one more step of its proof for each row.
 use crate::commands::{Command, Made};
 use crate::given::NOTHING_GIVEN;
-use crate::seen::{Seen, lines, places, places_of_contexts, seen_of};
+use crate::seen::{self, Seen, seen_of};
 use contexts::Board;
 use mg_names::identifiers::{LineNo, TermId};
 use std::alloc::{AllocError, Global};
+use std::process::Abort;
 
 /// What is done to a board, or read of it.
 #[derive(Clone, Copy)]
@@ -38,10 +39,10 @@ pub(crate) enum Step {
     NumberOfContext(usize),
     /// The number of an ephemeral.
     NumberOfEphemeral(usize),
-    /// Whether contexts were given numbers, all above 0, that leave the first where they are divided by the second.
-    ContextsAreOfClass(u32, u32),
-    /// The same of ephemerals.
-    EphemeralsAreOfClass(u32, u32),
+    /// Whether the number of a context is above 0 and of the board's class.
+    ContextIsOfClass(usize),
+    /// The same of an ephemeral.
+    EphemeralIsOfClass(usize),
 }
 
 fn does(board: &mut Board, made: &mut Made, command: Command) -> Seen {
@@ -73,76 +74,44 @@ fn goes(board: &Board, from: u32, to: u32) -> bool {
 fn remote_of(board: &Board, made: &Made, ephemeral: usize) -> Option<usize> {
     let number = made.ephemerals.number(ephemeral)?;
     let row = board.get(TermId::Eph(number))?;
-    made.ephemerals.place_of(row.remote)
+    made.ephemerals.place(row.remote?)
 }
 
 fn lines_of(board: &Board) -> Result<Seen, AllocError> {
     let found = board.lines()?;
-    Ok(Seen::Lists(lines(found.as_slice())))
+    Ok(Seen::Lists(seen::lines(found.as_slice())))
 }
 
 fn ephemerals_of(board: &Board, made: &Made) -> Result<Seen, AllocError> {
     let found = board.ephemerals()?;
-    Ok(Seen::Lists(places(found.as_slice(), &made.ephemerals)))
+    let list = seen::ephemerals(found.as_slice(), &made.ephemerals);
+    Ok(Seen::Lists(list))
 }
 
 fn contexts_of(board: &Board, made: &Made) -> Result<Seen, AllocError> {
     let found = board.context_numbers()?;
-    let places = places_of_contexts(found.as_slice(), &made.contexts);
-    Ok(Seen::Lists(places))
+    let list = seen::contexts(found.as_slice(), &made.contexts);
+    Ok(Seen::Lists(list))
 }
 
-fn number(number: Option<u32>) -> Seen {
-    match number {
-        Some(number) => Seen::Number(number),
-        None => Seen::Other,
-    }
-}
-
-fn ephemeral(place: Option<usize>) -> Seen {
-    match place {
-        Some(place) => Seen::Ephemeral(place),
-        None => Seen::Other,
-    }
-}
-
-/// What is read of the numbers that a board gave.
-fn of_numbers(made: &Made, step: Step) -> Seen {
+/// What is read of a board that made this.
+fn read(board: &Board, made: &Made, step: Step) -> Seen {
     match step {
-        Step::NumberOfContext(place) => number(made.contexts.number(place)),
-        Step::NumberOfEphemeral(place) => number(made.ephemerals.number(place)),
-        Step::ContextsAreOfClass(first, stride) => {
-            Seen::Is(made.contexts.are_of_class(first, stride))
-        }
-        Step::EphemeralsAreOfClass(first, stride) => {
-            Seen::Is(made.ephemerals.are_of_class(first, stride))
-        }
-        _ => Seen::Other,
-    }
-}
-
-/// What is read of media.
-fn of_media(board: &Board, step: Step) -> Seen {
-    match step {
+        Step::Does(_) | Step::Settles => Seen::Other,
+        Step::Contexts => Seen::Contexts(board.contexts()),
+        Step::ContextsOfResetCopy => contexts_of_reset_copy(board),
         Step::Path(from, to) => Seen::Is(goes(board, from, to)),
         Step::Ways => Seen::Ways(goes(board, 1, 2), goes(board, 2, 1)),
         Step::AreJoined(one, other) => Seen::Is(board.joined(LineNo(one), LineNo(other))),
-        _ => Seen::Other,
-    }
-}
-
-/// What is read of what exists.
-fn of_board(board: &Board, made: &Made, step: Step) -> Seen {
-    match step {
-        Step::Contexts => Seen::Contexts(board.contexts()),
-        Step::ContextsOfResetCopy => contexts_of_reset_copy(board),
         Step::HasLine(line) => Seen::Is(board.get(TermId::Line(LineNo(line))).is_some()),
-        Step::RemoteOf(place) => ephemeral(remote_of(board, made, place)),
+        Step::RemoteOf(place) => Seen::Ephemeral(remote_of(board, made, place)),
         Step::Lines => lines_of(board).unwrap_or(Seen::Other),
         Step::Ephemerals => ephemerals_of(board, made).unwrap_or(Seen::Other),
         Step::ContextNumbers => contexts_of(board, made).unwrap_or(Seen::Other),
-        Step::Path(..) | Step::Ways | Step::AreJoined(..) => of_media(board, step),
-        _ => of_numbers(made, step),
+        Step::NumberOfContext(place) => Seen::Number(made.contexts.number(place)),
+        Step::NumberOfEphemeral(place) => Seen::Number(made.ephemerals.number(place)),
+        Step::ContextIsOfClass(place) => Seen::Is(made.contexts.is_of_class(place, made.class)),
+        Step::EphemeralIsOfClass(place) => Seen::Is(made.ephemerals.is_of_class(place, made.class)),
     }
 }
 
@@ -151,13 +120,14 @@ fn answer(board: &mut Board, made: &mut Made, step: Step) -> Seen {
     match step {
         Step::Does(command) => does(board, made, command),
         Step::Settles => settles(board),
-        _ => of_board(board, made, step),
+        _ => read(board, made, step),
     }
 }
 
-/// How many rows from the first on a board that has made nothing answers as they say.
-fn answered(board: &mut Board, rows: &[(Step, Seen)]) -> usize {
+/// How many rows from the first on a board of a class of numbers, which has made nothing, answers as they say.
+fn answered(board: &mut Board, class: (u32, u32), rows: &[(Step, Seen)]) -> usize {
     let mut made = Made {
+        class,
         contexts: NOTHING_GIVEN,
         ephemerals: NOTHING_GIVEN,
     };
@@ -172,13 +142,13 @@ fn answered(board: &mut Board, rows: &[(Step, Seen)]) -> usize {
 /// How many rows from the first on a new board with these lines answers as they say.
 pub(crate) fn answered_anew(alloc: Global, lines: &[LineNo], rows: &[(Step, Seen)]) -> usize {
     match Board::new(alloc, lines) {
-        Ok(mut board) => answered(&mut board, rows),
+        Ok(mut board) => answered(&mut board, (0, 1), rows),
         Err(_) => 0,
     }
 }
 
 /// The same of a new board whose numbers leave `first` where they are divided by `stride`.
-pub(crate) fn answered_by_class(
+fn answered_by_class(
     alloc: Global,
     lines: &[LineNo],
     (first, stride): (u32, u32),
@@ -188,7 +158,28 @@ pub(crate) fn answered_by_class(
         return 0;
     }
     match Board::with_ids(alloc, lines, first, stride) {
-        Ok(mut board) => answered(&mut board, rows),
+        Ok(mut board) => answered(&mut board, (first, stride), rows),
         Err(_) => 0,
     }
+}
+
+/// Asserts that a new board with these lines answers as all rows say; else the message has the place of the first one that it doesn't.
+pub(crate) fn assert_answered(
+    rt: &impl Abort,
+    alloc: Global,
+    lines: &[LineNo],
+    rows: &[(Step, Seen)],
+) {
+    assert_eq!(rt; answered_anew(alloc, lines, rows), rows.len());
+}
+
+/// The same of a new board whose numbers leave the first of these where they are divided by the second.
+pub(crate) fn assert_answered_by_class(
+    rt: &impl Abort,
+    alloc: Global,
+    lines: &[LineNo],
+    class: (u32, u32),
+    rows: &[(Step, Seen)],
+) {
+    assert_eq!(rt; answered_by_class(alloc, lines, class, rows), rows.len());
 }

@@ -1,11 +1,12 @@
 //! What is done to a table of terminations, call by call, and what it answers. An ephemeral is named by its place in the order in which the
-//! table first gave their numbers, from 0. A row is a call with the answer that is wanted, so that a test owns no table.
+//! table first gave their numbers, from 0. A row is a call with the answer that is wanted, so that a test is a constant and a call of one assertion.
 use crate::given::{Given, NOTHING_GIVEN};
 use mg_names::codes::Code;
 use mg_names::identifiers::{ContextId, LineNo, TermId};
 use mg_names::modes::Mode;
 use std::alloc::Global;
 use std::mem;
+use std::process::Abort;
 use terminations::{AddLineFault, CreateFault, Terms};
 
 /// A termination.
@@ -183,18 +184,33 @@ fn answered(terms: &mut Terms, kept: &mut Terms, rows: &[(Call, Heard)]) -> usiz
 }
 
 /// How many rows from the first on a new table answers as they say.
-pub(crate) fn heard_anew(alloc: Global, rows: &[(Call, Heard)]) -> usize {
+fn heard_anew(alloc: Global, rows: &[(Call, Heard)]) -> usize {
     let mut terms = Terms::new(alloc);
     let mut kept = Terms::new(alloc);
     answered(&mut terms, &mut kept, rows)
 }
 
 /// The same of a new table that has this number alone to give.
-pub(crate) fn heard_of_one(alloc: Global, number: u32, rows: &[(Call, Heard)]) -> usize {
+fn heard_of_one(alloc: Global, number: u32, rows: &[(Call, Heard)]) -> usize {
     if number >= u32::MAX {
         return 0;
     }
     let mut terms = Terms::with_ids(alloc, number, u32::MAX);
     let mut kept = Terms::new(alloc);
     answered(&mut terms, &mut kept, rows)
+}
+
+/// Asserts that a new table answers as all rows say; else the message has the place of the first one that it doesn't.
+pub(crate) fn assert_heard(rt: &impl Abort, alloc: Global, rows: &[(Call, Heard)]) {
+    assert_eq!(rt; heard_anew(alloc, rows), rows.len());
+}
+
+/// The same of a new table that has this number alone to give.
+pub(crate) fn assert_heard_of_one(
+    rt: &impl Abort,
+    alloc: Global,
+    number: u32,
+    rows: &[(Call, Heard)],
+) {
+    assert_eq!(rt; heard_of_one(alloc, number, rows), rows.len());
 }
