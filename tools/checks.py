@@ -124,37 +124,38 @@ def ratio(name, half, whole):
 
 
 def at_once(path, pieces, times):
-    """The best of three times by the clock of so many checks of an input at once, each in so many pieces, and the most memory of one, in bytes."""
-    best, most = None, 0
-    for _ in range(3):
-        start = time.perf_counter()
-        command = [PROGRAM, "check", "--pieces", str(pieces)]
-        running = []
-        for _ in range(times):
-            with open(path, "rb") as text:
-                running.append(subprocess.Popen(command, stdin=text, stdout=subprocess.DEVNULL))
-        for process in running:
-            _, status, used = os.wait4(process.pid, 0)
-            process.returncode = os.waitstatus_to_exitcode(status)
-            most = max(most, used.ru_maxrss * 1024)
-            if process.returncode:
-                raise SystemExit(f"a check in {pieces} pieces ended with {process.returncode}")
-        taken = time.perf_counter() - start
-        best = taken if best is None else min(best, taken)
-    return best, most
+    """The time by the clock of so many checks of an input at once, each in so many pieces, and the most memory of one, in bytes."""
+    most = 0
+    start = time.perf_counter()
+    command = [PROGRAM, "check", "--pieces", str(pieces)]
+    running = []
+    for _ in range(times):
+        with open(path, "rb") as text:
+            running.append(subprocess.Popen(command, stdin=text, stdout=subprocess.DEVNULL))
+    for process in running:
+        _, status, used = os.wait4(process.pid, 0)
+        process.returncode = os.waitstatus_to_exitcode(status)
+        most = max(most, used.ru_maxrss * 1024)
+        if process.returncode not in (0, 1):
+            raise SystemExit(f"a check in {pieces} pieces ended with {process.returncode}")
+    return time.perf_counter() - start, most
 
 
 def in_pieces(name, quarter, whole):
-    """One check in four pieces, beside four processes with a quarter of the input each, on the same processors."""
+    """One check in four pieces, beside four processes with a quarter of the input each, on the same processors and in turn: the best of seven times
+    each. What reading takes, which isn't done in pieces, is told apart."""
     with tempfile.TemporaryDirectory() as folder:
-        paths = [Path(folder) / part for part in ("quarter", "whole")]
-        for path, (script_text, certificate_text) in zip(paths, (quarter, whole)):
-            path.write_text(f"{script_text}%%\n{certificate_text}")
-        one, held = at_once(paths[1], 1, 1)
-        four, held_in_four = at_once(paths[1], 4, 1)
-        apart, _ = at_once(paths[0], 1, 4)
+        paths = {}
+        for part, (script_text, certificate_text) in (("quarter", quarter), ("whole", whole)):
+            paths[part] = Path(folder) / part
+            paths[part].write_text(f"{script_text}%%\n{certificate_text}")
+        paths["read"] = Path(folder) / "read"
+        paths["read"].write_text(f"{whole[0]}%%\n{without_opening(whole[1])}")
+        runs = (("whole", 1, 1), ("whole", 4, 1), ("quarter", 1, 4), ("read", 1, 1))
+        turns = [[at_once(paths[part], pieces, times) for part, pieces, times in runs] for _ in range(7)]
+    (one, held), (four, held_in_four), (apart, _), (reading, _) = (min(turn[place] for turn in turns) for place in range(4))
     print(f"{name}, by the clock, {os.cpu_count()} processors")
-    print(f"  one piece {one:.3f} s, four pieces {four:.3f} s, four processes of a quarter each {apart:.3f} s: {apart / four:.2f} of what they reach")
+    print(f"  one piece {one:.3f} s, four pieces {four:.3f} s, four processes of a quarter each {apart:.3f} s: {apart / four:.2f} of what they reach; reading takes {reading:.3f} s")
     print(f"  memory {held_in_four / held:.2f} times that of one piece")
 
 
