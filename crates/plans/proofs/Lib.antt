@@ -1,3 +1,4 @@
+pub mod AcceptedPlans
 pub mod LineLemmas
 pub mod NumberLemmas
 pub mod Readings

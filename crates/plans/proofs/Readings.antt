@@ -1,12 +1,15 @@
 -- The answer on a tree is the answer on the bytes that are a text of it.
 use Rattle.std.proofs.Common.{◌≡◌, ℕ, List, Result, Ok, Err}
+use Rattle.std.specs.Prelude.{IfOk}
 use Rattle.toml.specs.Data.{Members}
 use Rattle.mg_model.specs.Plans.{Plan}
 use Rattle.mg_model.specs.Script.{Script}
 use Rattle.toml_values.specs.Text.{IsText}
 use Rattle.plans.specs.declared.fault.PlanFault.{PlanFault}
 use Rattle.plans.specs.declared.fault.PlanFault.TheVariants.{NotToml, BadStep, TooMany, NoMemory}
+use Rattle.plans.specs.Accepted.{IsPlanFor}
 use Rattle.plans.specs.Reading.{Answers, ReadsPlan, tree_read}
+use Rattle.plans.proofs.AcceptedPlans.{read_is_accepted}
 
 pub plan_is_read : (script : Script) (bytes : List ℕ) (tree : Members) (answer : Result Plan PlanFault) → IsText bytes tree
     → Answers answer (tree_read script tree) → ReadsPlan script bytes answer
@@ -15,3 +18,8 @@ plan_is_read script bytes tree (Err NotToml) text is = absurd is
 plan_is_read script bytes tree (Err BadStep) text is = (tree, text, is)
 plan_is_read script bytes tree (Err TooMany) text is = (tree, text, is)
 plan_is_read script bytes tree (Err NoMemory) text is = tt
+
+pub plan_is_accepted : (script : Script) (tree : Members) (answer : Result Plan PlanFault) → Answers answer (tree_read script tree)
+    → IfOk answer (λ plan. IsPlanFor script plan)
+plan_is_accepted script tree (Ok plan) is = read_is_accepted script tree plan is
+plan_is_accepted script tree (Err fault) is = tt

@@ -1,5 +1,6 @@
+pub mod Accepted
 pub mod FaultNames
 pub mod PlanValue
 pub mod Reading
-pub mod Texts
 pub mod Tables
+pub mod Texts

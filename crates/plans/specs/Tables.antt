@@ -43,15 +43,18 @@ names_line_twice calls = repeats_after [] (flat_map (λ (call : PlanCall). call.
 
 -- ---- steps and calls
 
+abbrev pub call_keys : List (List ℕ)
+call_keys = codes "lines" ∷ codes "epochs" ∷ []
+
+abbrev pub plan_keys : List (List ℕ)
+plan_keys = codes "call" ∷ codes "shards" ∷ []
+
 module _ (script : Script) where
   unfoldable pub step_meant : Data → Option PlanStep
   step_meant d = as_str d >>= λ text. step_of script.lines (words_of text)
 
   abbrev pub epoch_meant : Data → Option (List PlanStep)
   epoch_meant d = list_of step_meant d
-
-  abbrev pub call_keys : List (List ℕ)
-  call_keys = codes "lines" ∷ codes "epochs" ∷ []
 
   -- as many lines as the script has
   unfoldable pub call_in : Members → Option PlanCall
@@ -64,9 +67,6 @@ module _ (script : Script) where
   call_meant d = as_table d >>= call_in
 
   -- ---- a plan
-
-  abbrev pub plan_keys : List (List ℕ)
-  plan_keys = codes "call" ∷ codes "shards" ∷ []
 
   unfoldable pub plan_in : Members → Option Plan
   plan_in t = only_if (has_only plan_keys t) (do

@@ -1,6 +1,7 @@
 //! The reader of plans.
-ghost use Rattle.std.specs.Prelude.{◌≡◌};
+ghost use Rattle.std.specs.Prelude.{IfOk};
 ghost use Rattle.toml.specs.View.{table_view};
+ghost use Rattle.plans.specs.Accepted.{IsPlanFor};
 ghost use Rattle.plans.specs.Reading.{Answers, ReadsPlan, tree_read};
 
 use crate::fault::PlanFault;
@@ -33,9 +34,12 @@ fn of_tree(alloc: Global, script: &Script, tree: Table) -> Result<Plan, PlanFaul
 impl Plan {
     /// Reads a plan of calls of a script. The bytes are TOML; the format is this profile's own. Of all faults that the document has anywhere the lowest is
     /// given; `NoMemory` may come in place of any answer.
-    #[tactic(auto, using(crate::proofs::Readings::plan_is_read))]
+    #[tactic(auto, using(crate::proofs::Readings::plan_is_read, crate::proofs::Readings::plan_is_accepted))]
     pub fn read(alloc: Global, bytes: &[u8], script: &Script) -> Result<Plan, PlanFault>
-        ensures { ReadsPlan script.now bytes.now result }
+        ensures reads { ReadsPlan script.now bytes.now result }
+
+        // Of two calls no line is the same, and each call has a line for each of the script's.
+        ensures accepted { IfOk result (λ plan. IsPlanFor script.now plan) }
     {
         match toml::table_from_slice(alloc, bytes) {
             Ok(tree) => of_tree(alloc, script, tree),
