@@ -1,5 +1,5 @@
 -- What is read of a tree has the form of a plan.
-use Rattle.std.proofs.Common.{◌≡◌, ◌∙◌, ℕ, zero, suc, ◌<◌, ◌≤◌, get_or, Bool, true, false, List, [], ◌∷◌, length, Option, Some, None, Result, Ok, Err, true≢false, refl, sym, subst, ap, arith}
+use Rattle.std.proofs.Common.{◌≡◌, ℕ, zero, suc, ◌<◌, ◌≤◌, Bool, true, false, List, [], ◌∷◌, length, Option, Some, None, Result, Ok, Err, true≢false, refl, sym, subst, ap, arith}
 use Rattle.std.specs.Prelude.{◌==◌, not, nat_le, Contains, is_some, unwrap_or, codes, ℤ, pos, negsuc, if◌then◌else◌}
 use Rattle.std.proofs.lemmas.Bool.{eqb-true, leb-true}
 use Rattle.std.proofs.lemmas.Option.{same_Some}

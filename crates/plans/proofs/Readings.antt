@@ -1,5 +1,5 @@
 -- The answer on a tree is the answer on the bytes that are a text of it.
-use Rattle.std.proofs.Common.{◌≡◌, ℕ, List, Result, Ok, Err}
+use Rattle.std.proofs.Common.{ℕ, List, Result, Ok, Err}
 use Rattle.std.specs.Prelude.{IfOk}
 use Rattle.toml.specs.Data.{Members}
 use Rattle.mg_model.specs.Plans.{Plan}

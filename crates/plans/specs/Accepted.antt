@@ -1,5 +1,5 @@
 -- What holds of every plan that is read. A reader should check that no line is of two calls, or twice of one.
-use Rattle.std.specs.Prelude.{◌≡◌, ℕ, ◌≤◌, false, length, Contains}
+use Rattle.std.specs.Prelude.{◌≡◌, ◌≤◌, false, length, Contains}
 use Rattle.mg_model.specs.Plans.{PlanCall, Plan}
 use Rattle.mg_model.specs.Script.{Script}
 use Rattle.plans.specs.PlanValue.{is_too_large}

@@ -1,6 +1,6 @@
 -- The tables of a plan. A reader should check each key, whether it may be left out, and what it holds; and that no line is of two calls, or twice of one.
 -- Every fault of them is a bad step.
-use Rattle.std.specs.Prelude.{ℕ, List, [], ◌∷◌, ◌++◌, length, Bool, false, not, ◌||◌, ◌==◌, nat_le, unwrap_or, codes, if◌then◌else◌, Option, Some, None, ℤ, pos, negsuc}
+use Rattle.std.specs.Prelude.{ℕ, List, [], ◌∷◌, ◌++◌, length, Bool, false, not, ◌||◌, ◌==◌, nat_le, unwrap_or, codes, Option, Some, None, ℤ, pos, negsuc}
 use Rattle.std.specs.List.{list_any, flat_map}
 use Rattle.toml.specs.Data.{Data, Members, as_str, as_integer, as_table}
 use Rattle.mg_model.specs.declared.plans.PlanStep.{PlanStep}
