@@ -123,8 +123,8 @@ def ratio(name, half, whole):
     print(f"  ratio {second[0] / first[0]:.2f}, without reading {second[1] / first[1]:.2f}")
 
 
-def at_once(path, pieces, times):
-    """The time by the clock of so many checks of an input at once, each in so many pieces, and the most memory of one, in bytes."""
+def at_once(path, pieces, times, wanted):
+    """The time by the clock of so many checks of an input at once, each in so many pieces and with this status, and the most memory of one, in bytes."""
     most = 0
     start = time.perf_counter()
     command = [PROGRAM, "check", "--pieces", str(pieces)]
@@ -136,7 +136,7 @@ def at_once(path, pieces, times):
         _, status, used = os.wait4(process.pid, 0)
         process.returncode = os.waitstatus_to_exitcode(status)
         most = max(most, used.ru_maxrss * 1024)
-        if process.returncode not in (0, 1):
+        if process.returncode != wanted:
             raise SystemExit(f"a check in {pieces} pieces ended with {process.returncode}")
     return time.perf_counter() - start, most
 
@@ -151,8 +151,8 @@ def in_pieces(name, quarter, whole):
             paths[part].write_text(f"{script_text}%%\n{certificate_text}")
         paths["read"] = Path(folder) / "read"
         paths["read"].write_text(f"{whole[0]}%%\n{without_opening(whole[1])}")
-        runs = (("whole", 1, 1), ("whole", 4, 1), ("quarter", 1, 4), ("read", 1, 1))
-        turns = [[at_once(paths[part], pieces, times) for part, pieces, times in runs] for _ in range(7)]
+        runs = (("whole", 1, 1, 0), ("whole", 4, 1, 0), ("quarter", 1, 4, 0), ("read", 1, 1, 1))
+        turns = [[at_once(paths[part], *how) for part, *how in runs] for _ in range(7)]
     (one, held), (four, held_in_four), (apart, _), (reading, _) = (min(turn[place] for turn in turns) for place in range(4))
     print(f"{name}, by the clock, {os.cpu_count()} processors")
     print(f"  one piece {one:.3f} s, four pieces {four:.3f} s, four processes of a quarter each {apart:.3f} s: {apart / four:.2f} of what they reach; reading takes {reading:.3f} s")
