@@ -9,7 +9,7 @@ use Rattle.std.proofs.lemmas.List.Folds.{list_any-append}
 use Rattle.std.proofs.lemmas.List.{map-append}
 use Rattle.std.proofs.Math.Seq.{take-suc, drop-cons}
 use Rattle.mg_names.specs.declared.identifiers.LineNo.{LineNo}
-use Rattle.plans.specs.Tables.{is_among, repeats_after}
+use Rattle.plans.specs.Tables.{has_twice, is_among}
 
 -- a number is among others exactly where a set of them finds it
 equal_by_order : (n m : ℕ) → (n == m) ≡ is_at (nat_cmp n) m
@@ -20,6 +20,56 @@ unfolding is_among
 found_by_order [] n = refl
 found_by_order (m ∷ ms) n =
     ap (λ b. b || list_any (λ x. n == x) ms) (equal_by_order n m) ∙ ap (λ b. is_at (nat_cmp n) m || b) (found_by_order ms n)
+
+-- ---- from the left: one of the numbers stands among those before it
+
+abbrev pub repeats_after : List ℕ → List ℕ → Bool
+repeats_after before [] = false
+repeats_after before (n ∷ more) = is_among before n || repeats_after (before ++ n ∷ []) more
+
+-- one of the numbers stands among these
+meets : List ℕ → List ℕ → Bool
+meets before [] = false
+meets before (n ∷ more) = is_among before n || meets before more
+
+equal_back : (n m : ℕ) → (n == m) ≡ (m == n)
+equal_back n m = grind (arith, nat_tests)
+
+regrouped : (a b c d : Bool) → ((a || (c || false)) || (b || d)) ≡ ((a || b) || (c || d))
+regrouped true b c d = refl
+regrouped false true true d = refl
+regrouped false true false d = refl
+regrouped false false true d = refl
+regrouped false false false d = refl
+
+meets_more : (before : List ℕ) (n : ℕ) (more : List ℕ) → meets (before ++ n ∷ []) more ≡ (meets before more || is_among more n)
+unfolding is_among meets
+meets_more before n [] = refl
+meets_more before n (m ∷ more) =
+    ap (λ b. b || meets (before ++ n ∷ []) more) (list_any-append (λ other. m == other) before (n ∷ []))
+    ∙ ap (λ b. (list_any (λ other. m == other) before || ((m == n) || false)) || b) (meets_more before n more)
+    ∙ ap (λ b. (list_any (λ other. m == other) before || (b || false)) || (meets before more || list_any (λ other. n == other) more)) (equal_back m n)
+    ∙ regrouped (list_any (λ other. m == other) before) (meets before more) (n == m) (list_any (λ other. n == other) more)
+
+parted : (a b c d : Bool) → (a || ((b || c) || d)) ≡ ((a || b) || (c || d))
+parted true b c d = refl
+parted false true c d = refl
+parted false false c d = refl
+
+from_left : (before ns : List ℕ) → repeats_after before ns ≡ (meets before ns || has_twice ns)
+unfolding meets
+from_left before [] = refl
+from_left before (n ∷ more) =
+    ap (λ b. is_among before n || b) (from_left (before ++ n ∷ []) more ∙ ap (λ b. b || has_twice more) (meets_more before n more))
+    ∙ parted (is_among before n) (meets before more) (is_among more n) (has_twice more)
+
+meets_nothing : (ns : List ℕ) → meets [] ns ≡ false
+unfolding meets is_among
+meets_nothing [] = refl
+meets_nothing (n ∷ more) = meets_nothing more
+
+pub twice_from_left : (ns : List ℕ) → repeats_after [] ns ≡ has_twice ns
+twice_from_left ns = from_left [] ns ∙ ap (λ b. b || has_twice ns) (meets_nothing ns)
 
 -- ---- the lines so far, and those that are left
 
@@ -34,7 +84,7 @@ abbrev pub Holds : List ℕ → List ℕ → Type 0
 Holds keys front = (n : ℕ) → is_among keys n ≡ is_among front n
 
 abbrev pub GoesOn : List ℕ → List ℕ → List ℕ → Type 0
-GoesOn front rest all = repeats_after front rest ≡ repeats_after [] all
+GoesOn front rest all = repeats_after front rest ≡ has_twice all
 
 module _ (lines : List LineNo) (i : ℕ) (d : LineNo) (within : i < length lines) where
   abbrev at : ℕ
@@ -48,7 +98,7 @@ module _ (lines : List LineNo) (i : ℕ) (d : LineNo) (within : i < length lines
 
   -- the number stands among those before it
   pub comes_twice : (keys : List ℕ) → Holds keys (numbers_of (take i lines)) → GoesOn (numbers_of (take i lines)) (numbers_of (drop i lines)) (numbers_of lines)
-      → not (is_among keys at) ≡ false → true ≡ repeats_after [] (numbers_of lines)
+      → not (is_among keys at) ≡ false → true ≡ has_twice (numbers_of lines)
   comes_twice keys holds goes found =
       sym (there (is_among keys at) found (sym (holds at))) ∙ sym (ap (repeats_after (numbers_of (take i lines))) rest_is) ∙ goes
     where

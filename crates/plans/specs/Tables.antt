@@ -1,6 +1,6 @@
 -- The tables of a plan. A reader should check each key, whether it may be left out, and what it holds; and that no line is of two calls, or twice of one.
 -- Every fault of them is a bad step.
-use Rattle.std.specs.Prelude.{ℕ, List, [], ◌∷◌, ◌++◌, length, Bool, false, not, ◌||◌, ◌==◌, nat_le, unwrap_or, codes, Option, Some, None, ℤ, pos, negsuc}
+use Rattle.std.specs.Prelude.{ℕ, List, [], ◌∷◌, length, Bool, false, not, ◌||◌, ◌==◌, nat_le, unwrap_or, codes, Option, Some, None, ℤ, pos, negsuc}
 use Rattle.std.specs.List.{list_any, flat_map}
 use Rattle.toml.specs.Data.{Data, Members, as_str, as_integer, as_table}
 use Rattle.mg_model.specs.declared.plans.PlanStep.{PlanStep}
@@ -33,13 +33,13 @@ shards_meant d = whole_meant 1 16 d
 unfoldable pub is_among : List ℕ → ℕ → Bool
 is_among numbers n = list_any (λ other. n == other) numbers
 
--- one of the numbers stands among those before it
-abbrev pub repeats_after : List ℕ → List ℕ → Bool
-repeats_after before [] = false
-repeats_after before (n ∷ more) = is_among before n || repeats_after (before ++ n ∷ []) more
+-- one of the numbers stands among those after it
+abbrev pub has_twice : List ℕ → Bool
+has_twice [] = false
+has_twice (n ∷ more) = is_among more n || has_twice more
 
 abbrev pub names_line_twice : List PlanCall → Bool
-names_line_twice calls = repeats_after [] (flat_map (λ (call : PlanCall). call.lines) calls)
+names_line_twice calls = has_twice (flat_map (λ (call : PlanCall). call.lines) calls)
 
 -- ---- steps and calls
 

@@ -1,7 +1,7 @@
 //! Lines of the gateway that a plan names twice.
-ghost use Rattle.std.specs.Prelude.{◌≡◌, ◌==◌, ℕ, true, not, if◌then◌else◌, [], map, IfOk, OnOk};
+ghost use Rattle.std.specs.Prelude.{◌≡◌, ◌==◌, ℕ, true, not, if◌then◌else◌, map, IfOk, OnOk};
 ghost use Rattle.std.specs.List.{flat_map};
-ghost use Rattle.plans.specs.Tables.{is_among, repeats_after, names_line_twice};
+ghost use Rattle.plans.specs.Tables.{is_among, has_twice, names_line_twice};
 
 use crate::plan::PlanCall;
 use mg_names::identifiers::LineNo;
@@ -30,7 +30,7 @@ fn add(numbers: &mut BTreeSet<u32>, number: u32) -> Result<bool, AllocError>
 
 /// Whether one of these lines comes twice.
 fn repeat(alloc: Global, lines: &[LineNo]) -> Result<bool, AllocError>
-    ensures { IfOk result (λ r. r ≡ repeats_after [] (map (λ l. l.0) lines.now)) }
+    ensures { IfOk result (λ r. r ≡ has_twice (map (λ l. l.0) lines.now)) }
 {
     let mut seen = BTreeSet::new(alloc);
     for line in lines {

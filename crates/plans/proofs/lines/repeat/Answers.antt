@@ -1,7 +1,11 @@
--- One line more.
-use Rattle.std.proofs.Common.{◌∙◌, sym}
-use Rattle.plans.proofs.LineLemmas.{goes_on, holds_more}
+-- No line at first, and one line more.
+use Rattle.std.proofs.Common.{◌∙◌, ℕ, List, ap, sym}
+use Rattle.plans.specs.Tables.{is_among}
+use Rattle.plans.proofs.LineLemmas.{goes_on, holds_more, numbers_of, twice_from_left}
 use Rattle.plans.proofs.lines.repeat.Goals as goal
+
+pub loop-line-init : goal.loop-line-init
+loop-line-init c = (λ n. ap (λ (keys : List ℕ). is_among keys n) c.new-seen.ensures.empty, twice_from_left (numbers_of c.args.lines.now))
 
 pub loop-line-preserved : goal.loop-line-preserved
 loop-line-preserved c =
