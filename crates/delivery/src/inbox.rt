@@ -1,6 +1,6 @@
 //! What a controller keeps of the notes of one call.
 ghost use Rattle.std.specs.Prelude.{◌≡◌, IfOk, OnOk, OnErr};
-ghost use Rattle.mg_model.specs.Delivery.{new_inbox, arrival, after_arrival, arrives_new};
+ghost use Rattle.mg_model.specs.Delivery.{new_inbox, arrival, after_arrival, arrives_new, without_accepted};
 
 use crate::numbers;
 use mg_names::identifiers::Assoc;
@@ -84,6 +84,14 @@ impl Inbox {
         } else {
             Ok(Arrival::Seen)
         }
+    }
+
+    /// A note of this number counts as not accepted: it is new where it arrives again. It takes no memory, and nothing changes where none
+    /// of this number was accepted.
+    pub fn forget(&mut self, note: u32)
+        ensures { inbox_of self.new ≡ without_accepted (inbox_of self.old) note }
+    {
+        numbers::remove(&mut self.accepted, note);
     }
 
     /// A new association begins: no note was accepted.

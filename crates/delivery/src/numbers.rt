@@ -23,3 +23,11 @@ pub(crate) fn add(numbers: &mut BTreeSet<u32>, number: u32) -> Result<bool, Allo
 {
     Ok(numbers.insert(number)?)
 }
+
+/// Takes a number out, if it is among them.
+#[tactic(auto, using(crate::proofs::Members::among_by_order))]
+pub(crate) fn remove(numbers: &mut BTreeSet<u32>, number: u32)
+    ensures { (n : ℕ) → is_among numbers.new.keys n ≡ (if n == number then false else is_among numbers.old.keys n) }
+{
+    numbers.remove(&number);
+}

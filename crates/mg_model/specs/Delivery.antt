@@ -62,6 +62,10 @@ new_inbox association = record { association = association; accepted = λ n. fal
 abbrev pub with_accepted : Inbox → ℕ → Inbox
 with_accepted inbox number = record inbox { accepted = with_at inbox.accepted number true }
 
+-- a number is not accepted: a note of it is new where it arrives again
+abbrev pub without_accepted : Inbox → ℕ → Inbox
+without_accepted inbox number = record inbox { accepted = with_at inbox.accepted number false }
+
 -- the inbox after a note arrived: a new number is accepted
 abbrev pub after_arrival : Inbox → ℕ → ℕ → Inbox
 after_arrival inbox association number =
