@@ -1,23 +1,43 @@
 -- What each step comes to, by where it leads.
 use Rattle.std.proofs.lemmas.Bool.Decides.{nat_tests}
-use Rattle.std.specs.Prelude.{if◌then◌else◌, nat_lt}
-use Rattle.std.proofs.Common.{◌≡◌, ◌∙◌, ◌<◌, ℕ, List, arith, Bool, true, false, Option, Some, None, Err, refl, sym, ap, true≢false}
-use Rattle.mg_model.specs.Agent.{Agent, Phase, awaits_reply, awaits_pass, resting, is_resting, passed, passed_in, timed, heard, replied, replied_to, noted, may_accept, target_of, line_in, forgotten, leads_on, entered, entered_if, entered_or_rests, after_results, built_by}
+use Rattle.std.specs.Prelude.{◌==◌, ◌&&◌, if◌then◌else◌, nat_lt}
+use Rattle.std.proofs.Common.{◌≡◌, ◌∙◌, ◌<◌, ℕ, List, arith, Bool, true, false, Option, Some, None, Ok, Err, refl, sym, ap, subst, true≢false}
+use Rattle.mg_model.specs.Agent.{Agent, Phase, awaits_reply, awaits_pass, resting, is_resting, passed, passed_in, timed, heard, replied, replied_to, noted, may_accept, target_of, line_in, forgotten, leads_on, entered, entered_if, entered_or_rests, entered_or_stays, after_results, built_by}
+use Rattle.mg_model.specs.Delivery.{arrives_new, was_seen, is_old, is_new}
 use Rattle.mg_model.specs.Messages.{Reply, SentNote}
 use Rattle.mg_model.specs.Script.{Script}
 use Rattle.mg_model.specs.Tables.{state_of}
 use Rattle.mg_model.specs.declared.failures.Failure.{Failure}
+use Rattle.agent.specs.declared.entering.Entered.{Entered}
 use Rattle.agent.specs.declared.entering.Start.{Start}
 use Rattle.agent.specs.declared.fault.PlainFault.{PlainFault}
 use Rattle.agent.specs.declared.fault.PlainFault.TheVariants.{NotEnabled, NoMemory}
-use Rattle.agent.specs.AgentValue.{AgentValue}
-use Rattle.agent.specs.Entering.{Starts, IsEntered, leads_from}
-use Rattle.agent.specs.Steps.{IsStepped, is_passing, is_awaited, accepting}
+use Rattle.agent.specs.AheadValue.{AheadValue, in_newer, finished}
+use Rattle.agent.specs.Entering.{Starts, IsEntered, having, leads_from}
+use Rattle.agent.specs.Parts.{agent_in, bound_as}
+use Rattle.agent.specs.Preparing.{IsAhead, IsNewNote, with_note}
+use Rattle.agent.specs.Steps.{is_passing, is_awaited, accepting}
 
--- what can't be entered is no step, and nothing changed
-pub refused : (stepped : Option Agent) (a : Agent) (old : AgentValue) (fault : PlainFault) → IsEntered stepped a (Err fault) → IsStepped stepped old old (Err fault)
-refused stepped a old NotEnabled none = (none, refl)
-refused stepped a old NoMemory none = refl
+-- ---- what is put in place
+
+-- what can't be entered is no step
+pub refused : (stepped : Option Agent) (a b : Agent) (fault : PlainFault) → IsEntered stepped b (Err fault) → IsAhead stepped a (Err fault)
+refused stepped a b NotEnabled none = none
+refused stepped a b NoMemory none = tt
+
+-- what is entered from here, in a newer association or with a note, is put in place
+pub leads : (stepped : Option Agent) (a b : Agent) (start : Start) (entered : Entered) (newer note : Option ℕ) (ahead : AheadValue)
+    → stepped ≡ Some (having b entered) → Starts start b
+    → bound_as (in_newer (with_note a note) newer) (agent_in start.bindings) ≡ bound_as b (agent_in start.bindings)
+    → ((x : Agent) → finished x ahead ≡ having (bound_as (in_newer x newer) (agent_in start.bindings)) entered)
+    → ahead.note ≡ note → IsNewNote a note → IsAhead stepped a (Ok ahead)
+leads stepped a b start entered newer note ahead steps starts same puts noted new = (
+  steps
+      ∙ ap (λ (x : Agent). Some (having x entered)) (sym (same ∙ starts.bound))
+      ∙ ap (λ (x : Agent). Some x) (sym (puts (with_note a note)))
+      ∙ ap (λ n. Some (finished (with_note a n) ahead)) (sym noted),
+  subst (IsNewNote a) (sym noted) new,
+)
 
 -- ---- going on from an empty request
 
@@ -78,13 +98,37 @@ starts_accepting start a number s = record {
   bound = λ i. record (s.bound i) { accepted = (accepting a number).accepted };
 }
 
-pub leads_nowhere : (script : Script) (a : Agent) (slots : List ℕ) (sent : SentNote) (target : Option ℕ) → true ≡ may_accept script a sent →
-    target ≡ target_of script a (line_in a sent.line slots) sent.note → target ≡ None → noted script a slots sent ≡ Some (accepting a sent.number)
-leads_nowhere script a slots sent target may leads none = rw (sym may, sym leads ∙ none) refl
+-- a note that leads nowhere leaves the agent at rest, which it is
+at_rest : (phase : Phase) → is_resting phase ≡ true → phase ≡ resting
+at_rest (awaits_reply request) e = absurd (true≢false (sym e))
+at_rest awaits_pass e = absurd (true≢false (sym e))
+at_rest resting e = refl
 
-pub leads_to : (script : Script) (a : Agent) (slots : List ℕ) (sent : SentNote) (target : Option ℕ) (state : ℕ) → true ≡ may_accept script a sent →
-    target ≡ target_of script a (line_in a sent.line slots) sent.note → target ≡ Some state → noted script a slots sent ≡ entered script (accepting a sent.number) state
-leads_to script a slots sent target state may leads some = rw (sym may, sym leads ∙ some) refl
+stays : (script : Script) (a : Agent) (target : Option ℕ) → a.phase ≡ resting → entered_or_stays script a target ≡ entered_or_rests script a target
+stays script a None e = λ i. Some (record a { phase = e i })
+stays script a (Some state) e = refl
+
+pub notes : (script : Script) (a : Agent) (slots : List ℕ) (sent : SentNote) (target : Option ℕ) → true ≡ may_accept script a sent →
+    target ≡ target_of script a (line_in a sent.line slots) sent.note → noted script a slots sent ≡ entered_or_rests script (accepting a sent.number) target
+notes script a slots sent target may same =
+    rw (sym may, sym same) (stays script (accepting a sent.number) target (at_rest a.phase (rests (sent.call == a.call) _ _ _ (sym may))))
+  where
+    rests : (call here ends new : Bool) → (call && (here && ends && new)) ≡ true → here ≡ true
+    rests true true ends new e = refl
+    rests true false ends new e = absurd (true≢false (sym e))
+    rests false here ends new e = absurd (true≢false (sym e))
+
+-- a note that is accepted wasn't accepted before
+pub is_new_note : (script : Script) (a : Agent) (sent : SentNote) → true ≡ may_accept script a sent → a.accepted sent.number ≡ false
+is_new_note script a sent may = by_tests (sent.call == a.call) (is_resting a.phase) _ (sent.association == a.association) (a.accepted sent.number) (sym may)
+  where
+    by_tests : (call rests ends ours seen : Bool) → (call && (rests && ends && is_new (if ours then (if seen then was_seen else arrives_new) else is_old))) ≡ true → seen ≡ false
+    by_tests true true true true true e = absurd (true≢false (sym e))
+    by_tests call rests ends ours false e = refl
+    by_tests true true true false true e = absurd (true≢false (sym e))
+    by_tests true true false ours true e = absurd (true≢false (sym e))
+    by_tests true false ends ours true e = absurd (true≢false (sym e))
+    by_tests false rests ends ours true e = absurd (true≢false (sym e))
 
 pub cannot_note : (script : Script) (a : Agent) (slots : List ℕ) (sent : SentNote) → false ≡ may_accept script a sent → noted script a slots sent ≡ None
 cannot_note script a slots sent may = rw (sym may) refl

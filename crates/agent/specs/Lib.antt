@@ -1,6 +1,8 @@
 pub mod Faults
 pub mod AgentValue
 pub mod Steps
+pub mod AheadValue
+pub mod Preparing
 pub mod Parts
 pub mod Entering
 pub mod CallValue

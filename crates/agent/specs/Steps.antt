@@ -19,6 +19,10 @@ outstanding (awaits_reply request) = Some request
 outstanding awaits_pass = None
 outstanding resting = None
 
+-- the agent rests, whatever it awaited
+abbrev pub given_up : Agent → Agent
+given_up a = record a { phase = resting }
+
 -- this reply is awaited
 abbrev pub is_awaited : Phase → Reply → Bool
 is_awaited (awaits_reply request) reply = answers reply request

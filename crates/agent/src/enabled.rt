@@ -4,7 +4,9 @@ ghost use Rattle.mg_model.specs.Agent as model;
 ghost use Rattle.mg_model.specs.Tables.{line_places};
 ghost use Rattle.agent.specs.AgentValue.{agent_of};
 ghost use Rattle.agent.specs.Entering.{CanEnter, leads_from};
+ghost use Rattle.agent.specs.Preparing.{stepped_by};
 
+use crate::delivered::Delivery;
 use crate::entering::Start;
 use crate::plain::Plain;
 use built_request::Request;
@@ -55,7 +57,7 @@ fn can_lead_on(script: &Script, start: &Start, failure: Option<Failure>) -> bool
 
 impl Plain {
     /// Whether `pass` can be taken.
-    pub(crate) fn can_pass(&self, script: &Script) -> bool
+    fn can_pass(&self, script: &Script) -> bool
         ensures { result ≡ is_some (model.passed script.now (agent_of self.now)) }
     {
         if !self.is_passing() {
@@ -66,7 +68,7 @@ impl Plain {
     }
 
     /// Whether `timer` can be taken.
-    pub(crate) fn can_timer(&self, script: &Script) -> bool
+    fn can_timer(&self, script: &Script) -> bool
         ensures { result ≡ is_some (model.timed script.now (agent_of self.now)) }
     {
         if !self.is_resting() {
@@ -77,7 +79,7 @@ impl Plain {
     }
 
     /// Whether `hear` can be taken.
-    pub(crate) fn can_hear(&self, script: &Script, association: Assoc) -> bool
+    fn can_hear(&self, script: &Script, association: Assoc) -> bool
         ensures { result ≡ is_some (model.heard script.now (agent_of self.now) association.0) }
     {
         if association.0 <= self.association().0 {
@@ -88,7 +90,7 @@ impl Plain {
     }
 
     /// Whether `reply` can be taken.
-    pub(crate) fn can_reply(&self, script: &Script, reply: &Reply) -> bool
+    fn can_reply(&self, script: &Script, reply: &Reply) -> bool
         ensures { result ≡ is_some (model.replied script.now (agent_of self.now) reply.now) }
     {
         if !self.awaits(reply) {
@@ -100,7 +102,7 @@ impl Plain {
     }
 
     /// Whether `note` can be taken.
-    pub(crate) fn can_note(&self, script: &Script, note: &SentNote) -> bool
+    fn can_note(&self, script: &Script, note: &SentNote) -> bool
         ensures { result ≡ is_some (model.noted script.now (agent_of self.now) (line_places script.now) note.now) }
     {
         if !self.may_accept(script, note) {
@@ -109,6 +111,19 @@ impl Plain {
         match self.target_of(script, note) {
             Some(state) => can_enter(script, &self.start(), state),
             None => true,
+        }
+    }
+
+    /// Whether the step can be taken at what reaches the call.
+    pub(crate) fn can_take(&self, script: &Script, delivery: &Delivery<'_>) -> bool
+        ensures { result ≡ is_some (stepped_by script.now (agent_of self.now) delivery.now) }
+    {
+        match delivery {
+            Delivery::Reply(reply) => self.can_reply(script, reply),
+            Delivery::Pass => self.can_pass(script),
+            Delivery::Note(note) => self.can_note(script, note),
+            Delivery::Timer => self.can_timer(script),
+            Delivery::Hear(association) => self.can_hear(script, *association),
         }
     }
 }

@@ -4,9 +4,11 @@
 //! This profile's own, over the messages of ITU-T H.248.1 v1 / RFC 3525, section 8.
 #![tactic(auto)]
 
+mod ahead;
 mod bindings;
 mod building;
 mod call;
+mod delivered;
 mod descriptors;
 mod enabled;
 mod entering;
@@ -15,12 +17,15 @@ mod logged;
 mod made;
 mod phase;
 mod plain;
+mod preparing;
 mod references;
 mod refusal;
 mod results;
 mod steps;
 
+pub use ahead::Ahead;
 pub use call::{Call, Ended, Next, Refused, Resting, Retired, Waiting};
+pub use delivered::Delivery;
 pub use fault::PlainFault;
 pub use plain::Plain;
 pub use refusal::Refusal;

@@ -6,9 +6,11 @@ ghost use Rattle.mg_model.specs.declared.events.Event.TheVariants.{OfCall};
 ghost use Rattle.mg_model.specs.Tables.{line_places, state_of};
 ghost use Rattle.mg_model.specs.World as event;
 ghost use Rattle.agent.specs.AgentValue.{agent_of};
+ghost use Rattle.agent.specs.Preparing.{stepped_by};
 ghost use Rattle.agent.specs.Calls.{IsDone, IsWritten, IsBegunAnew, with_room, is_loggable};
 
 use crate::call::Retired;
+use crate::delivered::Delivery;
 use crate::plain::Plain;
 use crate::refusal::Refusal;
 use mg_model::events::{CallEvent, Event};
@@ -106,61 +108,45 @@ impl<'s> Logged<'s> {
         }
     }
 
-    /// Goes on from an empty request. `NotEnabled` where its agent can't, and `NoMemory` where it can.
-    pub(crate) fn pass(&mut self) -> Result<(), Refusal>
-        ensures { IsDone (model.passed self.old.script (agent_of self.old.agent)) (event.pass self.old.agent.call) self.old self.new result }
+    /// Takes the step at what reaches the call, and logs it as this event. `NotEnabled` where its agent can't, and `NoMemory` where it can.
+    fn step(&mut self, delivery: &Delivery<'_>, event: CallEvent) -> Result<(), Refusal>
+        ensures { IsDone (stepped_by self.old.script (agent_of self.old.agent) delivery.now) (OfCall (record { 0 = self.old.agent.call }) event) self.old self.new result }
     {
-        let event = self.event(CallEvent::Pass);
-        if !self.agent.can_pass(self.script) {
+        let event = self.event(event);
+        if !self.agent.can_take(self.script, delivery) {
             return Err(Refusal::NotEnabled);
         }
         let Ok(()) = self.transcript.reserve(1) else {
             return Err(Refusal::NoMemory);
         };
-        if let Err(fault) = self.agent.pass(self.script) {
+        if let Err(fault) = self.agent.step(self.script, delivery) {
             return Err(Refusal::of(fault));
         }
         self.transcript.push_reserved(event);
         self.room = false;
         Ok(())
+    }
+
+    /// Goes on from an empty request. `NotEnabled` where its agent can't, and `NoMemory` where it can.
+    pub(crate) fn pass(&mut self) -> Result<(), Refusal>
+        ensures { IsDone (model.passed self.old.script (agent_of self.old.agent)) (event.pass self.old.agent.call) self.old self.new result }
+    {
+        self.step(&Delivery::Pass, CallEvent::Pass)
     }
 
     /// The timer of the state ends. `NotEnabled` where its agent can't, and `NoMemory` where it can.
     pub(crate) fn timer(&mut self) -> Result<(), Refusal>
         ensures { IsDone (model.timed self.old.script (agent_of self.old.agent)) (event.timer self.old.agent.call) self.old self.new result }
     {
-        let event = self.event(CallEvent::Timer);
-        if !self.agent.can_timer(self.script) {
-            return Err(Refusal::NotEnabled);
-        }
-        let Ok(()) = self.transcript.reserve(1) else {
-            return Err(Refusal::NoMemory);
-        };
-        if let Err(fault) = self.agent.timer(self.script) {
-            return Err(Refusal::of(fault));
-        }
-        self.transcript.push_reserved(event);
-        self.room = false;
-        Ok(())
+        self.step(&Delivery::Timer, CallEvent::Timer)
     }
 
     /// The call hears of an association. `NotEnabled` where its agent can't, and `NoMemory` where it can.
     pub(crate) fn hear(&mut self, association: Assoc) -> Result<(), Refusal>
         ensures { IsDone (model.heard self.old.script (agent_of self.old.agent) association.0) (event.hear self.old.agent.call association.0) self.old self.new result }
     {
-        let event = self.event(CallEvent::Hear { association });
-        if !self.agent.can_hear(self.script, association) {
-            return Err(Refusal::NotEnabled);
-        }
-        let Ok(()) = self.transcript.reserve(1) else {
-            return Err(Refusal::NoMemory);
-        };
-        if let Err(fault) = self.agent.hear(self.script, association) {
-            return Err(Refusal::of(fault));
-        }
-        self.transcript.push_reserved(event);
-        self.room = false;
-        Ok(())
+        let event = CallEvent::Hear { association };
+        self.step(&Delivery::Hear(association), event)
     }
 
     /// The reply to the outstanding request. `NotEnabled` where its agent can't, and `NoMemory` where it can.
@@ -168,19 +154,7 @@ impl<'s> Logged<'s> {
         ensures { IsDone (model.replied self.old.script (agent_of self.old.agent) reply.now) (event.reply self.old.agent.call reply.now.number) self.old self.new result }
     {
         let number = reply.number();
-        let event = self.event(CallEvent::Reply { number });
-        if !self.agent.can_reply(self.script, reply) {
-            return Err(Refusal::NotEnabled);
-        }
-        let Ok(()) = self.transcript.reserve(1) else {
-            return Err(Refusal::NoMemory);
-        };
-        if let Err(fault) = self.agent.reply(self.script, reply) {
-            return Err(Refusal::of(fault));
-        }
-        self.transcript.push_reserved(event);
-        self.room = false;
-        Ok(())
+        self.step(&Delivery::Reply(reply), CallEvent::Reply { number })
     }
 
     /// A note reaches the call. `NotEnabled` where its agent can't, and `NoMemory` where it can.
@@ -188,19 +162,7 @@ impl<'s> Logged<'s> {
         ensures { IsDone (model.noted self.old.script (agent_of self.old.agent) (line_places self.old.script) note.now) (event.note self.old.agent.call note.now.number) self.old self.new result }
     {
         let number = note.number();
-        let event = self.event(CallEvent::Note { number });
-        if !self.agent.can_note(self.script, note) {
-            return Err(Refusal::NotEnabled);
-        }
-        let Ok(()) = self.transcript.reserve(1) else {
-            return Err(Refusal::NoMemory);
-        };
-        if let Err(fault) = self.agent.note(self.script, note) {
-            return Err(Refusal::of(fault));
-        }
-        self.transcript.push_reserved(event);
-        self.room = false;
-        Ok(())
+        self.step(&Delivery::Note(note), CallEvent::Note { number })
     }
 
     /// Whether an event is one of this call that its agent takes no part in.

@@ -3,9 +3,10 @@ ghost use Rattle.std.specs.Prelude.{◌≡◌, ◌≤◌, OnOk, OnErr, length, m
 ghost use Rattle.mg_model.specs.Agent as model;
 ghost use Rattle.mg_model.specs.Delivery.{arrival, is_new};
 ghost use Rattle.agent.specs.AgentValue.{agent_of};
+ghost use Rattle.agent.specs.AheadValue.{in_newer, without_note};
 ghost use Rattle.agent.specs.Entering.{Starts, having};
 ghost use Rattle.agent.specs.Parts.{agent_in, bound_as};
-ghost use Rattle.agent.specs.Steps.{accepting, is_passing, outstanding};
+ghost use Rattle.agent.specs.Steps.{accepting, given_up, is_passing, outstanding};
 
 use crate::bindings::Bindings;
 use crate::entering::{Entered, Start};
@@ -17,6 +18,7 @@ use requests::{Reply, Request};
 use script_table::Script;
 use std::alloc::{AllocError, Global};
 use std::marker::Model;
+use std::mem;
 
 /// The agent of a call, as data: the state of the script that it is in, what it waits for, what its names stand for, the number of its
 /// next request, and which notes it accepted in its association. Every step names the script, which is to be the same one. This
@@ -183,12 +185,13 @@ impl Plain {
         self.bindings = bindings;
     }
 
-    /// A newer association begins: nothing is bound, expected or accepted.
-    pub(crate) fn forget(&mut self, association: Assoc)
-        ensures { agent_of self.new ≡ model.forgotten (agent_of self.old) association.0 }
+    /// A newer association begins, where there is one: nothing is accepted in it.
+    pub(crate) fn restart_in(&mut self, newer: Option<Assoc>)
+        ensures { agent_of self.new ≡ in_newer (agent_of self.old) (option_map (λ n. n.0) newer) }
     {
-        self.bindings = self.bindings.forgotten();
-        self.notes.restart(association);
+        if let Some(association) = newer {
+            self.notes.restart(association);
+        }
     }
 
     /// Whether a note of this association and number is new.
@@ -209,6 +212,27 @@ impl Plain {
     {
         self.notes.accept(self.notes.association(), number)?;
         Ok(())
+    }
+
+    /// A note that was accepted, where there is one, is new again.
+    pub(crate) fn lose(&mut self, note: Option<u32>)
+        ensures { agent_of self.new ≡ without_note (agent_of self.old) note }
+    {
+        if let Some(number) = note {
+            self.notes.forget(number);
+        }
+    }
+
+    /// Rests, and hands out the request whose reply was awaited, if one was.
+    pub(crate) fn give_up(&mut self) -> Option<Request>
+        ensures request { result ≡ outstanding (agent_of self.old).phase }
+        ensures rests { agent_of self.new ≡ given_up (agent_of self.old) }
+    {
+        match mem::replace(&mut self.phase, Phase::Resting) {
+            Phase::AwaitsReply(request) => Some(request),
+            Phase::AwaitsPass => None,
+            Phase::Resting => None,
+        }
     }
 
     /// Puts what was entered in place.

@@ -1,10 +1,13 @@
-//! The steps of an agent. On any fault nothing changes: all that may want memory comes first, and then the change.
+//! What each step of an agent puts in place, which is all that may want memory or be refused: nothing changes here.
 ghost use Rattle.std.specs.Prelude.{◌≡◌};
 ghost use Rattle.mg_model.specs.Agent as model;
 ghost use Rattle.mg_model.specs.Tables.{line_places};
 ghost use Rattle.agent.specs.AgentValue.{agent_of};
-ghost use Rattle.agent.specs.Steps.{IsStepped, is_awaited};
+ghost use Rattle.agent.specs.Preparing.{IsAhead, stepped_by};
+ghost use Rattle.agent.specs.Steps.{is_awaited};
 
+use crate::ahead::Ahead;
+use crate::delivered::Delivery;
 use crate::entering;
 use crate::fault::PlainFault;
 use crate::phase::Phase;
@@ -54,55 +57,49 @@ impl Plain {
         script.target_of(self.state, line, note.note().kind())
     }
 
-    /// Goes on from an empty request, which was not sent and counts as answered without a failure (this profile's own). `NotEnabled`
-    /// where the call doesn't wait for that, or where no number is left for the next request.
-    pub fn pass(&mut self, script: &Script) -> Result<(), PlainFault>
-        ensures { IsStepped (model.passed script.now (agent_of self.old)) self.old self.new result }
+    /// The step that goes on from an empty request. `NotEnabled` where the call doesn't wait for that, or where no number is left for the
+    /// next request.
+    fn ahead_of_pass(&self, script: &Script) -> Result<Ahead, PlainFault>
+        ensures { IsAhead (model.passed script.now (agent_of self.now)) (agent_of self.now) result }
     {
         if !self.is_passing() {
             return Err(PlainFault::NotEnabled);
         }
-        let target = script.ok_of(self.state());
-        let entered = entering::enter_or_rest(self.alloc, script, &self.start(), target)?;
-        self.put(entered);
-        Ok(())
+        let start = self.start();
+        let target = script.ok_of(start.state);
+        let entered = entering::enter_or_rest(self.alloc, script, &start, target)?;
+        Ok(Ahead::new(start.bindings, entered, None, None))
     }
 
-    /// The timer of the state ends (this profile's own). `NotEnabled` but at rest in a state that has one, or where no number is left for
-    /// the next request.
-    pub fn timer(&mut self, script: &Script) -> Result<(), PlainFault>
-        ensures { IsStepped (model.timed script.now (agent_of self.old)) self.old self.new result }
+    /// The step at the end of a timer. `NotEnabled` but at rest in a state that has one, or where no number is left for the next request.
+    fn ahead_of_timer(&self, script: &Script) -> Result<Ahead, PlainFault>
+        ensures { IsAhead (model.timed script.now (agent_of self.now)) (agent_of self.now) result }
     {
         if !self.is_resting() {
             return Err(PlainFault::NotEnabled);
         }
-        let target = script.timer_of(self.state());
-        let entered = entering::enter_if(self.alloc, script, &self.start(), target)?;
-        self.put(entered);
-        Ok(())
+        let start = self.start();
+        let target = script.timer_of(start.state);
+        let entered = entering::enter_if(self.alloc, script, &start, target)?;
+        Ok(Ahead::new(start.bindings, entered, None, None))
     }
 
-    /// The call hears of an association, in any phase (H.248.1 section 11.2 on ServiceChange): of a newer one it enters the script's
-    /// restart state in it, and nothing is bound, expected or accepted. `NotEnabled` where it isn't newer, or where no number is left for
-    /// the next request.
-    pub fn hear(&mut self, script: &Script, association: Assoc) -> Result<(), PlainFault>
-        ensures { IsStepped (model.heard script.now (agent_of self.old) association.0) self.old self.new result }
+    /// The step into a newer association. `NotEnabled` where it isn't newer, or where no number is left for the next request.
+    fn ahead_of_hear(&self, script: &Script, association: Assoc) -> Result<Ahead, PlainFault>
+        ensures { IsAhead (model.heard script.now (agent_of self.now) association.0) (agent_of self.now) result }
     {
         if association.0 <= self.association().0 {
             return Err(PlainFault::NotEnabled);
         }
         let start = self.start_anew(association);
         let entered = entering::enter(self.alloc, script, &start, script.restart())?;
-        self.forget(association);
-        self.put(entered);
-        Ok(())
+        Ok(Ahead::new(start.bindings, entered, Some(association), None))
     }
 
-    /// The reply to the outstanding request (H.248.1 section 8.2.2): what its commands created is bound, what they subtracted is not, and
-    /// the call goes on by whether there was a failure. `NotEnabled` where it is no reply to that request, where it has a failure and
-    /// the state has no target for one, or where no number is left for the next request.
-    pub fn reply(&mut self, script: &Script, reply: &Reply) -> Result<(), PlainFault>
-        ensures { IsStepped (model.replied script.now (agent_of self.old) reply.now) self.old self.new result }
+    /// The step on a reply. `NotEnabled` where it is no reply to the outstanding request, where it has a failure and the state has no
+    /// target for one, or where no number is left for the next request.
+    fn ahead_of_reply(&self, script: &Script, reply: &Reply) -> Result<Ahead, PlainFault>
+        ensures { IsAhead (model.replied script.now (agent_of self.now) reply.now) (agent_of self.now) result }
     {
         if !self.awaits(reply) {
             return Err(PlainFault::NotEnabled);
@@ -110,32 +107,37 @@ impl Plain {
         let bindings = self.after(script, reply);
         let start = self.start_with(bindings);
         let entered = entering::lead_on(self.alloc, script, &start, reply.failure())?;
-        self.bind(bindings);
-        self.put(entered);
-        Ok(())
+        Ok(Ahead::new(start.bindings, entered, None, None))
     }
 
-    /// A note reaches the call (H.248.1 section 7.2.7): it is accepted at rest, in a state that isn't an end and where it is new, and leads
-    /// on where its RequestID is the one that is expected of its line. `NotEnabled` where it isn't accepted, or where no number is
-    /// left for the next request.
-    pub fn note(&mut self, script: &Script, note: &SentNote) -> Result<(), PlainFault>
-        ensures { IsStepped (model.noted script.now (agent_of self.old) (line_places script.now) note.now) self.old self.new result }
+    /// The step at a note. `NotEnabled` where it isn't accepted, or where no number is left for the next request.
+    fn ahead_of_note(&self, script: &Script, note: &SentNote) -> Result<Ahead, PlainFault>
+        ensures { IsAhead (model.noted script.now (agent_of self.now) (line_places script.now) note.now) (agent_of self.now) result }
     {
         if !self.may_accept(script, note) {
             return Err(PlainFault::NotEnabled);
         }
+        let start = self.start();
         let target = self.target_of(script, note);
-        let Some(state) = target else {
-            let Ok(()) = self.accept(note.number()) else {
-                return Err(PlainFault::NoMemory);
-            };
-            return Ok(());
-        };
-        let entered = entering::enter(self.alloc, script, &self.start(), state)?;
-        let Ok(()) = self.accept(note.number()) else {
-            return Err(PlainFault::NoMemory);
-        };
-        self.put(entered);
-        Ok(())
+        // A note that leads nowhere leaves the call at rest, as it is.
+        let entered = entering::enter_or_rest(self.alloc, script, &start, target)?;
+        Ok(Ahead::new(start.bindings, entered, None, Some(note.number())))
+    }
+
+    /// The step at what reaches the call. Its note, where there is one, isn't accepted yet.
+    pub(crate) fn ahead_of(
+        &self,
+        script: &Script,
+        delivery: &Delivery<'_>,
+    ) -> Result<Ahead, PlainFault>
+        ensures { IsAhead (stepped_by script.now (agent_of self.now) delivery.now) (agent_of self.now) result }
+    {
+        match delivery {
+            Delivery::Reply(reply) => self.ahead_of_reply(script, reply),
+            Delivery::Pass => self.ahead_of_pass(script),
+            Delivery::Note(note) => self.ahead_of_note(script, note),
+            Delivery::Timer => self.ahead_of_timer(script),
+            Delivery::Hear(association) => self.ahead_of_hear(script, *association),
+        }
     }
 }

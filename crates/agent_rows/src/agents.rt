@@ -1,6 +1,6 @@
 //! The agent of a call on the script of `basic`.
 use crate::basic::{IDLE, PART, REARM, TALK, script};
-use agent::{Plain, PlainFault};
+use agent::{Delivery, Plain, PlainFault};
 use contexts::{Board, Done};
 use line_events::{EventList, LineSet};
 use mg_model::failures::Failure;
@@ -117,6 +117,31 @@ fn replied(
     Some((answer, shown(agent)))
 }
 
+/// Of the step at a note that is prepared and then finished, or cancelled: what an agent shows before that, the number of the request that
+/// it sends and how many commands it has, and what the agent shows after that.
+fn prepared(
+    alloc: Global,
+    agent: &mut Plain,
+    script: &Script,
+    is_finished: bool,
+) -> Option<(Shown, Option<(u32, usize)>, Shown)> {
+    let note = off_hook(alloc, 0)?;
+    let ahead = agent.prepare(script, &Delivery::Note(&note)).ok()?;
+    let before = shown(agent);
+    let request = ahead
+        .request()
+        .map(|request| (request.number(), request.commands().len()));
+    if is_finished {
+        agent.finish(ahead);
+    } else {
+        agent.cancel(ahead);
+    }
+    Some((before, request, shown(agent)))
+}
+
+/// What an agent shows that rests in `idle`.
+const RESTING: Shown = (IDLE, Assoc(1), None, true);
+
 /// What an agent shows that waits in `talk`.
 const TALKING: Shown = (TALK, Assoc(1), Some((1, 2)), false);
 
@@ -162,6 +187,19 @@ fn a_failure_of_the_second_command_leaves_the_context(rt: HostRuntime) -> Result
     assert!(rt; done.is_some());
     let parted = (PART, Assoc(1), Some((2, 1)), false);
     assert!(rt; replied(rt.alloc(), &mut agent, &script, done) == Some((Ok(()), parted)));
+    Ok(())
+}
+
+#[test]
+fn a_step_that_was_cancelled_can_be_taken(rt: HostRuntime) -> Result<(), Fail> {
+    let script = script(rt.alloc())?;
+    let mut agent = opened(rt.alloc(), &script);
+    assert!(rt;
+        prepared(rt.alloc(), &mut agent, &script, false) == Some((RESTING, Some((1, 2)), RESTING))
+    );
+    assert!(rt;
+        prepared(rt.alloc(), &mut agent, &script, true) == Some((RESTING, Some((1, 2)), TALKING))
+    );
     Ok(())
 }
 

@@ -1,5 +1,5 @@
 -- What a step of an agent sends has the next number of its call, and no step changes its lines.
-use Rattle.std.proofs.Common.{◌≡◌, ◌+◌, ◌<◌, ◌≤◌, ℕ, Bool, true, false, List, Option, Some, None, refl, sym, ap, subst, arith, true≢false}
+use Rattle.std.proofs.Common.{◌≡◌, ◌+◌, ◌<◌, ℕ, Bool, true, false, List, [], length, Option, Some, None, refl, sym, ap, subst, arith, true≢false}
 use Rattle.std.specs.Prelude.{◌==◌, ◌&&◌, not, if◌then◌else◌, nat_lt, nat_le, Contains}
 use Rattle.mg_model.specs.declared.failures.Failure.{Failure}
 use Rattle.mg_model.specs.Delivery.{arrival, is_new}
@@ -18,11 +18,11 @@ use Rattle.mg_model.proofs.Cases.{the_some, none_is_some, and_first, and_second}
 abbrev IsNext : (call number : ℕ) → Phase → Type 0
 IsNext call number phase = (request : Request) → Contains (sent_in phase) request → (request.call ≡ call) × (request.number ≡ number)
 
--- where a step sends something, numbers go on; they never go back
+-- numbers go on by as many requests as a step sends
 pub record GoesOn (call next : ℕ) (lines : ℕ → ℕ) (b : Agent) : Type 0 where
   pub call_is : b.call ≡ call
   pub lines_are : b.lines ≡ lines
-  pub next_is : next ≤ b.next
+  pub next_is : b.next ≡ next + length (sent_in b.phase)
   pub sent : (request : Request) → Contains (sent_in b.phase) request → (request.call ≡ call) × ((request.number ≡ next) × (next < b.next))
 
 abbrev pub GivesNext : (call next : ℕ) → (ℕ → ℕ) → Option Agent → Type 0
@@ -33,13 +33,6 @@ gives_none call next lines b e = absurd (none_is_some b e)
 
 gives : (call next : ℕ) (lines : ℕ → ℕ) (c : Agent) → GoesOn call next lines c → GivesNext call next lines (Some c)
 gives call next lines c goes b e = subst (GoesOn call next lines) (the_some c b e) goes
-
--- nothing is sent
-silent : (a : Agent) (phase : Phase) → ((request : Request) → Contains (sent_in phase) request → ⊥) → GoesOn a.call a.next a.lines (record a { phase = phase })
-silent a phase none = record { call_is = refl; lines_are = refl; next_is = omega arith; sent = λ request among. absurd (none request among) }
-
-nothing_sent : (request : Request) → Contains (sent_in resting) request → ⊥
-nothing_sent request among = none_in request among
 
 entered_next : (script : Script) (a : Agent) (state : ℕ) (empty : Bool) → GivesNext a.call a.next a.lines (entered_with script a state empty)
 entered_next script a state true =
@@ -62,7 +55,8 @@ enters_next : (script : Script) (a : Agent) (state : ℕ) → GivesNext a.call a
 enters_next script a state = entered_next script a state (is_empty (built_by script a state))
 
 rests_next : (script : Script) (a : Agent) (target : Option ℕ) → GivesNext a.call a.next a.lines (entered_or_rests script a target)
-rests_next script a None = gives a.call a.next a.lines (record a { phase = resting }) (silent a resting nothing_sent)
+rests_next script a None = gives a.call a.next a.lines (record a { phase = resting })
+    (record { call_is = refl; lines_are = refl; next_is = omega arith; sent = λ request among. absurd (none_in request among) })
 rests_next script a (Some state) = enters_next script a state
 
 if_next : (script : Script) (a : Agent) (target : Option ℕ) → GivesNext a.call a.next a.lines (entered_if script a target)
@@ -117,10 +111,10 @@ heard_next script a association = newer (nat_lt a.association association)
     newer false = gives_none a.call a.next a.lines
 
 -- a call at rest has no request outstanding
-rest_silent : (phase : Phase) → is_resting phase ≡ true → (request : Request) → Contains (sent_in phase) request → ⊥
-rest_silent resting at_rest request among = none_in request among
-rest_silent awaits_pass at_rest request among = true≢false (sym at_rest)
-rest_silent (awaits_reply sent) at_rest request among = true≢false (sym at_rest)
+rest_silent : (phase : Phase) → is_resting phase ≡ true → sent_in phase ≡ []
+rest_silent resting at_rest = refl
+rest_silent awaits_pass at_rest = refl
+rest_silent (awaits_reply sent) at_rest = absurd (true≢false (sym at_rest))
 
 pub noted_next : (script : Script) (a : Agent) (slots : List ℕ) (sent : SentNote) → GivesNext a.call a.next a.lines (noted script a slots sent)
 noted_next script a slots sent = accepted (may_accept script a sent) refl
@@ -128,7 +122,12 @@ noted_next script a slots sent = accepted (may_accept script a sent) refl
     entered_or_same : (target : Option ℕ) → is_resting a.phase ≡ true
         → GivesNext a.call a.next a.lines (entered_or_stays script (record a { accepted = with_at a.accepted sent.number true }) target)
     entered_or_same None at_rest = gives a.call a.next a.lines (record a { accepted = with_at a.accepted sent.number true })
-        (record { call_is = refl; lines_are = refl; next_is = omega arith; sent = λ request among. absurd (rest_silent a.phase at_rest request among) })
+        (let silent = rest_silent a.phase at_rest in record {
+          call_is = refl;
+          lines_are = refl;
+          next_is = rw silent (omega arith);
+          sent = λ request among. absurd (none_in request (subst (λ (sent : List Request). Contains sent request) silent among));
+        })
     entered_or_same (Some state) at_rest = enters_next script (record a { accepted = with_at a.accepted sent.number true }) state
 
     accepted : (may : Bool) → may_accept script a sent ≡ may → GivesNext a.call a.next a.lines (if may

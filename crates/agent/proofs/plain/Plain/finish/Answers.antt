@@ -1,0 +1,23 @@
+-- What is put in place is what was prepared, part by part; what was awaited before is no part of it.
+use Rattle.std.proofs.Common.{◌≡◌, ◌∙◌, ℕ, Option, Some, None, option_map, refl, ap, subst}
+use Rattle.mg_model.specs.Agent.{Agent}
+use Rattle.agent.specs.AgentValue.{agent_of}
+use Rattle.agent.specs.AheadValue.{AheadValue, finished, in_newer}
+use Rattle.agent.specs.Entering.{having}
+use Rattle.agent.specs.Parts.{agent_in, bound_as}
+use Rattle.agent.specs.Steps.{given_up}
+use Rattle.agent.proofs.plain.Plain.finish.Goals as goal
+
+newer_given_up : (a : Agent) (newer : Option ℕ) → in_newer (given_up a) newer ≡ given_up (in_newer a newer)
+newer_given_up a None = refl
+newer_given_up a (Some association) = refl
+
+pub returns-clause-finished : goal.returns-clause-finished
+unfolding finished agent_in
+returns-clause-finished c =
+    let a : Agent = agent_of c.args.self.now in
+    let inside = c.ahead.inside in
+    subst (λ (v : AheadValue). agent_of c.put.new.self ≡ finished a v) c.ahead.view_is
+    (c.put.ensures ∙ ap (λ (x : Agent). having x inside.entered)
+    (c.bind.ensures ∙ ap (λ (x : Agent). bound_as x (agent_in inside.bindings)) (c.restart_in.ensures ∙ ap (λ (x : Agent). in_newer x (option_map (λ n. n.0) inside.association)) c.give_up-over.ensures.rests))
+    ∙ ap (λ (x : Agent). having (bound_as x (agent_in inside.bindings)) inside.entered) (newer_given_up a (option_map (λ n. n.0) inside.association)))
