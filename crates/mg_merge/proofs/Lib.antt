@@ -3,3 +3,4 @@ pub mod Lists
 pub mod Commands
 pub mod Events
 pub mod Shards
+pub mod Identifiers

@@ -1,5 +1,6 @@
-//! The law of the merge.
+//! The laws of the merge, and of the identifiers that it needs.
 ghost use Rattle.mg_merge.specs.Laws.{MergesAreRuns};
+ghost use Rattle.mg_merge.specs.Identifiers.{IdentifiersLast};
 
 /// Where the history of each shard is a run from an opening of its calls, no call, line or identifier is of two shards, all shards were
 /// restarted equally often, and identifiers were left before each event, the merge of their histories (association by association, in each
@@ -7,4 +8,11 @@ ghost use Rattle.mg_merge.specs.Laws.{MergesAreRuns};
 /// This profile's own.
 pub fn merges_are_runs()
     ensures { MergesAreRuns }
+{}
+
+/// Where no state of the script has more than 16 commands and the gateway gives each number of one class, one of at
+/// most 16, each run from an opening that has at most 10,000,000 executes is a run in which identifiers are left before each event.
+/// This profile's own.
+pub fn identifiers_last()
+    ensures { IdentifiersLast }
 {}

@@ -17,12 +17,12 @@ use Rattle.mg_merge.proofs.Scopes.{Scope, IsWithin, IsPart}
 
 -- ---- a list without a number
 
-without : ℕ → List ℕ → List ℕ
+pub without : ℕ → List ℕ → List ℕ
 without x [] = []
 without x (y ∷ ys) = if y == x then ys else y ∷ without x ys
 
 -- what is left was there
-was_there : (x : ℕ) (ys : List ℕ) (n : ℕ) → Contains (without x ys) n → Contains ys n
+pub was_there : (x : ℕ) (ys : List ℕ) (n : ℕ) → Contains (without x ys) n → Contains ys n
 unfolding without
 was_there x [] n there = there
 was_there x (y ∷ ys) n there = go (y == x) there (was_there x ys n)
@@ -35,7 +35,7 @@ was_there x (y ∷ ys) n there = go (y == x) there (was_there x ys n)
     ]
 
 -- it rises
-still_rising : (x : ℕ) (ys : List ℕ) → IsRising ys → IsRising (without x ys)
+pub still_rising : (x : ℕ) (ys : List ℕ) → IsRising ys → IsRising (without x ys)
 unfolding without
 still_rising x [] rising = rising
 still_rising x (y ∷ ys) rising = go (y == x) (still_rising x ys rising.1)
@@ -45,7 +45,7 @@ still_rising x (y ∷ ys) rising = go (y == x) (still_rising x ys rising.1)
     go false before = ((λ n there. rising.0 n (was_there x ys n there)), before)
 
 -- at most one is taken out
-one_less : (x : ℕ) (ys : List ℕ) → length ys ≤ suc (length (without x ys))
+pub one_less : (x : ℕ) (ys : List ℕ) → length ys ≤ suc (length (without x ys))
 unfolding without
 one_less x [] = omega (arith)
 one_less x (y ∷ ys) = go (y == x) (one_less x ys)
@@ -55,7 +55,7 @@ one_less x (y ∷ ys) = go (y == x) (one_less x ys)
     go false before = omega (arith, before)
 
 -- and it is out
-taken_out : (x : ℕ) (ys : List ℕ) → IsRising ys → (n : ℕ) → Contains (without x ys) n → n ≡ x → ⊥
+pub taken_out : (x : ℕ) (ys : List ℕ) → IsRising ys → (n : ℕ) → Contains (without x ys) n → n ≡ x → ⊥
 unfolding without
 taken_out x [] rising n there is = none_in n there
 taken_out x (y ∷ ys) rising n there is = go (y == x) refl there (taken_out x ys rising.1 n)

@@ -12,11 +12,11 @@ use Rattle.mg_model.proofs.Cases.{false_not_true, none_is_some}
 use Rattle.mg_merge.proofs.Scopes.{Scope, IsWithin}
 use Rattle.mg_merge.proofs.Events.Worlds.{IsContained, IsBeside, IsMerge}
 
-gone : (k : ℕ) (row : Option Row) → is_some (row_restarted (Eph k) row) ≡ false
+pub gone : (k : ℕ) (row : Option Row) → is_some (row_restarted (Eph k) row) ≡ false
 gone k None = refl
 gone k (Some row) = refl
 
-in_null : (t : TermId) (row : Option Row) → place_in (row_restarted t row) ≡ 0
+pub in_null : (t : TermId) (row : Option Row) → place_in (row_restarted t row) ≡ 0
 in_null t None = refl
 in_null (Line l) (Some row) = refl
 in_null (Eph x) (Some row) = refl

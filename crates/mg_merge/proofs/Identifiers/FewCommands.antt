@@ -1,0 +1,153 @@
+-- How long requests are: a request has at most as many commands as the state that it is built of, so where each state has few, each step of an
+-- agent sends few.
+use Rattle.std.proofs.Common.{◌≡◌, ◌+◌, ◌≤◌, ℕ, suc, Bool, true, false, List, [], ◌∷◌, length, Option, Some, None, refl, sym, subst, arith, inl, inr}
+use Rattle.std.specs.Prelude.{◌==◌, if◌then◌else◌, nat_lt, nat_le, unwrap_or, Contains}
+use Rattle.std.proofs.lemmas.Bool.{cases_lt}
+use Rattle.std.proofs.lemmas.Option.{unwrap_or-slice_get, slice_get_past}
+use Rattle.mg_model.specs.declared.commands.Command.{Command}
+use Rattle.mg_model.specs.declared.failures.Failure.{Failure}
+use Rattle.mg_model.specs.Agent.{answers, Agent, Made, none_made, made_after, Phase, awaits_reply, awaits_pass, resting, entered_with, entered, entered_or_rests, entered_if, entered_or_stays, built_by, bound_by, request_of, after_results, leads_on, replied_to, replied, passed_in, passed, may_accept, inbox_of, target_of, line_in, noted, is_resting, timed, forgotten, heard, commands_of}
+use Rattle.mg_model.specs.Delivery.{with_accepted, arrival, is_new}
+use Rattle.mg_model.specs.Messages.{Request, Reply, SentNote}
+use Rattle.mg_model.specs.Numbers.{last_number}
+use Rattle.mg_model.specs.Request.{Names, uses_known, names_after, built}
+use Rattle.mg_model.specs.Script.{Script, State}
+use Rattle.mg_model.specs.Tables.{state_of, no_state, is_empty}
+use Rattle.mg_model.specs.World.{sent_in}
+use Rattle.mg_model.proofs.Cases.{the_some, none_is_some, false_not_true, and_first, and_second}
+use Rattle.mg_model.proofs.Single.{none_in, only_one}
+use Rattle.mg_merge.specs.Identifiers.{HasFewCommands, most_commands}
+
+-- ---- the commands of a state
+
+few_in_state : (script : Script) → HasFewCommands script → (state : ℕ) → length (state_of script state).commands ≤ most_commands
+few_in_state script few state = elim (cases_lt state (length script.states)) [
+  | inl below ↦ subst (λ (s : State). length s.commands ≤ most_commands) (sym (unwrap_or-slice_get script.states state no_state)) (few state no_state below)
+  | inr past ↦ subst (λ (found : Option State). length (unwrap_or found no_state).commands ≤ most_commands) (sym (slice_get_past script.states state past)) (omega (arith))
+]
+
+built_no_more : (names : Names) (commands : List Command) → length (built names commands) ≤ length commands
+built_no_more names [] = omega (arith)
+built_no_more names (command ∷ more) =
+    by_test (uses_known names command) (built_no_more (names_after names command) more) (built_no_more names more)
+  where
+    by_test : (known : Bool) → length (built (names_after names command) more) ≤ length more → length (built names more) ≤ length more
+        → length (if known then command ∷ built (names_after names command) more else built names more) ≤ suc (length more)
+    by_test true kept left_out = omega (arith, kept)
+    by_test false kept left_out = omega (arith, left_out)
+
+sent_as_many : (script : Script) (a : Agent) (made : Made) (place : ℕ) (commands : List Command) → length (commands_of script a made place commands) ≡ length commands
+sent_as_many script a made place [] = refl
+sent_as_many script a made place (command ∷ more) =
+    let later = sent_as_many script a (made_after made command place) (place + 1) more in omega (arith, later)
+
+-- ---- steps
+
+abbrev pub IsShort : Request → Type 0
+IsShort request = length request.commands ≤ most_commands
+
+abbrev pub GivesShort : Option Agent → Type 0
+GivesShort o = (b : Agent) → o ≡ Some b → (request : Request) → Contains (sent_in b.phase) request → IsShort request
+
+gives_none : GivesShort None
+gives_none b e = absurd (none_is_some b e)
+
+-- an agent that sends nothing
+sends_nothing : (c : Agent) → sent_in c.phase ≡ [] → GivesShort (Some c)
+sends_nothing c nothing b e request there =
+    let its : Contains (sent_in c.phase) request = subst (λ (x : Agent). Contains (sent_in x.phase) request) (sym (the_some c b e)) there in
+    absurd (none_in request (subst (λ (requests : List Request). Contains requests request) nothing its))
+
+module _ (script : Script) (few : HasFewCommands script) where
+  request_short : (a : Agent) (state : ℕ) → IsShort (request_of script a state)
+  request_short a state =
+      let all = few_in_state script few state in
+      let kept = built_no_more (bound_by a) (state_of script state).commands in
+      let same = sent_as_many script a none_made 0 (built_by script a state) in
+      omega (arith, all, kept, same)
+
+  enters_with : (a : Agent) (state : ℕ) (empty : Bool) → GivesShort (entered_with script a state empty)
+  enters_with a state true = sends_nothing (record a { state = state; phase = awaits_pass }) refl
+  enters_with a state false = numbered (nat_le a.next last_number)
+    where
+      c : Agent
+      c = record a { state = state; phase = awaits_reply (request_of script a state); next = a.next + 1 }
+
+      numbered : (room : Bool) → GivesShort (if room then Some c else None)
+      numbered true b e request there = subst IsShort
+          (only_one (request_of script a state) request (subst (λ (x : Agent). Contains (sent_in x.phase) request) (sym (the_some c b e)) there)) (request_short a state)
+      numbered false b e request there = absurd (none_is_some b e)
+
+  enters : (a : Agent) (state : ℕ) → GivesShort (entered script a state)
+  enters a state = enters_with a state (is_empty (built_by script a state))
+
+  rests : (a : Agent) (target : Option ℕ) → GivesShort (entered_or_rests script a target)
+  rests a None = sends_nothing (record a { phase = resting }) refl
+  rests a (Some state) = enters a state
+
+  enters_if : (a : Agent) (target : Option ℕ) → GivesShort (entered_if script a target)
+  enters_if a None = gives_none
+  enters_if a (Some state) = enters a state
+
+  leads : (was a : Agent) (failure : Option Failure) → GivesShort (leads_on script was a failure)
+  leads was a None = rests a (state_of script was.state).ok
+  leads was a (Some failure) = enters_if a (state_of script was.state).fault
+
+  pub replied_short : (a : Agent) (reply : Reply) → GivesShort (replied script a reply)
+  replied_short a reply = in_phase a.phase
+    where
+      answered : (fits : Bool) → GivesShort (if fits
+          then leads_on script a (after_results a (built_by script a a.state) reply.results reply.number) reply.failure else None)
+      answered true = leads a (after_results a (built_by script a a.state) reply.results reply.number) reply.failure
+      answered false = gives_none
+
+      in_phase : (phase : Phase) → GivesShort (replied_to script a phase reply)
+      in_phase (awaits_reply request) = answered (answers reply request)
+      in_phase awaits_pass = gives_none
+      in_phase resting = gives_none
+
+  pub passed_short : (a : Agent) → GivesShort (passed script a)
+  passed_short a = in_phase a.phase
+    where
+      in_phase : (phase : Phase) → GivesShort (passed_in script a phase)
+      in_phase awaits_pass = rests a (state_of script a.state).ok
+      in_phase (awaits_reply request) = gives_none
+      in_phase resting = gives_none
+
+  pub timed_short : (a : Agent) → GivesShort (timed script a)
+  timed_short a = at_rest (is_resting a.phase)
+    where
+      at_rest : (rest : Bool) → GivesShort (if rest then entered_if script a (state_of script a.state).timer else None)
+      at_rest true = enters_if a (state_of script a.state).timer
+      at_rest false = gives_none
+
+  pub heard_short : (a : Agent) (association : ℕ) → GivesShort (heard script a association)
+  heard_short a association = newer (nat_lt a.association association)
+    where
+      newer : (test : Bool) → GivesShort (if test then entered script (forgotten a association) script.restart else None)
+      newer true = enters (forgotten a association) script.restart
+      newer false = gives_none
+
+  rest_sends_nothing : (phase : Phase) → is_resting phase ≡ true → sent_in phase ≡ []
+  rest_sends_nothing (awaits_reply request) e = absurd (false_not_true e)
+  rest_sends_nothing awaits_pass e = absurd (false_not_true e)
+  rest_sends_nothing resting e = refl
+
+  -- a note is accepted at rest alone
+  pub noted_short : (a : Agent) (slots : List ℕ) (sent : SentNote) → GivesShort (noted script a slots sent)
+  noted_short a slots sent = accepting (may_accept script a sent) refl
+    where
+      b : Agent
+      b = record a { accepted = (with_accepted (inbox_of a) sent.number).accepted }
+
+      goes : sent_in a.phase ≡ [] → (target : Option ℕ) → GivesShort (entered_or_stays script b target)
+      goes nothing None = sends_nothing b nothing
+      goes nothing (Some state) = enters b state
+
+      at_rest : may_accept script a sent ≡ true → is_resting a.phase ≡ true
+      at_rest may = and_first (is_resting a.phase) _ (and_first _ (is_new (arrival (inbox_of a) sent.association sent.number)) (and_second (sent.call == a.call) _ may))
+
+      accepting : (test : Bool) → may_accept script a sent ≡ test
+          → GivesShort (if test then entered_or_stays script b (target_of script b (line_in b sent.line slots) sent.note) else None)
+      accepting true may = goes (rest_sends_nothing a.phase (at_rest may)) (target_of script b (line_in b sent.line slots) sent.note)
+      accepting false may = gives_none
