@@ -1,0 +1,15 @@
+pub mod AgentSteps
+pub mod AnsweredReplies
+pub mod CountedSlots
+pub mod GatewayLemmas
+pub mod MessageLemmas
+pub mod OtherCalls
+pub mod Refusals
+pub mod RefusedSteps
+pub mod ShardLemmas
+pub mod ShownExecutes
+pub mod ShownLines
+pub mod ShownRestarts
+pub mod ShownSteps
+pub mod ValueLemmas
+pub mod SlotLemmas

@@ -1,0 +1,13 @@
+-- Each kind of call hears.
+use Rattle.std.proofs.Common.{refl, sym, subst}
+use Rattle.agent.specs.declared.call.Next.TheVariants as next
+use Rattle.agent.specs.declared.delivered.Delivery.{Delivery}
+use Rattle.agent.specs.declared.delivered.Delivery.TheVariants.{Hear}
+use Rattle.shards.specs.Values.{IsAdvanced}
+use Rattle.shards.proofs.ValueLemmas.{advanced}
+use Rattle.shards.proofs.value.advance_waiting.Goals as goal
+
+pub returns-in-Hear : goal.returns-in-Hear
+returns-in-Hear c =
+    subst (λ (delivery : Delivery). IsAdvanced (next.Waiting c.args.call) delivery c.from_waiting-in-Hear.result.0 c.from_waiting-in-Hear.result.1) (sym c.in-Hear.is)
+    (advanced next.Waiting c.args.call (Hear c.in-Hear.association) refl refl c.hear.result c.from_waiting-in-Hear.result.0 c.from_waiting-in-Hear.result.1 c.hear.ensures c.from_waiting-in-Hear.ensures)

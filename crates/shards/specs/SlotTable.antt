@@ -1,0 +1,55 @@
+-- Slots by the numbers of their calls. A reader should check that where a call is stepped no other slot changes, and that a call without a slot isn't
+-- enabled.
+use Rattle.std.specs.Prelude.{◌≡◌, ℕ, ◌+◌, ◌<◌, length, List, Option, Some, None, Result, Err}
+use Rattle.std.specs.Ordering.{nat_cmp}
+use Rattle.std.specs.BTreeMap.{is_at}
+use Rattle.std.specs.Map.{lookup}
+use Rattle.mg_model.specs.declared.events.CallEvent.{CallEvent}
+use Rattle.mg_model.specs.declared.failures.ChosenRefusal.{ChosenRefusal}
+use Rattle.mg_model.specs.declared.line_events.LineEvent.{LineEvent}
+use Rattle.mg_model.specs.Script.{Script}
+use Rattle.gateway.specs.GatewayValue.{GatewayValue, gateway_of}
+use Rattle.agent.specs.declared.call.Next.{Next}
+use Rattle.agent.specs.declared.refusal.Refusal.{Refusal}
+use Rattle.agent.specs.declared.refusal.Refusal.TheVariants.{NotEnabled}
+use Rattle.shards.specs.Slots.{IsExecuted, IsHappenedOn, IsStepped, IsTied}
+use Rattle.shards.specs.declared.slot.Slot.{Slot}
+
+abbrev pub slot_entry : Option (Option Slot) → Option Slot
+slot_entry None = None
+slot_entry (Some entry) = entry
+
+-- the slot of a call; none where no call of this number is open
+unfoldable pub slot_in : List (ℕ × Option Slot) → ℕ → Option Slot
+slot_in slots call = slot_entry (lookup (is_at (nat_cmp call)) slots)
+
+-- the slots of all calls but one stay
+abbrev pub OthersStay : List (ℕ × Option Slot) → ℕ → List (ℕ × Option Slot) → Type 0
+OthersStay old call new = (c : ℕ) → (c ≡ call → ⊥) → slot_in new c ≡ slot_in old c
+
+-- ---- a call is stepped
+
+abbrev pub events_bound : ℕ
+events_bound = 18446744073709551616
+
+-- the slot, if there is one, is tied, and can count one event more
+abbrev pub IsReady : Option Slot → Type 0
+IsReady entry = (s : Slot) → entry ≡ Some s → IsTied s × (s.events + 1 < events_bound)
+
+-- and it counts the notes that the gateway does
+abbrev pub CountsNotes : GatewayValue → ℕ → Option Slot → Type 0
+CountsNotes g call entry = (s : Slot) → entry ≡ Some s → ((gateway_of g).link call).notes ≡ length s.messages.sent.notes
+
+-- at its agent
+abbrev pub StepsIn : Script → Next → CallEvent → Option Slot → Option Slot → Next → Result (Unit {0}) Refusal → Type 0
+StepsIn script old event None entry new told = (entry ≡ None) × (told ≡ Err NotEnabled) × (new ≡ old)
+StepsIn script old event (Some s) entry new told = (t : Slot) × (entry ≡ Some t) × IsStepped script old event s t new told
+
+-- at its gateway
+abbrev pub ExecutesIn : GatewayValue → GatewayValue → (call number : ℕ) → Option ChosenRefusal → Option Slot → Option Slot → Result (Unit {0}) Refusal → Type 0
+ExecutesIn old new call number refusal None entry told = (entry ≡ None) × (told ≡ Err NotEnabled) × (new ≡ old)
+ExecutesIn old new call number refusal (Some s) entry told = (t : Slot) × (entry ≡ Some t) × IsExecuted old new call number refusal s t told
+
+abbrev pub HappensIn : GatewayValue → GatewayValue → (call line : ℕ) → LineEvent → Option Slot → Option Slot → Result (Unit {0}) Refusal → Type 0
+HappensIn old new call line event None entry told = (entry ≡ None) × (told ≡ Err NotEnabled) × (new ≡ old)
+HappensIn old new call line event (Some s) entry told = (t : Slot) × (entry ≡ Some t) × IsHappenedOn old new call line event s t told

@@ -1,0 +1,69 @@
+//! Events of a call that are steps of its agent: the slot's and that of the call that is handed in take the same step, or neither does.
+ghost use Rattle.std.specs.Prelude.{◌≡◌, ◌+◌, ◌<◌};
+ghost use Rattle.agent.specs.Calls.{refusal_of};
+ghost use Rattle.shards.specs.Slots.{IsDelivered, IsStepped, IsTied};
+
+use crate::slot::Slot;
+use crate::value;
+use agent::{Delivery, Next, PlainFault, Refusal};
+use call_messages::Messages;
+use mg_model::events::CallEvent;
+use script_table::Script;
+
+/// What an event of a call brings its agent, of what was sent.
+fn brought<'a>(messages: &'a Messages, event: &CallEvent) -> Option<Delivery<'a>>
+    ensures { IsDelivered messages.now.sent event.now result }
+{
+    match *event {
+        CallEvent::Reply { number } => Some(Delivery::Reply(messages.reply(Some(number))?)),
+        CallEvent::Pass => Some(Delivery::Pass),
+        CallEvent::Note { number } => Some(Delivery::Note(messages.note(number)?)),
+        CallEvent::Timer => Some(Delivery::Timer),
+        CallEvent::Hear { association } => Some(Delivery::Hear(association)),
+        CallEvent::OnLine { .. } | CallEvent::Execute { .. } | CallEvent::Begin { .. } => None,
+    }
+}
+
+/// The refusal of a step that an agent doesn't take.
+fn refusal(fault: PlainFault) -> Refusal
+    ensures { result ≡ refusal_of fault }
+{
+    match fault {
+        PlainFault::NotEnabled => Refusal::NotEnabled,
+        PlainFault::NoMemory => Refusal::NoMemory,
+    }
+}
+
+/// The agent of a slot and a call that is handed in take a step. `NotEnabled` where nothing of that kind was sent, or where one of the two can't take
+/// it; `NoMemory` where memory ran out. Then both are as they were.
+pub(crate) fn step<'s>(
+    slot: &mut Slot,
+    script: &Script,
+    next: Next<'s>,
+    event: CallEvent,
+) -> (Next<'s>, Result<(), Refusal>)
+    requires tied { IsTied slot.old }
+    requires events { slot.old.events + 1 < 18446744073709551616 }
+    ensures { IsStepped script.now next.entry event slot.old slot.new result.0 result.1 }
+{
+    let Ok(()) = slot.messages.room_to_send() else {
+        return (next, Err(Refusal::NoMemory));
+    };
+    let Some(delivery) = brought(&slot.messages, &event) else {
+        return (next, Err(Refusal::NotEnabled));
+    };
+    let ahead = match slot.agent.prepare(script, &delivery) {
+        Ok(ahead) => ahead,
+        Err(fault) => return (next, Err(refusal(fault))),
+    };
+    let (next, done) = value::advance(next, &delivery);
+    if let Err(why) = done {
+        slot.agent.cancel(ahead);
+        return (next, Err(why));
+    }
+    let sends = ahead.request().is_some();
+    let over = slot.agent.finish(ahead);
+    slot.messages.send(over, sends);
+    slot.events += 1;
+    (next, Ok(()))
+}

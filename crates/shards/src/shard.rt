@@ -1,0 +1,91 @@
+//! A shard: a gateway with the calls that are open on it, all that they sent each other, and the history that led there.
+ghost use Rattle.std.specs.Prelude.{◌≡◌, IfOk};
+ghost use Rattle.shards.specs.Shards.{IsRestarting, is_part_of, part_of};
+
+use crate::fault::RestartFault;
+use crate::opened::OpenedCall;
+use crate::slots::Slots;
+use gateway::Gateway;
+use mg_model::events::Event;
+use mg_names::identifiers::{Assoc, CallNo};
+use script_table::Script;
+use std::alloc::{AllocError, Global};
+use std::marker::Model;
+
+/// A gateway of a class of identifiers with calls of a script. Its history is what happened to it since its opening, the latest last. This
+/// profile's own.
+#[derive(Drop)]
+pub struct Shard<'s> {
+    alloc: Global,
+    script: &'s Script,
+    first: u32,
+    stride: u32,
+    calls: Vec<OpenedCall>,
+    gateway: Gateway,
+    slots: Slots,
+    history: Vec<Event>,
+}
+
+impl<'s> Model for Shard<'s> {
+    ghost use Rattle.shards.specs.Shards.{ShardValue, IsShard};
+
+    ghost Value = { ShardValue };
+
+    ghost view = { λ s. record { script = s.script.now; first = s.first; stride = s.stride; calls = s.calls.items; gateway = s.gateway; slots = s.slots.entries; history = s.history.items } };
+
+    ghost invariant = { λ s. IsShard (record { script = s.script.now; first = s.first; stride = s.stride; calls = s.calls.items; gateway = s.gateway; slots = s.slots.entries; history = s.history.items }) };
+}
+
+/// Whether an event is one of a call, or a restart.
+fn belongs(event: &Event, call: CallNo) -> bool
+    ensures { result ≡ is_part_of call.0 event.now }
+{
+    match *event {
+        Event::OfCall { call: of, .. } => of == call,
+        Event::Restart => true,
+    }
+}
+
+impl<'s> Shard<'s> {
+    /// What happened, the latest last.
+    pub fn history(&self) -> &[Event]
+        ensures { result.now ≡ self.now.history }
+    {
+        self.history.as_slice()
+    }
+
+    /// The association, from 1.
+    pub fn association(&self) -> Assoc
+        ensures { result.0 ≡ self.now.gateway.association }
+    {
+        self.gateway.association()
+    }
+
+    /// The events of a call and the restarts, the latest last. `AllocError` where memory ran out.
+    pub fn part(&self, call: CallNo) -> Result<Vec<Event>, AllocError>
+        ensures { IfOk result (λ part. part.items ≡ part_of call.0 self.now.history) }
+    {
+        let mut part = Vec::new(self.alloc);
+        for event in self.history.as_slice() {
+            if belongs(event, call) {
+                part.push(*event)?;
+            }
+        }
+        Ok(part)
+    }
+
+    /// The gateway restarts (H.248.1 section 11.2 on ServiceChange with the method Restart; a forced loss, this profile's own), and the
+    /// next association begins. `CannotHappen` at the last association, and `NoMemory` where memory ran out.
+    pub fn restart(&mut self) -> Result<Assoc, RestartFault>
+        ensures { IsRestarting self.old self.new result }
+    {
+        let Ok(()) = self.history.reserve(1) else {
+            return Err(RestartFault::NoMemory);
+        };
+        let Ok(association) = self.gateway.restart() else {
+            return Err(RestartFault::CannotHappen);
+        };
+        self.history.push_reserved(Event::Restart);
+        Ok(association)
+    }
+}
