@@ -14,6 +14,7 @@ use crate::phase::Phase;
 use crate::results;
 use delivery::{Arrival, Inbox};
 use mg_names::identifiers::{Assoc, CallNo, LineNo};
+use mg_names::slots::Slot;
 use requests::{Reply, Request};
 use script_table::Script;
 use std::alloc::{AllocError, Global};
@@ -92,6 +93,13 @@ impl Plain {
         ensures { result.0 ≡ (agent_of self.now).association }
     {
         self.notes.association()
+    }
+
+    /// The line of the gateway for a line of the script, by its place; 0 where the script lacks it.
+    pub fn line(&self, line: Slot) -> LineNo
+        ensures { result.0 ≡ (agent_of self.now).lines line }
+    {
+        self.bindings.line(line)
     }
 
     /// Whether the call rests.
@@ -194,9 +202,9 @@ impl Plain {
         }
     }
 
-    /// Whether a note of this association and number is new.
+    /// Whether a note of this association and number is new: the association is the call's, and no note of the number was accepted in it.
     #[tactic(auto, unfolding(crate::specs::AgentValue::agent_of))]
-    pub(crate) fn is_new(&self, association: Assoc, number: u32) -> bool
+    pub fn is_new(&self, association: Assoc, number: u32) -> bool
         ensures { result ≡ is_new (arrival (model.inbox_of (agent_of self.now)) association.0 number) }
     {
         match self.notes.arrival(association, number) {
