@@ -95,6 +95,14 @@ impl Plain {
         self.notes.association()
     }
 
+    /// The number of the next request, from 1; past 4,294,967,295 where none is left.
+    pub fn next_number(&self) -> u64
+        ensures { result ≡ (agent_of self.now).next }
+    {
+        let next = self.next;
+        next
+    }
+
     /// The line of the gateway for a line of the script, by its place; 0 where the script lacks it.
     pub fn line(&self, line: Slot) -> LineNo
         ensures { result.0 ≡ (agent_of self.now).lines line }
