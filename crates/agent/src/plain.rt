@@ -104,6 +104,7 @@ impl Plain {
     }
 
     /// The line of the gateway for a line of the script, by its place; 0 where the script lacks it.
+    #[tactic(auto, unfolding(crate::specs::AgentValue::agent_of, crate::specs::Parts::agent_in))]
     pub fn line(&self, line: Slot) -> LineNo
         ensures { result.0 ≡ (agent_of self.now).lines line }
     {
