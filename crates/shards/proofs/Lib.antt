@@ -13,3 +13,11 @@ pub mod ShownRestarts
 pub mod ShownSteps
 pub mod ValueLemmas
 pub mod SlotLemmas
+pub mod Delivered
+pub mod ValueSteps
+pub mod ShardSteps
+pub mod ShownBegins
+pub mod TakenSteps
+pub mod GatewaySteps
+pub mod BegunShards
+-- pub mod OpenedShards

@@ -11,7 +11,7 @@ use Rattle.shards.proofs.MessageLemmas.{is_anothers, same_found}
 use Rattle.shards.specs.Shows.{ShowsCall}
 use Rattle.shards.specs.declared.slot.Slot.{Slot}
 
-none_found : {A : Type 0} (xs : List A) → find (λ x. false) xs ≡ None
+pub none_found : {A : Type 0} (xs : List A) → find (λ x. false) xs ≡ None
 none_found [] = refl
 none_found (x ∷ xs) = none_found xs
 

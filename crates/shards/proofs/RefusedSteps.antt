@@ -23,15 +23,9 @@ use Rattle.shards.proofs.MessageLemmas.{found_in, is_own, own_message, same_numb
 use Rattle.shards.proofs.Refusals.{not_found}
 use Rattle.shards.specs.Shows.{Shows, ShowsCall}
 use Rattle.shards.specs.Slots.{CannotStep, IsDelivered}
+use Rattle.shards.specs.Stepping.{IsAtAgent}
 use Rattle.shards.specs.Values.{advancing}
 use Rattle.shards.specs.declared.slot.Slot.{Slot}
-
--- an event that is a step of an agent
-abbrev pub IsOfAgent : CallEvent → Type 0
-IsOfAgent (to_call.OnLine line happens) = ⊥
-IsOfAgent (to_call.Execute number chosen) = ⊥
-IsOfAgent (to_call.Begin old) = ⊥
-IsOfAgent event = Unit {0}
 
 -- what was sent is brought, but the call that is handed in can't take it
 abbrev pub ValueCannot : Next → CallEvent → Slot → Type 0
@@ -86,7 +80,7 @@ module _ (script : Script) (w : World) (g : GatewayValue) (slot : ℕ → Option
   not_stepped (to_call.Hear association) (delivery.Hear heard_of) after delivered none (told, steps) =
       no_step (λ a. heard script a association.0) after (ap (λ (n : Assoc). heard script (agent_of s.agent) n.0) (sym delivered) ∙ none) steps
 
-  not_brought : (event : CallEvent) (after : World) → IsOfAgent event → IsDelivered s.messages.sent event None
+  not_brought : (event : CallEvent) (after : World) → IsAtAgent event → IsDelivered s.messages.sent event None
       → Occurs script w (OfCall (record { 0 = call }) event) after → ⊥
   not_brought (to_call.OnLine line happens) after of_agent none occurs = of_agent
   not_brought (to_call.Execute number chosen) after of_agent none occurs = of_agent
@@ -102,7 +96,7 @@ module _ (script : Script) (w : World) (g : GatewayValue) (slot : ℕ → Option
   not_brought to_call.Timer after of_agent none occurs = none
   not_brought (to_call.Hear association) after of_agent none occurs = none
 
-  pub cannot_step : (old : Next) (event : CallEvent) → IsOfAgent event → CannotStep script old event s
+  pub cannot_step : (old : Next) (event : CallEvent) → IsAtAgent event → CannotStep script old event s
       → ((after : World) → Occurs script w (OfCall (record { 0 = call }) event) after → ⊥) ⊎ ValueCannot old event s
   cannot_step old event of_agent (inl none) = inl (λ after. not_brought event after of_agent none)
   cannot_step old event of_agent (inr (brought, delivered, inl none)) = inl (λ after. not_stepped event brought after delivered none)

@@ -1,5 +1,5 @@
--- A shard: what it shows, and what its steps come to. A reader should check that its history is a run from an opening of its calls to the world that it
--- shows, that a step adds its event and nothing else, and that a step is refused as not enabled only where the event can't happen or isn't the call's.
+-- A shard: what it shows, what its type keeps, and what a restart of it comes to. A reader should check that its history is a run from an opening of its calls
+-- to the world that it shows, that an event that happens is added to it, and nothing else, and that a call's part has its events and every restart.
 use Rattle.std.specs.List.{filter}
 use Rattle.std.specs.Prelude.{Bool, true, ◌≡◌, ℕ, ◌==◌, suc, false, if◌then◌else◌, List, [], ◌∷◌, ◌++◌, map, slice_index_or, Option, Some, Result, Ok, Err}
 use Rattle.mg_names.specs.declared.identifiers.Assoc.{Assoc}
@@ -67,27 +67,7 @@ pub record IsShard (v : ShardValue) : Type 0 where
   pub is_world : IsWorldOf v world
   pub counts : CountsEvents v
 
--- ---- the call that is handed in
-
--- where its agent goes by an event of its own, by the messages of a world
-abbrev pub Goes : World → CallValue → ℕ → CallEvent → Agent → Type 0
-Goes w c call (to_call.OnLine line happens) after = (call ≡ c.agent.call) × (after ≡ agent_of c.agent)
-Goes w c call (to_call.Execute number chosen) after = (call ≡ c.agent.call) × (after ≡ agent_of c.agent)
-Goes w c call (to_call.Reply number) after =
-    (call ≡ c.agent.call) × ((answer : Reply) × IsReplyOf w call number answer × (replied c.script (agent_of c.agent) answer ≡ Some after))
-Goes w c call to_call.Pass after = (call ≡ c.agent.call) × (passed c.script (agent_of c.agent) ≡ Some after)
-Goes w c call (to_call.Note number) after =
-    (call ≡ c.agent.call) × ((note : SentNote) × IsNoteOf w call number note × (noted c.script (agent_of c.agent) (line_places c.script) note ≡ Some after))
-Goes w c call to_call.Timer after = (call ≡ c.agent.call) × (timed c.script (agent_of c.agent) ≡ Some after)
-Goes w c call (to_call.Hear association) after = (call ≡ c.agent.call) × (heard c.script (agent_of c.agent) association.0 ≡ Some after)
-Goes w c call (to_call.Begin old) after = (old.0 ≡ c.agent.call) × (after ≡ begun c.script call (agent_of c.agent))
-
--- a restart is no call's
-abbrev pub ValueGoes : World → CallValue → Event → Agent → Type 0
-ValueGoes w c (OfCall call happens) after = Goes w c call.0 happens after
-ValueGoes w c Restart after = ⊥
-
--- ---- a step
+-- ---- an event
 
 -- what of a shard an event never changes
 pub record HasSameOpening (old new : ShardValue) : Type 0 where
@@ -107,10 +87,6 @@ pub record IsUnchanged (old new : ShardValue) : Type 0 where
   pub same : HasSameOpening old new
   pub history : new.history ≡ old.history
   pub worlds : (w : World) → IsWorldOf old w → IsWorldOf new w
-
--- the event can't happen in the world that the shard shows and to the call that is handed in
-abbrev pub CannotOccur : ShardValue → CallValue → Event → Type 0
-CannotOccur v c event = (w : World) → IsWorldOf v w → (after : World) (a : Agent) → Occurs v.script w event after → ValueGoes w c event a → ⊥
 
 -- ---- a restart
 

@@ -3,13 +3,18 @@
 
 mod at_agent;
 mod at_gateway;
+mod begin;
 mod fault;
+//mod open;
 mod opened;
 mod shard;
 mod slot;
 mod slots;
+mod step;
+mod stepped;
 mod value;
 
 pub use fault::RestartFault;
 pub use opened::OpenedCall;
 pub use shard::Shard;
+pub use stepped::Stepped;

@@ -1,5 +1,5 @@
 //! A shard: a gateway with the calls that are open on it, all that they sent each other, and the history that led there.
-ghost use Rattle.std.specs.Prelude.{◌≡◌, IfOk};
+ghost use Rattle.std.specs.Prelude.{◌≡◌, ◌+◌, ◌<◌, IfOk, OnOk, length, vec_len, vec_capacity};
 ghost use Rattle.shards.specs.Shards.{IsRestarting, is_part_of, part_of};
 
 use crate::fault::RestartFault;
@@ -16,14 +16,14 @@ use std::marker::Model;
 /// profile's own.
 #[derive(Drop)]
 pub struct Shard<'s> {
-    alloc: Global,
-    script: &'s Script,
-    first: u32,
-    stride: u32,
-    calls: Vec<OpenedCall>,
-    gateway: Gateway,
-    slots: Slots,
-    history: Vec<Event>,
+    pub(crate) alloc: Global,
+    pub(crate) script: &'s Script,
+    pub(crate) first: u32,
+    pub(crate) stride: u32,
+    pub(crate) calls: Vec<OpenedCall>,
+    pub(crate) gateway: Gateway,
+    pub(crate) slots: Slots,
+    pub(crate) history: Vec<Event>,
 }
 
 impl<'s> Model for Shard<'s> {
@@ -34,6 +34,15 @@ impl<'s> Model for Shard<'s> {
     ghost view = { λ s. record { script = s.script.now; first = s.first; stride = s.stride; calls = s.calls.items; gateway = s.gateway; slots = s.slots.entries; history = s.history.items } };
 
     ghost invariant = { λ s. IsShard (record { script = s.script.now; first = s.first; stride = s.stride; calls = s.calls.items; gateway = s.gateway; slots = s.slots.entries; history = s.history.items }) };
+}
+
+/// Makes room for one event more.
+pub(crate) fn room(history: &mut Vec<Event>) -> Result<(), AllocError>
+    ensures items { history.new.items ≡ history.old.items }
+    ensures room { OnOk result (vec_len history.new < vec_capacity history.new) }
+    ensures few { length history.old.items + 1 < 18446744073709551616 }
+{
+    history.reserve(1)
 }
 
 /// Whether an event is one of a call, or a restart.
@@ -79,7 +88,7 @@ impl<'s> Shard<'s> {
     pub fn restart(&mut self) -> Result<Assoc, RestartFault>
         ensures { IsRestarting self.old self.new result }
     {
-        let Ok(()) = self.history.reserve(1) else {
+        let Ok(()) = room(&mut self.history) else {
             return Err(RestartFault::NoMemory);
         };
         let Ok(association) = self.gateway.restart() else {

@@ -1,16 +1,20 @@
 //! Slots of calls, by number.
-ghost use Rattle.std.specs.Prelude.{◌≡◌, option_map};
+ghost use Rattle.std.specs.Prelude.{◌≡◌, ℕ, ◌==◌, ◌&&◌, true, Some, None, if◌then◌else◌, option_map, OnOk};
+ghost use Rattle.agent.specs.AgentValue.{agent_of};
+ghost use Rattle.shards.specs.Beginnings.{has_entry, HandsOver, IsBegunSlot};
 ghost use Rattle.shards.specs.SlotTable.{slot_in, CountsNotes, ExecutesIn, HappensIn, IsReady, OthersStay, StepsIn};
 
 use crate::slot::Slot;
 use crate::{at_agent, at_gateway};
 use agent::{Next, Refusal};
+use call_messages::Messages;
 use gateway::Gateway;
 use mg_model::events::CallEvent;
 use mg_model::failures::ChosenRefusal;
 use mg_model::line_events::LineEvent;
 use mg_names::identifiers::{CallNo, LineNo};
 use script_table::Script;
+use std::alloc::{AllocError, Global};
 use std::collections::BTreeMap;
 
 /// The slot of each call that is open. A number that a call is to have once it begins has an entry that is empty till then.
@@ -136,4 +140,81 @@ pub(crate) fn happen(
         Some(entry) => happen_in(gateway, entry, call, line, event),
         None => Err(Refusal::NotEnabled),
     }
+}
+
+/// Makes an empty entry for a call that has none.
+#[tactic(auto, unfolding(crate::specs::SlotTable::slot_in, crate::specs::Beginnings::has_entry))]
+pub(crate) fn reserve(slots: &mut Slots, call: CallNo) -> Result<(), AllocError>
+    ensures same { (c : ℕ) → slot_in slots.new.entries c ≡ slot_in slots.old.entries c }
+    ensures made { OnOk result (has_entry slots.new.entries call.0 ≡ true) }
+{
+    if slots.get(&call.0).is_some() {
+        return Ok(());
+    }
+    slots.insert(call.0, None)?;
+    Ok(())
+}
+
+/// Puts the slot of a call in place.
+#[tactic(auto, unfolding(crate::specs::SlotTable::slot_in))]
+pub(crate) fn put(slots: &mut Slots, call: CallNo, slot: Slot) -> Result<(), AllocError>
+    ensures { OnOk result ((c : ℕ) → slot_in slots.new.entries c ≡ (if c == call.0 then Some slot else slot_in slots.old.entries c)) }
+{
+    slots.insert(call.0, Some(slot))?;
+    Ok(())
+}
+
+/// Takes the slot of a call out, if there is one; its entry stays, and is empty.
+#[tactic(auto, unfolding(crate::specs::SlotTable::slot_in, crate::specs::Beginnings::has_entry))]
+fn take(slots: &mut Slots, call: CallNo) -> Option<Slot>
+    ensures slot { result ≡ slot_in slots.old.entries call.0 }
+    ensures taken { (c : ℕ) → slot_in slots.new.entries c ≡ (if c == call.0 then None else slot_in slots.old.entries c) }
+    ensures entries { (c : ℕ) → has_entry slots.new.entries c ≡ has_entry slots.old.entries c }
+{
+    match slots.get_mut(&call.0) {
+        Some(entry) => entry.take(),
+        None => None,
+    }
+}
+
+/// Puts a slot into the entry of a call, where there is one.
+#[tactic(auto, unfolding(crate::specs::SlotTable::slot_in, crate::specs::Beginnings::has_entry))]
+fn fill(slots: &mut Slots, call: CallNo, slot: Slot)
+    ensures { (c : ℕ) → slot_in slots.new.entries c ≡ (if (c == call.0) && has_entry slots.old.entries c then Some slot else slot_in slots.old.entries c) }
+{
+    if let Some(entry) = slots.get_mut(&call.0) {
+        *entry = Some(slot);
+    }
+}
+
+/// The slot of a call that begins on the lines of another.
+fn begun(slot: Slot, alloc: Global, script: &Script, call: CallNo) -> Slot
+    ensures { IsBegunSlot script.now call.0 slot result }
+{
+    let first = slot.agent.next_number();
+    let mut agent = slot.agent;
+    agent.begin(script, call);
+    Slot {
+        agent,
+        events: 1,
+        messages: Messages::new(alloc, first),
+    }
+}
+
+/// A call begins on the lines of another, and has its slot in place of that one's. It takes no memory.
+pub(crate) fn hand_over(
+    slots: &mut Slots,
+    alloc: Global,
+    script: &Script,
+    old: CallNo,
+    call: CallNo,
+)
+    requires { has_entry slots.old.entries call.0 ≡ true }
+    ensures { (s : Slot) → slot_in slots.old.entries old.0 ≡ Some s → HandsOver script.now slots.old.entries slots.new.entries old.0 call.0 s }
+{
+    let Some(slot) = take(slots, old) else {
+        return;
+    };
+    let begun = begun(slot, alloc, script, call);
+    fill(slots, call, begun);
 }

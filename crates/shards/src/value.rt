@@ -2,7 +2,7 @@
 ghost use Rattle.std.specs.Prelude.{◌≡◌, true, length, OnOk, OnErr};
 ghost use Rattle.mg_model.specs.declared.events.Event.TheVariants.{OfCall};
 ghost use Rattle.agent.specs.AgentValue.{agent_of};
-ghost use Rattle.agent.specs.Calls.{IsNext, IsWithEvent, is_loggable, value_of, with_room};
+ghost use Rattle.agent.specs.Calls.{IsNext, IsWithEvent, is_loggable, value_of, variant_of, with_room};
 ghost use Rattle.shards.specs.Values.{IsAdvanced, IsHanded};
 ghost use Rattle.agent.specs.declared.call.Next.TheVariants as next;
 
@@ -37,7 +37,7 @@ pub(crate) fn transcript<'a>(next: &'a Next<'_>) -> &'a [Event]
 pub(crate) fn room(next: &mut Next<'_>) -> Result<(), AllocError>
     ensures made { OnOk result (value_of next.new ≡ with_room (value_of next.old)) }
     ensures unchanged { OnErr result (value_of next.new ≡ value_of next.old) }
-    ensures kind { IsNext next.old → IsNext next.new }
+    ensures kind { variant_of next.new ≡ variant_of next.old }
 {
     match next {
         Next::Resting(call) => call.room(),

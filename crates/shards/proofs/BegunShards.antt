@@ -1,0 +1,193 @@
+-- A shard in which a call begins on the lines of another: the new call has its slot in place of the old one's, and the beginning is the last of the history.
+-- And a shard in which it can't begin.
+use Rattle.std.proofs.Common.{◌≡◌, ◌∙◌, ◌+◌, ◌++◌, ◌==◌, ◌⊎◌, inl, inr, ℕ, Bool, true, false, true≢false, List, [], ◌∷◌, Option, Some, None, Result, Ok, Err, if◌then◌else◌, refl, sym, ap, subst, arith}
+use Rattle.std.specs.Prelude.{is_some, not, ◌&&◌, ◌||◌}
+use Rattle.std.proofs.lemmas.Bool.{eqb-true, eqb-false, eq-eqb}
+use Rattle.mg_model.proofs.Cases.{at_another, at_one, none_is_some, none_of, some_is_none, some_of, the_some}
+use Rattle.mg_model.specs.declared.events.CallEvent.TheVariants as to_call
+use Rattle.mg_model.specs.declared.events.Event.{Event}
+use Rattle.mg_model.specs.declared.events.Event.TheVariants.{OfCall}
+use Rattle.mg_model.specs.Agent.{Agent}
+use Rattle.mg_model.specs.Gateway as gateway
+use Rattle.mg_model.specs.Gateway.{Gateway, MayBegin}
+use Rattle.mg_model.specs.World.{World, Occurs, begin}
+use Rattle.gateway.specs.declared.fault.BeginFault.{BeginFault}
+use Rattle.gateway.specs.declared.fault.BeginFault.TheVariants as fault
+use Rattle.gateway.specs.Answers.{IsSame}
+use Rattle.gateway.specs.Beginnings.{IsBegun}
+use Rattle.gateway.specs.GatewayValue.{GatewayValue, gateway_of, is_open, is_taken}
+use Rattle.agent.specs.AgentValue.{agent_of}
+use Rattle.agent.specs.CallValue.{CallValue}
+use Rattle.agent.specs.Calls as calls
+use Rattle.agent.specs.Calls.{IsNext, IsRetired, value_of, with_room}
+use Rattle.agent.specs.declared.call.Next.{Next}
+use Rattle.agent.specs.declared.call.Next.TheVariants as next
+use Rattle.agent.specs.declared.call.Retired.{Retired}
+use Rattle.agent.specs.declared.refusal.Refusal.{Refusal}
+use Rattle.agent.specs.declared.refusal.Refusal.TheVariants.{NotEnabled, Behind, NoMemory}
+use Rattle.shards.proofs.ShardLemmas.{led_on, one_more, shard_after, world_numbered}
+use Rattle.shards.proofs.ShardSteps.{AreSameSlots, refused_counts, shard_unchanged, step_refused}
+use Rattle.shards.proofs.ShownBegins.{begin_leads_on, differ, ended_so, free_number, used_number}
+use Rattle.shards.specs.Beginnings.{HandsOver, IsBegunBy, has_ended, refusal_of}
+use Rattle.shards.specs.Shards.{CountsEvents, HasHappened, IsShard, IsUnchanged, IsWorldOf, ShardValue, events_of}
+use Rattle.shards.specs.SlotTable.{slot_in}
+use Rattle.shards.specs.Stepping.{CannotOccur, HasBegun, IsNotEnabled, IsRefusedStep, IsSameNext, IsStep, call_in}
+use Rattle.shards.specs.declared.slot.Slot.{Slot}
+use Rattle.shards.specs.declared.stepped.Stepped.{Stepped}
+use Rattle.shards.specs.declared.stepped.Stepped.TheVariants.{Done, Begun}
+
+module _ (v : ShardValue) (was : IsShard v) (value : CallValue) (new old : ℕ) where
+  abbrev handed : Next
+  handed = next.Ended value
+
+  abbrev named : Event
+  named = begin new old
+
+  -- ---- it begins
+
+  module _ (own : value.agent.call ≡ old) (s : Slot) (there : slot_in v.slots old ≡ Some s) (ended : has_ended v.script (agent_of s.agent) v.gateway.association ≡ true)
+      (before : List (ℕ × Option Slot)) (same : (c : ℕ) → slot_in before c ≡ slot_in v.slots c)
+      (h : GatewayValue) (b : IsBegun v.gateway old new h (Ok tt)) (entries : List (ℕ × Option Slot)) (x : HandsOver v.script before entries old new s)
+      (events : List Event) (history : events ≡ v.history ++ named ∷ []) where
+    abbrev later : ShardValue
+    later = record v { gateway = h; slots = entries; history = events }
+
+    apart : new ≡ old → ⊥
+    apart = differ v.script was.world v.gateway h (slot_in v.slots) was.is_world.shows (world_numbered v was.world was.is_world) old new s there b
+
+    slots_are : (c : ℕ) → slot_in entries c ≡ (if c == new then Some x.slot else if c == old then None else slot_in v.slots c)
+    slots_are c = x.slots c ∙ ap (λ (o : Option Slot). if c == new then Some x.slot else if c == old then None else o) (same c)
+
+    happened : HasHappened v later named
+    happened = record {
+      same = record { script = refl; first = refl; stride = refl; calls = refl };
+      history = history;
+      worlds = λ w is. led_on v later named (record { script = refl; first = refl; stride = refl; calls = refl }) history w is
+          (begin_leads_on v.script w v.gateway h (slot_in v.slots) is.shows (world_numbered v w is) old new s there b ended x.slot x.begun_slot (slot_in entries) slots_are);
+    }
+
+    free : (is_open v.gateway new ≡ false) × ((gateway_of v.gateway).retired new ≡ false)
+    free = free_number v.gateway new b.1
+
+    own_count : events_of new events ≡ 1
+    own_count = ap (events_of new) history ∙ one_more new v.history named ∙ ap (λ test. events_of new v.history + (if test then 1 else 0)) (eq-eqb new new refl)
+        ∙ ap (λ n. n + 1) (was.counts.unused new free.0 free.1)
+
+    other_count : (c : ℕ) → (c ≡ new → ⊥) → events_of c events ≡ events_of c v.history
+    other_count c other = ap (events_of c) history ∙ one_more c v.history named ∙ by_test (new == c) refl
+      where
+        by_test : (test : Bool) → (new == c) ≡ test → events_of c v.history + (if test then 1 else 0) ≡ events_of c v.history
+        by_test true this = absurd (other (sym (eqb-true new c this)))
+        by_test false differs = omega arith
+
+    counts : CountsEvents later
+    counts = record {
+      counted = λ c y is. by_new c y (c == new) refl (sym (slots_are c) ∙ is);
+      unused = λ c not_open not_retired. unused c not_open (ap (λ (g : Gateway). g.retired c) (sym b.3) ∙ not_retired);
+    }
+      where
+        by_old : (c : ℕ) (y : Slot) (test : Bool) → (c ≡ new → ⊥) → (if test then None else slot_in v.slots c) ≡ Some y → y.events ≡ events_of c events
+        by_old c y true not_new at = absurd (none_is_some y at)
+        by_old c y false not_new at = was.counts.counted c y at ∙ sym (other_count c not_new)
+
+        by_new : (c : ℕ) (y : Slot) (test : Bool) → (c == new) ≡ test → (if test then Some x.slot else if c == old then None else slot_in v.slots c) ≡ Some y
+            → y.events ≡ events_of c events
+        by_new c y true this at =
+            ap (λ (z : Slot). z.events) (sym (the_some x.slot y at)) ∙ x.begun_slot.events ∙ sym own_count ∙ ap (λ n. events_of n events) (sym (eqb-true c new this))
+        by_new c y false other at = by_old c y (c == old) (eqb-false c new other) at
+
+        unused : (c : ℕ) → is_open h c ≡ false → (gateway.begun (gateway_of v.gateway) old new).retired c ≡ false → events_of c events ≡ 0
+        unused c not_open not_retired = by_tests (c == new) (c == old) refl refl (sym (b.4 c) ∙ not_open) not_retired
+          where
+            by_tests : (one other : Bool) → (c == new) ≡ one → (c == old) ≡ other → (one || (not other && is_open v.gateway c)) ≡ false
+                → (if other then true else (gateway_of v.gateway).retired c) ≡ false → events_of c events ≡ 0
+            by_tests true other is_new is_old not_open not_retired = absurd (true≢false not_open)
+            by_tests false true is_new is_old not_open not_retired = absurd (true≢false not_retired)
+            by_tests false false is_new is_old not_open not_retired = other_count c (eqb-false c new is_new) ∙ was.counts.unused c not_open not_retired
+
+    pub begun_kept : IsShard later
+    begun_kept = shard_after v later named was happened counts
+
+    pub begun_taken : (after : Next) (told : Result Stepped Refusal) → IsBegunBy new (with_room value) after told → IsStep v later handed after named told
+    begun_taken after (Ok (Begun retired)) is = (
+      record {
+        shard = happened;
+        kind = is.0;
+        goes = λ w shown. (refl, (sym own, is.1.agent));
+        script = is.1.script;
+        transcript = is.1.transcript ∙ ap (λ n. begin new n ∷ []) own;
+        begins = refl;
+      },
+      record { call = is.2.call; state = is.2.state; transcript = is.2.transcript },
+    )
+    begun_taken after (Ok Done) is = absurd is
+    begun_taken after (Err why) is = absurd is
+
+  -- ---- it can't begin
+
+  pub not_own : (value.agent.call ≡ old → ⊥) → CannotOccur v handed named
+  not_own other w shown after a occurs goes = other (sym goes.1.0)
+
+  pub not_ended : (s : Slot) → slot_in v.slots old ≡ Some s → has_ended v.script (agent_of s.agent) v.gateway.association ≡ false → CannotOccur v handed named
+  unfolding gateway_of
+  not_ended s there none w shown after a occurs goes =
+      let shows = shown.shows.calls old s there in
+      let same : agent_of s.agent ≡ occurs.before = the_some (agent_of s.agent) occurs.before (sym shows.agent ∙ occurs.open_call) in
+      true≢false (sym (ended_so v.script w occurs.before v.gateway.association (ap (λ (g : Gateway). g.association) shown.shows.gateway) occurs.ended)
+      ∙ ap (λ (x : Agent). has_ended v.script x v.gateway.association) (sym same) ∙ none)
+
+  module _ (before : List (ℕ × Option Slot)) (same : (c : ℕ) → slot_in before c ≡ slot_in v.slots c) where
+    abbrev back : ShardValue
+    back = record v { slots = before }
+
+    same_slots : AreSameSlots v.slots before
+    same_slots = (λ c t is. (t, sym (same c) ∙ is, record { agent = refl; sent = refl; events = refl }), λ c. ap is_some (same c))
+
+    same_gateway : IsSame v.gateway v.gateway
+    same_gateway = (refl, λ c. refl)
+
+    pub back_unchanged : IsUnchanged v back
+    back_unchanged = step_refused v v.gateway before same_gateway same_slots
+
+    pub back_kept : IsShard back
+    back_kept = shard_unchanged v back was back_unchanged (refused_counts v v.gateway before same_gateway same_slots was.counts)
+
+  cannot : (h : GatewayValue) (why : BeginFault) → IsBegun v.gateway old new h (Err why) → IsRefusedStep v handed named (refusal_of why)
+  cannot h fault.UnknownCall is = inl closed
+    where
+      closed : CannotOccur v handed named
+      closed w shown after a occurs goes =
+          none_is_some occurs.before (sym (shown.shows.no_others old (none_of (slot_in v.slots old) (sym (shown.shows.open_calls old) ∙ is.0))) ∙ occurs.open_call)
+  cannot h fault.Taken is = inl taken
+    where
+      taken : CannotOccur v handed named
+      taken w shown after a occurs goes = elim (used_number v.gateway new is.1) [
+        | inl stands ↦ (let slot = some_of (slot_in v.slots new) (sym (shown.shows.open_calls new) ∙ stands) in
+            some_is_none (agent_of slot.0.agent) (sym (shown.shows.calls new slot.0 slot.1).agent ∙ occurs.unused))
+        | inr gone ↦ true≢false (sym gone ∙ ap (λ (g : Gateway). g.retired new) (sym shown.shows.gateway) ∙ occurs.not_retired)
+      ]
+  cannot h fault.CannotHappen is = inl (λ w shown after a occurs goes. is.2 (subst (λ (g : Gateway). MayBegin g old) shown.shows.gateway occurs.may))
+  cannot h fault.NoMemory is = tt
+
+  same_after : (h : GatewayValue) (why : BeginFault) → IsBegun v.gateway old new h (Err why) → h ≡ v.gateway
+  same_after h fault.UnknownCall is = is.1
+  same_after h fault.Taken is = is.2
+  same_after h fault.CannotHappen is = is.3
+  same_after h fault.NoMemory is = is
+
+  module _ (before : List (ℕ × Option Slot)) (same : (c : ℕ) → slot_in before c ≡ slot_in v.slots c) (h : GatewayValue) (why : BeginFault)
+      (b : IsBegun v.gateway old new h (Err why)) (after : Next) (handed_back : IsSameNext handed after) where
+    abbrev behind : ShardValue
+    behind = record v { gateway = h; slots = before }
+
+    gateway_stays : IsSame v.gateway h
+    gateway_stays = let stays = same_after h why b in (ap gateway_of stays, λ c. ap (λ (g : GatewayValue). is_open g c) stays)
+
+    unchanged : IsUnchanged v behind
+    unchanged = step_refused v h before gateway_stays (same_slots before same)
+
+    pub begin_refused : IsShard behind × IsStep v behind handed after named (Err (refusal_of why))
+    begin_refused = (
+      shard_unchanged v behind was unchanged (refused_counts v h before gateway_stays (same_slots before same) was.counts),
+      (cannot h why b, (unchanged, handed_back)),
+    )

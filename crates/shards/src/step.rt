@@ -1,0 +1,141 @@
+//! An event of a call, at its slot and to the call that is handed in. All that may want memory comes first: whoever comes second can't fail after the first.
+ghost use Rattle.std.specs.Prelude.{◌≡◌, true};
+ghost use Rattle.mg_model.specs.declared.events.Event.TheVariants.{OfCall};
+ghost use Rattle.agent.specs.Calls.{is_of_gateway};
+ghost use Rattle.shards.specs.SlotTable.{slot_in, CountsNotes, IsReady, OthersStay};
+ghost use Rattle.shards.specs.Stepping.{AtGateway, IsAtAgent, IsHeld, IsStep, is_told};
+
+use crate::shard::{self, Shard};
+use crate::slots::Slots;
+use crate::stepped::Stepped;
+use crate::{slots, value};
+use agent::{Next, Refusal};
+use gateway::Gateway;
+use mg_model::events::{CallEvent, Event};
+use mg_names::identifiers::CallNo;
+
+/// Whether an agent may hear of it: of no association that the gateway hasn't begun.
+fn is_told(gateway: &Gateway, event: &CallEvent) -> bool
+    ensures { result ≡ is_told gateway.now.association event.now }
+{
+    match *event {
+        CallEvent::Hear { association } => association.0 <= gateway.association().0,
+        _ => true,
+    }
+}
+
+/// An event of a call at the gateway.
+fn at_gateway(
+    gateway: &mut Gateway,
+    slots: &mut Slots,
+    call: CallNo,
+    event: CallEvent,
+) -> Result<(), Refusal>
+    requires ready { IsReady (slot_in slots.old.entries call.0) }
+    requires notes { CountsNotes gateway.old call.0 (slot_in slots.old.entries call.0) }
+    ensures happened { AtGateway gateway.old gateway.new call.0 event (slot_in slots.old.entries call.0) (slot_in slots.new.entries call.0) result }
+    ensures others { OthersStay slots.old.entries call.0 slots.new.entries }
+{
+    match event {
+        CallEvent::OnLine { line, event } => slots::happen(gateway, slots, call, line, event),
+        CallEvent::Execute { number, chosen } => {
+            slots::execute(gateway, slots, call, number, chosen)
+        }
+        _ => Err(Refusal::NotEnabled),
+    }
+}
+
+impl<'s> Shard<'s> {
+    /// Whether the shard holds the call that is handed in, and counts as many events of it as its transcript has.
+    fn holds(&self, next: &Next<'s>) -> Result<(), Refusal>
+        ensures { IsHeld self.now next.now result }
+    {
+        let Some(slot) = slots::slot(&self.slots, value::call(next)) else {
+            return Err(Refusal::NotEnabled);
+        };
+        let slot_count = slot.events;
+        if value::transcript(next).len() != slot_count {
+            return Err(Refusal::Behind { slot_count });
+        }
+        Ok(())
+    }
+
+    /// An event at the agent of a call.
+    fn step_at_agent(
+        &mut self,
+        next: Next<'s>,
+        call: CallNo,
+        event: CallEvent,
+    ) -> (Next<'s>, Result<Stepped, Refusal>)
+        requires { IsAtAgent event }
+        ensures { IsStep self.old self.new next.entry result.0 (OfCall call event) result.1 }
+    {
+        if value::call(&next).0 != call.0 {
+            return (next, Err(Refusal::NotEnabled));
+        }
+        if !is_told(&self.gateway, &event) {
+            return (next, Err(Refusal::NotEnabled));
+        }
+        let Ok(()) = shard::room(&mut self.history) else {
+            return (next, Err(Refusal::NoMemory));
+        };
+        let (next, done) = slots::step(&mut self.slots, self.script, next, call, event);
+        if let Err(why) = done {
+            return (next, Err(why));
+        }
+        self.history.push_reserved(Event::OfCall { call, event });
+        (next, Ok(Stepped::Done))
+    }
+
+    /// An event at the gateway, which the call that is handed in only writes down.
+    fn step_at_gateway(
+        &mut self,
+        next: Next<'s>,
+        call: CallNo,
+        event: CallEvent,
+    ) -> (Next<'s>, Result<Stepped, Refusal>)
+        requires { is_of_gateway event ≡ true }
+        ensures { IsStep self.old self.new next.entry result.0 (OfCall call event) result.1 }
+    {
+        if value::call(&next).0 != call.0 {
+            return (next, Err(Refusal::NotEnabled));
+        }
+        let Ok(()) = shard::room(&mut self.history) else {
+            return (next, Err(Refusal::NoMemory));
+        };
+        let mut next = next;
+        let Ok(()) = value::room(&mut next) else {
+            return (next, Err(Refusal::NoMemory));
+        };
+        if let Err(why) = at_gateway(&mut self.gateway, &mut self.slots, call, event) {
+            return (next, Err(why));
+        }
+        let event = Event::OfCall { call, event };
+        let next = value::log(next, event);
+        self.history.push_reserved(event);
+        (next, Ok(Stepped::Done))
+    }
+
+    /// The event of a call happens to the shard and to the call that is handed in, which comes back after it; an event that begins a call comes with what is
+    /// left of the one on whose lines it begins. `NotEnabled` where the shard doesn't hold the call, or where the event isn't one of that call, or can't happen
+    /// to it or in the shard: a message was never sent, a line is held by another call, or the call isn't in the phase for it, among others. `Behind` where the
+    /// shard counts another number of events of the call than its transcript has. `NoMemory` where memory ran out. Then the call comes back as it was, and
+    /// nothing changes. It takes as long with many calls, and after a long history, as with few. This profile's own.
+    pub fn step(&mut self, next: Next<'s>, event: Event) -> (Next<'s>, Result<Stepped, Refusal>)
+        ensures { IsStep self.old self.new next.entry result.0 event result.1 }
+    {
+        let Event::OfCall { call, event } = event else {
+            return (next, Err(Refusal::NotEnabled));
+        };
+        if let Err(why) = self.holds(&next) {
+            return (next, Err(why));
+        }
+        match event {
+            CallEvent::Begin { old } => self.begin(next, call, old),
+            CallEvent::OnLine { .. } | CallEvent::Execute { .. } => {
+                self.step_at_gateway(next, call, event)
+            }
+            _ => self.step_at_agent(next, call, event),
+        }
+    }
+}
