@@ -36,6 +36,21 @@ use Rattle.shards.specs.declared.slot.Slot.{Slot}
 use Rattle.shards.specs.declared.stepped.Stepped.{Stepped}
 use Rattle.shards.specs.declared.stepped.Stepped.TheVariants.{Done, Begun}
 
+module _ (v : ShardValue) (value : CallValue) (new old : ℕ) where
+  abbrev refusing : Next
+  refusing = next.Ended value
+
+  pub not_own : (value.agent.call ≡ old → ⊥) → CannotOccur v refusing (begin new old)
+  not_own other w shown after a occurs goes = other (sym goes.1.0)
+
+  pub not_ended : (s : Slot) → slot_in v.slots old ≡ Some s → has_ended v.script (agent_of s.agent) v.gateway.association ≡ false → CannotOccur v refusing (begin new old)
+  unfolding gateway_of
+  not_ended s there none w shown after a occurs goes =
+      let shows = shown.shows.calls old s there in
+      let same : agent_of s.agent ≡ occurs.before = the_some (agent_of s.agent) occurs.before (sym shows.agent ∙ occurs.open_call) in
+      true≢false (sym (ended_so v.script w occurs.before v.gateway.association (ap (λ (g : Gateway). g.association) shown.shows.gateway) occurs.ended)
+      ∙ ap (λ (x : Agent). has_ended v.script x v.gateway.association) (sym same) ∙ none)
+
 module _ (v : ShardValue) (was : IsShard v) (value : CallValue) (new old : ℕ) where
   abbrev handed : Next
   handed = next.Ended value
@@ -123,19 +138,6 @@ module _ (v : ShardValue) (was : IsShard v) (value : CallValue) (new old : ℕ) 
     begun_taken after (Ok Done) is = absurd is
     begun_taken after (Err why) is = absurd is
 
-  -- ---- it can't begin
-
-  pub not_own : (value.agent.call ≡ old → ⊥) → CannotOccur v handed named
-  not_own other w shown after a occurs goes = other (sym goes.1.0)
-
-  pub not_ended : (s : Slot) → slot_in v.slots old ≡ Some s → has_ended v.script (agent_of s.agent) v.gateway.association ≡ false → CannotOccur v handed named
-  unfolding gateway_of
-  not_ended s there none w shown after a occurs goes =
-      let shows = shown.shows.calls old s there in
-      let same : agent_of s.agent ≡ occurs.before = the_some (agent_of s.agent) occurs.before (sym shows.agent ∙ occurs.open_call) in
-      true≢false (sym (ended_so v.script w occurs.before v.gateway.association (ap (λ (g : Gateway). g.association) shown.shows.gateway) occurs.ended)
-      ∙ ap (λ (x : Agent). has_ended v.script x v.gateway.association) (sym same) ∙ none)
-
   module _ (before : List (ℕ × Option Slot)) (same : (c : ℕ) → slot_in before c ≡ slot_in v.slots c) where
     abbrev back : ShardValue
     back = record v { slots = before }
@@ -191,3 +193,57 @@ module _ (v : ShardValue) (was : IsShard v) (value : CallValue) (new old : ℕ) 
       shard_unchanged v behind was unchanged (refused_counts v h before gateway_stays (same_slots before same) was.counts),
       (cannot h why b, (unchanged, handed_back)),
     )
+
+-- ---- the same with what is left of the old shard beside it
+
+module _ (v u : ShardValue) (is : v ≡ u) (was : IsShard v) (value : CallValue) (new old : ℕ) where
+  -- no entry was made for the new call
+  pub without_entry : (before : List (ℕ × Option Slot)) → ((c : ℕ) → slot_in before c ≡ slot_in v.slots c) → (events : List Event) → events ≡ v.history → (after : Next)
+      → IsSameNext (next.Ended value) after
+      → IsShard (record v { slots = before; history = events })
+      × IsStep u (record v { slots = before; history = events }) (next.Ended value) after (begin new old) (Err NoMemory)
+  without_entry before same events history after handed_back =
+      subst (λ (x : ShardValue). IsShard (record v { slots = before; history = events })
+      × IsStep x (record v { slots = before; history = events }) (next.Ended value) after (begin new old) (Err NoMemory)) is
+      (subst (λ (es : List Event). IsShard (record v { slots = before; history = es })
+      × IsStep v (record v { slots = before; history = es }) (next.Ended value) after (begin new old) (Err NoMemory)) (sym history)
+      (back_kept v was value new old before same, (tt, (back_unchanged v was value new old before same, handed_back))))
+
+  -- the gateway refused it
+  pub refused_by : (before : List (ℕ × Option Slot)) → ((c : ℕ) → slot_in before c ≡ slot_in v.slots c) → (h : GatewayValue) (why : BeginFault) → IsBegun v.gateway old new h (Err why)
+      → (told : Refusal) → told ≡ refusal_of why → (events : List Event) → events ≡ v.history → (after : Next) → IsSameNext (next.Ended value) after
+      → IsShard (record v { gateway = h; slots = before; history = events })
+      × IsStep u (record v { gateway = h; slots = before; history = events }) (next.Ended value) after (begin new old) (Err told)
+  refused_by before same h why b told told_as events history after handed_back =
+      subst (λ (x : ShardValue). IsShard (record v { gateway = h; slots = before; history = events })
+      × IsStep x (record v { gateway = h; slots = before; history = events }) (next.Ended value) after (begin new old) (Err told)) is
+      (subst (λ (es : List Event). IsShard (record v { gateway = h; slots = before; history = es })
+      × IsStep v (record v { gateway = h; slots = before; history = es }) (next.Ended value) after (begin new old) (Err told)) (sym history)
+      (subst (λ (r : Refusal). IsShard (record v { gateway = h; slots = before })
+      × IsStep v (record v { gateway = h; slots = before }) (next.Ended value) after (begin new old) (Err r)) (sym told_as)
+      (begin_refused v was value new old before same h why b after handed_back)))
+
+  -- it began
+  module _ (own : value.agent.call ≡ old) (s : Slot) (there : slot_in v.slots old ≡ Some s) (ended : has_ended v.script (agent_of s.agent) v.gateway.association ≡ true)
+      (before : List (ℕ × Option Slot)) (same : (c : ℕ) → slot_in before c ≡ slot_in v.slots c)
+      (h : GatewayValue) (b : IsBegun v.gateway old new h (Ok tt)) (entries : List (ℕ × Option Slot)) (x : HandsOver v.script before entries old new s)
+      (events : List Event) (history : events ≡ v.history ++ begin new old ∷ []) where
+    pub forward_kept : IsShard (record v { gateway = h; slots = entries; history = events })
+    forward_kept = begun_kept v was value new old own s there ended before same h b entries x events history
+
+    pub forward_taken : (roomy : CallValue) → roomy ≡ with_room value → (after : Next) (told : Result Stepped Refusal) → IsBegunBy new roomy after told
+        → IsStep u (record v { gateway = h; slots = entries; history = events }) (next.Ended value) after (begin new old) told
+    forward_taken roomy made after told begins =
+        subst (λ (y : ShardValue). IsStep y (record v { gateway = h; slots = entries; history = events }) (next.Ended value) after (begin new old) told) is
+        (begun_taken v was value new old own s there ended before same h b entries x events history after told (subst (λ (r : CallValue). IsBegunBy new r after told) made begins))
+
+-- a call with room for its beginning is the same call
+pub with_more_room : (value roomy : CallValue) → roomy ≡ with_room value → IsSameNext (next.Ended value) (next.Ended roomy)
+with_more_room value roomy made = record {
+  kind = refl;
+  call = record {
+    script = ap (λ (c : CallValue). c.script) made;
+    agent = ap (λ (c : CallValue). c.agent) made;
+    transcript = ap (λ (c : CallValue). c.transcript) made;
+  };
+}

@@ -1,5 +1,6 @@
 -- A step of a shard at its gateway, by what the slots, the gateway and the call that is handed in come to.
-use Rattle.std.proofs.Common.{◌≡◌, ◌∙◌, ◌+◌, ◌++◌, ◌⊎◌, inl, inr, ℕ, Bool, true, false, true≢false, List, [], ◌∷◌, Option, Some, None, Result, Ok, Err, if◌then◌else◌, refl, sym, ap, subst}
+use Rattle.std.proofs.Common.{◌≡◌, ◌∙◌, ◌+◌, ◌++◌, ◌==◌, ◌⊎◌, inl, inr, ℕ, Bool, true, false, true≢false, List, [], ◌∷◌, Option, Some, None, Result, Ok, Err, if◌then◌else◌, refl, sym, ap, subst}
+use Rattle.std.proofs.lemmas.Bool.{eq-eqb}
 use Rattle.mg_model.specs.declared.events.CallEvent.{CallEvent}
 use Rattle.mg_model.specs.declared.events.CallEvent.TheVariants as to_call
 use Rattle.mg_model.specs.declared.events.Event.{Event}
@@ -227,3 +228,19 @@ gateway_forward old v is was call next after own event of_gateway h entries othe
     subst (λ (x : ShardValue). IsShard (record old { gateway = h; slots = entries; history = events })
     × HasStepped x (record old { gateway = h; slots = entries; history = events }) next after (OfCall (record { 0 = call }) event)) is
     (gateway_taken old was call next own event of_gateway h entries others after kind logged events history steps)
+
+-- ---- room for the event
+
+-- a call with room for an event is the same call
+pub with_more_room : (next after : Next) → variant_of after ≡ variant_of next → value_of after ≡ with_room (value_of next) → IsSameNext next after
+with_more_room next after kind made = record {
+  kind = kind;
+  call = record {
+    script = ap (λ (c : CallValue). c.script) made;
+    agent = ap (λ (c : CallValue). c.agent) made;
+    transcript = ap (λ (c : CallValue). c.transcript) made;
+  };
+}
+
+pub loggable_as : (n m : ℕ) (event : CallEvent) → n ≡ m → is_of_gateway event ≡ true → (if n == m then is_of_gateway event else false) ≡ true
+loggable_as n m event same is = ap (λ test. if test then is_of_gateway event else false) (eq-eqb n m same) ∙ is

@@ -1,7 +1,7 @@
 -- A call that begins on the lines of another is an event of the world that the slots show, and they show the world after it; and where it is refused as not
 -- enabled, no call begins so in that world.
 use Rattle.std.proofs.Common.{◌≡◌, ◌∙◌, ◌+◌, ◌++◌, ◌==◌, ◌⊎◌, inl, inr, ℕ, Bool, true, false, true≢false, List, [], ◌∷◌, length, Option, Some, None, Ok, Err, if◌then◌else◌, reverse, refl, sym, ap, subst, arith}
-use Rattle.std.specs.Prelude.{Contains, IsTrue, is_some, nat_le, not, ◌&&◌, ◌||◌}
+use Rattle.std.specs.Prelude.{Contains, ◌-◌, is_some, nat_le, not, slice_get, ◌&&◌, ◌||◌}
 use Rattle.std.specs.List.{find}
 use Rattle.std.proofs.lemmas.Bool.{eqb-true, eqb-false, eq-eqb}
 use Rattle.mg_model.proofs.Cases.{and_first, and_second, at_one, none_is_some, none_of, some_is_none, the_some}
@@ -59,27 +59,26 @@ pub ended_in : (script : Script) (w : World) (a : Agent) (association : ℕ) →
 ended_in script w a association current is =
     let second = and_second (is_resting a.phase) _ is in
     record {
-      is_end = subst IsTrue (sym (and_first (state_of script a.state).is_end (a.association == association) second)) tt;
+      is_end = and_first (state_of script a.state).is_end (a.association == association) second;
       at_rest = at_rest a.phase (and_first (is_resting a.phase) _ is);
       current = eqb-true a.association association (and_second (state_of script a.state).is_end (a.association == association) second) ∙ sym current;
     }
 
-true_is : (b : Bool) → IsTrue b → b ≡ true
-true_is true is = refl
-true_is false is = absurd is
-
 pub ended_so : (script : Script) (w : World) (a : Agent) (association : ℕ) → w.gateway.association ≡ association → HasEnded script w a → has_ended script a association ≡ true
 ended_so script w a association current is =
     ap (λ (p : Phase). is_resting p && ((state_of script a.state).is_end && a.association == association)) is.at_rest
-    ∙ ap (λ b. b && a.association == association) (true_is (state_of script a.state).is_end is.is_end)
+    ∙ ap (λ b. b && a.association == association) is.is_end
     ∙ eq-eqb a.association association (is.current ∙ current)
 
 -- ---- nothing was sent
 
-no_place : (first n : ℕ) → joined (placed first ([] {A = Option Reply}) n) ≡ None
+abbrev no_replies : List (Option Reply)
+no_replies = []
+
+no_place : (first n : ℕ) → joined (placed first no_replies n) ≡ None
 no_place first n = by_order (nat_le first n)
   where
-    by_order : (order : Bool) → joined (if order then None {A = Option Reply} else None) ≡ None
+    by_order : (order : Bool) → joined (if order then slice_get no_replies (n - first) else None) ≡ None
     by_order true = refl
     by_order false = refl
 
