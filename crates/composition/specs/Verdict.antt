@@ -1,7 +1,7 @@
 -- What the bytes of a script and of a certificate are: a script with a fault, or a script and a certificate with a fault,
 -- or both read; and what a certificate that is checked says. A reader should check that a certificate is faulty only
--- beside a script that is read, and that a checked one breaks no obligation and says of every run of the script that it
--- is good.
+-- beside a script that is read, and that a checked one is of a script as its reader accepts it, breaks no obligation and
+-- says of every run of the script that it is good.
 use Rattle.std.specs.Prelude.{◌≢◌, ℕ, List, Ok, Err}
 use Rattle.std.specs.List.{All}
 use Rattle.mg_model.specs.Accepted.{IsEntryOf, IsScript}
@@ -11,6 +11,7 @@ use Rattle.mg_model.specs.Obligations.{NoneBroken}
 use Rattle.mg_safety.specs.Headline.{RunsAreGood}
 use Rattle.scriptreader.specs.declared.fault.ScriptFault.{ScriptFault}
 use Rattle.scriptreader.specs.declared.fault.ScriptFault.TheVariants as scripts
+use Rattle.scriptreader.specs.Laws.{HasFewCommands}
 use Rattle.scriptreader.specs.Reading.{ReadsScript}
 use Rattle.certificate.specs.declared.fault.CertFault.{CertFault}
 use Rattle.certificate.specs.declared.fault.CertFault.TheVariants as certificates
@@ -35,10 +36,13 @@ pub record AreRead (script certificate : List ℕ) (table : Script) (entries : L
 
 -- the script and the entries are as their readers accept them
 abbrev pub AreAccepted : Script → List Entry → Type 0
-AreAccepted table entries = IsScript table × All (IsEntryOf table) entries
+AreAccepted table entries = IsScript table × HasFewCommands table × All (IsEntryOf table) entries
 
--- a certificate that breaks no obligation, and the number of its points; and so every run of any number of calls of the script is good
+-- a script as its reader accepts it, with a certificate that breaks no obligation, and the number of its points; and so every run of any
+-- number of calls of the script is good
 pub record IsChecked (table : Script) (entries : List Entry) (points : ℕ) : Type 0 where
+  pub accepted : IsScript table
+  pub few_commands : HasFewCommands table
   pub none_broken : NoneBroken table entries
   pub safe : RunsAreGood table
   pub counted : HavePoints entries points

@@ -18,7 +18,7 @@ use std::alloc::{AllocError, Global};
 use std::marker::Model;
 use std::thread::Threads;
 
-/// A script with a certificate that breaks no obligation: every run of any number of calls of the script, on lines distinct at each moment, is good.
+/// A script as its reader accepts it, with a certificate that breaks no obligation: every run of any number of calls of the script, on lines distinct at each moment, is good.
 #[derive(Drop)]
 pub struct Checked {
     script: Script,

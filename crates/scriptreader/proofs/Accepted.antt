@@ -23,7 +23,7 @@ use Rattle.scriptreader.proofs.BooleanTests.{or_left, or_right}
 use Rattle.scriptreader.proofs.Slots.{bound, kept}
 
 -- what holds of the meaning of each element that a test lets through holds of all meanings
-each_has : {A B : Type 0} (f : A → Option B) (test : A → Bool) (P : B → Type 0) → ((x : A) (y : B) → test x ≡ false → f x ≡ Some y → P y)
+pub each_has : {A B : Type 0} (f : A → Option B) (test : A → Bool) (P : B → Type 0) → ((x : A) (y : B) → test x ≡ false → f x ≡ Some y → P y)
     → (xs : List A) (ys : List B) → list_any test xs ≡ false → each f xs ≡ Some ys → All P ys
 each_has f test P h [] ys none e = carried (All P) [] ys e (All-nil P)
 each_has f test P h (x ∷ xs) ys none e =
@@ -81,20 +81,25 @@ meant d table none e =
       states = states_within (scope_of d) script (record { lines = refl; contexts = refl; ephemerals = refl }) d states f.duplicate are;
     }))))))
 
-pub accepted : (bytes : List ℕ) (table : Script) → ReadsScript bytes (Ok table) → IsScript table
+-- what holds of the table of each document without a fault holds of each table that bytes are read as
+pub read_has : (P : Script → Type 0) → ((d : document.Document) (table : Script) → fault_of d ≡ None → script_meant d ≡ Some table → P table)
+    → (bytes : List ℕ) (table : Script) → ReadsScript bytes (Ok table) → P table
 unfolding tree_read
-accepted bytes table h = of_shape (document_in h.0) h.2
+read_has P of_meant bytes table h = of_shape (document_in h.0) h.2
   where
-    of_table : (d : document.Document) (script : Option Script) → fault_of d ≡ None → script_meant d ≡ script → fault_or_table None script ≡ Some (Ok table) → IsScript table
+    of_table : (d : document.Document) (script : Option Script) → fault_of d ≡ None → script_meant d ≡ script → fault_or_table None script ≡ Some (Ok table) → P table
     of_table d None none is e = absurd cc
     of_table d (Some script) none is e =
         let same : script ≡ table = cc in
-        subst IsScript same (meant d script none is)
+        subst P same (of_meant d script none is)
 
-    of_fault : (d : document.Document) (fault : Option ScriptFault) → fault_of d ≡ fault → fault_or_table fault (script_meant d) ≡ Some (Ok table) → IsScript table
+    of_fault : (d : document.Document) (fault : Option ScriptFault) → fault_of d ≡ fault → fault_or_table fault (script_meant d) ≡ Some (Ok table) → P table
     of_fault d (Some fault) is e = absurd cc
     of_fault d None is e = of_table d (script_meant d) is refl e
 
-    of_shape : (o : Option document.Document) → document_read o ≡ Some (Ok table) → IsScript table
+    of_shape : (o : Option document.Document) → document_read o ≡ Some (Ok table) → P table
     of_shape None e = absurd cc
     of_shape (Some d) e = of_fault d (fault_of d) refl e
+
+pub accepted : (bytes : List ℕ) (table : Script) → ReadsScript bytes (Ok table) → IsScript table
+accepted = read_has IsScript meant

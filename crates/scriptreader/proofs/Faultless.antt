@@ -5,7 +5,7 @@ use Rattle.std.specs.List.{list_any}
 use Rattle.std.proofs.lemmas.Bool.{ltb-false}
 use Rattle.scriptreader.specs.declared.fault.ScriptFault.{ScriptFault}
 use Rattle.scriptreader.specs.declared.fault.ScriptFault.TheVariants as fault
-use Rattle.scriptreader.specs.Written.{Document}
+use Rattle.scriptreader.specs.Written.{State, Document}
 use Rattle.scriptreader.specs.Faults.{fault_of, name_fault_of, use_fault_of, state_fault_of, has_bad_name, has_duplicate, has_unknown, has_bad_map, names_state, lacks_fault, has_outcome_without_commands, is_end_that_goes_on, makes_and_subtracts, is_too_large}
 use Rattle.scriptreader.proofs.BooleanTests.{or_left, or_right, holds}
 
@@ -62,7 +62,7 @@ faultless d e =
     let e11 = passed (is_too_large d) fault.TooMany _ e10.1 in
     record { duplicate = e2.0; unknown = e3.0; maps = e4.0; start = holds _ e5.0; restart = holds _ e6.0; large = e11.0 }
 
-at_most : {A : Type 0} (limit : ℕ) (xs : List A) → nat_lt limit (length xs) ≡ false → length xs ≤ limit
+pub at_most : {A : Type 0} (limit : ℕ) (xs : List A) → nat_lt limit (length xs) ≡ false → length xs ≤ limit
 at_most limit xs e = ltb-false limit (length xs) e
 
 -- a document within the limits
@@ -74,6 +74,7 @@ pub record IsSmall (d : Document) : Type 0 where
   pub events : length d.events ≤ 16
   pub signals : length d.signals ≤ 16
   pub maps : length d.maps ≤ 16
+  pub commands : list_any (λ (s : State). nat_lt 16 (length s.commands)) d.states ≡ false
 
 pub small : (d : Document) → is_too_large d ≡ false → IsSmall d
 small d e =
@@ -91,4 +92,5 @@ small d e =
       events = at_most 16 d.events (or_left _ _ e5);
       signals = at_most 16 d.signals (or_left _ _ e6);
       maps = at_most 16 d.maps (or_left _ _ e7);
+      commands = or_right _ _ e7;
     }

@@ -9,3 +9,4 @@ pub mod Slots
 pub mod Declared
 pub mod Created
 pub mod Accepted
+pub mod FewCommands

@@ -2,7 +2,7 @@
 ghost use Rattle.scriptreader.specs.Laws.{AcceptedScripts};
 
 /// Each table that bytes are read as is a script of which the promise over runs speaks: it has at most four lines, contexts
-/// and ephemerals, its commands name what it declares, and no state creates a name twice.
+/// and ephemerals, its commands name what it declares, no state creates a name twice, and no state has more than 16 commands.
 pub fn accepted_scripts()
     ensures { AcceptedScripts }
 {}

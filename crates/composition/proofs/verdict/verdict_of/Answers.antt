@@ -8,9 +8,12 @@ pub invariant_of-result : goal.invariant_of-result
 invariant_of-result c =
     let documents = c.args.documents in
     let kept = subst (IsFinding documents.script documents.cert) c.in-Kept.is c.requires.found in
+    let accepted = c.requires.accepted in
     record {
+      accepted = accepted.0;
+      few_commands = accepted.1;
       none_broken = kept.0;
-      safe = c.every_run_is_good.ensures documents.script documents.cert c.requires.accepted.0 c.requires.accepted.1 kept.0;
+      safe = c.every_run_is_good.ensures documents.script documents.cert accepted.0 accepted.2 kept.0;
       counted = kept.1;
     }
 
