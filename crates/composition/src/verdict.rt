@@ -1,6 +1,9 @@
 //! The verdict on a script and a certificate. A `Yes` can be made in no other way than by `check` and `check_par`.
 ghost use Rattle.std.specs.Prelude.{◌≡◌, length};
+ghost use Rattle.mg_model.specs.Accepted.{IsScript};
+ghost use Rattle.mg_safety.specs.Headline.{RunsAreGood};
 ghost use Rattle.closure.specs.Answer.{IsFinding};
+ghost use Rattle.scriptreader.specs.Laws.{HasFewCommands};
 ghost use Rattle.composition.specs.Faults.{name_of, number_of};
 ghost use Rattle.composition.specs.Verdict.{AreAccepted};
 ghost use Rattle.composition.specs.Verdicts.{IsReading, IsVerdict, IsVerdictOn, YesIsSafe};
@@ -37,9 +40,12 @@ impl Model for Checked {
 }
 
 impl Checked {
-    /// The script.
+    /// The script: one that its reader accepts, with at most 16 commands in a state, and of which every run is good.
     pub fn script(&self) -> &Script
-        ensures { result.now ≡ self.now.table }
+        ensures table { result.now ≡ self.now.table }
+        ensures accepted { IsScript result.now }
+        ensures few_commands { HasFewCommands result.now }
+        ensures safe { RunsAreGood result.now }
     {
         &self.script
     }
