@@ -20,4 +20,5 @@ pub mod ShownBegins
 pub mod TakenSteps
 pub mod GatewaySteps
 pub mod BegunShards
--- pub mod OpenedShards
+pub mod OpenedShards
+pub mod LastingShards

@@ -1,5 +1,5 @@
 -- What a shard keeps is kept where its event leads on, and where nothing changes.
-use Rattle.std.proofs.Common.{◌≡◌, ◌∙◌, ◌+◌, ◌++◌, ℕ, suc, Bool, true, false, List, [], ◌∷◌, map, if◌then◌else◌, refl, sym, ap, subst, arith}
+use Rattle.std.proofs.Common.{◌≡◌, ◌∙◌, ◌+◌, ◌<◌, ◌≤◌, ◌++◌, ℕ, suc, Bool, true, false, List, [], ◌∷◌, map, if◌then◌else◌, refl, sym, ap, subst, arith}
 use Rattle.identifiers.specs.Class.{is_of_class}
 use Rattle.mg_model.specs.declared.events.Event.{Event}
 use Rattle.mg_model.specs.declared.events.Event.TheVariants.{Restart}
@@ -8,7 +8,10 @@ use Rattle.mg_model.specs.World.{World, Occurs, IsOpening, Runs, is_of_call}
 use Rattle.mg_safety.proofs.Messages.NamedMessages.{event_numbered, opening_numbered}
 use Rattle.mg_safety.proofs.Messages.NumberedWorlds.{IsNumbered}
 use Rattle.mg_model.specs.Gateway.{Gateway}
+use Rattle.mg_model.specs.Accepted.{IsScript}
+use Rattle.mg_merge.specs.Identifiers.{most_shards}
 use Rattle.mg_safety.specs.Headline.{RunsAreGood}
+use Rattle.scriptreader.specs.Laws.{HasFewCommands}
 use Rattle.gateway.specs.Answers.{IsNext}
 use Rattle.gateway.specs.GatewayValue.{GatewayValue, gateway_of}
 use Rattle.shards.proofs.ShownRestarts.{restart_shown}
@@ -70,10 +73,17 @@ led_on old new event same history w is leads = (
   ),
 )
 
+pub still_within : (old new : ShardValue) → HasSameOpening old new → old.first < old.stride → new.first < new.stride
+still_within old new same within = subst (λ n. n < new.stride) (sym same.first) (subst (λ n. old.first < n) (sym same.stride) within)
+
 -- what happened to a shard keeps what its type keeps
 pub shard_after : (old new : ShardValue) (event : Event) → IsShard old → HasHappened old new event → CountsEvents new → IsShard new
 shard_after old new event was happened counts = record {
+  accepted = subst IsScript (sym happened.same.script) was.accepted;
+  few_commands = subst HasFewCommands (sym happened.same.script) was.few_commands;
   safe = subst RunsAreGood (sym happened.same.script) was.safe;
+  within = still_within old new happened.same was.within;
+  few_shards = subst (λ n. n ≤ most_shards) (sym happened.same.stride) was.few_shards;
   world = (happened.worlds was.world was.is_world).0;
   is_world = (happened.worlds was.world was.is_world).1.1;
   counts = counts;

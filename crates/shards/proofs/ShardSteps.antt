@@ -1,6 +1,6 @@
 -- A shard after an event of one call: its slot is put in place of the old one, and the event is the last of the history. And a shard of which an event is
 -- refused: it shows the same worlds.
-use Rattle.std.proofs.Common.{◌≡◌, ◌∙◌, ◌+◌, ◌++◌, ◌==◌, ℕ, Bool, true, false, true≢false, List, [], ◌∷◌, length, Option, Some, None, if◌then◌else◌, reverse, refl, sym, ap, subst, arith}
+use Rattle.std.proofs.Common.{◌≡◌, ◌∙◌, ◌+◌, ◌≤◌, ◌++◌, ◌==◌, ℕ, Bool, true, false, true≢false, List, [], ◌∷◌, length, Option, Some, None, if◌then◌else◌, reverse, refl, sym, ap, subst, arith}
 use Rattle.std.specs.Prelude.{Contains, is_some}
 use Rattle.std.specs.List.{find}
 use Rattle.std.proofs.lemmas.Bool.{eqb-true, eqb-false, eq-eqb}
@@ -12,12 +12,15 @@ use Rattle.mg_model.specs.Agent.{Agent}
 use Rattle.mg_model.specs.Gateway.{Gateway}
 use Rattle.mg_model.specs.Messages.{Request}
 use Rattle.mg_model.specs.World.{World, Occurs, is_of_call, sent_in}
+use Rattle.mg_model.specs.Accepted.{IsScript}
+use Rattle.mg_merge.specs.Identifiers.{most_shards}
 use Rattle.mg_safety.specs.Headline.{RunsAreGood}
+use Rattle.scriptreader.specs.Laws.{HasFewCommands}
 use Rattle.gateway.specs.Answers.{IsSame, SameOpen}
 use Rattle.gateway.specs.GatewayValue.{GatewayValue, gateway_of, is_open}
 use Rattle.agent.specs.AgentValue.{agent_of}
 use Rattle.call_messages.specs.Messages.{AreNumberedFrom, Messages, fits, reply_for, request_numbers}
-use Rattle.shards.proofs.ShardLemmas.{led_on, one_more}
+use Rattle.shards.proofs.ShardLemmas.{led_on, one_more, still_within}
 use Rattle.shards.specs.Shards.{CountsEvents, HasHappened, HasSameOpening, IsShard, IsUnchanged, IsWorldOf, ShardValue, events_of}
 use Rattle.shards.specs.Shows.{LeadsOn, Shows, ShowsCall, with_slot}
 use Rattle.shards.specs.Slots.{IsSameSlot, IsTied, request_in}
@@ -191,7 +194,11 @@ stays_unchanged v = record {
 
 pub shard_unchanged : (old new : ShardValue) → IsShard old → IsUnchanged old new → CountsEvents new → IsShard new
 shard_unchanged old new was unchanged counts = record {
+  accepted = subst IsScript (sym unchanged.same.script) was.accepted;
+  few_commands = subst HasFewCommands (sym unchanged.same.script) was.few_commands;
   safe = subst RunsAreGood (sym unchanged.same.script) was.safe;
+  within = still_within old new unchanged.same was.within;
+  few_shards = subst (λ n. n ≤ most_shards) (sym unchanged.same.stride) was.few_shards;
   world = was.world;
   is_world = unchanged.worlds was.world was.is_world;
   counts = counts;

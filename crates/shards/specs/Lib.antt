@@ -5,4 +5,5 @@ pub mod Shows
 pub mod Shards
 pub mod Stepping
 pub mod Beginnings
--- pub mod Opening
+pub mod Opening
+pub mod Lasting

@@ -1,7 +1,7 @@
 -- A shard: what it shows, what its type keeps, and what a restart of it comes to. A reader should check that its history is a run from an opening of its calls
 -- to the world that it shows, that an event that happens is added to it, and nothing else, and that a call's part has its events and every restart.
 use Rattle.std.specs.List.{filter}
-use Rattle.std.specs.Prelude.{Bool, true, ◌≡◌, ℕ, ◌==◌, suc, false, if◌then◌else◌, List, [], ◌∷◌, ◌++◌, map, slice_index_or, Option, Some, Result, Ok, Err}
+use Rattle.std.specs.Prelude.{Bool, true, ◌≡◌, ℕ, ◌<◌, ◌≤◌, ◌==◌, suc, false, if◌then◌else◌, List, [], ◌∷◌, ◌++◌, map, slice_index_or, Option, Some, Result, Ok, Err}
 use Rattle.mg_names.specs.declared.identifiers.Assoc.{Assoc}
 use Rattle.mg_names.specs.declared.identifiers.LineNo.{LineNo}
 use Rattle.identifiers.specs.Class.{is_of_class}
@@ -15,7 +15,10 @@ use Rattle.mg_model.specs.Numbers.{last_association}
 use Rattle.mg_model.specs.Script.{Script}
 use Rattle.mg_model.specs.Tables.{line_places}
 use Rattle.mg_model.specs.World.{World, IsNoteOf, IsOpening, IsReplyOf, Occurs, Opened, Runs, is_of_call}
+use Rattle.mg_model.specs.Accepted.{IsScript}
+use Rattle.mg_merge.specs.Identifiers.{most_shards}
 use Rattle.mg_safety.specs.Headline.{RunsAreGood}
+use Rattle.scriptreader.specs.Laws.{HasFewCommands}
 use Rattle.gateway.specs.GatewayValue.{GatewayValue, gateway_of, is_open}
 use Rattle.agent.specs.AgentValue.{agent_of}
 use Rattle.agent.specs.CallValue.{CallValue}
@@ -62,7 +65,11 @@ pub record CountsEvents (v : ShardValue) : Type 0 where
   pub unused : (call : ℕ) → is_open v.gateway call ≡ false → (gateway_of v.gateway).retired call ≡ false → events_of call v.history ≡ 0
 
 pub record IsShard (v : ShardValue) : Type 0 where
+  pub accepted : IsScript v.script
+  pub few_commands : HasFewCommands v.script
   pub safe : RunsAreGood v.script
+  pub within : v.first < v.stride
+  pub few_shards : v.stride ≤ most_shards
   pub world : World
   pub is_world : IsWorldOf v world
   pub counts : CountsEvents v

@@ -5,7 +5,8 @@ mod at_agent;
 mod at_gateway;
 mod begin;
 mod fault;
-//mod open;
+mod opening;
+mod laws;
 mod opened;
 mod shard;
 mod slot;
@@ -14,7 +15,7 @@ mod step;
 mod stepped;
 mod value;
 
-pub use fault::RestartFault;
+pub use fault::{OpenFault, RestartFault};
 pub use opened::OpenedCall;
 pub use shard::Shard;
 pub use stepped::Stepped;

@@ -1,0 +1,26 @@
+//! Laws of shards: what holds of one, whatever was done with it. Their functions do nothing: a contract is the law, which a crate above has by calling it.
+ghost use Rattle.shards.specs.Lasting.{IdentifiersLasted, WorldsAreGood};
+
+use crate::shard::Shard;
+use mg_merge::laws::identifiers_last;
+
+impl<'s> Shard<'s> {
+    /// The world that the shard shows is good: an audio path joins two lines only inside one call whose current state marks that pair as talking, and a call
+    /// that has ended owns no ephemeral and has each line silent in the null context, armed for off-hook.
+    pub fn stays_good(&self)
+        ensures { WorldsAreGood self.now }
+    {
+        // What the type keeps is at hand where a field is read.
+        let _script = self.script;
+    }
+
+    /// Identifiers last in the shard: after no more executes than 10,000,000, each of which has at most 16 commands, no class of a sixteenth of the numbers
+    /// has run out before any event of the history.
+    pub fn identifiers_lasted(&self)
+        ensures { IdentifiersLasted self.now }
+    {
+        identifiers_last();
+        // What the type keeps is at hand where a field is read.
+        let _script = self.script;
+    }
+}

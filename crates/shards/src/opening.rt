@@ -1,0 +1,131 @@
+//! The opening of a shard: a new gateway, on which its calls are opened one after the other, each with its slot.
+ghost use Rattle.std.specs.Prelude.{◌<◌, ◌≤◌};
+ghost use Rattle.shards.specs.Opening.{AreOpenedSlots, IsOpenedOne, IsShardOpened};
+
+use crate::fault::OpenFault;
+use crate::opened::OpenedCall;
+use crate::shard::Shard;
+use crate::slot::Slot;
+use crate::slots::{self, Slots};
+use agent::{Call, Next, Plain};
+use call_messages::Messages;
+use composition::Checked;
+use gateway::Gateway;
+use mg_names::identifiers::LineNo;
+use script_table::Script;
+use std::alloc::{AllocError, Global};
+use std::collections::BTreeMap;
+
+/// A gateway with the slots of the calls that are open on it, and those calls.
+#[derive(Drop)]
+struct Opened<'s> {
+    gateway: Gateway,
+    slots: Slots,
+    nexts: Vec<Next<'s>>,
+}
+
+/// The lines of all calls, one after the other.
+fn all_lines(alloc: Global, calls: &[OpenedCall]) -> Result<Vec<LineNo>, AllocError> {
+    let mut lines = Vec::new(alloc);
+    for call in calls {
+        lines.extend_from_slice(call.lines.as_slice())?;
+    }
+    Ok(lines)
+}
+
+/// Opens a call on a gateway, with its slot, and enters it.
+fn open_one<'s>(
+    alloc: Global,
+    gateway: &mut Gateway,
+    slots: &mut Slots,
+    script: &'s Script,
+    call: &OpenedCall,
+) -> Result<Next<'s>, OpenFault>
+    ensures { IsOpenedOne script.now gateway.old gateway.new slots.old.entries slots.new.entries call.now result }
+{
+    let lines = call.lines.as_slice();
+    if lines.len() != script.lines() {
+        return Err(OpenFault::WrongLines);
+    }
+    match gateway.open_call(call.call, lines) {
+        Ok(()) => {}
+        Err(gateway::OpenFault::NoMemory) => return Err(OpenFault::NoMemory),
+        Err(_) => return Err(OpenFault::Taken),
+    }
+    let slot = Slot {
+        agent: Plain::enter(alloc, script, call.call, lines),
+        events: 0,
+        messages: Messages::new(alloc, 1),
+    };
+    let Ok(()) = slots::put(slots, call.call, slot) else {
+        return Err(OpenFault::NoMemory);
+    };
+    Ok(Call::enter(alloc, script, call.call, lines))
+}
+
+/// Opens calls on a new gateway of a class, one after the other.
+fn open_all<'s>(
+    alloc: Global,
+    script: &'s Script,
+    calls: &[OpenedCall],
+    first: u32,
+    stride: u32,
+) -> Result<Opened<'s>, OpenFault>
+    requires { first < stride }
+    ensures { AreOpenedSlots script.now calls.now first stride result }
+{
+    let Ok(lines) = all_lines(alloc, calls) else {
+        return Err(OpenFault::NoMemory);
+    };
+    let Ok(mut gateway) = Gateway::with_ids(alloc, lines.as_slice(), first, stride) else {
+        return Err(OpenFault::NoMemory);
+    };
+    let mut slots = BTreeMap::new(alloc);
+    let mut nexts = Vec::new(alloc);
+    for call in calls {
+        let next = open_one(alloc, &mut gateway, &mut slots, script, call)?;
+        let Ok(()) = nexts.push(next) else {
+            return Err(OpenFault::NoMemory);
+        };
+    }
+    Ok(Opened {
+        gateway,
+        slots,
+        nexts,
+    })
+}
+
+impl<'s> Shard<'s> {
+    /// A shard with a new gateway in association 1, whose contexts and ephemerals are given numbers that leave `first` where they are divided by `stride`, 16 at most, and
+    /// on it these calls of a checked script, each at rest in the start state on its lines, which are armed and on hook; and the calls themselves, in their
+    /// order. Nothing has happened yet. The fault that the first call meets which doesn't open, or `NoMemory`. This profile's own.
+    pub fn open(
+        alloc: Global,
+        checked: &'s Checked,
+        calls: Vec<OpenedCall>,
+        first: u32,
+        stride: u32,
+    ) -> Result<(Shard<'s>, Vec<Next<'s>>), OpenFault>
+        requires class { first < stride }
+        requires shards { stride ≤ 16 }
+        ensures { IsShardOpened checked.now.table calls.items first stride result }
+    {
+        let script = checked.script();
+        let Opened {
+            gateway,
+            slots,
+            nexts,
+        } = open_all(alloc, script, calls.as_slice(), first, stride)?;
+        let shard = Shard {
+            alloc,
+            script,
+            first,
+            stride,
+            calls,
+            gateway,
+            slots,
+            history: Vec::new(alloc),
+        };
+        Ok((shard, nexts))
+    }
+}
