@@ -6,3 +6,4 @@ pub mod Shards
 pub mod Stepping
 pub mod Beginnings
 -- pub mod Opening
+pub mod Meaning

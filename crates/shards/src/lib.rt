@@ -6,6 +6,7 @@ mod at_gateway;
 mod begin;
 mod fault;
 //mod open;
+mod meaning;
 mod opened;
 mod shard;
 mod slot;
