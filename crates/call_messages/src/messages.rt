@@ -103,9 +103,10 @@ impl Messages {
         numbered(self.notes.as_slice(), number)
     }
 
-    /// The notes, the latest last.
+    /// The notes, the latest last; they are numbered from 1.
     pub fn notes(&self) -> &[SentNote]
-        ensures { result.now ≡ self.now.sent.notes }
+        ensures notes { result.now ≡ self.now.sent.notes }
+        ensures numbered { AreNumberedFrom 1 (note_numbers self.now.sent.notes) }
     {
         self.notes.as_slice()
     }

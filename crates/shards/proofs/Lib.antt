@@ -1,7 +1,9 @@
 pub mod AgentSteps
 pub mod AnsweredReplies
 pub mod CountedSlots
+pub mod FoundNotes
 pub mod GatewayLemmas
+pub mod MeantSteps
 pub mod MessageLemmas
 pub mod OtherCalls
 pub mod Refusals

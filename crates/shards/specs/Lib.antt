@@ -7,3 +7,4 @@ pub mod Stepping
 pub mod Beginnings
 pub mod Opening
 pub mod Lasting
+pub mod Meaning

@@ -1,6 +1,8 @@
 -- A shard that opens. A reader should check that nothing happened in it yet, that it is of the script, the class and the calls that were asked for, and that
 -- each call is handed out as it was entered, in the order of the calls.
 use Rattle.std.specs.Prelude.{◌≡◌, ◌≢◌, ℕ, ◌==◌, ◌||◌, if◌then◌else◌, false, List, [], ◌∷◌, length, map, Contains, Option, Some, None, option_map, Result, Ok, Err}
+use Rattle.std.specs.declared.alloc.Global.{Global}
+use Rattle.std.specs.declared.vec.Vec.{Vec}
 use Rattle.mg_model.specs.Agent.{opened}
 use Rattle.mg_model.specs.Script.{Script}
 use Rattle.mg_model.specs.World.{Opened}
@@ -52,8 +54,8 @@ pub record HasWrongLines (script : Script) (calls : List OpenedCall) : Type 0 wh
   pub among : Contains calls one
   pub wrong : length one.lines.items ≢ length script.lines
 
-abbrev pub IsShardOpened : Script → List OpenedCall → (first stride : ℕ) → Result (ShardValue × List Next) OpenFault → Type 0
-IsShardOpened script calls first stride (Ok (v, nexts)) = IsNewShard script calls first stride v × AreEntered script calls nexts
+abbrev pub IsShardOpened : Script → List OpenedCall → (first stride : ℕ) → Result (ShardValue × Vec Next Global) OpenFault → Type 0
+IsShardOpened script calls first stride (Ok (v, nexts)) = IsNewShard script calls first stride v × AreEntered script calls nexts.items
 IsShardOpened script calls first stride (Err WrongLines) = HasWrongLines script calls
 IsShardOpened script calls first stride (Err Taken) = Unit {0}
 IsShardOpened script calls first stride (Err NoMemory) = Unit {0}

@@ -1,0 +1,36 @@
+-- The call is open on its lines, as many as the script has, and its slot has the agent that it was entered with.
+use Rattle.std.proofs.Common.{◌≡◌, ◌∙◌, ℕ, List, length, Ok, map, refl, sym, ap, subst}
+use Rattle.mg_names.specs.declared.identifiers.LineNo.{LineNo}
+use Rattle.mg_model.specs.Agent.{opened}
+use Rattle.gateway.specs.GatewayValue.{gateway_of, is_taken}
+use Rattle.gateway.specs.Openings as gateway
+use Rattle.agent.specs.AgentValue.{agent_of}
+use Rattle.agent.specs.Calls.{value_of}
+use Rattle.systems.specs.Openings.{line_at}
+use Rattle.shards.proofs.opening.open_one.Goals as goal
+
+pub returns : goal.returns
+returns c = (
+  record {
+    all_lines = ap (λ (lines : List LineNo). length lines) (sym same) ∙ c.if-lines.false ∙ c.lines.ensures.value;
+    may = subst (λ (lines : List LineNo). gateway.opening (gateway_of c.args.gateway.now) (is_taken c.args.gateway.now c.args.call.now.call.0) lines ≡ Ok tt) same ?;
+    gateway = c.in-Ok.ensures.opened ∙ ap (gateway.opened (gateway_of c.args.gateway.now) c.args.call.now.call.0) same;
+    open_calls = c.in-Ok.ensures.open_calls;
+    slot = record { agent = c.enter.result; events = 0; messages = c.new.result };
+    first = record {
+      agent = c.enter.ensures ∙ ap (λ (lines : List LineNo). opened c.args.script.now c.args.call.now.call.0 (line_at lines)) same;
+      events = refl;
+      sent = c.new.ensures;
+    };
+    slots = c.in-Ok-put.ensures;
+  },
+  record {
+    kind = c.enter-2.ensures.kind;
+    agent = c.enter-2.ensures.agent ∙ ap (λ (lines : List LineNo). opened c.args.script.now c.args.call.now.call.0 (line_at lines)) same;
+    of_script = c.enter-2.ensures.script;
+    transcript = c.enter-2.ensures.transcript;
+  },
+)
+  where
+    same : c.as_slice-lines.result.now ≡ c.args.call.now.lines.items
+    same = c.as_slice-lines.ensures.value

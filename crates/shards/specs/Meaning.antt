@@ -1,0 +1,66 @@
+-- Which event a step of a plan means for a call. A reader should check that what is said of a world is the report's `Means` and nothing else, and
+-- that a step of a call that isn't there means nothing.
+use Rattle.std.specs.Prelude.{◌≡◌, ℕ, ◌==◌, Option, Some, None, option_map}
+use Rattle.std.specs.List.{find}
+use Rattle.mg_model.specs.declared.events.Event.{Event}
+use Rattle.mg_model.specs.declared.events.Event.TheVariants.{Restart}
+use Rattle.mg_model.specs.declared.line_events.Hook.TheVariants.{On, Off}
+use Rattle.mg_model.specs.declared.line_events.LineEvent.{LineEvent}
+use Rattle.mg_model.specs.declared.line_events.LineEvent.TheVariants.{Hook, Flash, Digit, Pause, SignalEnd}
+use Rattle.mg_model.specs.declared.plans.PlanStep.{PlanStep}
+use Rattle.mg_model.specs.declared.plans.PlanStep.TheVariants.{GoesOff, GoesOn, Flashes, Dials, Pauses, Ends, Executes, TakesReply, Passes, TakesNote, TimesOut, Hears, Begins, Restarts}
+use Rattle.mg_model.specs.Agent.{Agent}
+use Rattle.mg_model.specs.Messages.{Request, Reply, SentNote}
+use Rattle.mg_model.specs.Reports.{Means, is_waiting, refusal_at}
+use Rattle.mg_model.specs.World.{World, on_a_line, execute, reply, pass, note, timer, begin, hear}
+use Rattle.agent.specs.AgentValue.{agent_of}
+use Rattle.call_messages.specs.Messages.{reply_for}
+use Rattle.shards.specs.Shards.{IsWorldOf, ShardValue}
+use Rattle.shards.specs.Slots.{request_in}
+use Rattle.shards.specs.declared.slot.Slot.{Slot}
+
+-- ---- of a slot
+
+-- an event of a line of the script
+abbrev pub on_slot : Slot → (line : ℕ) → LineEvent → Event
+on_slot s line event = on_a_line (agent_of s.agent).call ((agent_of s.agent).lines line) event
+
+-- the note of this number, or the oldest that waits for the agent
+abbrev pub note_in : Slot → Option ℕ → Option SentNote
+note_in s None = find (is_waiting (agent_of s.agent)) s.messages.sent.notes
+note_in s (Some n) = find (λ (m : SentNote). m.number == n) s.messages.sent.notes
+
+-- the event that a step means for the call of a slot, where the gateway is in this association and the next call to begin has this number
+abbrev pub event_in : Slot → (association next : ℕ) → PlanStep → Option Event
+event_in s association next (GoesOff l) = Some (on_slot s l (Hook Off))
+event_in s association next (GoesOn l) = Some (on_slot s l (Hook On))
+event_in s association next (Flashes l) = Some (on_slot s l Flash)
+event_in s association next (Dials l symbol) = Some (on_slot s l (Digit symbol))
+event_in s association next (Pauses l) = Some (on_slot s l Pause)
+event_in s association next (Ends l signal) = Some (on_slot s l (SignalEnd signal))
+event_in s association next (Executes which place) =
+    option_map (λ (r : Request). execute (agent_of s.agent).call r.number (refusal_at place)) (request_in s which)
+event_in s association next (TakesReply which) = option_map (λ (r : Reply). reply (agent_of s.agent).call r.number) (reply_for s.messages.sent which)
+event_in s association next Passes = Some (pass (agent_of s.agent).call)
+event_in s association next (TakesNote which) = option_map (λ (n : SentNote). note (agent_of s.agent).call n.number) (note_in s which)
+event_in s association next TimesOut = Some (timer (agent_of s.agent).call)
+event_in s association next Hears = Some (hear (agent_of s.agent).call association)
+event_in s association next Begins = Some (begin next (agent_of s.agent).call)
+event_in s association next Restarts = Some Restart
+
+-- that of a call that has no slot: nothing
+abbrev pub event_of_entry : Option Slot → (association next : ℕ) → PlanStep → Option Event
+event_of_entry None association next step = None
+event_of_entry (Some s) association next step = event_in s association next step
+
+-- ---- of a world
+
+-- a step means this event for the agent of a call, or no event
+abbrev pub MeansIn : World → Option Agent → (next : ℕ) → PlanStep → Option Event → Type 0
+MeansIn w None next step told = told ≡ None
+MeansIn w (Some a) next step (Some event) = Means w a next step event
+MeansIn w (Some a) next step None = (event : Event) → Means w a next step event → ⊥
+
+-- whatever world a shard shows, the step means this event in it for the call, or no event
+abbrev pub IsMeant : ShardValue → (call next : ℕ) → PlanStep → Option Event → Type 0
+IsMeant v call next step told = (w : World) → IsWorldOf v w → MeansIn w (w.agent call) next step told

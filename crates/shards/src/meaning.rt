@@ -1,0 +1,164 @@
+//! Which event a step of a plan means for a call of a shard.
+ghost use Rattle.std.specs.Prelude.{◌≡◌, Some, option_map};
+ghost use Rattle.std.specs.List.{find};
+ghost use Rattle.mg_model.specs.declared.events.Event.TheVariants as events;
+ghost use Rattle.mg_model.specs.declared.plans.PlanStep.TheVariants as steps;
+ghost use Rattle.mg_model.specs.Reports as reports;
+ghost use Rattle.mg_model.specs.World as world;
+ghost use Rattle.agent.specs.AgentValue.{agent_of};
+ghost use Rattle.call_messages.specs.Messages.{AreNumberedFrom, note_numbers};
+ghost use Rattle.shards.specs.Meaning.{IsMeant, event_in, on_slot};
+ghost use Rattle.shards.specs.Shards.{IsUnchanged};
+ghost use Rattle.shards.specs.Slots.{request_in};
+
+use crate::shard::Shard;
+use crate::slot::Slot;
+use crate::{at_gateway, slots};
+use agent::Plain;
+use mg_model::events::{CallEvent, Event};
+use mg_model::failures::{ChosenRefusal, Refusal};
+use mg_model::line_events::{Hook, LineEvent};
+use mg_model::plans::PlanStep;
+use mg_names::identifiers::{Assoc, CallNo};
+use mg_names::slots::Slot as Place;
+use requests::{Request, SentNote};
+
+/// An event of the call of a slot.
+fn of_call(slot: &Slot, event: CallEvent) -> Event
+    ensures { result ≡ events.OfCall (record { 0 = (agent_of slot.now.agent).call }) event }
+{
+    Event::OfCall {
+        call: slot.agent.call(),
+        event,
+    }
+}
+
+/// An event of the gateway's line for a line of the script.
+fn on_line(slot: &Slot, line: Place, event: LineEvent) -> Option<Event>
+    ensures { result ≡ Some (on_slot slot.now line event) }
+{
+    let line = slot.agent.line(line);
+    Some(of_call(slot, CallEvent::OnLine { line, event }))
+}
+
+/// The refusal at a place, if there is one.
+fn refusal(place: Option<u8>) -> Option<ChosenRefusal>
+    ensures { result ≡ reports.refusal_at place }
+{
+    match place {
+        Some(place) => Some(ChosenRefusal {
+            place: place as usize,
+            refusal: Refusal::InternalFailure,
+        }),
+        None => None,
+    }
+}
+
+/// The request of this number, or the latest.
+fn request(slot: &Slot, which: Option<u32>) -> Option<&Request>
+    ensures { option_map (λ r. r.now) result ≡ request_in slot.now which }
+{
+    match which {
+        Some(number) => at_gateway::request(slot, number),
+        None => match slot.agent.request() {
+            Some(request) => Some(request),
+            None => slot.messages.request(None),
+        },
+    }
+}
+
+/// A request reaches the gateway: the one of this number, or the latest.
+fn executes(slot: &Slot, which: Option<u32>, place: Option<u8>) -> Option<Event>
+    ensures { result ≡ event_in slot.now 0 0 (steps.Executes which place) }
+{
+    let number = request(slot, which)?.number();
+    let chosen = refusal(place);
+    Some(of_call(slot, CallEvent::Execute { number, chosen }))
+}
+
+/// A reply reaches the call: the latest to the request of this number, or the latest of all.
+fn takes_reply(slot: &Slot, which: Option<u32>) -> Option<Event>
+    ensures { result ≡ event_in slot.now 0 0 (steps.TakesReply which) }
+{
+    let number = slot.messages.reply(which)?.number();
+    Some(of_call(slot, CallEvent::Reply { number }))
+}
+
+/// Whether a note is one to the agent that is new to it.
+fn waits(agent: &Plain, note: &SentNote) -> bool
+    ensures { result ≡ reports.is_waiting (agent_of agent.now) note.now }
+{
+    note.call() == agent.call() && agent.is_new(note.association(), note.number())
+}
+
+/// The first of the notes that waits for the agent.
+fn first_waiting<'a>(agent: &Plain, notes: &'a [SentNote]) -> Option<&'a SentNote>
+    ensures { option_map (λ n. n.now) result ≡ find (reports.is_waiting (agent_of agent.now)) notes.now }
+{
+    for note in notes {
+        if waits(agent, note) {
+            return Some(note);
+        }
+    }
+    None
+}
+
+/// A note reaches the call: the one of this number, or the oldest of them that waits for the agent.
+fn takes_note(slot: &Slot, notes: &[SentNote], which: Option<u32>) -> Option<Event>
+    requires { notes.now ≡ slot.now.messages.sent.notes }
+    ensures { result ≡ event_in slot.now 0 0 (steps.TakesNote which) }
+{
+    let number = match which {
+        Some(number) => slot.messages.note(number)?.number(),
+        None => first_waiting(&slot.agent, notes)?.number(),
+    };
+    Some(of_call(slot, CallEvent::Note { number }))
+}
+
+/// A call of this number begins on the lines of the slot's.
+fn begins(slot: &Slot, next: CallNo) -> Event
+    ensures { result ≡ world.begin next.0 (agent_of slot.now.agent).call }
+{
+    let old = slot.agent.call();
+    Event::OfCall {
+        call: next,
+        event: CallEvent::Begin { old },
+    }
+}
+
+/// The event that a step means for the call of a slot, where the gateway is in this association and the next call to begin has this number.
+fn event(slot: &Slot, association: Assoc, next: CallNo, step: &PlanStep) -> Option<Event>
+    ensures means { result ≡ event_in slot.now association.0 next.0 step.now }
+    ensures numbered { AreNumberedFrom 1 (note_numbers slot.now.messages.sent.notes) }
+{
+    let notes = slot.messages.notes();
+    match *step {
+        PlanStep::GoesOff(line) => on_line(slot, line, LineEvent::Hook(Hook::Off)),
+        PlanStep::GoesOn(line) => on_line(slot, line, LineEvent::Hook(Hook::On)),
+        PlanStep::Flashes(line) => on_line(slot, line, LineEvent::Flash),
+        PlanStep::Dials(line, symbol) => on_line(slot, line, LineEvent::Digit(symbol)),
+        PlanStep::Pauses(line) => on_line(slot, line, LineEvent::Pause),
+        PlanStep::Ends(line, signal) => on_line(slot, line, LineEvent::SignalEnd(signal)),
+        PlanStep::Executes(which, place) => executes(slot, which, place),
+        PlanStep::TakesReply(which) => takes_reply(slot, which),
+        PlanStep::Passes => Some(of_call(slot, CallEvent::Pass)),
+        PlanStep::TakesNote(which) => takes_note(slot, notes, which),
+        PlanStep::TimesOut => Some(of_call(slot, CallEvent::Timer)),
+        PlanStep::Hears => Some(of_call(slot, CallEvent::Hear { association })),
+        PlanStep::Begins => Some(begins(slot, next)),
+        PlanStep::Restarts => Some(Event::Restart),
+    }
+}
+
+impl<'s> Shard<'s> {
+    /// The event that a step of a plan means for a call, where the next call to begin on its lines is to have this number. `None` where the
+    /// step means nothing: where no such message was sent, where no note waits for the call, or where it isn't open. This profile's own.
+    pub fn meaning(&mut self, call: CallNo, next: CallNo, step: &PlanStep) -> Option<Event>
+        ensures meant { IsMeant self.old call.0 next.0 step.now result }
+        ensures unchanged { IsUnchanged self.old self.new }
+    {
+        let association = self.gateway.association();
+        let slot = slots::slot(&self.slots, call)?;
+        event(slot, association, next, step)
+    }
+}
