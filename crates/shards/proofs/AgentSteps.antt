@@ -26,9 +26,10 @@ use Rattle.agent.specs.declared.delivered.Delivery.{Delivery}
 use Rattle.agent.specs.declared.delivered.Delivery.TheVariants as delivery
 use Rattle.call_messages.specs.Messages.{AreNumberedFrom, Messages, fits, listed, reply_for, request_numbers, sending}
 use Rattle.shards.specs.Shows.{IsTold, ShowsCall}
-use Rattle.shards.specs.Slots.{IsDelivered, IsTied, request_in}
+use Rattle.shards.specs.Slots.{AreSettled, IsDelivered, IsTied, request_in}
 use Rattle.shards.specs.declared.slot.Slot.{Slot}
 use Rattle.shards.proofs.MessageLemmas.{found_in, is_own, length_over, length_places, over_first, own_message, places_for, same_found, same_replies}
+use Rattle.shards.proofs.SettledNotes.{settled_after}
 use Rattle.shards.proofs.SlotLemmas.{next_over}
 use Rattle.call_messages.proofs.NumberLemmas.{numbered_on}
 
@@ -92,7 +93,8 @@ module _ (script : Script) (w : World) (call : ℕ) (s t : Slot) (shows : ShowsC
   -- ---- and the slot shows its call after it
 
   module _ (numbered : IsNumbered w) (goes : GoesOn before.call before.next before.lines (agent_of t.agent))
-      (sent : t.messages.sent ≡ sending s.messages.sent (outstanding before.phase) (is_some (outstanding (agent_of t.agent).phase))) where
+      (sent : t.messages.sent ≡ sending s.messages.sent (outstanding before.phase) (is_some (outstanding (agent_of t.agent).phase)))
+      (brought : Delivery) (steps : stepped_by script before brought ≡ Some (agent_of t.agent)) (settled : t.settled ≡ s.settled) where
     abbrev phase : Phase
     phase = (agent_of t.agent).phase
 
@@ -143,6 +145,9 @@ module _ (script : Script) (w : World) (call : ℕ) (s t : Slot) (shows : ShowsC
       next = let next : before.next ≡ s.messages.sent.first + length s.messages.sent.replies = shows.tied.next in
           let goes_on : (agent_of t.agent).next ≡ before.next + length (sent_in phase) = goes.next_is in
           omega (arith, next, goes_on, places, same_first);
+      settled = subst (AreSettled (agent_of t.agent) t.messages.sent.notes) (sym settled)
+          (subst (λ (m : Messages). AreSettled (agent_of t.agent) m.notes s.settled) (sym sent)
+          (settled_after script before (agent_of t.agent) brought s.messages.sent.notes s.settled steps shows.tied.settled));
     }
 
     pub shows_after : ShowsCall after call t

@@ -143,7 +143,7 @@ module _ (v : ShardValue) (was : IsShard v) (value : CallValue) (new old : ℕ) 
     back = record v { slots = before }
 
     same_slots : AreSameSlots v.slots before
-    same_slots = (λ c t is. (t, sym (same c) ∙ is, record { agent = refl; sent = refl; events = refl }), λ c. ap is_some (same c))
+    same_slots = (λ c t is. (t, sym (same c) ∙ is, record { agent = refl; sent = refl; events = refl; settled = inl refl }), λ c. ap is_some (same c))
 
     same_gateway : IsSame v.gateway v.gateway
     same_gateway = (refl, λ c. refl)

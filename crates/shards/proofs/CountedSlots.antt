@@ -9,19 +9,22 @@ use Rattle.mg_model.specs.World.{World, sent_in}
 use Rattle.agent.specs.AgentValue.{AgentValue, agent_of}
 use Rattle.call_messages.specs.Messages.{AreNumberedFrom, Messages, fits, reply_for, request_numbers}
 use Rattle.shards.specs.Shows.{ShowsCall}
-use Rattle.shards.specs.Slots.{IsCounted, IsTied, request_in}
+use Rattle.shards.proofs.SettledNotes.{settled_before}
+use Rattle.shards.specs.Slots.{AreSettled, IsCounted, IsTied, request_in}
 use Rattle.shards.specs.declared.slot.Slot.{Slot}
 
--- messages with the same requests, and places for as many replies
+-- messages with the same requests, and places for as many replies, to which notes were added
 pub record HasSameRequests (m n : Messages) : Type 0 where
   pub first : n.first ≡ m.first
   pub requests : n.requests ≡ m.requests
   pub replies : length n.replies ≡ length m.replies
+  pub more : List SentNote
+  pub notes : n.notes ≡ m.notes ++ more
 
 abbrev all_requests : AgentValue → List Request → List Request
 all_requests agent requests = sent_in (agent_of agent).phase ++ reverse requests
 
-module _ (s t : Slot) (agent : t.agent ≡ s.agent) (same : HasSameRequests s.messages.sent t.messages.sent) where
+module _ (s t : Slot) (agent : t.agent ≡ s.agent) (settled : t.settled ≡ s.settled) (same : HasSameRequests s.messages.sent t.messages.sent) where
   requests_stay : (which : Option ℕ) → request_in t which ≡ request_in s which
   requests_stay which =
       ap (λ (a : AgentValue). find (λ (r : Request). fits which r.number) (all_requests a t.messages.sent.requests)) agent
@@ -49,6 +52,10 @@ module _ (s t : Slot) (agent : t.agent ≡ s.agent) (same : HasSameRequests s.me
         let replies : length t.messages.sent.replies ≡ length s.messages.sent.replies = same.replies in
         let first : t.messages.sent.first ≡ s.messages.sent.first = same.first in
         omega (arith, next, stays, replies, first);
+    settled = subst (AreSettled (agent_of t.agent) t.messages.sent.notes) (sym settled)
+        (subst (λ (a : AgentValue). AreSettled (agent_of a) t.messages.sent.notes s.settled) (sym agent)
+        (subst (λ notes. AreSettled (agent_of s.agent) notes s.settled) (sym same.notes)
+        (settled_before (agent_of s.agent) s.messages.sent.notes same.more s.settled tied.settled)));
   }
 
 -- notes of a call that are sent, in a world and in a slot
@@ -80,10 +87,10 @@ counted_shown w v call s t m shows counted holds =
     let same : HasSameRequests s.messages.sent t.messages.sent = subst (HasSameRequests s.messages.sent) (sym counted.sent) holds.same in
     record {
       agent = holds.agent ∙ shows.agent ∙ ap (λ (a : AgentValue). Some (agent_of a)) (sym counted.agent);
-      requests = λ which. ap (find (λ (r : Request). is_of call which r.call r.number)) holds.requests ∙ shows.requests which ∙ sym (requests_stay s t counted.agent same which);
+      requests = λ which. ap (find (λ (r : Request). is_of call which r.call r.number)) holds.requests ∙ shows.requests which ∙ sym (requests_stay s t counted.agent counted.settled same which);
       replies = λ which. holds.replies which ∙ ap (λ (n : Messages). reply_for n which) (sym counted.sent);
       notes_sent = λ n among. holds.notes_sent n (subst (λ (x : Messages). Contains x.notes n) counted.sent among);
       notes_kept = λ n among of_it. subst (λ (x : Messages). Contains x.notes n) (sym counted.sent) (holds.notes_kept n among of_it);
       counted = holds.counted ∙ ap (λ (x : Messages). length x.notes) (sym counted.sent);
-      tied = tied_stays s t counted.agent same shows.tied;
+      tied = tied_stays s t counted.agent counted.settled same shows.tied;
     }

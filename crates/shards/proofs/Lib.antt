@@ -14,6 +14,7 @@ pub mod ShownLines
 pub mod ShownRestarts
 pub mod ShownSteps
 pub mod ValueLemmas
+pub mod SettledNotes
 pub mod SlotLemmas
 pub mod Delivered
 pub mod ValueSteps

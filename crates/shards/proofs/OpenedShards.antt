@@ -27,6 +27,7 @@ use Rattle.call_messages.specs.Messages.{AreNumberedFrom, Messages, fits, none_s
 use Rattle.systems.specs.Openings.{AreOpened, Opens, Starts}
 use Rattle.systems.specs.Systems.{System, agent_in, with_call, world_of}
 use Rattle.systems.proofs.OpenedCalls.{IsOpened, calls_opened}
+use Rattle.shards.proofs.SettledNotes.{none_settled}
 use Rattle.shards.proofs.ShownBegins.{no_reply}
 use Rattle.shards.specs.Opening.{AreEntered, AreOpenedOn, IsEntered, OpensOne, call_of, system_of}
 use Rattle.shards.specs.Shards.{CountsEvents, IsShard, IsWorldOf, ShardValue, opened_as}
@@ -110,8 +111,8 @@ module _ (script : Script) (calls : List OpenedCall) (first stride : ℕ) (g h :
     slots = λ c t is. slot_at c t (c == one.call.0) (sym (x.slots c) ∙ is);
   }
     where
-      slot_at : (c : ℕ) (t : Slot) (test : Bool) → (if test then Some x.slot else slot_in old c) ≡ Some t → (t.events ≡ 0) × (t.messages.sent ≡ none_sent 1)
-      slot_at c t true is = subst (λ (y : Slot). (y.events ≡ 0) × (y.messages.sent ≡ none_sent 1)) (the_some x.slot t is) (x.first.events, x.first.sent)
+      slot_at : (c : ℕ) (t : Slot) (test : Bool) → (if test then Some x.slot else slot_in old c) ≡ Some t → (t.events ≡ 0) × (t.messages.sent ≡ none_sent 1) × (t.settled ≡ 0)
+      slot_at c t true is = subst (λ (y : Slot). (y.events ≡ 0) × (y.messages.sent ≡ none_sent 1) × (y.settled ≡ 0)) (the_some x.slot t is) (x.first.events, x.first.sent, x.first.settled)
       slot_at c t false is = was.slots c t is
 
 pub entered_more : (script : Script) (calls : List OpenedCall) (nexts : List Next) (one : OpenedCall) (next : Next) → AreEntered script calls nexts
@@ -187,6 +188,7 @@ module _ (script : Script) (calls : List OpenedCall) (first stride : ℕ) (g : G
             ∙ ap (λ (requests : List Request). 0 + length requests) (fresh c t is).rests);
         awaited = λ r among. absurd (none_in r (subst (λ (requests : List Request). Contains requests r) (fresh c t is).rests among));
         next = (fresh c t is).next ∙ sym (ap (λ (m : Messages). m.first + length m.replies) sent);
+        settled = none_settled (agent_of t.agent) t.messages.sent.notes t.settled (x.slots c t is).2;
       }
 
   shown : (c : ℕ) (t : Slot) → slot_in entries c ≡ Some t → ShowsCall w c t

@@ -1,6 +1,6 @@
 -- A shard after an event of one call: its slot is put in place of the old one, and the event is the last of the history. And a shard of which an event is
 -- refused: it shows the same worlds.
-use Rattle.std.proofs.Common.{◌≡◌, ◌∙◌, ◌+◌, ◌≤◌, ◌++◌, ◌==◌, ℕ, Bool, true, false, true≢false, List, [], ◌∷◌, length, Option, Some, None, if◌then◌else◌, reverse, refl, sym, ap, subst, arith}
+use Rattle.std.proofs.Common.{◌≡◌, ◌∙◌, ◌+◌, ◌≤◌, ◌++◌, ◌==◌, ◌⊎◌, inl, inr, ℕ, Bool, true, false, true≢false, List, [], ◌∷◌, length, Option, Some, None, if◌then◌else◌, reverse, refl, sym, ap, subst, arith}
 use Rattle.std.specs.Prelude.{Contains, is_some}
 use Rattle.std.specs.List.{find}
 use Rattle.std.proofs.lemmas.Bool.{eqb-true, eqb-false, eq-eqb}
@@ -23,7 +23,7 @@ use Rattle.call_messages.specs.Messages.{AreNumberedFrom, Messages, fits, reply_
 use Rattle.shards.proofs.ShardLemmas.{led_on, one_more, still_within}
 use Rattle.shards.specs.Shards.{CountsEvents, HasHappened, HasSameOpening, IsShard, IsUnchanged, IsWorldOf, ShardValue, events_of}
 use Rattle.shards.specs.Shows.{LeadsOn, Shows, ShowsCall, with_slot}
-use Rattle.shards.specs.Slots.{IsSameSlot, IsTied, request_in}
+use Rattle.shards.specs.Slots.{AreSettled, IsSameSlot, IsTied, request_in}
 use Rattle.shards.specs.SlotTable.{OthersStay, slot_in}
 use Rattle.shards.specs.declared.slot.Slot.{Slot}
 
@@ -113,6 +113,11 @@ same_shown w call s t same shows = record {
         ap (λ (a : Agent). find (λ (r : Request). fits which r.number) (sent_in a.phase ++ reverse s.messages.sent.requests)) (sym same.agent)
         ∙ ap (λ (m : Messages). find (λ (r : Request). fits which r.number) (sent_in (agent_of t.agent).phase ++ reverse m.requests)) (sym same.sent)
 
+    settled : AreSettled (agent_of s.agent) s.messages.sent.notes s.settled → (t.settled ≡ s.settled) ⊎ AreSettled (agent_of s.agent) s.messages.sent.notes t.settled
+        → AreSettled (agent_of s.agent) s.messages.sent.notes t.settled
+    settled was (inl as_many) = subst (AreSettled (agent_of s.agent) s.messages.sent.notes) (sym as_many) was
+    settled was (inr are) = are
+
     tied : IsTied s → IsTied t
     tied is = record {
       numbered = subst (λ (m : Messages). AreNumberedFrom m.first (request_numbers m.requests)) (sym same.sent) is.numbered;
@@ -122,6 +127,8 @@ same_shown w call s t same shows = record {
       awaited = λ r among. is.awaited r (subst (λ (a : Agent). Contains (sent_in a.phase) r) same.agent among)
           ∙ ap (λ (m : Messages). m.first + length m.requests) (sym same.sent);
       next = ap (λ (a : Agent). a.next) same.agent ∙ is.next ∙ ap (λ (m : Messages). m.first + length m.replies) (sym same.sent);
+      settled = subst (λ (a : Agent). AreSettled a t.messages.sent.notes t.settled) (sym same.agent)
+          (subst (λ (m : Messages). AreSettled (agent_of s.agent) m.notes t.settled) (sym same.sent) (settled is.settled same.settled));
     }
 
 -- the slot of each call is as it was
@@ -170,7 +177,7 @@ pub one_same : (old new : List (ℕ × Option Slot)) (call : ℕ) (s t : Slot) �
 one_same old new call s t there here same others = (λ c x is. at c x is (c == call) refl, λ c. stands c (c == call) refl)
   where
     same_as : (x : Slot) → IsSameSlot x x
-    same_as x = record { agent = refl; sent = refl; events = refl }
+    same_as x = record { agent = refl; sent = refl; events = refl; settled = inl refl }
 
     at : (c : ℕ) (x : Slot) → slot_in new c ≡ Some x → (test : Bool) → (c == call) ≡ test → (y : Slot) × (slot_in old c ≡ Some y) × IsSameSlot y x
     at c x is true this =
@@ -210,7 +217,7 @@ none_same old new call others there here = (λ c x is. at c x is (c == call) ref
   where
     at : (c : ℕ) (x : Slot) → slot_in new c ≡ Some x → (test : Bool) → (c == call) ≡ test → (y : Slot) × (slot_in old c ≡ Some y) × IsSameSlot y x
     at c x is true this = absurd (some_is_none x (sym is ∙ ap (slot_in new) (eqb-true c call this) ∙ here))
-    at c x is false other = (x, sym (others c (eqb-false c call other)) ∙ is, record { agent = refl; sent = refl; events = refl })
+    at c x is false other = (x, sym (others c (eqb-false c call other)) ∙ is, record { agent = refl; sent = refl; events = refl; settled = inl refl })
 
     open_as : (c : ℕ) (test : Bool) → (c == call) ≡ test → is_some (slot_in new c) ≡ is_some (slot_in old c)
     open_as c true this = ap (λ n. is_some (slot_in new n)) (eqb-true c call this) ∙ ap is_some here ∙ sym (ap is_some there)

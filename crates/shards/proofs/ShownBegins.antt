@@ -24,6 +24,7 @@ use Rattle.agent.specs.AgentValue.{agent_of}
 use Rattle.call_messages.specs.Messages.{AreNumberedFrom, Messages, request_numbers, fits, joined, none_sent, placed, reply_for}
 use Rattle.shards.proofs.MessageLemmas.{is_anothers, same_found}
 use Rattle.shards.proofs.OtherCalls.{none_found, stays_shown}
+use Rattle.shards.proofs.SettledNotes.{none_settled}
 use Rattle.shards.specs.Beginnings.{IsBegunSlot, has_ended}
 use Rattle.shards.specs.Shows.{LeadsOn, Shows, ShowsCall}
 use Rattle.shards.specs.Slots.{IsTied, request_in}
@@ -137,6 +138,7 @@ module _ (script : Script) (w : World) (g h : GatewayValue) (slot : ℕ → Opti
       places = ap (λ (m : Messages). length m.replies) x.sent ∙ sym (ap (λ (m : Messages). length m.requests + length (sent_in (agent_of t.agent).phase)) x.sent
           ∙ ap (λ (y : Agent). 0 + length (sent_in y.phase)) x.agent);
       awaited = λ r among. absurd (none_in r (subst (λ (y : Agent). Contains (sent_in y.phase) r) x.agent among));
+      settled = none_settled (agent_of t.agent) t.messages.sent.notes t.settled x.settled;
       next = ap (λ (y : Agent). y.next) x.agent ∙ sym (ap (λ (m : Messages). m.first + length m.replies) x.sent ∙ omega arith);
     }
 

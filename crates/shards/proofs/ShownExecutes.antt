@@ -2,7 +2,7 @@
 use Rattle.std.proofs.Common.{◌≡◌, ◌∙◌, ◌+◌, ◌++◌, ◌⊎◌, inl, inr, ℕ, true, true≢false, List, [], ◌∷◌, length, Option, Some, if◌then◌else◌, refl, sym, ap, subst}
 use Rattle.std.specs.Prelude.{Contains, is_some}
 use Rattle.std.specs.List.{find}
-use Rattle.std.proofs.lemmas.List.{length-append}
+use Rattle.std.proofs.lemmas.List.{append-nil, length-append}
 use Rattle.std.proofs.lemmas.List.Elements.{Contains-append_cases, Contains-append_right}
 use Rattle.mg_model.proofs.Cases.{at_another, at_one}
 use Rattle.mg_model.proofs.Offered.{kept_at}
@@ -53,7 +53,13 @@ module _ (script : Script) (w : World) (g h : GatewayValue) (slot : ℕ → Opti
     was_placed = subst (WasSent s.messages.sent) (sym of_request) placed
 
     same_requests : HasSameRequests s.messages.sent (answering s.messages.sent reply)
-    same_requests = record { first = refl; requests = refl; replies = length_set s.messages.sent.replies _ (Some reply) }
+    same_requests = record {
+      first = refl;
+      requests = refl;
+      replies = length_set s.messages.sent.replies _ (Some reply);
+      more = [];
+      notes = sym (append-nil s.messages.sent.notes);
+    }
 
     replies_shown : (which : Option ℕ) → find (λ (r : Reply). is_of call which r.call r.number) (reply ∷ w.replies) ≡ reply_for (answering s.messages.sent reply) which
     replies_shown which =
@@ -131,7 +137,7 @@ module _ (script : Script) (w : World) (g h : GatewayValue) (slot : ℕ → Opti
         calls = each_slot slot call t (ShowsCall executed) (counted_shown w executed call s t (raising (answering s.messages.sent reply) notes) own counted (record {
           agent = refl;
           requests = refl;
-          same = record { first = refl; requests = refl; replies = length_set s.messages.sent.replies _ (Some reply) };
+          same = record { first = refl; requests = refl; replies = length_set s.messages.sent.replies _ (Some reply); more = notes; notes = refl };
           replies = λ which. replies_shown which ∙ sym (raising_replies (answering s.messages.sent reply) notes which);
           notes_sent = notes_in_world w call s own notes notes_of_call;
           notes_kept = notes_in_slot w call s own notes notes_of_call;
@@ -156,7 +162,7 @@ module _ (script : Script) (w : World) (g h : GatewayValue) (slot : ℕ → Opti
     calls = each_slot slot call t (ShowsCall w) (counted_shown w w call s t s.messages.sent own counted (record {
       agent = refl;
       requests = refl;
-      same = record { first = refl; requests = refl; replies = refl };
+      same = record { first = refl; requests = refl; replies = refl; more = []; notes = sym (append-nil s.messages.sent.notes) };
       replies = own.replies;
       notes_sent = own.notes_sent;
       notes_kept = own.notes_kept;

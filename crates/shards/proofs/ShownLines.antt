@@ -78,7 +78,7 @@ module _ (script : Script) (w : World) (g h : GatewayValue) (slot : ℕ → Opti
       calls = each_slot slot call t (ShowsCall after) (counted_shown w after call s t (raising s.messages.sent new) own x.counted (record {
         agent = refl;
         requests = refl;
-        same = record { first = refl; requests = refl; replies = refl };
+        same = record { first = refl; requests = refl; replies = refl; more = new; notes = refl };
         replies = λ which. own.replies which ∙ sym (raising_replies s.messages.sent new which);
         notes_sent = notes_in_world w call s own new of_call;
         notes_kept = notes_in_slot w call s own new of_call;

@@ -63,7 +63,7 @@ module _ (script : Script) (w : World) (g : GatewayValue) (slot : ℕ → Option
   step_shown = record {
     gateway = shows.gateway;
     open_calls = λ c. shows.open_calls c ∙ same_open slot call s t there c;
-    calls = each_slot slot call t (ShowsCall after) (shows_after script w call s t (shows.calls call s there) numbered goes steps.sent) other_shown;
+    calls = each_slot slot call t (ShowsCall after) (shows_after script w call s t (shows.calls call s there) numbered goes steps.sent steps.brought steps.steps steps.settled) other_shown;
     no_others = λ c none. let gone = none_before slot call t c none in
         at_another call c (Some (agent_of t.agent)) (w.agent c) gone.0 ∙ shows.no_others c gone.1;
   }

@@ -39,11 +39,12 @@ refusal_of fault.NoMemory = NoMemory
 unfoldable pub has_entry : List (ℕ × Option Slot) → ℕ → Bool
 has_entry slots call = is_some (lookup (is_at (nat_cmp call)) slots)
 
--- the slot of the call that began: its beginning is the one event, and nothing was sent
+-- the slot of the call that began: its beginning is the one event, nothing was sent, and no note is settled
 pub record IsBegunSlot (script : Script) (call : ℕ) (old new : Slot) : Type 0 where
   pub agent : agent_of new.agent ≡ begun script call (agent_of old.agent)
   pub events : new.events ≡ 1
   pub sent : new.messages.sent ≡ none_sent (agent_of old.agent).next
+  pub settled : new.settled ≡ 0
 
 -- the new call has its slot in place of the old one's, which has none
 pub record HandsOver (script : Script) (old new : List (ℕ × Option Slot)) (from call : ℕ) (s : Slot) : Type 0 where

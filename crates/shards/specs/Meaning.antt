@@ -14,9 +14,9 @@ use Rattle.mg_model.specs.Messages.{Request, Reply, SentNote}
 use Rattle.mg_model.specs.Reports.{Means, is_waiting, refusal_at}
 use Rattle.mg_model.specs.World.{World, on_a_line, execute, reply, pass, note, timer, begin, hear}
 use Rattle.agent.specs.AgentValue.{agent_of}
-use Rattle.call_messages.specs.Messages.{reply_for}
+use Rattle.call_messages.specs.Messages.{AreNumberedFrom, note_numbers, reply_for}
 use Rattle.shards.specs.Shards.{IsWorldOf, ShardValue}
-use Rattle.shards.specs.Slots.{request_in}
+use Rattle.shards.specs.Slots.{IsSameSlot, IsTied, request_in}
 use Rattle.shards.specs.declared.slot.Slot.{Slot}
 
 -- ---- of a slot
@@ -48,10 +48,23 @@ event_in s association next Hears = Some (hear (agent_of s.agent).call associati
 event_in s association next Begins = Some (begin next (agent_of s.agent).call)
 event_in s association next Restarts = Some Restart
 
--- that of a call that has no slot: nothing
+-- and that of a call that may have no slot: then it means nothing
 abbrev pub event_of_entry : Option Slot → (association next : ℕ) → PlanStep → Option Event
 event_of_entry None association next step = None
 event_of_entry (Some s) association next step = event_in s association next step
+
+-- the slot, if there is one, is tied
+abbrev pub IsTiedEntry : Option Slot → Type 0
+IsTiedEntry entry = (s : Slot) → entry ≡ Some s → IsTied s
+
+-- its notes are numbered from 1
+abbrev pub HasNumberedNotes : Option Slot → Type 0
+HasNumberedNotes entry = (s : Slot) → entry ≡ Some s → AreNumberedFrom 1 (note_numbers s.messages.sent.notes)
+
+-- it stays, but for how many notes are counted as settled
+abbrev pub IsSameEntry : Option Slot → Option Slot → Type 0
+IsSameEntry None new = new ≡ None
+IsSameEntry (Some s) new = (t : Slot) × (new ≡ Some t) × IsSameSlot s t
 
 -- ---- of a world
 

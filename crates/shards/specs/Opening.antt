@@ -67,6 +67,7 @@ pub record IsFirstSlot (script : Script) (one : OpenedCall) (t : Slot) : Type 0 
   pub agent : agent_of t.agent ≡ opened script one.call.0 (line_at one.lines.items)
   pub events : t.events ≡ 0
   pub sent : t.messages.sent ≡ none_sent 1
+  pub settled : t.settled ≡ 0
 
 pub record OpensOne (script : Script) (g h : GatewayValue) (old new : List (ℕ × Option Slot)) (one : OpenedCall) : Type 0 where
   pub all_lines : length one.lines.items ≡ length script.lines
@@ -100,7 +101,7 @@ pub record AreOpenedOn (script : Script) (calls : List OpenedCall) (first stride
   pub has : (o : Opened) → Contains done o → Contains (map opened_as calls) o
   pub each : (o : Opened) → Contains (map opened_as calls) o → Contains done o
   pub class : (gateway_of g).board.class ≡ is_of_class first stride
-  pub slots : (c : ℕ) (t : Slot) → slot_in entries c ≡ Some t → (t.events ≡ 0) × (t.messages.sent ≡ none_sent 1)
+  pub slots : (c : ℕ) (t : Slot) → slot_in entries c ≡ Some t → (t.events ≡ 0) × (t.messages.sent ≡ none_sent 1) × (t.settled ≡ 0)
 
 abbrev pub AreOpenedSlots : Script → List OpenedCall → (first stride : ℕ) → Result opening.Opened OpenFault → Type 0
 AreOpenedSlots script calls first stride (Ok o) = AreOpenedOn script calls first stride o.gateway o.slots.entries × AreEntered script calls o.nexts.items

@@ -1,10 +1,12 @@
 -- What a shard keeps of a call, and what becomes of it and of the gateway at an event. A reader should check that what is refused leaves both as
 -- they were, but for memory that was made, and that every message that is sent is kept.
-use Rattle.std.specs.Prelude.{◌≡◌, ℕ, ◌+◌, ◌==◌, Bool, true, false, List, ◌++◌, length, Contains, Option, Some, None, is_some, Result, Ok, Err, ◌⊎◌}
-use Rattle.std.specs.List.{find}
+use Rattle.std.specs.Prelude.{◌≡◌, ℕ, ◌+◌, ◌≤◌, ◌==◌, Bool, true, false, not, ◌&&◌, nat_le, List, ◌++◌, length, take, Contains, Option, Some, None, is_some, Result, Ok, Err, ◌⊎◌}
+use Rattle.std.specs.List.{All, find}
 use Rattle.std.proofs.Common.{reverse}
 use Rattle.mg_model.specs.declared.failures.ChosenRefusal.{ChosenRefusal}
 use Rattle.mg_model.specs.declared.line_events.LineEvent.{LineEvent}
+use Rattle.mg_model.specs.Agent.{Agent, inbox_of}
+use Rattle.mg_model.specs.Delivery.{arrival, is_new}
 use Rattle.mg_model.specs.Gateway.{Happens}
 use Rattle.mg_model.specs.Messages.{Request, SentNote}
 use Rattle.mg_model.specs.Script.{Script}
@@ -37,27 +39,44 @@ requests_of s = sent_in (agent_of s.agent).phase ++ reverse s.messages.sent.requ
 abbrev pub request_in : Slot → Option ℕ → Option Request
 request_in s which = find (λ (r : Request). fits which r.number) (requests_of s)
 
--- the requests that were sent are numbered on, each has a place for its reply, and the next one has the number after them
+-- ---- notes that an agent never waits for again
+
+-- a note of its association, or of an older one, that isn't new to it
+abbrev pub is_settled : Agent → SentNote → Bool
+is_settled a n = nat_le n.association a.association && not (is_new (arrival (inbox_of a) n.association n.number))
+
+-- so many of the notes, from the first on, are such
+pub record AreSettled (a : Agent) (notes : List SentNote) (count : ℕ) : Type 0 where
+  pub sent : count ≤ length notes
+  pub each : All (λ (n : SentNote). is_settled a n ≡ true) (take count notes)
+
+-- ---- a slot as it stands
+
+-- the requests that were sent are numbered on, each has a place for its reply, the next one has the number after them, and the notes that
+-- are counted as settled are
 pub record IsTied (s : Slot) : Type 0 where
   pub numbered : AreNumberedFrom s.messages.sent.first (request_numbers s.messages.sent.requests)
   pub places : length s.messages.sent.replies ≡ length s.messages.sent.requests + length (sent_in (agent_of s.agent).phase)
   pub awaited : (r : Request) → Contains (sent_in (agent_of s.agent).phase) r
       → r.number ≡ s.messages.sent.first + length s.messages.sent.requests
   pub next : (agent_of s.agent).next ≡ s.messages.sent.first + length s.messages.sent.replies
+  pub settled : AreSettled (agent_of s.agent) s.messages.sent.notes s.settled
 
 -- ---- a slot that is as it was
 
--- but for memory that was made
+-- but for memory that was made, and for how many notes are counted as settled, where they are
 pub record IsSameSlot (s t : Slot) : Type 0 where
   pub agent : agent_of t.agent ≡ agent_of s.agent
   pub sent : t.messages.sent ≡ s.messages.sent
   pub events : t.events ≡ s.events
+  pub settled : (t.settled ≡ s.settled) ⊎ AreSettled (agent_of s.agent) s.messages.sent.notes t.settled
 
 -- the agent stays, and there is one event more
 pub record IsCounted (s t : Slot) (all : Messages) : Type 0 where
   pub agent : t.agent ≡ s.agent
   pub sent : t.messages.sent ≡ all
   pub events : t.events ≡ s.events + 1
+  pub settled : t.settled ≡ s.settled
 
 -- ---- a request reaches the gateway
 
@@ -138,6 +157,7 @@ pub record Steps (script : Script) (old : Next) (event : CallEvent) (s t : Slot)
   pub steps : stepped_by script (agent_of s.agent) brought ≡ Some (agent_of t.agent)
   pub sent : t.messages.sent ≡ sending s.messages.sent (outstanding (agent_of s.agent).phase) (is_some (outstanding (agent_of t.agent).phase))
   pub events : t.events ≡ s.events + 1
+  pub settled : t.settled ≡ s.settled
   pub advanced : IsAdvanced old brought new (Ok tt)
 
 -- nothing of that kind was sent, or one of the two can't take the step

@@ -1,5 +1,5 @@
 //! Which event a step of a plan means for a call of a shard.
-ghost use Rattle.std.specs.Prelude.{◌≡◌, Some, option_map};
+ghost use Rattle.std.specs.Prelude.{◌≡◌, Some, None, option_map};
 ghost use Rattle.std.specs.List.{find};
 ghost use Rattle.mg_model.specs.declared.events.Event.TheVariants as events;
 ghost use Rattle.mg_model.specs.declared.plans.PlanStep.TheVariants as steps;
@@ -7,13 +7,15 @@ ghost use Rattle.mg_model.specs.Reports as reports;
 ghost use Rattle.mg_model.specs.World as world;
 ghost use Rattle.agent.specs.AgentValue.{agent_of};
 ghost use Rattle.call_messages.specs.Messages.{AreNumberedFrom, note_numbers};
-ghost use Rattle.shards.specs.Meaning.{IsMeant, event_in, on_slot};
+ghost use Rattle.shards.specs.Meaning.{HasNumberedNotes, IsMeant, IsSameEntry, IsTiedEntry, event_in, event_of_entry, note_in, on_slot};
 ghost use Rattle.shards.specs.Shards.{IsUnchanged};
-ghost use Rattle.shards.specs.Slots.{request_in};
+ghost use Rattle.shards.specs.Slots.{AreSettled, IsSameSlot, IsTied, is_settled, request_in};
+ghost use Rattle.shards.specs.SlotTable.{OthersStay, slot_in};
 
+use crate::at_gateway;
 use crate::shard::Shard;
 use crate::slot::Slot;
-use crate::{at_gateway, slots};
+use crate::slots::Slots;
 use agent::Plain;
 use mg_model::events::{CallEvent, Event};
 use mg_model::failures::{ChosenRefusal, Refusal};
@@ -103,14 +105,56 @@ fn first_waiting<'a>(agent: &Plain, notes: &'a [SentNote]) -> Option<&'a SentNot
     None
 }
 
-/// A note reaches the call: the one of this number, or the oldest of them that waits for the agent.
-fn takes_note(slot: &Slot, notes: &[SentNote], which: Option<u32>) -> Option<Event>
-    requires { notes.now ≡ slot.now.messages.sent.notes }
+/// Whether a note is settled: it is of no newer association than the agent's, and isn't new to it.
+fn is_settled(agent: &Plain, note: &SentNote) -> bool
+    ensures { result ≡ is_settled (agent_of agent.now) note.now }
+{
+    if note.association().0 > agent.association().0 {
+        return false;
+    }
+    !agent.is_new(note.association(), note.number())
+}
+
+/// How many of the notes are settled, from the first on, where so many are.
+fn settled_from(agent: &Plain, notes: &[SentNote], settled: usize) -> usize
+    requires { AreSettled (agent_of agent.now) notes.now settled }
+    ensures { AreSettled (agent_of agent.now) notes.now result }
+{
+    for place in settled..notes.len() {
+        if !is_settled(agent, &notes[place]) {
+            return place;
+        }
+    }
+    notes.len()
+}
+
+/// Counts on over the notes that are settled, so that none is looked at once more.
+fn settle(slot: &mut Slot)
+    requires { IsTied slot.old }
+    ensures same { IsSameSlot slot.old slot.new }
+    ensures tied { IsTied slot.new }
+    ensures numbered { AreNumberedFrom 1 (note_numbers slot.old.messages.sent.notes) }
+{
+    slot.settled = settled_from(&slot.agent, slot.messages.notes(), slot.settled);
+}
+
+/// The oldest note that waits for the agent, looked for past those that are settled.
+fn oldest(slot: &Slot) -> Option<&SentNote>
+    requires { IsTied slot.now }
+    ensures { option_map (λ n. n.now) result ≡ note_in slot.now None }
+{
+    let notes = slot.messages.notes();
+    first_waiting(&slot.agent, &notes[slot.settled..])
+}
+
+/// A note reaches the call: the one of this number, or the oldest that waits for the agent.
+fn takes_note(slot: &Slot, which: Option<u32>) -> Option<Event>
+    requires { IsTied slot.now }
     ensures { result ≡ event_in slot.now 0 0 (steps.TakesNote which) }
 {
     let number = match which {
         Some(number) => slot.messages.note(number)?.number(),
-        None => first_waiting(&slot.agent, notes)?.number(),
+        None => oldest(slot)?.number(),
     };
     Some(of_call(slot, CallEvent::Note { number }))
 }
@@ -128,10 +172,9 @@ fn begins(slot: &Slot, next: CallNo) -> Event
 
 /// The event that a step means for the call of a slot, where the gateway is in this association and the next call to begin has this number.
 fn event(slot: &Slot, association: Assoc, next: CallNo, step: &PlanStep) -> Option<Event>
-    ensures means { result ≡ event_in slot.now association.0 next.0 step.now }
-    ensures numbered { AreNumberedFrom 1 (note_numbers slot.now.messages.sent.notes) }
+    requires { IsTied slot.now }
+    ensures { result ≡ event_in slot.now association.0 next.0 step.now }
 {
-    let notes = slot.messages.notes();
     match *step {
         PlanStep::GoesOff(line) => on_line(slot, line, LineEvent::Hook(Hook::Off)),
         PlanStep::GoesOn(line) => on_line(slot, line, LineEvent::Hook(Hook::On)),
@@ -142,7 +185,7 @@ fn event(slot: &Slot, association: Assoc, next: CallNo, step: &PlanStep) -> Opti
         PlanStep::Executes(which, place) => executes(slot, which, place),
         PlanStep::TakesReply(which) => takes_reply(slot, which),
         PlanStep::Passes => Some(of_call(slot, CallEvent::Pass)),
-        PlanStep::TakesNote(which) => takes_note(slot, notes, which),
+        PlanStep::TakesNote(which) => takes_note(slot, which),
         PlanStep::TimesOut => Some(of_call(slot, CallEvent::Timer)),
         PlanStep::Hears => Some(of_call(slot, CallEvent::Hear { association })),
         PlanStep::Begins => Some(begins(slot, next)),
@@ -150,15 +193,58 @@ fn event(slot: &Slot, association: Assoc, next: CallNo, step: &PlanStep) -> Opti
     }
 }
 
+/// The event that a step means for the call in an entry.
+fn event_of_entry(
+    entry: &mut Option<Slot>,
+    association: Assoc,
+    next: CallNo,
+    step: &PlanStep,
+) -> Option<Event>
+    requires { IsTiedEntry entry.old }
+    ensures means { result ≡ event_of_entry entry.old association.0 next.0 step.now }
+    ensures numbered { HasNumberedNotes entry.old }
+    ensures same { IsSameEntry entry.old entry.new }
+{
+    match entry {
+        Some(slot) => {
+            settle(slot);
+            event(slot, association, next, step)
+        }
+        None => None,
+    }
+}
+
+/// The event that a step means for a call.
+#[tactic(auto, unfolding(crate::specs::SlotTable::slot_in))]
+fn event_of(
+    slots: &mut Slots,
+    call: CallNo,
+    association: Assoc,
+    next: CallNo,
+    step: &PlanStep,
+) -> Option<Event>
+    requires { IsTiedEntry (slot_in slots.old.entries call.0) }
+    ensures means { result ≡ event_of_entry (slot_in slots.old.entries call.0) association.0 next.0 step.now }
+    ensures numbered { HasNumberedNotes (slot_in slots.old.entries call.0) }
+    ensures same { IsSameEntry (slot_in slots.old.entries call.0) (slot_in slots.new.entries call.0) }
+    ensures others { OthersStay slots.old.entries call.0 slots.new.entries }
+{
+    match slots.get_mut(&call.0) {
+        Some(entry) => event_of_entry(entry, association, next, step),
+        None => None,
+    }
+}
+
 impl<'s> Shard<'s> {
     /// The event that a step of a plan means for a call, where the next call to begin on its lines is to have this number. `None` where the
-    /// step means nothing: where no such message was sent, where no note waits for the call, or where it isn't open. This profile's own.
+    /// step means nothing: where no such message was sent, where no note waits for the call, or where it isn't open. Nothing changes but that
+    /// notes that the call never waits for again are passed over from then on: it takes as long after a long history as after a short one, but
+    /// for notes of associations that the call hasn't heard of. This profile's own.
     pub fn meaning(&mut self, call: CallNo, next: CallNo, step: &PlanStep) -> Option<Event>
         ensures meant { IsMeant self.old call.0 next.0 step.now result }
         ensures unchanged { IsUnchanged self.old self.new }
     {
         let association = self.gateway.association();
-        let slot = slots::slot(&self.slots, call)?;
-        event(slot, association, next, step)
+        event_of(&mut self.slots, call, association, next, step)
     }
 }

@@ -56,6 +56,7 @@ fn open_one<'s>(
         agent: Plain::enter(alloc, script, call.call, lines),
         events: 0,
         messages: Messages::new(alloc, 1),
+        settled: 0,
     };
     let Ok(()) = slots::put(slots, call.call, slot) else {
         return Err(OpenFault::NoMemory);

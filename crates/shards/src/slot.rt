@@ -2,10 +2,12 @@
 use agent::Plain;
 use call_messages::Messages;
 
-/// What a shard keeps of a call: its agent, how many events happened to it, and all that was sent to it and by it.
+/// What a shard keeps of a call: its agent, how many events happened to it, all that was sent to it and by it, and up to where its notes are settled.
 #[derive(Drop)]
 pub(crate) struct Slot {
     pub(crate) agent: Plain,
     pub(crate) events: usize,
     pub(crate) messages: Messages,
+    /// How many of its notes, from the first on, are known to be settled: the agent never waits for them again.
+    pub(crate) settled: usize,
 }

@@ -198,6 +198,7 @@ fn begun(slot: Slot, alloc: Global, script: &Script, call: CallNo) -> Slot
         agent,
         events: 1,
         messages: Messages::new(alloc, first),
+        settled: 0,
     }
 }
 

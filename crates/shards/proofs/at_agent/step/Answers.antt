@@ -28,6 +28,7 @@ returns c = record {
       ∙ ap (λ over. sending c.args.slot.now.messages.sent over c.is_some-sends.result) (c.finish-over.ensures.over ∙ ap outstanding before)
       ∙ ap (λ sends. sending c.args.slot.now.messages.sent (outstanding (agent_of c.args.slot.now.agent).phase) sends) sends;
   events = refl;
+  settled = refl;
   advanced = subst (IsAdvanced c.args.next c.in-Some.delivery c.advance-next.result.0) c.in_default-done.is c.advance-next.ensures;
 }
   where
