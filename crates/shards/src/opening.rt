@@ -84,7 +84,10 @@ fn open_all<'s>(
     let mut slots = BTreeMap::new(alloc);
     let mut nexts = Vec::new(alloc);
     for call in calls {
-        let next = open_one(alloc, &mut gateway, &mut slots, script, call)?;
+        let next = match open_one(alloc, &mut gateway, &mut slots, script, call) {
+            Ok(next) => next,
+            Err(fault) => return Err(fault),
+        };
         let Ok(()) = nexts.push(next) else {
             return Err(OpenFault::NoMemory);
         };
@@ -116,7 +119,10 @@ impl<'s> Shard<'s> {
             gateway,
             slots,
             nexts,
-        } = open_all(alloc, script, calls.as_slice(), first, stride)?;
+        } = match open_all(alloc, script, calls.as_slice(), first, stride) {
+            Ok(opened) => opened,
+            Err(fault) => return Err(fault),
+        };
         let shard = Shard {
             alloc,
             script,

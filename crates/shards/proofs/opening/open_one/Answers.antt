@@ -13,14 +13,15 @@ pub returns : goal.returns
 returns c = (
   record {
     all_lines = ap (λ (lines : List LineNo). length lines) (sym same) ∙ c.if-lines.false ∙ c.lines.ensures.value;
-    may = subst (λ (lines : List LineNo). gateway.opening (gateway_of c.args.gateway.now) (is_taken c.args.gateway.now c.args.call.now.call.0) lines ≡ Ok tt) same ?;
+    may = subst (λ (lines : List LineNo). gateway.opening (gateway_of c.args.gateway.now) (is_taken c.args.gateway.now c.args.call.now.call.0) lines ≡ Ok tt) same c.in-Ok.ensures.answer;
     gateway = c.in-Ok.ensures.opened ∙ ap (gateway.opened (gateway_of c.args.gateway.now) c.args.call.now.call.0) same;
     open_calls = c.in-Ok.ensures.open_calls;
-    slot = record { agent = c.enter.result; events = 0; messages = c.new.result };
+    slot = record { agent = c.enter.result; events = 0; messages = c.new.result; settled = 0 };
     first = record {
       agent = c.enter.ensures ∙ ap (λ (lines : List LineNo). opened c.args.script.now c.args.call.now.call.0 (line_at lines)) same;
       events = refl;
       sent = c.new.ensures;
+      settled = refl;
     };
     slots = c.in-Ok-put.ensures;
   },
