@@ -1,37 +1,33 @@
 -- A shard in which a call begins on the lines of another: the new call has its slot in place of the old one's, and the beginning is the last of the history.
 -- And a shard in which it can't begin.
-use Rattle.std.proofs.Common.{◌≡◌, ◌∙◌, ◌+◌, ◌++◌, ◌==◌, ◌⊎◌, inl, inr, ℕ, Bool, true, false, true≢false, List, [], ◌∷◌, Option, Some, None, Result, Ok, Err, if◌then◌else◌, refl, sym, ap, subst, arith}
+use Rattle.std.proofs.Common.{◌≡◌, ◌∙◌, ◌+◌, ◌++◌, ◌==◌, inl, inr, ℕ, Bool, true, false, true≢false, List, [], ◌∷◌, Option, Some, None, Result, Ok, Err, if◌then◌else◌, refl, sym, ap, subst, arith}
 use Rattle.std.specs.Prelude.{is_some, not, ◌&&◌, ◌||◌}
 use Rattle.std.proofs.lemmas.Bool.{eqb-true, eqb-false, eq-eqb}
-use Rattle.mg_model.proofs.Cases.{at_another, at_one, none_is_some, none_of, some_is_none, some_of, the_some}
-use Rattle.mg_model.specs.declared.events.CallEvent.TheVariants as to_call
+use Rattle.mg_model.proofs.Cases.{none_is_some, none_of, some_is_none, some_of, the_some}
 use Rattle.mg_model.specs.declared.events.Event.{Event}
-use Rattle.mg_model.specs.declared.events.Event.TheVariants.{OfCall}
 use Rattle.mg_model.specs.Agent.{Agent}
 use Rattle.mg_model.specs.Gateway as gateway
 use Rattle.mg_model.specs.Gateway.{Gateway, MayBegin}
-use Rattle.mg_model.specs.World.{World, Occurs, begin}
+use Rattle.mg_model.specs.World.{begin}
 use Rattle.gateway.specs.declared.fault.BeginFault.{BeginFault}
 use Rattle.gateway.specs.declared.fault.BeginFault.TheVariants as fault
 use Rattle.gateway.specs.Answers.{IsSame}
 use Rattle.gateway.specs.Beginnings.{IsBegun}
-use Rattle.gateway.specs.GatewayValue.{GatewayValue, gateway_of, is_open, is_taken}
+use Rattle.gateway.specs.GatewayValue.{GatewayValue, gateway_of, is_open}
 use Rattle.agent.specs.AgentValue.{agent_of}
 use Rattle.agent.specs.CallValue.{CallValue}
-use Rattle.agent.specs.Calls as calls
-use Rattle.agent.specs.Calls.{IsNext, IsRetired, value_of, with_room}
+use Rattle.agent.specs.Calls.{with_room}
 use Rattle.agent.specs.declared.call.Next.{Next}
 use Rattle.agent.specs.declared.call.Next.TheVariants as next
-use Rattle.agent.specs.declared.call.Retired.{Retired}
 use Rattle.agent.specs.declared.refusal.Refusal.{Refusal}
-use Rattle.agent.specs.declared.refusal.Refusal.TheVariants.{NotEnabled, Behind, NoMemory}
+use Rattle.agent.specs.declared.refusal.Refusal.TheVariants.{NoMemory}
 use Rattle.shards.proofs.ShardLemmas.{led_on, one_more, shard_after, world_numbered}
 use Rattle.shards.proofs.ShardSteps.{AreSameSlots, refused_counts, shard_unchanged, step_refused}
 use Rattle.shards.proofs.ShownBegins.{begin_leads_on, differ, ended_so, free_number, used_number}
 use Rattle.shards.specs.Beginnings.{HandsOver, IsBegunBy, has_ended, refusal_of}
-use Rattle.shards.specs.Shards.{CountsEvents, HasHappened, IsShard, IsUnchanged, IsWorldOf, ShardValue, events_of}
+use Rattle.shards.specs.Shards.{CountsEvents, HasHappened, IsShard, IsUnchanged, ShardValue, events_of}
 use Rattle.shards.specs.SlotTable.{slot_in}
-use Rattle.shards.specs.Stepping.{CannotOccur, HasBegun, IsNotEnabled, IsRefusedStep, IsSameNext, IsStep, call_in}
+use Rattle.shards.specs.Stepping.{CannotOccur, IsRefusedStep, IsSameNext, IsStep}
 use Rattle.shards.specs.declared.slot.Slot.{Slot}
 use Rattle.shards.specs.declared.stepped.Stepped.{Stepped}
 use Rattle.shards.specs.declared.stepped.Stepped.TheVariants.{Done, Begun}

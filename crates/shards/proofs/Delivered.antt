@@ -1,5 +1,5 @@
 -- What is brought to an agent is of the kind of its event: the cases that there are, once for all.
-use Rattle.std.proofs.Common.{◌≡◌, ◌∙◌, ◌==◌, Option, Some, None, ℕ, refl, sym, subst}
+use Rattle.std.proofs.Common.{◌≡◌, ◌==◌, Some, ℕ, sym, subst}
 use Rattle.std.specs.Borrow.{Bor}
 use Rattle.std.specs.List.{find}
 use Rattle.mg_names.specs.declared.identifiers.Assoc.{Assoc}

@@ -1,5 +1,5 @@
 -- A step of a shard at its gateway, by what the slots, the gateway and the call that is handed in come to.
-use Rattle.std.proofs.Common.{◌≡◌, ◌∙◌, ◌+◌, ◌++◌, ◌==◌, ◌⊎◌, inl, inr, ℕ, Bool, true, false, true≢false, List, [], ◌∷◌, Option, Some, None, Result, Ok, Err, if◌then◌else◌, refl, sym, ap, subst}
+use Rattle.std.proofs.Common.{◌≡◌, ◌∙◌, ◌+◌, ◌++◌, ◌==◌, inl, inr, ℕ, true, false, true≢false, List, [], ◌∷◌, Option, Some, None, Ok, Err, if◌then◌else◌, refl, sym, ap, subst}
 use Rattle.std.proofs.lemmas.Bool.{eq-eqb}
 use Rattle.mg_model.specs.declared.events.CallEvent.{CallEvent}
 use Rattle.mg_model.specs.declared.events.CallEvent.TheVariants as to_call
@@ -12,11 +12,11 @@ use Rattle.mg_model.specs.World.{World, Occurs}
 use Rattle.mg_safety.proofs.Messages.NumberedWorlds.{IsNumbered}
 use Rattle.gateway.specs.declared.answer.Answer.{Answer}
 use Rattle.gateway.specs.declared.answer.Answer.TheVariants as answer
-use Rattle.gateway.specs.Answers.{IsAnswered, IsSame, SameOpen}
+use Rattle.gateway.specs.Answers.{IsAnswered, IsSame}
 use Rattle.gateway.specs.GatewayValue.{GatewayValue, gateway_of, is_open}
 use Rattle.agent.specs.AgentValue.{AgentValue, agent_of}
 use Rattle.agent.specs.CallValue.{CallValue}
-use Rattle.agent.specs.Calls.{IsLonger, IsNext, IsWithEvent, is_of_gateway, value_of, variant_of, with_room}
+use Rattle.agent.specs.Calls.{IsNext, IsWithEvent, is_of_gateway, value_of, variant_of, with_room}
 use Rattle.agent.specs.declared.call.Next.{Next}
 use Rattle.agent.specs.declared.refusal.Refusal.{Refusal}
 use Rattle.agent.specs.declared.refusal.Refusal.TheVariants.{NotEnabled, Behind, NoMemory}
@@ -26,12 +26,11 @@ use Rattle.shards.proofs.ShardSteps.{AreSameSlots, KeepsCalls, none_same, one_sa
 use Rattle.shards.proofs.ShownExecutes.{execute_shown}
 use Rattle.shards.proofs.ShownLines.{line_shown}
 use Rattle.shards.proofs.TakenSteps.{stands}
-use Rattle.shards.specs.Shards.{CountsEvents, HasHappened, IsShard, IsUnchanged, IsWorldOf, ShardValue}
+use Rattle.shards.specs.Shards.{CountsEvents, HasHappened, IsShard, IsUnchanged, ShardValue}
 use Rattle.shards.specs.Shows.{LeadsOn, Shows, with_slot}
-use Rattle.shards.specs.SlotTable.{ExecutesIn, HappensIn, OthersStay, slot_in}
-use Rattle.shards.specs.Slots.{Executes, HappensOn, IsCounted, IsExecuted, IsHappenedOn, IsSameSlot, after_answer, is_event}
-use Rattle.shards.specs.Stepping.{AtGateway, CannotOccur, HasStepped, IsRefusedStep, IsSameNext, ValueGoes, call_in, has_step, is_beginning}
-use Rattle.shards.specs.Values.{IsSameCall}
+use Rattle.shards.specs.SlotTable.{OthersStay, slot_in}
+use Rattle.shards.specs.Slots.{IsExecuted, IsHappenedOn, is_event}
+use Rattle.shards.specs.Stepping.{AtGateway, HasStepped, IsRefusedStep, IsSameNext, ValueGoes, call_in, is_beginning}
 use Rattle.shards.specs.declared.slot.Slot.{Slot}
 
 -- ---- the calls of a gateway stay
@@ -128,10 +127,9 @@ module _ (old : ShardValue) (was : IsShard old) (call : ℕ) (next : Next) (own 
     taken : (s : Slot) → slot_in old.slots call ≡ Some s → GoesOnAt old.gateway h call event s (slot_in entries call) → IsShard later × HasStepped old later next after named
     taken s there x =
         let happened : HasHappened old later named = step_happened old h entries events call event s x.slot there x.put others history
-            (λ w is. x.leads old.script w (slot_in old.slots) is.shows (world_numbered old w is) there) in
+        (λ w is. x.leads old.script w (slot_in old.slots) is.shows (world_numbered old w is) there) in
         let counts : CountsEvents later = step_counts old h entries events call event s x.slot there x.put others history was.counts x.keeps
-            (stands old was call s there) x.events in
-        (
+        (stands old was call s there) x.events in (
           shard_after old later named was happened counts,
           record {
             shard = happened;

@@ -1,5 +1,5 @@
 -- Identifiers last in a shard, by the law of runs.
-use Rattle.std.proofs.Common.{◌≡◌, ◌∙◌, ◌%◌, ℕ, Bool, map, ap}
+use Rattle.std.proofs.Common.{◌∙◌, ◌%◌, ℕ, Bool, map, ap}
 use Rattle.std.proofs.lemmas.Bool.{eq-eqb}
 use Rattle.mg_merge.specs.Identifiers.{IdentifiersLast}
 use Rattle.shards.specs.Lasting.{IdentifiersLasted}

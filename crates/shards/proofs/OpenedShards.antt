@@ -1,19 +1,18 @@
 -- Calls that are opened on a new gateway, with their slots, are a shard in which nothing happened yet.
-use Rattle.std.proofs.Common.{◌≡◌, ◌∙◌, ◌+◌, ◌<◌, ◌≤◌, ◌++◌, ◌==◌, ◌⊎◌, inl, inr, ℕ, Bool, true, false, List, [], ◌∷◌, length, map, Option, Some, None, Err, if◌then◌else◌, reverse, refl, sym, ap, subst, arith}
+use Rattle.std.proofs.Common.{◌≡◌, ◌∙◌, ◌+◌, ◌<◌, ◌≤◌, ◌++◌, ◌==◌, inl, inr, ℕ, Bool, true, false, List, [], ◌∷◌, length, map, Option, Some, None, Err, if◌then◌else◌, reverse, refl, sym, ap, subst}
 use Rattle.std.specs.Prelude.{Contains, is_some, option_map}
 use Rattle.std.specs.List.{find}
 use Rattle.std.proofs.lemmas.List.Elements.{Contains-append_cases, Contains-append_left, Contains-append_right}
 use Rattle.mg_model.proofs.Cases.{none_is_some, the_some}
-use Rattle.mg_model.proofs.Single.{first_in, none_in, only_here, only_one}
+use Rattle.mg_model.proofs.Single.{none_in}
 use Rattle.identifiers.specs.Class.{is_of_class}
 use Rattle.mg_names.specs.declared.identifiers.LineNo.{LineNo}
 use Rattle.mg_model.specs.Agent.{Agent}
 use Rattle.mg_model.specs.Agent as model
 use Rattle.mg_model.specs.Gateway.{Gateway}
-use Rattle.mg_model.specs.Messages.{Request, Reply, SentNote}
-use Rattle.mg_model.specs.Reports.{is_of}
+use Rattle.mg_model.specs.Messages.{Request}
 use Rattle.mg_model.specs.Script.{Script}
-use Rattle.mg_model.specs.World.{AreDistinct, AreOpenedAgents, AreOpenedLines, IsOpening, Opened, Runs, World, sent_in}
+use Rattle.mg_model.specs.World.{IsOpening, Opened, Runs, World, sent_in}
 use Rattle.mg_model.specs.Accepted.{IsScript}
 use Rattle.mg_merge.specs.Identifiers.{most_shards}
 use Rattle.mg_safety.specs.Headline.{RunsAreGood}
@@ -24,7 +23,7 @@ use Rattle.agent.specs.AgentValue.{agent_of}
 use Rattle.agent.specs.CallValue.{CallValue}
 use Rattle.agent.specs.declared.call.Next.{Next}
 use Rattle.call_messages.specs.Messages.{AreNumberedFrom, Messages, fits, none_sent, reply_for, request_numbers}
-use Rattle.systems.specs.Openings.{AreOpened, Opens, Starts}
+use Rattle.systems.specs.Openings.{Opens}
 use Rattle.systems.specs.Systems.{System, agent_in, with_call, world_of}
 use Rattle.systems.proofs.OpenedCalls.{IsOpened, calls_opened}
 use Rattle.shards.proofs.SettledNotes.{none_settled}
@@ -32,8 +31,8 @@ use Rattle.shards.proofs.ShownBegins.{no_reply}
 use Rattle.shards.specs.declared.fault.OpenFault.{OpenFault}
 use Rattle.shards.specs.declared.fault.OpenFault.TheVariants.{WrongLines, Taken, NoMemory}
 use Rattle.shards.specs.Opening.{AreEntered, AreOpenedOn, AreOpenedSlots, IsEntered, IsOpenedOne, OpensOne, call_of, system_of}
-use Rattle.shards.specs.Shards.{CountsEvents, IsShard, IsWorldOf, ShardValue, opened_as}
-use Rattle.shards.specs.Shows.{Shows, ShowsCall}
+use Rattle.shards.specs.Shards.{IsShard, ShardValue, opened_as}
+use Rattle.shards.specs.Shows.{ShowsCall}
 use Rattle.shards.specs.SlotTable.{slot_in}
 use Rattle.shards.specs.Slots.{IsTied, request_in}
 use Rattle.shards.specs.declared.opened.OpenedCall.{OpenedCall}
@@ -173,7 +172,7 @@ module _ (script : Script) (calls : List OpenedCall) (first stride : ℕ) (g : G
   fresh c t is =
       let one = o.is_opening.agents.no_other c (agent_of t.agent) (agent_at c t is) in
       let same : model.opened script one.0.call one.0.lines ≡ agent_of t.agent =
-          the_some _ (agent_of t.agent) (sym (o.is_opening.agents.opened one.0 one.1) ∙ ap w.agent one.2 ∙ agent_at c t is) in
+      the_some _ (agent_of t.agent) (sym (o.is_opening.agents.opened one.0 one.1) ∙ ap w.agent one.2 ∙ agent_at c t is) in
       record { rests = ap (λ (a : Agent). sent_in a.phase) (sym same); next = ap (λ (a : Agent). a.next) (sym same) }
 
   no_request : (c : ℕ) (t : Slot) → slot_in entries c ≡ Some t → (which : Option ℕ) → request_in t which ≡ None

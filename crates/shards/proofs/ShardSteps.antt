@@ -11,7 +11,7 @@ use Rattle.mg_model.specs.declared.events.Event.TheVariants.{OfCall}
 use Rattle.mg_model.specs.Agent.{Agent}
 use Rattle.mg_model.specs.Gateway.{Gateway}
 use Rattle.mg_model.specs.Messages.{Request}
-use Rattle.mg_model.specs.World.{World, Occurs, is_of_call, sent_in}
+use Rattle.mg_model.specs.World.{World, sent_in}
 use Rattle.mg_model.specs.Accepted.{IsScript}
 use Rattle.mg_merge.specs.Identifiers.{most_shards}
 use Rattle.mg_safety.specs.Headline.{RunsAreGood}
@@ -21,7 +21,7 @@ use Rattle.gateway.specs.GatewayValue.{GatewayValue, gateway_of, is_open}
 use Rattle.agent.specs.AgentValue.{agent_of}
 use Rattle.call_messages.specs.Messages.{AreNumberedFrom, Messages, fits, reply_for, request_numbers}
 use Rattle.shards.proofs.ShardLemmas.{led_on, one_more, still_within}
-use Rattle.shards.specs.Shards.{CountsEvents, HasHappened, HasSameOpening, IsShard, IsUnchanged, IsWorldOf, ShardValue, events_of}
+use Rattle.shards.specs.Shards.{CountsEvents, HasHappened, IsShard, IsUnchanged, IsWorldOf, ShardValue, events_of}
 use Rattle.shards.specs.Shows.{LeadsOn, Shows, ShowsCall, with_slot}
 use Rattle.shards.specs.Slots.{AreSettled, IsSameSlot, IsTied, request_in}
 use Rattle.shards.specs.SlotTable.{OthersStay, slot_in}

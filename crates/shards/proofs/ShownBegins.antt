@@ -1,19 +1,19 @@
 -- A call that begins on the lines of another is an event of the world that the slots show, and they show the world after it; and where it is refused as not
 -- enabled, no call begins so in that world.
-use Rattle.std.proofs.Common.{◌≡◌, ◌∙◌, ◌+◌, ◌++◌, ◌==◌, ◌⊎◌, inl, inr, ℕ, Bool, true, false, true≢false, List, [], ◌∷◌, length, Option, Some, None, Ok, Err, if◌then◌else◌, reverse, refl, sym, ap, subst, arith}
+use Rattle.std.proofs.Common.{◌≡◌, ◌∙◌, ◌+◌, ◌++◌, ◌==◌, ◌⊎◌, inl, inr, ℕ, Bool, true, false, true≢false, List, [], length, Option, Some, None, Ok, if◌then◌else◌, reverse, refl, sym, ap, subst, arith}
 use Rattle.std.specs.Prelude.{Contains, ◌-◌, is_some, nat_le, not, slice_get, ◌&&◌, ◌||◌}
 use Rattle.std.specs.List.{find}
 use Rattle.std.proofs.lemmas.Bool.{eqb-true, eqb-false, eq-eqb}
-use Rattle.mg_model.proofs.Cases.{and_first, and_second, at_one, none_is_some, none_of, some_is_none, the_some}
+use Rattle.mg_model.proofs.Cases.{and_first, and_second, none_is_some, none_of, some_is_none, the_some}
 use Rattle.mg_model.proofs.Single.{none_in}
 use Rattle.mg_model.specs.Agent.{Agent, Phase, awaits_pass, awaits_reply, begun, is_resting, resting}
 use Rattle.mg_model.specs.Gateway as gateway
 use Rattle.mg_model.specs.Gateway.{CallLink, Gateway, MayBegin}
-use Rattle.mg_model.specs.Messages.{Request, Reply, SentNote}
+use Rattle.mg_model.specs.Messages.{Request, Reply}
 use Rattle.mg_model.specs.Reports.{is_of}
 use Rattle.mg_model.specs.Script.{Script}
 use Rattle.mg_model.specs.Tables.{state_of}
-use Rattle.mg_model.specs.World.{World, Begins, HasEnded, begin, sent_in}
+use Rattle.mg_model.specs.World.{World, HasEnded, begin, sent_in}
 use Rattle.mg_safety.proofs.Events.Handover.{agent_new, agent_other, link_new, link_other, world_begun}
 use Rattle.mg_safety.proofs.Invariant.Sound.{IsKnown}
 use Rattle.mg_safety.proofs.Messages.NumberedWorlds.{IsNumbered}

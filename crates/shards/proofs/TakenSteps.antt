@@ -1,40 +1,30 @@
 -- A step of a shard, by what its slots, its gateway and the call that is handed in come to.
-use Rattle.std.proofs.Common.{◌≡◌, ◌∙◌, ◌+◌, ◌<◌, ◌≤◌, ◌++◌, ◌⊎◌, inl, inr, ℕ, suc, Bool, true, false, true≢false, List, [], ◌∷◌, length, Option, Some, None, Result, Ok, Err, if◌then◌else◌, refl, sym, ap, subst, arith}
+use Rattle.std.proofs.Common.{◌≡◌, ◌∙◌, ◌+◌, ◌<◌, ◌≤◌, ◌++◌, ◌⊎◌, inl, inr, ℕ, suc, Bool, true, false, true≢false, List, [], ◌∷◌, length, Option, Some, None, Ok, Err, if◌then◌else◌, refl, sym, ap, subst, arith}
 use Rattle.std.specs.Prelude.{is_some, nat_le}
 use Rattle.std.proofs.lemmas.Bool.Decides.{nat_tests}
-use Rattle.mg_model.proofs.Cases.{not_both}
 use Rattle.mg_model.specs.declared.events.CallEvent.{CallEvent}
 use Rattle.mg_model.specs.declared.events.CallEvent.TheVariants as to_call
 use Rattle.mg_model.specs.declared.events.Event.{Event}
 use Rattle.mg_model.specs.declared.events.Event.TheVariants.{OfCall}
-use Rattle.mg_model.specs.declared.failures.ChosenRefusal.{ChosenRefusal}
-use Rattle.mg_model.specs.Agent.{Agent}
 use Rattle.mg_model.specs.Gateway.{Gateway}
-use Rattle.mg_model.specs.Messages.{Request}
-use Rattle.mg_model.specs.World.{World, Occurs, is_of_call}
-use Rattle.gateway.specs.declared.answer.Answer.{Answer}
-use Rattle.gateway.specs.declared.answer.Answer.TheVariants as answer
-use Rattle.gateway.specs.Answers.{IsAnswered, IsSame}
-use Rattle.gateway.specs.GatewayValue.{GatewayValue, gateway_of, is_open}
-use Rattle.agent.specs.AgentValue.{AgentValue, agent_of}
-use Rattle.agent.specs.CallValue.{CallValue}
-use Rattle.agent.specs.Calls.{IsLonger, IsNext, IsWithEvent, is_of_gateway, value_of, variant_of, with_room}
+use Rattle.mg_model.specs.World.{World, is_of_call}
+use Rattle.gateway.specs.Answers.{IsSame}
+use Rattle.gateway.specs.GatewayValue.{gateway_of, is_open}
+use Rattle.agent.specs.AgentValue.{agent_of}
+use Rattle.agent.specs.Calls.{IsLonger, is_of_gateway, value_of}
 use Rattle.agent.specs.declared.call.Next.{Next}
 use Rattle.agent.specs.declared.refusal.Refusal.{Refusal}
 use Rattle.agent.specs.declared.refusal.Refusal.TheVariants.{NotEnabled, Behind, NoMemory}
 use Rattle.shards.proofs.RefusedSteps.{cannot_step}
-use Rattle.shards.proofs.Refusals.{cannot_execute, cannot_happen}
 use Rattle.shards.proofs.ShardLemmas.{shard_after, world_numbered}
-use Rattle.shards.proofs.ShardSteps.{AreSameSlots, KeepsCalls, keeps_all, none_same, one_same, refused_counts, same_slots, shard_unchanged, step_counts, step_happened, step_refused}
-use Rattle.shards.proofs.ShownExecutes.{execute_shown}
-use Rattle.shards.proofs.ShownLines.{line_shown}
+use Rattle.shards.proofs.ShardSteps.{AreSameSlots, keeps_all, none_same, one_same, refused_counts, shard_unchanged, step_counts, step_happened, step_refused}
 use Rattle.shards.proofs.ShownSteps.{step_leads_on}
 use Rattle.shards.proofs.ValueSteps.{event_is, value_cannot, value_goes}
 use Rattle.shards.specs.Shards.{CountsEvents, HasHappened, IsShard, IsUnchanged, IsWorldOf, ShardValue, events_of}
-use Rattle.shards.specs.Shows.{IsTold, LeadsOn, Shows, with_slot}
-use Rattle.shards.specs.SlotTable.{ExecutesIn, HappensIn, IsReady, CountsNotes, OthersStay, StepsIn, events_bound, slot_in}
-use Rattle.shards.specs.Slots.{Executes, HappensOn, IsStepped, IsSameSlot, Steps, is_event}
-use Rattle.shards.specs.Stepping.{AtGateway, CannotOccur, GoesOn, HasStepped, IsAtAgent, IsNotEnabled, IsRefusedStep, IsSameNext, IsStep, ValueGoes, call_in, is_beginning, is_told}
+use Rattle.shards.specs.Shows.{IsTold}
+use Rattle.shards.specs.SlotTable.{IsReady, CountsNotes, OthersStay, StepsIn, events_bound, slot_in}
+use Rattle.shards.specs.Slots.{IsStepped, Steps}
+use Rattle.shards.specs.Stepping.{CannotOccur, HasStepped, IsAtAgent, IsRefusedStep, IsSameNext, call_in, is_beginning, is_told}
 use Rattle.shards.specs.Values.{event_of}
 use Rattle.shards.specs.declared.slot.Slot.{Slot}
 
@@ -139,10 +129,9 @@ module _ (old : ShardValue) (was : IsShard old) (call : ℕ) (next after : Next)
         → IsShard later × HasStepped old later next after named
     taken s t there here steps =
         let happened : HasHappened old later named = step_happened old old.gateway entries events call event s t there here others history
-            (λ w is. step_leads_on old.script w old.gateway (slot_in old.slots) is.shows (world_numbered old w is) call s t there next after event steps (told_in old w is event told)) in
+        (λ w is. step_leads_on old.script w old.gateway (slot_in old.slots) is.shows (world_numbered old w is) call s t there next after event steps (told_in old w is event told)) in
         let counts : CountsEvents later = step_counts old old.gateway entries events call event s t there here others history was.counts
-            (keeps_all old.gateway) (stands old was call s there) steps.events in
-        (
+        (keeps_all old.gateway) (stands old was call s there) steps.events in (
           shard_after old later named was happened counts,
           record {
             shard = happened;

@@ -1,5 +1,5 @@
 -- The call that is handed in: where it takes a step it goes where the event leads, and where it can't, the event leads it nowhere.
-use Rattle.std.proofs.Common.{◌≡◌, ◌∙◌, ◌==◌, Bool, true, false, true≢false, ℕ, Option, Some, None, if◌then◌else◌, refl, sym, ap, subst}
+use Rattle.std.proofs.Common.{◌≡◌, ◌∙◌, ◌==◌, Bool, true, false, ℕ, Option, Some, None, if◌then◌else◌, refl, sym, ap}
 use Rattle.std.specs.Borrow.{Bor}
 use Rattle.std.specs.List.{find}
 use Rattle.std.proofs.lemmas.Bool.{eqb-true}
@@ -8,7 +8,7 @@ use Rattle.mg_names.specs.declared.identifiers.Assoc.{Assoc}
 use Rattle.mg_model.specs.declared.events.CallEvent.{CallEvent}
 use Rattle.mg_model.specs.declared.events.CallEvent.TheVariants as to_call
 use Rattle.mg_model.specs.declared.events.Event.TheVariants.{OfCall}
-use Rattle.mg_model.specs.Agent.{Agent, heard, noted, passed, replied, timed}
+use Rattle.mg_model.specs.Agent.{Agent, noted, replied}
 use Rattle.mg_model.specs.Messages.{Reply, SentNote}
 use Rattle.mg_model.specs.Reports.{is_of}
 use Rattle.mg_model.specs.Tables.{line_places}
@@ -21,11 +21,11 @@ use Rattle.agent.specs.Preparing.{stepped_by}
 use Rattle.agent.specs.declared.call.Next.{Next}
 use Rattle.agent.specs.declared.delivered.Delivery.{Delivery}
 use Rattle.agent.specs.declared.delivered.Delivery.TheVariants as delivery
-use Rattle.shards.proofs.Delivered.{HoldsOfEach, of_delivered}
+use Rattle.shards.proofs.Delivered.{of_delivered}
 use Rattle.shards.proofs.MessageLemmas.{found_in, own_message}
 use Rattle.shards.specs.Shows.{ShowsCall}
 use Rattle.shards.specs.Slots.{IsDelivered}
-use Rattle.shards.specs.Stepping.{Goes, ValueGoes, call_in, has_step, is_at_rest, is_waiting}
+use Rattle.shards.specs.Stepping.{ValueGoes, call_in, is_at_rest, is_waiting}
 use Rattle.shards.specs.Values.{advancing, event_of, takes}
 use Rattle.shards.specs.declared.slot.Slot.{Slot}
 

@@ -1,6 +1,6 @@
 -- A call that begins on the lines of one that has ended, in a shard. A reader should check that the call of the slot has to have ended in the association of
 -- the gateway, and that the new slot has the number after the old call's last request, and no message.
-use Rattle.std.specs.Prelude.{◌≡◌, ℕ, ◌==◌, ◌&&◌, Bool, if◌then◌else◌, is_some, List, Option, Some, None, Result, Ok, Err}
+use Rattle.std.specs.Prelude.{◌≡◌, ℕ, ◌==◌, ◌&&◌, Bool, if◌then◌else◌, is_some, List, Option, Some, None, Result, Ok}
 use Rattle.std.specs.Ordering.{nat_cmp}
 use Rattle.std.specs.BTreeMap.{is_at}
 use Rattle.std.specs.Map.{lookup}

@@ -1,6 +1,6 @@
 -- A shard that opens. A reader should check that nothing happened in it yet, that it is of the script, the class and the calls that were asked for, and that
 -- each call is handed out as it was entered, in the order of the calls.
-use Rattle.std.specs.Prelude.{◌≡◌, ◌≢◌, ℕ, ◌==◌, ◌||◌, if◌then◌else◌, false, List, [], ◌∷◌, length, map, Contains, Option, Some, None, option_map, Result, Ok, Err}
+use Rattle.std.specs.Prelude.{◌≡◌, ◌≢◌, ℕ, ◌==◌, ◌||◌, if◌then◌else◌, false, List, [], ◌∷◌, length, map, Contains, Option, Some, option_map, Result, Ok, Err}
 use Rattle.std.specs.declared.alloc.Global.{Global}
 use Rattle.std.specs.declared.vec.Vec.{Vec}
 use Rattle.mg_model.specs.Agent.{opened}

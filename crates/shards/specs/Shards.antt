@@ -5,23 +5,16 @@ use Rattle.std.specs.Prelude.{Bool, true, ◌≡◌, ℕ, ◌<◌, ◌≤◌, �
 use Rattle.mg_names.specs.declared.identifiers.Assoc.{Assoc}
 use Rattle.mg_names.specs.declared.identifiers.LineNo.{LineNo}
 use Rattle.identifiers.specs.Class.{is_of_class}
-use Rattle.mg_model.specs.declared.events.CallEvent.{CallEvent}
-use Rattle.mg_model.specs.declared.events.CallEvent.TheVariants as to_call
 use Rattle.mg_model.specs.declared.events.Event.{Event}
 use Rattle.mg_model.specs.declared.events.Event.TheVariants.{OfCall, Restart}
-use Rattle.mg_model.specs.Agent.{Agent, begun, heard, noted, passed, replied, timed}
-use Rattle.mg_model.specs.Messages.{Reply, SentNote}
 use Rattle.mg_model.specs.Numbers.{last_association}
 use Rattle.mg_model.specs.Script.{Script}
-use Rattle.mg_model.specs.Tables.{line_places}
-use Rattle.mg_model.specs.World.{World, IsNoteOf, IsOpening, IsReplyOf, Occurs, Opened, Runs, is_of_call}
+use Rattle.mg_model.specs.World.{World, IsOpening, Occurs, Opened, Runs, is_of_call}
 use Rattle.mg_model.specs.Accepted.{IsScript}
 use Rattle.mg_merge.specs.Identifiers.{most_shards}
 use Rattle.mg_safety.specs.Headline.{RunsAreGood}
 use Rattle.scriptreader.specs.Laws.{HasFewCommands}
 use Rattle.gateway.specs.GatewayValue.{GatewayValue, gateway_of, is_open}
-use Rattle.agent.specs.AgentValue.{agent_of}
-use Rattle.agent.specs.CallValue.{CallValue}
 use Rattle.shards.specs.Shows.{Shows}
 use Rattle.shards.specs.SlotTable.{slot_in}
 use Rattle.shards.specs.declared.fault.RestartFault.{RestartFault}

@@ -1,7 +1,7 @@
 -- A step of a shard: an event of a call, at its slot and to the call that is handed in. A reader should check that both go on by the event alone, that a
 -- step is refused as not enabled only where the event can't happen, to the shard or to the call that is handed in, or where the shard doesn't hold that
 -- call, and that whatever is refused leaves both as they were. This profile's own.
-use Rattle.std.specs.Prelude.{◌≡◌, ℕ, Bool, true, false, nat_le, List, [], ◌∷◌, length, Option, Some, None, Result, Ok, Err, ◌⊎◌}
+use Rattle.std.specs.Prelude.{◌≡◌, ℕ, Bool, true, false, nat_le, [], ◌∷◌, length, Option, Some, None, Result, Ok, Err, ◌⊎◌}
 use Rattle.mg_model.specs.declared.events.CallEvent.{CallEvent}
 use Rattle.mg_model.specs.declared.events.CallEvent.TheVariants as to_call
 use Rattle.mg_model.specs.declared.events.Event.{Event}

@@ -1,11 +1,10 @@
 -- Each call that opens is one more that is open; where one doesn't, that is the answer.
-use Rattle.std.proofs.Common.{◌≡◌, ◌∙◌, ◌+◌, ◌++◌, List, [], ◌∷◌, Err, take, sym, ap, subst}
+use Rattle.std.proofs.Common.{◌≡◌, ◌∙◌, ◌+◌, ◌++◌, List, [], ◌∷◌, take, sym, ap, subst}
 use Rattle.std.proofs.lemmas.List.{take_more}
 use Rattle.agent.specs.declared.call.Next.{Next}
 use Rattle.shards.proofs.OpenedShards.{entered_more, none_opened, not_opened, one_opened}
-use Rattle.shards.specs.Opening.{AreEntered, AreOpenedOn, IsOpenedOne}
+use Rattle.shards.specs.Opening.{AreEntered, AreOpenedOn}
 use Rattle.shards.specs.declared.opened.OpenedCall.{OpenedCall}
-use Rattle.shards.specs.declared.slot.Slot.{Slot}
 use Rattle.shards.proofs.opening.open_all.Goals as goal
 
 pub loop-call-init : goal.loop-call-init
@@ -26,8 +25,7 @@ loop-call-preserved c =
     let i = c.loop-call.call-index in
     let item = c.call-item.result in
     let here : take i calls ++ item ∷ [] ≡ take (i + 1) calls =
-    ap (λ (x : OpenedCall). take i calls ++ x ∷ []) c.call-item.is ∙ sym (take_more calls i item c.loop-call-test.true) in
-    (
+    ap (λ (x : OpenedCall). take i calls ++ x ∷ []) c.call-item.is ∙ sym (take_more calls i item c.loop-call-test.true) in (
       subst (λ (cs : List OpenedCall). AreOpenedOn c.args.script.now cs c.args.first c.args.stride c.open_one.new.gateway c.open_one.new.slots.entries) here
           (one_opened c.args.script.now (take i calls) c.args.first c.args.stride c.loop-call.gateway c.open_one.new.gateway c.loop-call.slots.entries
           c.open_one.new.slots.entries item c.loop-call.invariant.0 c.in-Ok-open_one.ensures.0),

@@ -1,11 +1,9 @@
 -- The call is open on its lines, as many as the script has, and its slot has the agent that it was entered with.
-use Rattle.std.proofs.Common.{◌≡◌, ◌∙◌, ℕ, List, length, Ok, map, refl, sym, ap, subst}
+use Rattle.std.proofs.Common.{◌≡◌, ◌∙◌, List, length, Ok, refl, sym, ap, subst}
 use Rattle.mg_names.specs.declared.identifiers.LineNo.{LineNo}
 use Rattle.mg_model.specs.Agent.{opened}
 use Rattle.gateway.specs.GatewayValue.{gateway_of, is_taken}
 use Rattle.gateway.specs.Openings as gateway
-use Rattle.agent.specs.AgentValue.{agent_of}
-use Rattle.agent.specs.Calls.{value_of}
 use Rattle.systems.specs.Openings.{line_at}
 use Rattle.shards.proofs.opening.open_one.Goals as goal
 

@@ -1,5 +1,5 @@
 -- The call has ended on both sides, so another begins on its lines; or all is as it was, but for room and an empty entry.
-use Rattle.std.proofs.Common.{◌≡◌, ◌∙◌, ◌++◌, ℕ, List, [], ◌∷◌, Option, Some, Ok, Err, inl, refl, sym, ap, subst}
+use Rattle.std.proofs.Common.{◌≡◌, ◌∙◌, ◌++◌, List, [], ◌∷◌, Some, inl, refl, sym, ap, subst}
 use Rattle.std.specs.Prelude.{option_map}
 use Rattle.mg_model.specs.declared.events.CallEvent.TheVariants.{Begin}
 use Rattle.mg_model.specs.declared.events.Event.{Event}
@@ -11,10 +11,10 @@ use Rattle.shards.proofs.BegunShards.{forward_kept, forward_taken, not_ended, no
 use Rattle.shards.proofs.ShardSteps.{stays_unchanged}
 use Rattle.shards.proofs.TakenSteps.{back_as}
 use Rattle.shards.proofs.ValueSteps.{call_is}
-use Rattle.shards.specs.Beginnings.{HandsOver, has_ended}
+use Rattle.shards.specs.Beginnings.{has_ended}
 use Rattle.shards.specs.Shards.{ShardValue}
 use Rattle.shards.specs.SlotTable.{slot_in}
-use Rattle.shards.specs.Stepping.{CannotOccur, IsStep}
+use Rattle.shards.specs.Stepping.{CannotOccur}
 use Rattle.shards.proofs.shard.Shard.begin_on.Goals as goal
 
 pub returns-then-call-old : goal.returns-then-call-old

@@ -1,5 +1,5 @@
 -- The slot is that of the call that is handed in.
-use Rattle.std.proofs.Common.{◌≡◌, ◌∙◌, List, length, Option, Some, None, refl, sym, ap}
+use Rattle.std.proofs.Common.{◌∙◌, List, length, refl, sym, ap}
 use Rattle.std.specs.Prelude.{option_map}
 use Rattle.mg_model.specs.declared.events.Event.{Event}
 use Rattle.agent.specs.Calls.{value_of}
@@ -7,7 +7,6 @@ use Rattle.shards.proofs.ValueSteps.{call_is}
 use Rattle.shards.specs.Shards.{ShardValue}
 use Rattle.shards.specs.SlotTable.{slot_in}
 use Rattle.shards.specs.Stepping.{call_in}
-use Rattle.shards.specs.declared.slot.Slot.{Slot}
 use Rattle.shards.proofs.shard.Shard.holds.Goals as goal
 
 pub returns-in_default : goal.returns-in_default
@@ -30,6 +29,6 @@ pub returns : goal.returns
 returns c = (
   c.in-Some.slot.now,
   ap (λ (v : ShardValue). slot_in v.slots (call_in c.args.next.now)) (sym c.self.view_is)
-  ∙ ap (slot_in c.self.inside.slots.entries) (sym (call_is (value_of c.args.next.now)) ∙ sym c.call.ensures) ∙ sym c.slot.ensures
-  ∙ ap (option_map (λ s. s.now)) c.in-Some.is,
+      ∙ ap (slot_in c.self.inside.slots.entries) (sym (call_is (value_of c.args.next.now)) ∙ sym c.call.ensures) ∙ sym c.slot.ensures
+      ∙ ap (option_map (λ s. s.now)) c.in-Some.is,
 )

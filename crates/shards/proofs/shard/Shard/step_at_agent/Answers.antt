@@ -1,5 +1,5 @@
 -- The call that is handed in and its slot take one step, and the event is the last of the history; or all is as it was.
-use Rattle.std.proofs.Common.{◌≡◌, ◌∙◌, ◌++◌, List, [], ◌∷◌, Ok, Err, inl, refl, sym, ap, subst}
+use Rattle.std.proofs.Common.{◌∙◌, ◌++◌, List, [], ◌∷◌, inl, refl, sym, ap, subst}
 use Rattle.mg_model.specs.declared.events.Event.{Event}
 use Rattle.mg_model.specs.declared.events.Event.TheVariants.{OfCall}
 use Rattle.agent.specs.Calls.{value_of}

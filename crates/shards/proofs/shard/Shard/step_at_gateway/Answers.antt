@@ -1,5 +1,5 @@
 -- The event happens at the gateway and in the slot, and the call that is handed in writes it down; or all is as it was, but for room.
-use Rattle.std.proofs.Common.{◌≡◌, ◌∙◌, ◌++◌, List, [], ◌∷◌, Ok, Err, inl, inr, refl, sym, ap, subst}
+use Rattle.std.proofs.Common.{◌∙◌, ◌++◌, List, [], ◌∷◌, inl, inr, refl, sym, ap, subst}
 use Rattle.mg_model.specs.declared.events.Event.{Event}
 use Rattle.mg_model.specs.declared.events.Event.TheVariants.{OfCall}
 use Rattle.agent.specs.CallValue.{CallValue}
