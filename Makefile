@@ -21,6 +21,7 @@ test:
 	tools/refused_uses
 	tools/readme
 	tools/cases
+	tools/runs
 	tools/refusals
 
 bench: build
@@ -28,4 +29,5 @@ bench: build
 	cd crates/gatebench && rt run gatebench -- 10 20
 	cd crates/callbench && rt run callbench -- 12 5
 	cd crates/planbench && rt run planbench -- plan < stdin
+	cd crates/run_tour && rt run run_tour < stdin
 	tools/bench

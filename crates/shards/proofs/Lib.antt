@@ -25,3 +25,4 @@ pub mod GatewaySteps
 pub mod BegunShards
 pub mod OpenedShards
 pub mod LastingShards
+pub mod TakenCalls

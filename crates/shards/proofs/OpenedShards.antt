@@ -1,5 +1,5 @@
 -- Calls that are opened on a new gateway, with their slots, are a shard in which nothing happened yet.
-use Rattle.std.proofs.Common.{◌≡◌, ◌∙◌, ◌+◌, ◌<◌, ◌≤◌, ◌++◌, ◌==◌, inl, inr, ℕ, Bool, true, false, List, [], ◌∷◌, length, map, Option, Some, None, Err, if◌then◌else◌, reverse, refl, sym, ap, subst}
+use Rattle.std.proofs.Common.{◌≡◌, ◌∙◌, ◌+◌, ◌<◌, ◌≤◌, ◌++◌, ◌==◌, inl, inr, ℕ, Bool, true, false, List, [], ◌∷◌, length, map, Option, Some, None, if◌then◌else◌, reverse, refl, sym, ap, subst}
 use Rattle.std.specs.Prelude.{Contains, is_some, option_map}
 use Rattle.std.specs.List.{find}
 use Rattle.std.proofs.lemmas.List.Elements.{Contains-append_cases, Contains-append_left, Contains-append_right}
@@ -28,9 +28,7 @@ use Rattle.systems.specs.Systems.{System, agent_in, with_call, world_of}
 use Rattle.systems.proofs.OpenedCalls.{IsOpened, calls_opened}
 use Rattle.shards.proofs.SettledNotes.{none_settled}
 use Rattle.shards.proofs.ShownBegins.{no_reply}
-use Rattle.shards.specs.declared.fault.OpenFault.{OpenFault}
-use Rattle.shards.specs.declared.fault.OpenFault.TheVariants.{WrongLines, Taken, NoMemory}
-use Rattle.shards.specs.Opening.{AreEntered, AreOpenedOn, AreOpenedSlots, IsEntered, IsOpenedOne, OpensOne, call_of, system_of}
+use Rattle.shards.specs.Opening.{AreEntered, AreOpenedOn, IsEntered, OpensOne, call_of, system_of}
 use Rattle.shards.specs.Shards.{IsShard, ShardValue, opened_as}
 use Rattle.shards.specs.Shows.{ShowsCall}
 use Rattle.shards.specs.SlotTable.{slot_in}
@@ -233,11 +231,3 @@ module _ (script : Script) (calls : List OpenedCall) (first stride : ℕ) (g : G
     };
     counts = record { counted = λ c t is. (x.slots c t is).0; unused = λ c not_open not_retired. refl };
   }
-
--- ---- a call that doesn't open
-
-pub not_opened : (script : Script) (calls : List OpenedCall) (first stride : ℕ) (g h : GatewayValue) (old new : List (ℕ × Option Slot)) (one : OpenedCall) (fault : OpenFault)
-    → Contains calls one → IsOpenedOne script g h old new one (Err fault) → AreOpenedSlots script calls first stride (Err fault)
-not_opened script calls first stride g h old new one WrongLines among wrong = record { one = one; among = among; wrong = wrong }
-not_opened script calls first stride g h old new one Taken among is = tt
-not_opened script calls first stride g h old new one NoMemory among is = tt

@@ -1,12 +1,15 @@
 -- A shard that opens. A reader should check that nothing happened in it yet, that it is of the script, the class and the calls that were asked for, and that
--- each call is handed out as it was entered, in the order of the calls.
-use Rattle.std.specs.Prelude.{◌≡◌, ◌≢◌, ℕ, ◌==◌, ◌||◌, if◌then◌else◌, false, List, [], ◌∷◌, length, map, Contains, Option, Some, option_map, Result, Ok, Err}
+-- each call is handed out as it was entered, in the order of the calls; and that a call is refused as taken only where it has what one before it has, or
+-- a line twice.
+use Rattle.std.specs.Prelude.{◌≡◌, ◌≢◌, ℕ, ◌==◌, ◌||◌, if◌then◌else◌, false, List, [], ◌∷◌, ◌++◌, length, map, true, ◌⊎◌, Contains, Option, Some, option_map, Result, Ok, Err}
 use Rattle.std.specs.declared.alloc.Global.{Global}
 use Rattle.std.specs.declared.vec.Vec.{Vec}
 use Rattle.mg_model.specs.Agent.{opened}
 use Rattle.mg_model.specs.Script.{Script}
 use Rattle.mg_model.specs.World.{Opened}
 use Rattle.identifiers.specs.Class.{is_of_class}
+use Rattle.contexts.specs.BoardValue.{names_line}
+use Rattle.gateway.specs.declared.fault.OpenFault as of_gateway
 use Rattle.gateway.specs.GatewayValue.{GatewayValue, gateway_of, is_open, is_taken}
 use Rattle.gateway.specs.Openings as gateway
 use Rattle.agent.specs.AgentValue.{agent_of}
@@ -54,10 +57,29 @@ pub record HasWrongLines (script : Script) (calls : List OpenedCall) : Type 0 wh
   pub among : Contains calls one
   pub wrong : length one.lines.items ≢ length script.lines
 
+-- a line of both
+pub record ShareALine (one other : OpenedCall) : Type 0 where
+  pub line : ℕ
+  pub of_one : names_line one.lines.items line ≡ true
+  pub of_other : names_line other.lines.items line ≡ true
+
+-- a call before it has its number or one of its lines, or it names a line twice
+abbrev pub IsTakenAfter : List OpenedCall → OpenedCall → Type 0
+IsTakenAfter before one =
+    ((earlier : OpenedCall) × Contains before earlier × ((earlier.call.0 ≡ one.call.0) ⊎ ShareALine earlier one)) ⊎ (gateway.has_twice one.lines.items ≡ true)
+
+-- the numbers of the calls, or their lines, aren't all different
+pub record HasTaken (calls : List OpenedCall) : Type 0 where
+  pub before : List OpenedCall
+  pub one : OpenedCall
+  pub later : List OpenedCall
+  pub parts : calls ≡ before ++ one ∷ later
+  pub taken : IsTakenAfter before one
+
 abbrev pub IsShardOpened : Script → List OpenedCall → (first stride : ℕ) → Result (ShardValue × Vec Next Global) OpenFault → Type 0
 IsShardOpened script calls first stride (Ok (v, nexts)) = IsNewShard script calls first stride v × AreEntered script calls nexts.items
 IsShardOpened script calls first stride (Err WrongLines) = HasWrongLines script calls
-IsShardOpened script calls first stride (Err Taken) = Unit {0}
+IsShardOpened script calls first stride (Err Taken) = HasTaken calls
 IsShardOpened script calls first stride (Err NoMemory) = Unit {0}
 
 -- ---- one call of it
@@ -81,7 +103,8 @@ pub record OpensOne (script : Script) (g h : GatewayValue) (old new : List (ℕ 
 abbrev pub IsOpenedOne : Script → GatewayValue → GatewayValue → List (ℕ × Option Slot) → List (ℕ × Option Slot) → OpenedCall → Result Next OpenFault → Type 0
 IsOpenedOne script g h old new one (Ok next) = OpensOne script g h old new one × IsEntered script one next
 IsOpenedOne script g h old new one (Err WrongLines) = length one.lines.items ≢ length script.lines
-IsOpenedOne script g h old new one (Err Taken) = Unit {0}
+IsOpenedOne script g h old new one (Err Taken) =
+    (why : of_gateway.OpenFault) × (gateway.opening (gateway_of g) (is_taken g one.call.0) one.lines.items ≡ Err why)
 IsOpenedOne script g h old new one (Err NoMemory) = Unit {0}
 
 -- ---- all of them
@@ -106,5 +129,5 @@ pub record AreOpenedOn (script : Script) (calls : List OpenedCall) (first stride
 abbrev pub AreOpenedSlots : Script → List OpenedCall → (first stride : ℕ) → Result opening.Opened OpenFault → Type 0
 AreOpenedSlots script calls first stride (Ok o) = AreOpenedOn script calls first stride o.gateway o.slots.entries × AreEntered script calls o.nexts.items
 AreOpenedSlots script calls first stride (Err WrongLines) = HasWrongLines script calls
-AreOpenedSlots script calls first stride (Err Taken) = Unit {0}
+AreOpenedSlots script calls first stride (Err Taken) = HasTaken calls
 AreOpenedSlots script calls first stride (Err NoMemory) = Unit {0}

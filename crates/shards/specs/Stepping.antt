@@ -135,6 +135,12 @@ IsRefusedStep v next event NoMemory = Unit {0}
 
 -- ---- a step
 
+-- the slot of the call counts as many events as its transcript has: no other step is taken
+pub record IsUpToDate (v : ShardValue) (next : Next) : Type 0 where
+  pub slot : Slot
+  pub held : slot_in v.slots (call_in next) ≡ Some slot
+  pub agrees : length (value_of next).transcript ≡ slot.events
+
 abbrev pub IsStep : ShardValue → ShardValue → Next → Next → Event → Result Stepped Refusal → Type 0
 IsStep old new next after event (Ok stepped) = IsTakenStep old new next after event stepped
 IsStep old new next after event (Err why) = IsRefusedStep old next event why × (IsUnchanged old new × IsSameNext next after)
@@ -161,9 +167,8 @@ AtGateway old new call event entry after told = (told ≡ Err NotEnabled) × (ne
 
 -- ---- whether the shard holds a call
 
--- the slot of the call counts as many events as its transcript has
 abbrev pub IsHeld : ShardValue → Next → Result (Unit {0}) Refusal → Type 0
-IsHeld v next (Ok _) = (s : Slot) × (slot_in v.slots (call_in next) ≡ Some s)
+IsHeld v next (Ok _) = IsUpToDate v next
 IsHeld v next (Err NotEnabled) = slot_in v.slots (call_in next) ≡ None
 IsHeld v next (Err (Behind slot_count)) = IsBehind v next slot_count
 IsHeld v next (Err NoMemory) = ⊥

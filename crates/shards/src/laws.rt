@@ -1,10 +1,20 @@
 //! Laws of shards: what holds of one, whatever was done with it. Their functions do nothing: a contract is the law, which a crate above has by calling it.
 ghost use Rattle.shards.specs.Lasting.{IdentifiersLasted, WorldsAreGood};
+ghost use Rattle.shards.specs.Shards.{IsShard};
 
 use crate::shard::Shard;
 use mg_merge::laws::identifiers_last;
 
 impl<'s> Shard<'s> {
+    /// What the type keeps: the shard's history is a run from an opening of its calls to a world that it shows, on a gateway of its class, each slot counts the
+    /// events of its call, and every run of its script is good.
+    pub fn keeps_its_run(&self)
+        ensures { IsShard self.now }
+    {
+        // What the type keeps is at hand where a field is read.
+        let _script = self.script;
+    }
+
     /// The world that the shard shows is good: an audio path joins two lines only inside one call whose current state marks that pair as talking, and a call
     /// that has ended owns no ephemeral and has each line silent in the null context, armed for off-hook.
     pub fn stays_good(&self)

@@ -1,5 +1,6 @@
 //! The opening of a shard: a new gateway, on which its calls are opened one after the other, each with its slot.
-ghost use Rattle.std.specs.Prelude.{◌<◌, ◌≤◌};
+ghost use Rattle.std.specs.Prelude.{◌≡◌, ◌<◌, ◌≤◌, IfOk};
+ghost use Rattle.std.specs.List.{flat_map};
 ghost use Rattle.shards.specs.Opening.{AreOpenedSlots, IsOpenedOne, IsShardOpened};
 
 use crate::fault::OpenFault;
@@ -25,7 +26,9 @@ struct Opened<'s> {
 }
 
 /// The lines of all calls, one after the other.
-fn all_lines(alloc: Global, calls: &[OpenedCall]) -> Result<Vec<LineNo>, AllocError> {
+fn all_lines(alloc: Global, calls: &[OpenedCall]) -> Result<Vec<LineNo>, AllocError>
+    ensures { IfOk result (λ lines. lines.items ≡ flat_map (λ one. one.lines.items) calls.now) }
+{
     let mut lines = Vec::new(alloc);
     for call in calls {
         lines.extend_from_slice(call.lines.as_slice())?;
@@ -50,7 +53,9 @@ fn open_one<'s>(
     match gateway.open_call(call.call, lines) {
         Ok(()) => {}
         Err(gateway::OpenFault::NoMemory) => return Err(OpenFault::NoMemory),
-        Err(_) => return Err(OpenFault::Taken),
+        Err(gateway::OpenFault::UnknownLine | gateway::OpenFault::Taken) => {
+            return Err(OpenFault::Taken);
+        }
     }
     let slot = Slot {
         agent: Plain::enter(alloc, script, call.call, lines),

@@ -1,9 +1,9 @@
 //! An event of a call, at its slot and to the call that is handed in. All that may want memory comes first: whoever comes second can't fail after the first.
-ghost use Rattle.std.specs.Prelude.{◌≡◌, true};
+ghost use Rattle.std.specs.Prelude.{◌≡◌, OnOk, true};
 ghost use Rattle.mg_model.specs.declared.events.Event.TheVariants.{OfCall};
 ghost use Rattle.agent.specs.Calls.{is_of_gateway};
 ghost use Rattle.shards.specs.SlotTable.{slot_in, CountsNotes, IsReady, OthersStay};
-ghost use Rattle.shards.specs.Stepping.{AtGateway, IsAtAgent, IsHeld, IsStep, is_told};
+ghost use Rattle.shards.specs.Stepping.{AtGateway, IsAtAgent, IsHeld, IsStep, IsUpToDate, is_told};
 
 use crate::shard::{self, Shard};
 use crate::slots::Slots;
@@ -122,7 +122,8 @@ impl<'s> Shard<'s> {
     /// shard counts another number of events of the call than its transcript has. `NoMemory` where memory ran out. Then the call comes back as it was, and
     /// nothing changes. It takes as long with many calls, and after a long history, as with few. This profile's own.
     pub fn step(&mut self, next: Next<'s>, event: Event) -> (Next<'s>, Result<Stepped, Refusal>)
-        ensures { IsStep self.old self.new next.entry result.0 event result.1 }
+        ensures stepped { IsStep self.old self.new next.entry result.0 event result.1 }
+        ensures up_to_date { OnOk result.1 (IsUpToDate self.old next.entry) }
     {
         let Event::OfCall { call, event } = event else {
             return (next, Err(Refusal::NotEnabled));

@@ -1,8 +1,11 @@
 -- Each call that opens is one more that is open; where one doesn't, that is the answer.
-use Rattle.std.proofs.Common.{◌≡◌, ◌∙◌, ◌+◌, ◌++◌, List, [], ◌∷◌, take, sym, ap, subst}
+use Rattle.std.proofs.Common.{◌≡◌, ◌∙◌, ◌+◌, ◌++◌, List, [], ◌∷◌, take, sym, ap, subst, arith}
 use Rattle.std.proofs.lemmas.List.{take_more}
+use Rattle.gateway.specs.GatewayValue.{gateway_of}
 use Rattle.agent.specs.declared.call.Next.{Next}
-use Rattle.shards.proofs.OpenedShards.{entered_more, none_opened, not_opened, one_opened}
+use Rattle.identifiers.specs.Class.{is_of_class}
+use Rattle.shards.proofs.OpenedShards.{entered_more, none_opened, one_opened}
+use Rattle.shards.proofs.TakenCalls.{HaveAllLines, not_opened, one_more_has_all, there_after, there_at_first}
 use Rattle.shards.specs.Opening.{AreEntered, AreOpenedOn}
 use Rattle.shards.specs.declared.opened.OpenedCall.{OpenedCall}
 use Rattle.shards.proofs.opening.open_all.Goals as goal
@@ -12,12 +15,20 @@ loop-call-init c = (
   subst (λ entries. AreOpenedOn c.args.script.now [] c.args.first c.args.stride c.in-Ok-with_ids.gateway entries) (sym c.new-slots.ensures.empty)
       (none_opened c.args.script.now c.args.first c.args.stride c.as_slice.result.now c.in-Ok-with_ids.gateway c.in-Ok-with_ids.ensures.gateway c.in-Ok-with_ids.ensures.no_call),
   subst (λ (nexts : List Next). AreEntered c.args.script.now [] nexts) (sym c.new-nexts.ensures.items) tt,
+  λ one among. absurd (let below = among.1 in omega (arith, below)),
+  there_at_first c.args.calls.now (is_of_class c.args.first c.args.stride) (gateway_of c.in-Ok-with_ids.gateway) c.as_slice.result.now
+      (c.as_slice.ensures.value ∙ c.in-Ok.ensures) c.in-Ok-with_ids.ensures.gateway,
 )
 
 pub returns-in-Err : goal.returns-in-Err
 returns-in-Err c =
-    not_opened c.args.script.now c.args.calls.now c.args.first c.args.stride c.loop-call.gateway c.open_one.new.gateway c.loop-call.slots.entries c.open_one.new.slots.entries
-    c.call-item.result c.in-Err.fault (c.loop-call.call-index, c.loop-call-test.true, sym c.call-item.is) c.in-Err.ensures
+    let calls = c.args.calls.now in
+    let i = c.loop-call.call-index in
+    let item = c.call-item.result in
+    not_opened c.args.script.now calls i c.args.first c.args.stride c.loop-call.gateway c.open_one.new.gateway c.loop-call.slots.entries c.open_one.new.slots.entries
+    item (i, c.loop-call-test.true, sym c.call-item.is)
+    (ap (λ (x : OpenedCall). take i calls ++ x ∷ []) c.call-item.is ∙ sym (take_more calls i item c.loop-call-test.true))
+    c.loop-call.invariant.0 c.loop-call.invariant.2 c.loop-call.invariant.3 c.in-Err.fault c.in-Err.ensures
 
 pub loop-call-preserved : goal.loop-call-preserved
 loop-call-preserved c =
@@ -32,4 +43,8 @@ loop-call-preserved c =
       subst (λ (cs : List OpenedCall). AreEntered c.args.script.now cs c.push.new.self.items) here
           (subst (λ (nexts : List Next). AreEntered c.args.script.now (take i calls ++ item ∷ []) nexts) (sym c.in-Ok-push.ensures.items)
           (entered_more c.args.script.now (take i calls) c.loop-call.nexts.items item c.in-Ok-open_one.next c.loop-call.invariant.1 c.in-Ok-open_one.ensures.1)),
+      subst (λ (cs : List OpenedCall). HaveAllLines c.args.script.now cs) here
+          (one_more_has_all c.args.script.now (take i calls) item c.loop-call.invariant.2 c.in-Ok-open_one.ensures.0.all_lines),
+      there_after calls (gateway_of c.loop-call.gateway) (gateway_of c.open_one.new.gateway) item.call.0 item.lines.items c.in-Ok-open_one.ensures.0.gateway
+          c.loop-call.invariant.3,
     )

@@ -26,9 +26,10 @@ returns-then-transcript-slot_count c = record {
 }
 
 pub returns : goal.returns
-returns c = (
-  c.in-Some.slot.now,
-  ap (λ (v : ShardValue). slot_in v.slots (call_in c.args.next.now)) (sym c.self.view_is)
+returns c = record {
+  slot = c.in-Some.slot.now;
+  held = ap (λ (v : ShardValue). slot_in v.slots (call_in c.args.next.now)) (sym c.self.view_is)
       ∙ ap (slot_in c.self.inside.slots.entries) (sym (call_is (value_of c.args.next.now)) ∙ sym c.call.ensures) ∙ sym c.slot.ensures
-      ∙ ap (option_map (λ s. s.now)) c.in-Some.is,
-)
+      ∙ ap (option_map (λ s. s.now)) c.in-Some.is;
+  agrees = ap (λ (events : List Event). length events) (sym c.transcript.ensures) ∙ c.if-transcript-slot_count.false;
+}

@@ -1,0 +1,199 @@
+//! `run_tour`: reads a script, its certificate and plans, divided by lines `%%`, runs each plan, and prints a line for each call, or the fault of the run. Its first word
+//! says on how many workers, one where there is none. With a second word, `meet`, calls 1 and 2 wait for each other before their first steps, and a line says whether they met. With
+//! `count` in its place, it prints how many events each run has in place of its lines, for `tools/bench` to time. `stdout` says what it must print for `stdin`.
+#![tactic(auto)]
+
+ghost use Rattle.plans.specs.Accepted.{IsPlanFor};
+
+mod meeting;
+
+use crate::meeting::Meeting;
+use composition::{Checked, Verdict, check};
+use plans::Plan;
+use runner::{Gate, Line, Open, Outcome, RunFault, run};
+use script_table::Script;
+use std::alloc::{AllocError, AllocFailed};
+use std::env;
+use std::io::{self, Read, Write};
+use std::process::ExitCode;
+use std::sync::Wait;
+use std::thread::Threads;
+
+/// Why the tour ends early.
+#[derive(Debug, Drop)]
+enum Failure {
+    /// Memory ran out, or the input isn't what it should be.
+    Refused,
+    /// The input can't be read, or the output can't be written.
+    Device,
+}
+
+impl From<AllocError> for Failure {
+    fn from(_e: AllocError) -> Failure {
+        Failure::Refused
+    }
+}
+
+impl<T: Drop> From<AllocFailed<T>> for Failure {
+    fn from(_e: AllocFailed<T>) -> Failure {
+        Failure::Refused
+    }
+}
+
+impl From<io::Error> for Failure {
+    fn from(_e: io::Error) -> Failure {
+        Failure::Device
+    }
+}
+
+/// What the words ask for.
+#[derive(Clone, Copy, Debug, PartialEq, Eq)]
+enum Kind {
+    Lines,
+    Meet,
+    Count,
+}
+
+/// The name of a state.
+fn name_of(script: &Script, state: u8) -> &str {
+    match script.state(state) {
+        Some(state) => state.name(),
+        None => "-",
+    }
+}
+
+/// The line of a call.
+fn tell_line(rt: &HostRuntime, script: &Script, line: &Line) -> Result<(), Failure> {
+    write!(rt.stdout(), "call {}", line.call)?;
+    if line.begun > 0 {
+        write!(rt.stdout(), ".{}", line.begun)?;
+    }
+    let name = name_of(script, line.state);
+    let word = line.phase.text();
+    writeln!(
+        rt.stdout(),
+        " {name} {word} events={} idle={}",
+        line.events,
+        line.idle
+    )?;
+    Ok(())
+}
+
+/// What a run came to.
+fn tell(
+    rt: &HostRuntime,
+    script: &Script,
+    outcome: &Outcome<'_>,
+    kind: Kind,
+) -> Result<(), Failure> {
+    if kind == Kind::Count {
+        writeln!(rt.stdout(), "{}", outcome.history().len())?;
+        return Ok(());
+    }
+    let lines = outcome.lines(rt.alloc())?;
+    for line in lines.as_slice() {
+        tell_line(rt, script, line)?;
+    }
+    Ok(())
+}
+
+/// A run of a plan.
+fn go<G: Gate, T: Threads + Wait + Sync>(
+    rt: &HostRuntime,
+    threads: &T,
+    checked: &Checked,
+    plan: &Plan,
+    workers: usize,
+    gate: &G,
+    kind: Kind,
+) -> Result<(), Failure>
+    requires { IsPlanFor checked.now.table plan.now }
+{
+    match run(threads, rt.alloc(), checked, plan, workers, gate) {
+        Ok(outcome) => tell(rt, checked.script(), &outcome, kind),
+        Err(fault) => tell_fault(rt, fault),
+    }
+}
+
+/// The fault of a run.
+fn tell_fault(rt: &HostRuntime, fault: RunFault) -> Result<(), Failure> {
+    writeln!(rt.stdout(), "run fault {} {}", fault.number(), fault.name())?;
+    Ok(())
+}
+
+/// A run whose calls 1 and 2 meet.
+fn meet<T: Threads + Wait + Sync>(
+    rt: &HostRuntime,
+    threads: &T,
+    checked: &Checked,
+    plan: &Plan,
+    workers: usize,
+) -> Result<(), Failure>
+    requires { IsPlanFor checked.now.table plan.now }
+{
+    let gate = Meeting::new();
+    go(rt, threads, checked, plan, workers, &gate, Kind::Meet)?;
+    let told = if gate.was_late() { "late" } else { "met" };
+    writeln!(rt.stdout(), "{told}")?;
+    Ok(())
+}
+
+/// A plan for this script, read and run.
+fn tour<T: Threads + Wait + Sync>(
+    rt: &HostRuntime,
+    threads: &T,
+    checked: &Checked,
+    text: &str,
+    workers: usize,
+    kind: Kind,
+) -> Result<(), Failure> {
+    let Ok(plan) = Plan::read(rt.alloc(), text.as_bytes(), checked.script()) else {
+        return Err(Failure::Refused);
+    };
+    match kind {
+        Kind::Meet => meet(rt, threads, checked, &plan, workers),
+        _ => go(rt, threads, checked, &plan, workers, &Open, kind),
+    }
+}
+
+/// What the words ask for.
+fn asked(rt: &HostRuntime) -> Result<(usize, Kind), Failure> {
+    let words: Vec<String> = env::args(rt)?.collect(rt.alloc())?;
+    let Some(workers) = words.as_slice().get(1) else {
+        return Ok((1, Kind::Lines));
+    };
+    let Ok(workers) = workers.as_str().parse() else {
+        return Err(Failure::Refused);
+    };
+    let kind = match words.as_slice().get(2) {
+        None => Kind::Lines,
+        Some(word) if word.as_str() == "meet" => Kind::Meet,
+        Some(_) => Kind::Count,
+    };
+    Ok((workers, kind))
+}
+
+fn all<T: Threads + Wait + Sync>(rt: &HostRuntime, threads: &T) -> Result<(), Failure> {
+    let (workers, kind) = asked(rt)?;
+    let mut text = String::new(rt.alloc());
+    let _read = rt.stdin().read_to_string(&mut text)?;
+    let sections: Vec<&str> = text.as_str().split("\n%%\n").collect(rt.alloc())?;
+    let [script, certificate, plans @ ..] = sections.as_slice() else {
+        return Err(Failure::Refused);
+    };
+    let Ok(Verdict::Yes(checked)) = check(rt.alloc(), script.as_bytes(), certificate.as_bytes())
+    else {
+        return Err(Failure::Refused);
+    };
+    for plan in plans {
+        tour(rt, threads, &checked, plan, workers, kind)?;
+    }
+    Ok(())
+}
+
+fn main(rt: HostRuntime) -> ExitCode {
+    match all(&rt, &rt) {
+        Ok(()) => ExitCode::SUCCESS,
+        Err(_) => ExitCode::FAILURE,
+    }
+}

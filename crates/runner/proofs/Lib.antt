@@ -1,0 +1,12 @@
+pub mod AccountLemmas
+pub mod AgreedTrails
+pub mod ApartParts
+pub mod BeginLemmas
+pub mod CountLemmas
+pub mod FinishedRuns
+pub mod FollowedTrails
+pub mod MergedAssociations
+pub mod MergedParts
+pub mod MergedPlaces
+pub mod PartCalls
+pub mod SameEvents

@@ -1,0 +1,16 @@
+-- What is left of a shard of a run once its threads are joined. A reader should check that it is whatever run of its own, restarted so often, in which no
+-- identifier was wanted in vain. This profile's own.
+use Rattle.std.specs.Prelude.{◌≡◌, ℕ, List, [], ◌∷◌}
+use Rattle.mg_model.specs.Shards.{RunsWithin, restarts_in}
+use Rattle.mg_model.specs.World.{World}
+use Rattle.shards.specs.Shards.{IsShard, IsWorldOf, ShardValue}
+
+-- it kept its run, with identifiers left before each event, and was restarted so often
+pub record IsFinished (restarts : ℕ) (v : ShardValue) : Type 0 where
+  pub kept : IsShard v
+  pub lasted : (w : World) (is : IsWorldOf v w) → RunsWithin v.script v.history is.start w
+  pub restarted : restarts_in v.history ≡ restarts
+
+abbrev pub AreFinished : ℕ → List ShardValue → Type 0
+AreFinished restarts [] = Unit {0}
+AreFinished restarts (v ∷ more) = IsFinished restarts v × AreFinished restarts more

@@ -1,0 +1,55 @@
+//! What a run of a plan came to: one history of all shards, and what each call went through.
+ghost use Rattle.std.specs.Prelude.{◌≡◌, IfOk, length};
+ghost use Rattle.runner.specs.Parts.{of_call};
+
+use crate::compare::{self, push_of};
+use crate::course::{Course, PLAN_CALLS};
+use mg_model::events::Event;
+use mg_names::identifiers::{Assoc, CallNo};
+use std::alloc::{AllocError, Global};
+use std::marker::Model;
+
+/// What a run of a plan came to. This profile's own.
+#[derive(Drop)]
+pub struct Outcome<'s> {
+    /// The association of the gateways at its end.
+    pub(crate) association: Assoc,
+    pub(crate) history: Vec<Event>,
+    pub(crate) courses: Vec<Course<'s>>,
+}
+
+impl<'s> Model for Outcome<'s> {
+    ghost use Rattle.runner.specs.Comparing.{trails_of};
+    ghost use Rattle.runner.specs.Runs.{IsOutcome, OutcomeValue};
+
+    ghost Value = { OutcomeValue };
+
+    ghost view = { λ o. record { history = o.history.items; trails = trails_of o.courses.items } };
+
+    ghost invariant = { λ o. IsOutcome (record { history = o.history.items; trails = trails_of o.courses.items }) };
+}
+
+impl<'s> Outcome<'s> {
+    /// One history of all shards: association by association, in each shard after shard, one restart between two.
+    pub fn history(&self) -> &[Event]
+        ensures { result.now ≡ self.now.history }
+    {
+        self.history.as_slice()
+    }
+
+    /// What happened to a call, in order; nothing where there was none of that number. The `g`th call that began within call `n` of the plan has the number
+    /// 10,000 `g` and `n`. `AllocError` where memory ran out.
+    pub fn transcript(&self, alloc: Global, call: CallNo) -> Result<Vec<Event>, AllocError>
+        ensures { IfOk result (λ events. events.items ≡ of_call call.0 self.now.history) }
+    {
+        let mut events = Vec::new(alloc);
+        let number = (call.0 % PLAN_CALLS) as usize;
+        if number >= self.courses.len() {
+            return Ok(events);
+        }
+        let course = &self.courses[number];
+        push_of(call, course.log.trail.as_slice(), &mut events)?;
+        push_of(call, compare::transcript(&course.next), &mut events)?;
+        Ok(events)
+    }
+}
