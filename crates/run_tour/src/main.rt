@@ -90,8 +90,7 @@ fn tell(
         writeln!(rt.stdout(), "{}", outcome.history().len())?;
         return Ok(());
     }
-    let lines = outcome.lines(rt.alloc())?;
-    for line in lines.as_slice() {
+    for line in outcome.lines() {
         tell_line(rt, script, line)?;
     }
     Ok(())

@@ -14,7 +14,7 @@ use Rattle.mg_model.specs.World.{is_of_call}
 use Rattle.agent.specs.Calls.{value_of}
 use Rattle.runner.specs.Comparing.{Agree, trail_at, trail_of, trails_of}
 use Rattle.runner.specs.Parts.{of_call}
-use Rattle.runner.specs.Runs.{IsOutcome, OutcomeValue, is_within, within}
+use Rattle.runner.specs.Runs.{IsOutcome, is_within, within}
 use Rattle.runner.specs.declared.course.Course.{Course}
 use Rattle.runner.proofs.MergedParts.{merged_alone}
 
@@ -73,25 +73,26 @@ of_call_within call (OfCall c happens ∷ more) =
     by_test false false begun is on = on
 
 -- where the events of each call stand in its trail, a call's events in the history are those in the trail
-pub of_call_in_trail : (v : OutcomeValue) (call : ℕ) → IsOutcome v → of_call call v.history ≡ of_call call (slice_index_or v.trails (call % plan_calls) [])
-of_call_in_trail v call is = sym (of_call_within call v.history) ∙ ap (of_call call) (is (call % plan_calls))
+pub of_call_in_trail : (history : List Event) (trails : List (List Event)) (call : ℕ) → IsOutcome history trails
+    → of_call call history ≡ of_call call (slice_index_or trails (call % plan_calls) [])
+of_call_in_trail history trails call is = sym (of_call_within call history) ∙ ap (of_call call) (is (call % plan_calls))
 
 -- in those of a call of the plan before the one that stands, and in its own
 pub of_call_in_course : (courses : List Course) (history : List Event) (call : ℕ)
-    → IsOutcome (record { history = history; trails = trails_of courses }) → (d : Course) → call % plan_calls < length courses
+    → IsOutcome history (trails_of courses) → (d : Course) → call % plan_calls < length courses
     → (of_call call (get_or courses (call % plan_calls) d).log.trail.items
     ++ of_call call (value_of (get_or courses (call % plan_calls) d).next).transcript) ≡ of_call call history
 of_call_in_course courses history call is d within =
     let course = get_or courses (call % plan_calls) d in
     sym (filter-append (is_of_call call) course.log.trail.items (value_of course.next).transcript)
     ∙ ap (of_call call) (sym (get_or-map trail_of courses (call % plan_calls) d [] within))
-    ∙ sym (of_call_in_trail (record { history = history; trails = trails_of courses }) call is)
+    ∙ sym (of_call_in_trail history (trails_of courses) call is)
 
 -- there are none of a call that was never there
 pub none_past : (courses : List Course) (history : List Event) (call : ℕ)
-    → IsOutcome (record { history = history; trails = trails_of courses }) → length courses ≤ call % plan_calls → of_call call history ≡ []
+    → IsOutcome history (trails_of courses) → length courses ≤ call % plan_calls → of_call call history ≡ []
 none_past courses history call is past =
-    of_call_in_trail (record { history = history; trails = trails_of courses }) call is
+    of_call_in_trail history (trails_of courses) call is
     ∙ ap (of_call call) (past_end (trails_of courses) (call % plan_calls) (omega (arith, past, length-map courses trail_of)))
   where
     past_end : (trails : List (List Event)) (n : ℕ) → length trails ≤ n → slice_index_or trails n [] ≡ []

@@ -24,6 +24,7 @@ use Rattle.runner.specs.Comparing.{Agree}
 use Rattle.runner.specs.Finishing.{AreFinished, IsFinished}
 use Rattle.runner.specs.Kept.{AreKept, IsKept}
 use Rattle.runner.specs.Parts.{ArePartsFrom, IsPart, numbers_in, opened_calls}
+use Rattle.runner.specs.ReportLines.{IsReportOf, line_of}
 use Rattle.runner.specs.Runs.{IsOutcome, IsRunOf, OutcomeValue, is_within, within}
 use Rattle.runner.proofs.AgreedTrails.{trails_agree}
 use Rattle.runner.proofs.ApartParts.{part_numbered, shards_apart}
@@ -187,8 +188,9 @@ module _ (script : Script) (plan : Plan) (restarts : ℕ) (few : length plan.cal
 
   pub is_run : MergesAreRuns → (vs : List ShardValue) (v : OutcomeValue) → IsPlanFor script plan → length vs ≡ plan.shards
       → AreKept script plan.calls plan.shards 0 vs → (all : AreFinished restarts vs) → Agree plan.shards (map (λ w. w.history) vs) v.trails
-      → v.history ≡ merged (map cut_at_restarts (map (λ w. w.history) vs)) restarts → length v.trails ≡ length plan.calls → IsRunOf script plan v
-  is_run law vs v is sized kept all agree merges calls =
+      → v.history ≡ merged (map cut_at_restarts (map (λ w. w.history) vs)) restarts → length v.trails ≡ length plan.calls
+      → IsReportOf script plan (map (line_of script) v.lines) → IsRunOf script plan v
+  is_run law vs v is sized kept all agree merges calls report =
       let shards = shards_from plan.shards restarts 0 vs all in
       let counted : length shards ≡ plan.shards = all_shards plan.shards restarts 0 vs all ∙ sized in
       let some : 0 < plan.shards = omega (arith, is.some_shard) in
@@ -213,15 +215,16 @@ module _ (script : Script) (plan : Plan) (restarts : ℕ) (few : length plan.cal
         end = run.end;
         opens = opens;
         runs = subst (λ (history : List Event). Runs script history run.start run.end) (sym whole) run.runs;
+        report = report;
         good = λ before later w split runs. of_script.1 (opened_calls 0 plan.calls) before run.start w opens runs;
       }
 
 -- each call's events in the one history are its trail
-pub is_outcome : (plan : Plan) (restarts : ℕ) (vs : List ShardValue) (v : OutcomeValue) → 0 < plan.shards → length vs ≡ plan.shards → AreFinished restarts vs
-    → Agree plan.shards (map (λ w. w.history) vs) v.trails → v.history ≡ merged (map cut_at_restarts (map (λ w. w.history) vs)) restarts → IsOutcome v
-is_outcome plan restarts vs v some sized all agree merges number =
+pub is_outcome : (plan : Plan) (restarts : ℕ) (vs : List ShardValue) (history : List Event) (trails : List (List Event)) → 0 < plan.shards → length vs ≡ plan.shards → AreFinished restarts vs
+    → Agree plan.shards (map (λ w. w.history) vs) trails → history ≡ merged (map cut_at_restarts (map (λ w. w.history) vs)) restarts → IsOutcome history trails
+is_outcome plan restarts vs history trails some sized all agree merges number =
     ap (within number) merges
-    ∙ trails_agree plan.shards restarts (map (λ w. w.history) vs) v.trails (length-map vs (λ w. w.history) ∙ sized) some (restarted vs all) agree number
+    ∙ trails_agree plan.shards restarts (map (λ w. w.history) vs) trails (length-map vs (λ w. w.history) ∙ sized) some (restarted vs all) agree number
   where
     restarted : (ws : List ShardValue) → AreFinished restarts ws → (history : List Event) → Contains (map (λ w. w.history) ws) history
         → restarts_in history ≡ restarts

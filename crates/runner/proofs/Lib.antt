@@ -1,5 +1,7 @@
 pub mod AccountLemmas
+pub mod AgentEvents
 pub mod AgreedTrails
+pub mod AloneSteps
 pub mod ApartParts
 pub mod BeginLemmas
 pub mod CountLemmas
@@ -8,5 +10,9 @@ pub mod FollowedTrails
 pub mod MergedAssociations
 pub mod MergedParts
 pub mod MergedPlaces
+pub mod OpenedAlone
 pub mod PartCalls
+pub mod Replayed
+pub mod ReportedAlone
 pub mod SameEvents
+pub mod TurnLemmas

@@ -5,4 +5,7 @@ pub mod Kept
 pub mod Merging
 pub mod Parts
 pub mod Passing
+pub mod Replays
+pub mod ReportLines
 pub mod Runs
+pub mod Turns

@@ -1,6 +1,6 @@
 -- A run of a plan that ends well: what its outcome shows. A reader should check that one history is a run of the plan's calls, in which every world is good,
 -- that it is the merge of what happened in the shards, and that what happened to each call of the plan stands in it, each event once and in order. This profile's own.
-use Rattle.std.specs.Prelude.{◌≡◌, ℕ, ◌<◌, ◌≤◌, ◌%◌, ◌==◌, Bool, false, List, [], ◌++◌, length, slice_index_or, Contains, Result, Ok, Err}
+use Rattle.std.specs.Prelude.{◌≡◌, ℕ, ◌<◌, ◌≤◌, ◌%◌, ◌==◌, Bool, false, List, [], ◌++◌, length, map, slice_index_or, Contains, Result, Ok, Err}
 use Rattle.std.specs.List.{filter}
 use Rattle.mg_model.specs.declared.events.Event.{Event}
 use Rattle.mg_model.specs.declared.events.Event.TheVariants.{OfCall, Restart}
@@ -10,6 +10,8 @@ use Rattle.mg_model.specs.Script.{Script}
 use Rattle.mg_model.specs.Shards.{Shard, IsShardRun, histories, merged, restarts_in}
 use Rattle.mg_model.specs.World.{World, IsGood, IsOpening, Runs}
 use Rattle.runner.specs.Parts.{ArePartsFrom, opened_calls}
+use Rattle.runner.specs.ReportLines.{IsReportOf, line_of}
+use Rattle.runner.specs.declared.report.Line.{Line}
 use Rattle.runner.specs.declared.fault.RunFault.{RunFault}
 use Rattle.runner.specs.declared.fault.RunFault.TheVariants.{BadWorkers, TooManyCalls, Disagree, NoMemory}
 
@@ -20,6 +22,8 @@ pub record OutcomeValue : Type 0 where
   pub history : List Event
   -- what happened to each call of the plan, with all that began within it
   pub trails : List (List Event)
+  -- the report
+  pub lines : List Line
 
 -- an event of a call of the plan with this number, or of one that began within it
 abbrev pub is_within : ℕ → Event → Bool
@@ -32,14 +36,14 @@ within number history = filter (is_within number) history
 -- ---- what its type keeps
 
 -- each event of a call stands in one of the trails, in order
-abbrev pub IsOutcome : OutcomeValue → Type 0
-IsOutcome v = (number : ℕ) → within number v.history ≡ slice_index_or v.trails number []
+abbrev pub IsOutcome : (history : List Event) → (trails : List (List Event)) → Type 0
+IsOutcome history trails = (number : ℕ) → within number history ≡ slice_index_or trails number []
 
 -- ---- a run
 
 -- each shard is a run from an opening of its part of the calls, on its class of identifiers, and all were restarted equally often. Their merge is the history:
 -- association by association, in each shard after shard, one restart between two. It is a run of the plan's calls, and so is each beginning of it, and
--- each leads to a good world
+-- each leads to a good world. Its lines are the plan's report
 pub record IsRunOf (script : Script) (plan : Plan) (v : OutcomeValue) : Type 0 where
   pub all_calls : length v.trails ≡ length plan.calls
   pub shards : List Shard
@@ -52,6 +56,7 @@ pub record IsRunOf (script : Script) (plan : Plan) (v : OutcomeValue) : Type 0 w
   pub end : World
   pub opens : IsOpening script (opened_calls 0 plan.calls) start
   pub runs : Runs script v.history start end
+  pub report : IsReportOf script plan (map (line_of script) v.lines)
   pub good : (before later : List Event) (w : World) → v.history ≡ before ++ later → Runs script before start w → IsGood script w
 
 -- ---- the answer

@@ -1,4 +1,7 @@
 //! A call of the plan on its way through a run, with all that begin within it.
+ghost use Rattle.std.specs.Prelude.{◌≡◌, ◌+◌, IfSome};
+ghost use Rattle.mg_model.specs.Numbers.{plan_calls};
+
 use crate::fault::RunFault;
 use crate::kept::Kept;
 use crate::running::Running;
@@ -47,6 +50,13 @@ pub(crate) struct Course<'s> {
     pub(crate) log: Log,
 }
 
+/// The number of the next call to begin within a call of the plan, behind the one that stands; nothing where the numbers end.
+pub(crate) fn number_after(standing: CallNo) -> Option<CallNo>
+    ensures { IfSome result (λ next. next.0 ≡ standing.0 + plan_calls) }
+{
+    Some(CallNo(standing.0.checked_add(PLAN_CALLS)?))
+}
+
 impl Log {
     /// The log of a call of the plan that opens.
     pub(crate) fn new(alloc: Global, call: CallNo) -> Log {
@@ -58,11 +68,6 @@ impl Log {
             marks: Vec::new(alloc),
             place: 0,
         }
-    }
-
-    /// The number of the next call to begin within the call of the plan; nothing where there is none.
-    fn next_number(&self) -> Option<CallNo> {
-        Some(CallNo(self.standing.0.checked_add(PLAN_CALLS)?))
     }
 
     /// Another call begins on the lines of the one that stands.
@@ -109,7 +114,7 @@ impl<'s> Course<'s> {
         let Ok(()) = log.marks.push(kept.association()) else {
             return (Course { next, log }, Err(RunFault::NoMemory));
         };
-        let Some(begins) = log.next_number() else {
+        let Some(begins) = number_after(log.standing) else {
             return (Course { next, log }, Err(RunFault::Disagree));
         };
         let Some(event) = kept.meaning(log.standing, begins, step) else {

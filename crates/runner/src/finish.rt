@@ -15,6 +15,7 @@ use crate::fault::RunFault;
 use crate::kept::Kept;
 use crate::merge::merge;
 use crate::outcome::Outcome;
+use crate::reporting::report;
 use crate::running::Running;
 use composition::Checked;
 use mg_merge::laws::merges_are_runs;
@@ -155,10 +156,11 @@ pub(crate) fn finish<'s>(
     let Ok(history) = merge(alloc, histories.as_slice(), restarts) else {
         return Err(RunFault::NoMemory);
     };
-    let association = association_after(restarts);
+    let last = association_after(restarts);
+    let report = report(alloc, checked, plan, courses.as_slice(), last)?;
     Ok(Outcome {
-        association,
         history,
+        report,
         courses,
     })
 }

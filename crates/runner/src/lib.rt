@@ -2,6 +2,7 @@
 //! in which every world is good, and what each call went through. What threads did is established after they are joined, from data.
 #![tactic(auto)]
 
+mod alone;
 mod compare;
 mod course;
 mod epoch;
@@ -13,9 +14,12 @@ mod merge;
 mod opening;
 mod outcome;
 mod places;
+mod replay;
 mod report;
+mod reporting;
 mod running;
 mod site;
+mod turns;
 mod whole;
 mod worker;
 

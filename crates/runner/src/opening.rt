@@ -20,7 +20,11 @@ use std::alloc::{AllocError, Global};
 use std::sync::Mutex;
 
 /// A call of the plan, as a shard opens with it.
-fn opened_call(alloc: Global, number: u32, call: &PlanCall) -> Result<OpenedCall, AllocError>
+pub(crate) fn opened_call(
+    alloc: Global,
+    number: u32,
+    call: &PlanCall,
+) -> Result<OpenedCall, AllocError>
     ensures { IfOk result (λ one. opened_as one ≡ plans.opened_as number call.now) }
 {
     let mut lines = Vec::new(alloc);

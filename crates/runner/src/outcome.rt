@@ -4,17 +4,17 @@ ghost use Rattle.runner.specs.Parts.{of_call};
 
 use crate::compare::{self, push_of};
 use crate::course::{Course, PLAN_CALLS};
+use crate::report::Line;
 use mg_model::events::Event;
-use mg_names::identifiers::{Assoc, CallNo};
+use mg_names::identifiers::CallNo;
 use std::alloc::{AllocError, Global};
 use std::marker::Model;
 
 /// What a run of a plan came to. This profile's own.
 #[derive(Drop)]
 pub struct Outcome<'s> {
-    /// The association of the gateways at its end.
-    pub(crate) association: Assoc,
     pub(crate) history: Vec<Event>,
+    pub(crate) report: Vec<Line>,
     pub(crate) courses: Vec<Course<'s>>,
 }
 
@@ -24,12 +24,19 @@ impl<'s> Model for Outcome<'s> {
 
     ghost Value = { OutcomeValue };
 
-    ghost view = { λ o. record { history = o.history.items; trails = trails_of o.courses.items } };
+    ghost view = { λ o. record { history = o.history.items; trails = trails_of o.courses.items; lines = o.report.items } };
 
-    ghost invariant = { λ o. IsOutcome (record { history = o.history.items; trails = trails_of o.courses.items }) };
+    ghost invariant = { λ o. IsOutcome o.history.items (trails_of o.courses.items) };
 }
 
 impl<'s> Outcome<'s> {
+    /// A line for each call of the plan, in its order, with those of the calls that began within it behind its own.
+    pub fn lines(&self) -> &[Line]
+        ensures { result.now ≡ self.now.lines }
+    {
+        self.report.as_slice()
+    }
+
     /// One history of all shards: association by association, in each shard after shard, one restart between two.
     pub fn history(&self) -> &[Event]
         ensures { result.now ≡ self.now.history }

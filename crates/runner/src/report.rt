@@ -1,6 +1,12 @@
 //! Where the calls of a run are at its end: a line for each call of the plan, and for each that began within it.
-use crate::course::{Course, Gone};
-use crate::outcome::Outcome;
+ghost use Rattle.std.specs.Prelude.{◌≡◌, ◌++◌, ◌∷◌, [], IfOk, OnOk, length, map};
+ghost use Rattle.mg_model.specs.Script.{Script};
+ghost use Rattle.agent.specs.AgentValue.{agent_of};
+ghost use Rattle.agent.specs.Calls.{value_of, variant_of};
+ghost use Rattle.runner.specs.ReportLines.{gone_line, kind_phase, line_of, lines_told, phase_text, standing_line};
+
+use crate::compare::transcript;
+use crate::course::Gone;
 use agent::Next;
 use mg_names::identifiers::Assoc;
 use std::alloc::{AllocError, Global};
@@ -39,7 +45,9 @@ pub struct Line {
 
 impl CallPhase {
     /// The word for it in a report.
-    pub fn text(self) -> &'static str {
+    pub fn text(self) -> &'static str
+        ensures { result.now ≡ phase_text self }
+    {
         match self {
             CallPhase::Lost => "lost",
             CallPhase::Resting => "resting",
@@ -50,60 +58,59 @@ impl CallPhase {
     }
 }
 
-/// The association of a call, its state, where it is in that association, and how many events happened to it.
-fn shown(next: &Next<'_>) -> (Assoc, u8, CallPhase, usize) {
+/// Where a call that stands is in its own association.
+fn phase_of(next: &Next<'_>) -> CallPhase
+    ensures { result ≡ kind_phase (variant_of next.now) }
+{
     match next {
-        Next::Resting(call) => (
-            call.association(),
-            call.state(),
-            CallPhase::Resting,
-            call.transcript().len(),
-        ),
-        Next::Waiting(call) => (
-            call.association(),
-            call.state(),
-            CallPhase::Waiting,
-            call.transcript().len(),
-        ),
-        Next::Ended(call) => (
-            call.association(),
-            call.state(),
-            CallPhase::Ended,
-            call.transcript().len(),
-        ),
+        Next::Resting(_) => CallPhase::Resting,
+        Next::Waiting(_) => CallPhase::Waiting,
+        Next::Ended(_) => CallPhase::Ended,
     }
 }
 
-/// The line of the call that stands, where its gateway is in an association.
-fn line_now(course: &Course<'_>, call: u32, association: Assoc) -> Line {
-    let (own, state, phase, events) = shown(&course.next);
+/// The association and the state of a call that stands.
+fn place_of(next: &Next<'_>) -> (Assoc, u8)
+    ensures association { result.0.0 ≡ (agent_of (value_of next.now).agent).association }
+    ensures state { result.1 ≡ (agent_of (value_of next.now).agent).state }
+{
+    match next {
+        Next::Resting(call) => (call.association(), call.state()),
+        Next::Waiting(call) => (call.association(), call.state()),
+        Next::Ended(call) => (call.association(), call.state()),
+    }
+}
+
+/// The line of the call that stands, the latest that began within a call of the plan, where its gateway is in an association.
+fn standing(call: u32, begun: usize, next: &Next<'_>, idle: usize, association: Assoc) -> Line
+    ensures { (script : Script) → line_of script result ≡ standing_line script next.now idle association.0 }
+{
+    let (own, state) = place_of(next);
+    let phase = if own == association {
+        phase_of(next)
+    } else {
+        CallPhase::Lost
+    };
     Line {
         call,
-        begun: course.log.gone.len(),
+        begun,
         state,
-        phase: if own == association {
-            phase
-        } else {
-            CallPhase::Lost
-        },
-        events,
-        idle: course.log.idle,
+        phase,
+        events: transcript(next).len(),
+        idle,
     }
 }
 
-/// Adds the lines of a call of the plan and of those that began within it.
-fn push_lines(
-    lines: &mut Vec<Line>,
-    course: &Course<'_>,
-    call: u32,
-    association: Assoc,
-) -> Result<(), AllocError> {
-    for (begun, gone) in course.log.gone.as_slice().iter().enumerate() {
+/// Adds the lines of those that others began on.
+fn push_gone(lines: &mut Vec<Line>, call: u32, gone: &[Gone]) -> Result<(), AllocError>
+    ensures { OnOk result ((script : Script) → map (line_of script) lines.new.items ≡ map (line_of script) lines.old.items ++ map (gone_line script) gone.now) }
+{
+    for (begun, one) in gone.iter().enumerate() {
         let Gone {
             state,
             events,
             idle,
-        } = *gone;
+        } = *one;
         lines.push(Line {
             call,
             begun,
@@ -113,19 +120,22 @@ fn push_lines(
             idle,
         })?;
     }
-    lines.push(line_now(course, call, association))?;
     Ok(())
 }
 
-impl<'s> Outcome<'s> {
-    /// A line for each call of the plan, in its order, with those of the calls that began within it behind its own. `AllocError` where memory ran out.
-    pub fn lines(&self, alloc: Global) -> Result<Vec<Line>, AllocError> {
-        let mut lines = Vec::new(alloc);
-        let mut call: u32 = 0;
-        for course in self.courses.as_slice() {
-            push_lines(&mut lines, course, call, self.association)?;
-            call = call.saturating_add(1);
-        }
-        Ok(lines)
-    }
+/// The lines of a call of the plan and of those that began within it.
+pub(crate) fn lines_of(
+    alloc: Global,
+    call: u32,
+    gone: &[Gone],
+    next: &Next<'_>,
+    idle: usize,
+    association: Assoc,
+) -> Result<Vec<Line>, AllocError>
+    ensures { IfOk result (λ lines. (script : Script) → map (line_of script) lines.items ≡ lines_told script gone.now next.now idle association.0) }
+{
+    let mut lines = Vec::new(alloc);
+    push_gone(&mut lines, call, gone)?;
+    lines.push(standing(call, gone.len(), next, idle, association))?;
+    Ok(lines)
 }

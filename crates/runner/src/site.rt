@@ -19,7 +19,7 @@ pub(crate) struct Site<'a, 's, G, B: Running> {
 }
 
 /// The fault of a run in which a shard doesn't restart. That there is no association left can't come of a plan, which has too few restarts for it.
-fn fault_of(fault: RestartFault) -> RunFault {
+pub(crate) fn fault_of(fault: RestartFault) -> RunFault {
     match fault {
         RestartFault::NoMemory => RunFault::NoMemory,
         RestartFault::CannotHappen => RunFault::Disagree,

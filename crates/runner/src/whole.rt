@@ -13,6 +13,7 @@ use crate::opening::open_all;
 use crate::outcome::Outcome;
 use crate::running::Running;
 use crate::site::{Site, restart_all};
+use crate::turns::epochs_of;
 use composition::Checked;
 use plans::Plan;
 use std::alloc::Global;
@@ -25,15 +26,6 @@ const MOST_CALLS: usize = 10_000;
 
 /// The most workers of a run.
 const MOST_WORKERS: usize = 64;
-
-/// As many epochs as the plan's longest call has.
-fn epochs_of(plan: &Plan) -> usize {
-    let mut most = 0;
-    for call in plan.calls() {
-        most = most.max(call.epochs().len());
-    }
-    most
-}
 
 /// All epochs of the plan, with a restart of every shard between two. All workers of an epoch are joined before it.
 fn pass_all<'s, G: Gate, B: Running + Send + Sync, R: Threads + Wait + Sync>(

@@ -29,7 +29,7 @@ invariant_of-result c =
     ∙ ap (λ hs. merged (map cut_at_restarts (map (λ history. history.now) hs)) restarts) c.as_slice-2.ensures.value
     ∙ ap (λ (hs : List (List Event)). merged (map cut_at_restarts hs) restarts) c.in-Ok-histories.ensures in
     let some : 0 < plan.shards = omega (arith, c.requires.plan.some_shard) in
-    is_outcome plan restarts shards (record { history = c.in-Ok-merge.history.items; trails = trails_of courses }) some sized all agree merges
+    is_outcome plan restarts shards c.in-Ok-merge.history.items (trails_of courses) some sized all agree merges
 
 pub returns : goal.returns
 returns c =
@@ -52,4 +52,5 @@ returns c =
     let calls : length (trails_of courses) ≡ length plan.calls =
     length-map courses trail_of ∙ (let same : length courses ≡ length plan.calls = omega (arith, c.requires.all, c.args.courses.ok.0) in same) in
     is_run c.args.checked.now.table plan restarts c.requires.few c.merges_are_runs.ensures shards
-    (record { history = c.in-Ok-merge.history.items; trails = trails_of courses }) c.requires.plan sized c.requires.kept all agree merges calls
+    (record { history = c.in-Ok-merge.history.items; trails = trails_of courses; lines = c.in_ok-report.report.items }) c.requires.plan sized c.requires.kept all agree merges calls
+    c.in_ok-report.ensures

@@ -1,0 +1,103 @@
+-- What is told of a call alone is a report's.
+use Rattle.std.proofs.Common.{◌≡◌, ◌∙◌, ◌==◌, ◌+◌, ◌++◌, ℕ, Bool, true, false, List, [], ◌∷◌, length, if◌then◌else◌, refl, sym, ap, subst, arith}
+use Rattle.std.specs.List.{flat_map}
+use Rattle.std.proofs.lemmas.List.{append-nil, append_assoc}
+use Rattle.mg_model.specs.declared.plans.PlanStep.{PlanStep}
+use Rattle.mg_model.specs.Agent.{Agent, Phase, awaits_reply, awaits_pass, resting, is_resting}
+use Rattle.mg_model.specs.Plans.{Plan, PlanCall, epochs_of, opened_as, restarts_of_others, steps_in}
+use Rattle.mg_model.specs.Reports.{AreReported, IsReported, ReportLine, line_now, phase_word}
+use Rattle.mg_model.specs.Script.{Script}
+use Rattle.mg_model.specs.Tables.{state_of}
+use Rattle.mg_model.specs.World.{Opened}
+use Rattle.agent.specs.AgentValue.{agent_of}
+use Rattle.agent.specs.CallValue.{Kind, rests, waits, has_ended, kind_in}
+use Rattle.agent.specs.Calls.{value_of, variant_of}
+use Rattle.gateway.specs.GatewayValue.{gateway_of}
+use Rattle.shards.specs.Shards.{ShardValue}
+use Rattle.runner.specs.ReportLines.{lines_told, phase_in, phase_text, standing_line}
+use Rattle.runner.specs.Replays.{IsAlone}
+use Rattle.runner.specs.declared.alone.Alone.{Alone}
+
+word_is : (test is_end : Bool) (phase : Phase)
+    → phase_text (phase_in test (if is_resting phase then (if is_end then has_ended else rests) else waits)) ≡ phase_word test is_end phase
+word_is false is_end phase = refl
+word_is true is_end (awaits_reply request) = refl
+word_is true is_end awaits_pass = refl
+word_is true true resting = refl
+word_is true false resting = refl
+
+abbrev line : Script → ℕ → List ℕ → ℕ → ℕ → ReportLine
+line script state phase events idle = record { state = (state_of script state).name; phase = phase; events = events; idle = idle }
+
+module _ (script : Script) (one : Opened) (steps : List PlanStep) (v : ShardValue) (a : Alone) (is : IsAlone script one steps v a) (association : ℕ)
+    (now : association ≡ v.gateway.association) where
+  abbrev agent : Agent
+  agent = agent_of (value_of a.next).agent
+
+  same_association : association ≡ is.at.world.gateway.association
+  unfolding gateway_of
+  same_association = now ∙ sym (ap (λ g. g.association) is.shows.shows.gateway)
+
+  phase_is : phase_text (phase_in (agent.association == association) (variant_of a.next))
+      ≡ phase_word (agent.association == is.at.world.gateway.association) (state_of script agent.state).is_end agent.phase
+  phase_is =
+      ap (λ (n : ℕ). phase_text (phase_in (agent.association == n) (variant_of a.next))) same_association
+      ∙ ap (λ (k : Kind). phase_text (phase_in (agent.association == is.at.world.gateway.association) k))
+      (is.kind ∙ ap (λ (s : Script). kind_in s agent) is.call_script)
+      ∙ word_is (agent.association == is.at.world.gateway.association) (state_of script agent.state).is_end agent.phase
+
+  line_is : standing_line script a.next a.idle association ≡ line_now script agent is.at
+  line_is =
+      ap (λ (phase : List ℕ). line script agent.state phase (length (value_of a.next).transcript) a.idle) phase_is
+      ∙ ap (λ (n : ℕ). line script agent.state
+      (phase_word (agent.association == is.at.world.gateway.association) (state_of script agent.state).is_end agent.phase) n a.idle) is.events
+      ∙ ap (λ (n : ℕ). line script agent.state
+      (phase_word (agent.association == is.at.world.gateway.association) (state_of script agent.state).is_end agent.phase) is.at.events n) is.idle
+
+  pub reported : (lines : List ReportLine) → lines ≡ lines_told script a.gone.items a.next a.idle association → IsReported script one steps a.others lines
+  reported lines told = record {
+    placed = is.placed;
+    placing = is.placing;
+    start = is.start;
+    end = is.at;
+    agent = agent;
+    opens = is.opens;
+    every_number = is.every_number;
+    runs = is.runs;
+    stands = is.stands;
+    lines_are = told ∙ ap (λ (gone : List ReportLine). gone ++ standing_line script a.next a.idle association ∷ []) is.gone
+        ∙ ap (λ (last : ReportLine). is.at.retired ++ last ∷ []) line_is;
+  }
+
+-- ---- all calls of a plan
+
+module _ (script : Script) (plan : Plan) where
+  abbrev pub Reported : ℕ → PlanCall → List ReportLine → Type 0
+  Reported number call lines =
+      IsReported script (opened_as number call) (steps_in (epochs_of plan.calls) call.epochs) (restarts_of_others plan call) lines
+
+  -- one call more
+  pub reported_more : (number : ℕ) (calls : List PlanCall) (all : List (List ReportLine)) (call : PlanCall) (lines : List ReportLine)
+      → AreReported script plan number calls all → Reported (number + length calls) call lines
+      → AreReported script plan number (calls ++ call ∷ []) (all ++ lines ∷ [])
+  unfolding AreReported
+  reported_more number [] [] call lines are is =
+      (subst (λ (n : ℕ). Reported n call lines) (let same : number + 0 ≡ number = omega arith in same) is, tt)
+  reported_more number (first ∷ calls) (own ∷ all) call lines (one, are) is = (
+    one,
+    reported_more (number + 1) calls all call lines are
+        (subst (λ (n : ℕ). Reported n call lines) (let same : number + length (first ∷ calls) ≡ number + 1 + length calls = omega arith in same) is),
+  )
+  reported_more number [] (own ∷ all) call lines are is = absurd are
+  reported_more number (first ∷ calls) [] call lines are is = absurd are
+
+  pub none_reported : (number : ℕ) → AreReported script plan number [] []
+  unfolding AreReported
+  none_reported number = tt
+
+-- the lines of all, and those of one call more
+pub lines_more : (all : List (List ReportLine)) (lines : List ReportLine)
+    → flat_map (λ (own : List ReportLine). own) (all ++ lines ∷ []) ≡ flat_map (λ (own : List ReportLine). own) all ++ lines
+lines_more [] lines = append-nil lines
+lines_more (own ∷ all) lines =
+    ap (λ (rest : List ReportLine). own ++ rest) (lines_more all lines) ∙ sym (append_assoc own (flat_map (λ (own : List ReportLine). own) all) lines)

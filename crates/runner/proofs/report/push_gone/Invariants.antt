@@ -1,0 +1,9 @@
+-- The lines of those so far.
+use Rattle.std.proofs.Common.{◌≡◌, ◌++◌, map, take}
+use Rattle.mg_model.specs.Script.{Script}
+use Rattle.runner.specs.ReportLines.{gone_line, line_of}
+use Rattle.runner.proofs.report.push_gone.Given as goal
+
+abbrev pub invariant-loop-begun : goal.invariant-loop-begun
+invariant-loop-begun l =
+    (script : Script) → map (line_of script) l.lines.items ≡ map (line_of script) l.fn.lines.items ++ map (gone_line script) (take l.begun l.gone)

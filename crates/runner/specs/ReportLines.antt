@@ -1,0 +1,63 @@
+-- The lines that a run tells, as the report has them. This profile's own.
+use Rattle.std.specs.Prelude.{◌≡◌, ℕ, ◌==◌, Bool, List, [], ◌∷◌, ◌++◌, length, map, codes, if◌then◌else◌}
+use Rattle.std.specs.List.{flat_map}
+use Rattle.mg_model.specs.Plans.{Plan}
+use Rattle.mg_model.specs.Reports.{IsReport, ReportLine}
+use Rattle.mg_model.specs.Script.{Script}
+use Rattle.mg_model.specs.Tables.{state_of}
+use Rattle.agent.specs.AgentValue.{agent_of}
+use Rattle.agent.specs.CallValue.{Kind, rests, waits, has_ended}
+use Rattle.agent.specs.Calls.{value_of, variant_of}
+use Rattle.agent.specs.declared.call.Next.{Next}
+use Rattle.runner.specs.declared.course.Gone.{Gone}
+use Rattle.runner.specs.declared.report.CallPhase.{CallPhase}
+use Rattle.runner.specs.declared.report.CallPhase.TheVariants.{Lost, Resting, Waiting, Ended, Retired}
+use Rattle.runner.specs.declared.report.Line.{Line}
+
+-- the word for it
+abbrev pub phase_text : CallPhase → List ℕ
+phase_text Lost = codes "lost"
+phase_text Resting = codes "resting"
+phase_text Waiting = codes "waiting"
+phase_text Ended = codes "ended"
+phase_text Retired = codes "retired"
+
+-- a line, with its state by name
+abbrev pub line_of : Script → Line → ReportLine
+line_of script l = record { state = (state_of script l.state).name; phase = phase_text l.phase; events = l.events; idle = l.idle }
+
+-- the line of a call that another has begun on
+abbrev pub gone_line : Script → Gone → ReportLine
+gone_line script g = record { state = (state_of script g.state).name; phase = codes "retired"; events = g.events; idle = g.idle }
+
+abbrev pub kind_phase : Kind → CallPhase
+kind_phase rests = Resting
+kind_phase waits = Waiting
+kind_phase has_ended = Ended
+
+abbrev pub phase_in : Bool → Kind → CallPhase
+phase_in is_current kind = if is_current then kind_phase kind else Lost
+
+-- the line of a call that stands, where its gateway is in this association
+abbrev pub standing_line : Script → Next → (idle association : ℕ) → ReportLine
+standing_line script next idle association =
+    let agent = agent_of (value_of next).agent in
+    record {
+      state = (state_of script agent.state).name;
+      phase = phase_text (phase_in (agent.association == association) (variant_of next));
+      events = length (value_of next).transcript;
+      idle = idle;
+    }
+
+-- those of a call of the plan, with all that began within it
+abbrev pub lines_told : Script → List Gone → Next → (idle association : ℕ) → List ReportLine
+lines_told script gone next idle association = map (gone_line script) gone ++ standing_line script next idle association ∷ []
+
+-- the lines of these calls, one call after the other, are the report of the plan
+abbrev pub all_lines : List (List ReportLine) → List ReportLine
+all_lines lines = flat_map (λ (own : List ReportLine). own) lines
+
+pub record IsReportOf (script : Script) (plan : Plan) (lines : List ReportLine) : Type 0 where
+  pub of_calls : List (List ReportLine)
+  pub reported : IsReport script plan of_calls
+  pub are : lines ≡ all_lines of_calls
