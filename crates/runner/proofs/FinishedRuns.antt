@@ -24,7 +24,7 @@ use Rattle.runner.specs.Comparing.{Agree}
 use Rattle.runner.specs.Finishing.{AreFinished, IsFinished}
 use Rattle.runner.specs.Kept.{AreKept, IsKept}
 use Rattle.runner.specs.Parts.{ArePartsFrom, IsPart, numbers_in, opened_calls}
-use Rattle.runner.specs.ReportLines.{IsReportOf, line_of}
+use Rattle.runner.specs.ReportLines.{IsReportOf}
 use Rattle.runner.specs.Runs.{IsOutcome, IsRunOf, OutcomeValue, is_within, within}
 use Rattle.runner.proofs.AgreedTrails.{trails_agree}
 use Rattle.runner.proofs.ApartParts.{part_numbered, shards_apart}
@@ -189,7 +189,7 @@ module _ (script : Script) (plan : Plan) (restarts : ℕ) (few : length plan.cal
   pub is_run : MergesAreRuns → (vs : List ShardValue) (v : OutcomeValue) → IsPlanFor script plan → length vs ≡ plan.shards
       → AreKept script plan.calls plan.shards 0 vs → (all : AreFinished restarts vs) → Agree plan.shards (map (λ w. w.history) vs) v.trails
       → v.history ≡ merged (map cut_at_restarts (map (λ w. w.history) vs)) restarts → length v.trails ≡ length plan.calls
-      → IsReportOf script plan (map (line_of script) v.lines) → IsRunOf script plan v
+      → IsReportOf script plan v.lines → IsRunOf script plan v
   is_run law vs v is sized kept all agree merges calls report =
       let shards = shards_from plan.shards restarts 0 vs all in
       let counted : length shards ≡ plan.shards = all_shards plan.shards restarts 0 vs all ∙ sized in

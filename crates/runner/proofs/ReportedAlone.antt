@@ -1,7 +1,7 @@
 -- What is told of a call alone is a report's.
-use Rattle.std.proofs.Common.{◌≡◌, ◌∙◌, ◌==◌, ◌+◌, ◌++◌, ℕ, Bool, true, false, List, [], ◌∷◌, length, if◌then◌else◌, refl, sym, ap, subst, arith}
+use Rattle.std.proofs.Common.{◌≡◌, ◌∙◌, ◌==◌, ◌+◌, ◌++◌, ℕ, suc, zero, Bool, true, false, List, [], ◌∷◌, length, map, if◌then◌else◌, refl, sym, ap, subst, arith}
 use Rattle.std.specs.List.{flat_map}
-use Rattle.std.proofs.lemmas.List.{append-nil, append_assoc}
+use Rattle.std.proofs.lemmas.List.{append-nil, append_assoc, length-append, length-map, map-append}
 use Rattle.mg_model.specs.declared.plans.PlanStep.{PlanStep}
 use Rattle.mg_model.specs.Agent.{Agent, Phase, awaits_reply, awaits_pass, resting, is_resting}
 use Rattle.mg_model.specs.Plans.{Plan, PlanCall, epochs_of, opened_as, restarts_of_others, steps_in}
@@ -14,9 +14,10 @@ use Rattle.agent.specs.CallValue.{Kind, rests, waits, has_ended, kind_in}
 use Rattle.agent.specs.Calls.{value_of, variant_of}
 use Rattle.gateway.specs.GatewayValue.{gateway_of}
 use Rattle.shards.specs.Shards.{ShardValue}
-use Rattle.runner.specs.ReportLines.{lines_told, phase_in, phase_text, standing_line}
+use Rattle.runner.specs.ReportLines.{AreAllNumbered, AreNumbered, lines_told, number_of, numbers_from, phase_in, phase_text, standing_line}
 use Rattle.runner.specs.Replays.{IsAlone}
 use Rattle.runner.specs.declared.alone.Alone.{Alone}
+use Rattle.runner.specs.declared.report.Line.{Line}
 
 word_is : (test is_end : Bool) (phase : Phase)
     → phase_text (phase_in test (if is_resting phase then (if is_end then has_ended else rests) else waits)) ≡ phase_word test is_end phase
@@ -95,9 +96,59 @@ module _ (script : Script) (plan : Plan) where
   unfolding AreReported
   none_reported number = tt
 
+-- ---- numbers
+
+-- one number more
+pub numbers_more : (call begun count : ℕ) → numbers_from call begun (suc count) ≡ numbers_from call begun count ++ (call, begun + count) ∷ []
+numbers_more call begun zero = ap (λ (n : ℕ). (call, n) ∷ []) (let same : begun ≡ begun + 0 = omega arith in same)
+numbers_more call begun (suc count) =
+    ap (λ (rest : List (ℕ × ℕ)). (call, begun) ∷ rest)
+    (numbers_more call (begun + 1) count
+    ∙ ap (λ (n : ℕ). numbers_from call (begun + 1) count ++ (call, n) ∷ []) (let same : begun + 1 + count ≡ begun + suc count = omega arith in same))
+
+pub numbered_next : (call count : ℕ) → numbers_from call 0 (count + 1) ≡ numbers_from call 0 count ++ (call, count) ∷ []
+numbered_next call count =
+    ap (λ (n : ℕ). numbers_from call 0 n) (let same : count + 1 ≡ suc count = omega arith in same)
+    ∙ numbers_more call 0 count
+    ∙ ap (λ (n : ℕ). numbers_from call 0 count ++ (call, n) ∷ []) (let same : 0 + count ≡ count = omega arith in same)
+
+numbers_counted : (call begun count : ℕ) → length (numbers_from call begun count) ≡ count
+numbers_counted call begun zero = refl
+numbers_counted call begun (suc count) = ap suc (numbers_counted call (begun + 1) count)
+
+-- the lines of those that are gone, and then that of the call that stands, are numbered
+pub numbered_lines : (call count : ℕ) (front lines : List Line) (last : Line) → map number_of front ≡ numbers_from call 0 count → number_of last ≡ (call, count)
+    → lines ≡ front ++ last ∷ [] → AreNumbered call lines
+numbered_lines call count front lines last before own are =
+    ap (map number_of) are
+    ∙ map-append number_of front (last ∷ [])
+    ∙ ap (λ (numbers : List (ℕ × ℕ)). numbers ++ number_of last ∷ []) before
+    ∙ ap (λ (n : ℕ × ℕ). numbers_from call 0 count ++ n ∷ []) own
+    ∙ sym (numbered_next call count)
+    ∙ ap (λ (n : ℕ). numbers_from call 0 n) counted
+  where
+    fronted : length front ≡ count
+    fronted = sym (length-map front number_of) ∙ ap (λ (numbers : List (ℕ × ℕ)). length numbers) before ∙ numbers_counted call 0 count
+
+    counted : count + 1 ≡ length lines
+    counted =
+        let all : length lines ≡ length (front ++ last ∷ []) = ap (λ (ls : List Line). length ls) are in
+        let more : length (front ++ last ∷ []) ≡ length front + 1 = length-append front (last ∷ []) in omega (arith, fronted, all, more)
+
+-- and one call more
+pub numbered_more : (number : ℕ) (all : List (List Line)) (own : List Line) → AreAllNumbered number all → AreNumbered (number + length all) own
+    → AreAllNumbered number (all ++ own ∷ [])
+numbered_more number [] own are is =
+    (subst (λ (n : ℕ). AreNumbered n own) (let same : number + 0 ≡ number = omega arith in same) is, tt)
+numbered_more number (first ∷ all) own (one, are) is = (
+  one,
+  numbered_more (number + 1) all own are
+      (subst (λ (n : ℕ). AreNumbered n own) (let same : number + length (first ∷ all) ≡ number + 1 + length all = omega arith in same) is),
+)
+
 -- the lines of all, and those of one call more
-pub lines_more : (all : List (List ReportLine)) (lines : List ReportLine)
-    → flat_map (λ (own : List ReportLine). own) (all ++ lines ∷ []) ≡ flat_map (λ (own : List ReportLine). own) all ++ lines
+pub lines_more : (all : List (List Line)) (lines : List Line)
+    → flat_map (λ (own : List Line). own) (all ++ lines ∷ []) ≡ flat_map (λ (own : List Line). own) all ++ lines
 lines_more [] lines = append-nil lines
 lines_more (own ∷ all) lines =
-    ap (λ (rest : List ReportLine). own ++ rest) (lines_more all lines) ∙ sym (append_assoc own (flat_map (λ (own : List ReportLine). own) all) lines)
+    ap (λ (rest : List Line). own ++ rest) (lines_more all lines) ∙ sym (append_assoc own (flat_map (λ (own : List Line). own) all) lines)

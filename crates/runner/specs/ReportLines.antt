@@ -1,5 +1,5 @@
--- The lines that a run tells, as the report has them. This profile's own.
-use Rattle.std.specs.Prelude.{◌≡◌, ℕ, ◌==◌, Bool, List, [], ◌∷◌, ◌++◌, length, map, codes, if◌then◌else◌}
+-- The lines that a run tells, as the report has them. A reader should check that no line is told without its call, and that each has its number. This profile's own.
+use Rattle.std.specs.Prelude.{◌≡◌, ℕ, zero, suc, ◌+◌, ◌==◌, Bool, List, [], ◌∷◌, ◌++◌, length, map, codes, if◌then◌else◌}
 use Rattle.std.specs.List.{flat_map}
 use Rattle.mg_model.specs.Plans.{Plan}
 use Rattle.mg_model.specs.Reports.{IsReport, ReportLine}
@@ -53,11 +53,29 @@ standing_line script next idle association =
 abbrev pub lines_told : Script → List Gone → Next → (idle association : ℕ) → List ReportLine
 lines_told script gone next idle association = map (gone_line script) gone ++ standing_line script next idle association ∷ []
 
--- the lines of these calls, one call after the other, are the report of the plan
-abbrev pub all_lines : List (List ReportLine) → List ReportLine
-all_lines lines = flat_map (λ (own : List ReportLine). own) lines
+-- ---- numbers
 
-pub record IsReportOf (script : Script) (plan : Plan) (lines : List ReportLine) : Type 0 where
-  pub of_calls : List (List ReportLine)
-  pub reported : IsReport script plan of_calls
-  pub are : lines ≡ all_lines of_calls
+-- the call of the plan, and which of those that began within it
+abbrev pub number_of : Line → ℕ × ℕ
+number_of l = (l.call, l.begun)
+
+abbrev pub numbers_from : (call begun count : ℕ) → List (ℕ × ℕ)
+numbers_from call begun zero = []
+numbers_from call begun (suc count) = (call, begun) ∷ numbers_from call (begun + 1) count
+
+-- the lines of a call of the plan, its own first, and then those of the calls that began within it, in order
+abbrev pub AreNumbered : ℕ → List Line → Type 0
+AreNumbered call lines = map number_of lines ≡ numbers_from call 0 (length lines)
+
+abbrev pub AreAllNumbered : ℕ → List (List Line) → Type 0
+AreAllNumbered number [] = Unit {0}
+AreAllNumbered number (own ∷ more) = AreNumbered number own × AreAllNumbered (number + 1) more
+
+-- ---- the whole
+
+-- the lines of all calls, one call after the other, are the report of the plan
+pub record IsReportOf (script : Script) (plan : Plan) (lines : List Line) : Type 0 where
+  pub of_calls : List (List Line)
+  pub reported : IsReport script plan (map (λ (own : List Line). map (line_of script) own) of_calls)
+  pub numbered : AreAllNumbered 0 of_calls
+  pub are : lines ≡ flat_map (λ (own : List Line). own) of_calls

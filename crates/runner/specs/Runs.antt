@@ -1,6 +1,6 @@
 -- A run of a plan that ends well: what its outcome shows. A reader should check that one history is a run of the plan's calls, in which every world is good,
 -- that it is the merge of what happened in the shards, and that what happened to each call of the plan stands in it, each event once and in order. This profile's own.
-use Rattle.std.specs.Prelude.{◌≡◌, ℕ, ◌<◌, ◌≤◌, ◌%◌, ◌==◌, Bool, false, List, [], ◌++◌, length, map, slice_index_or, Contains, Result, Ok, Err}
+use Rattle.std.specs.Prelude.{◌≡◌, ℕ, ◌<◌, ◌≤◌, ◌%◌, ◌==◌, Bool, false, List, [], ◌++◌, length, slice_index_or, Contains, Result, Ok, Err}
 use Rattle.std.specs.List.{filter}
 use Rattle.mg_model.specs.declared.events.Event.{Event}
 use Rattle.mg_model.specs.declared.events.Event.TheVariants.{OfCall, Restart}
@@ -10,7 +10,7 @@ use Rattle.mg_model.specs.Script.{Script}
 use Rattle.mg_model.specs.Shards.{Shard, IsShardRun, histories, merged, restarts_in}
 use Rattle.mg_model.specs.World.{World, IsGood, IsOpening, Runs}
 use Rattle.runner.specs.Parts.{ArePartsFrom, opened_calls}
-use Rattle.runner.specs.ReportLines.{IsReportOf, line_of}
+use Rattle.runner.specs.ReportLines.{IsReportOf}
 use Rattle.runner.specs.declared.report.Line.{Line}
 use Rattle.runner.specs.declared.fault.RunFault.{RunFault}
 use Rattle.runner.specs.declared.fault.RunFault.TheVariants.{BadWorkers, TooManyCalls, Disagree, NoMemory}
@@ -56,7 +56,7 @@ pub record IsRunOf (script : Script) (plan : Plan) (v : OutcomeValue) : Type 0 w
   pub end : World
   pub opens : IsOpening script (opened_calls 0 plan.calls) start
   pub runs : Runs script v.history start end
-  pub report : IsReportOf script plan (map (line_of script) v.lines)
+  pub report : IsReportOf script plan v.lines
   pub good : (before later : List Event) (w : World) → v.history ≡ before ++ later → Runs script before start w → IsGood script w
 
 -- ---- the answer

@@ -6,7 +6,7 @@ ghost use Rattle.shards.specs.Shards.{HasHappened};
 ghost use Rattle.mg_model.specs.Plans as plans;
 ghost use Rattle.mg_model.specs.declared.plans.PlanStep.TheVariants as steps;
 ghost use Rattle.agent.specs.declared.refusal.Refusal.TheVariants.{NotEnabled};
-ghost use Rattle.runner.specs.ReportLines.{line_of, lines_told};
+ghost use Rattle.runner.specs.ReportLines.{AreNumbered, line_of, lines_told};
 ghost use Rattle.runner.specs.Replays.{EndsWithoutTimer, GoesBy, IsAlone, IsIdler, IsRenewed, Stays};
 
 use crate::course::{Gone, number_after};
@@ -211,7 +211,7 @@ impl Alone<'_> {
         number: u32,
         association: Assoc,
     ) -> Result<Vec<Line>, RunFault>
-        ensures { IfOk result (λ lines. (script : Script) → map (line_of script) lines.items ≡ lines_told script self.now.gone.items self.now.next self.now.idle association.0) }
+        ensures { IfOk result (λ lines. ((script : Script) → map (line_of script) lines.items ≡ lines_told script self.now.gone.items self.now.next self.now.idle association.0) × AreNumbered number lines.items) }
     {
         let gone = self.gone.as_slice();
         match lines_of(alloc, number, gone, &self.next, self.idle, association) {

@@ -4,7 +4,7 @@ ghost use Rattle.mg_model.specs.Plans as plans;
 ghost use Rattle.mg_model.specs.declared.plans.PlanStep.TheVariants as steps;
 ghost use Rattle.mg_model.specs.Reports.{IsReported};
 ghost use Rattle.runner.specs.Replays.{GoesBy, TellsOf};
-ghost use Rattle.runner.specs.ReportLines.{line_of};
+ghost use Rattle.runner.specs.ReportLines.{AreNumbered, line_of};
 ghost use Rattle.runner.specs.Turns.{steps_of};
 
 use crate::alone::{self, Alone};
@@ -76,7 +76,7 @@ fn go<'s>(
     others: usize,
     last: Assoc,
 ) -> Result<Vec<Line>, RunFault>
-    ensures { IfOk result (λ lines. TellsOf script.now (steps_of turns.now) others shard.old alone.entry (map (line_of script.now) lines.items)) }
+    ensures { IfOk result (λ lines. TellsOf script.now (steps_of turns.now) others shard.old alone.entry (map (line_of script.now) lines.items) × AreNumbered number lines.items) }
 {
     let mut alone = take_all(script, shard, alone, turns)?;
     alone.waits_for(shard, last)?;
@@ -99,7 +99,7 @@ pub(crate) fn replay(
     others: usize,
     last: Assoc,
 ) -> Result<Vec<Line>, RunFault>
-    ensures { IfOk result (λ lines. IsReported checked.now.table (plans.opened_as number call.now) (plans.steps_in (plans.epochs_of plan.now.calls) call.now.epochs) others (map (line_of checked.now.table) lines.items)) }
+    ensures { IfOk result (λ lines. IsReported checked.now.table (plans.opened_as number call.now) (plans.steps_in (plans.epochs_of plan.now.calls) call.now.epochs) others (map (line_of checked.now.table) lines.items) × AreNumbered number lines.items) }
 {
     let turns = turns::of(alloc, plan, call, marks)?;
     let (mut shard, alone) = alone::open(alloc, checked, number, call)?;

@@ -3,7 +3,7 @@ ghost use Rattle.std.specs.Prelude.{◌≡◌, ◌++◌, ◌∷◌, [], IfOk, On
 ghost use Rattle.mg_model.specs.Script.{Script};
 ghost use Rattle.agent.specs.AgentValue.{agent_of};
 ghost use Rattle.agent.specs.Calls.{value_of, variant_of};
-ghost use Rattle.runner.specs.ReportLines.{gone_line, kind_phase, line_of, lines_told, phase_text, standing_line};
+ghost use Rattle.runner.specs.ReportLines.{AreNumbered, gone_line, kind_phase, line_of, lines_told, number_of, numbers_from, phase_text, standing_line};
 
 use crate::compare::transcript;
 use crate::course::Gone;
@@ -83,7 +83,8 @@ fn place_of(next: &Next<'_>) -> (Assoc, u8)
 
 /// The line of the call that stands, the latest that began within a call of the plan, where its gateway is in an association.
 fn standing(call: u32, begun: usize, next: &Next<'_>, idle: usize, association: Assoc) -> Line
-    ensures { (script : Script) → line_of script result ≡ standing_line script next.now idle association.0 }
+    ensures told { (script : Script) → line_of script result ≡ standing_line script next.now idle association.0 }
+    ensures numbered { number_of result ≡ (call, begun) }
 {
     let (own, state) = place_of(next);
     let phase = if own == association {
@@ -103,7 +104,8 @@ fn standing(call: u32, begun: usize, next: &Next<'_>, idle: usize, association: 
 
 /// Adds the lines of those that others began on.
 fn push_gone(lines: &mut Vec<Line>, call: u32, gone: &[Gone]) -> Result<(), AllocError>
-    ensures { OnOk result ((script : Script) → map (line_of script) lines.new.items ≡ map (line_of script) lines.old.items ++ map (gone_line script) gone.now) }
+    ensures told { OnOk result ((script : Script) → map (line_of script) lines.new.items ≡ map (line_of script) lines.old.items ++ map (gone_line script) gone.now) }
+    ensures numbered { OnOk result (map number_of lines.new.items ≡ map number_of lines.old.items ++ numbers_from call 0 (length gone.now)) }
 {
     for (begun, one) in gone.iter().enumerate() {
         let Gone {
@@ -132,7 +134,7 @@ pub(crate) fn lines_of(
     idle: usize,
     association: Assoc,
 ) -> Result<Vec<Line>, AllocError>
-    ensures { IfOk result (λ lines. (script : Script) → map (line_of script) lines.items ≡ lines_told script gone.now next.now idle association.0) }
+    ensures { IfOk result (λ lines. ((script : Script) → map (line_of script) lines.items ≡ lines_told script gone.now next.now idle association.0) × AreNumbered call lines.items) }
 {
     let mut lines = Vec::new(alloc);
     push_gone(&mut lines, call, gone)?;

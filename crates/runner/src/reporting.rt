@@ -2,7 +2,7 @@
 ghost use Rattle.std.specs.Prelude.{◌≡◌, ◌∷◌, [], IfOk, IfSome, map};
 ghost use Rattle.mg_model.specs.Plans as plans;
 ghost use Rattle.mg_model.specs.Reports.{IsReported};
-ghost use Rattle.runner.specs.ReportLines.{IsReportOf, line_of};
+ghost use Rattle.runner.specs.ReportLines.{AreNumbered, IsReportOf, line_of};
 
 use crate::course::Course;
 use crate::fault::RunFault;
@@ -69,7 +69,7 @@ fn told(
     last: Assoc,
 ) -> Result<Vec<Line>, RunFault>
     requires { restarts ≡ plans.restarts_of_all plan.now.calls }
-    ensures { IfOk result (λ lines. IsReported checked.now.table (plans.opened_as number call.now) (plans.steps_in (plans.epochs_of plan.now.calls) call.now.epochs) (plans.restarts_of_others plan.now call.now) (map (line_of checked.now.table) lines.items)) }
+    ensures { IfOk result (λ lines. IsReported checked.now.table (plans.opened_as number call.now) (plans.steps_in (plans.epochs_of plan.now.calls) call.now.epochs) (plans.restarts_of_others plan.now call.now) (map (line_of checked.now.table) lines.items) × AreNumbered number lines.items) }
 {
     let Some(own) = restarts_asked(call) else {
         return Err(RunFault::Disagree);
@@ -102,7 +102,7 @@ pub(crate) fn report(
     courses: &[Course<'_>],
     last: Assoc,
 ) -> Result<Vec<Line>, RunFault>
-    ensures { IfOk result (λ lines. IsReportOf checked.now.table plan.now (map (line_of checked.now.table) lines.items)) }
+    ensures { IfOk result (λ lines. IsReportOf checked.now.table plan.now lines.items) }
 {
     let Some(restarts) = restarts_of_all(plan) else {
         return Err(RunFault::Disagree);
