@@ -1,6 +1,8 @@
 pub mod AccountLemmas
 pub mod AgentEvents
 pub mod AgreedTrails
+pub mod AloneOutcomes
+pub mod AloneRestarts
 pub mod AloneSteps
 pub mod ApartParts
 pub mod BeginLemmas
@@ -15,4 +17,5 @@ pub mod PartCalls
 pub mod Replayed
 pub mod ReportedAlone
 pub mod SameEvents
+pub mod StepMeanings
 pub mod TurnLemmas

@@ -54,17 +54,19 @@ opened_alone script one first v next standing gone is new entered same own none 
       opens = opens;
       every_number = λ n. ap (λ (class : ℕ → Bool). class n) class ∙ eq-eqb (n % 1) 0 (mod-one n);
       runs = nothing_run script one.call (start_as one is.is_world.start);
-      of_script = new.of_script;
-      shows = subst (IsWorldOf v) (no_events v.script v.history is.is_world.start is.world new.history is.is_world.runs) is.is_world;
-      stands = opens.agents.opened one (first_in one [])
-          ∙ ap (λ (o : Opened). Some (opened script o.call o.lines)) (sym same) ∙ ap (λ (a : Agent). Some a) (sym entered.agent);
-      kind = entered.kind;
-      call_script = entered.of_script;
-      standing = own;
-      number = (let all : one.call ≡ 10000 * 0 + one.call = omega arith in all);
-      events = ap (λ (events : List Event). length events) entered.transcript;
-      idle = refl;
-      gone = ap (λ gone. map (gone_line script) gone) none;
+      shown = record {
+        of_script = new.of_script;
+        shows = subst (IsWorldOf v) (no_events v.script v.history is.is_world.start is.world new.history is.is_world.runs) is.is_world;
+        stands = opens.agents.opened one (first_in one [])
+            ∙ ap (λ (o : Opened). Some (opened script o.call o.lines)) (sym same) ∙ ap (λ (a : Agent). Some a) (sym entered.agent);
+        kind = entered.kind;
+        call_script = entered.of_script;
+        standing = own;
+        number = (let all : one.call ≡ 10000 * 0 + one.call = omega arith in all);
+        events = ap (λ (events : List Event). length events) entered.transcript;
+        idle = refl;
+        gone = ap (λ gone. map (gone_line script) gone) none;
+      };
     }
   where
     calls : map opened_as v.calls ≡ one ∷ []

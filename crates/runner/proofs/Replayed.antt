@@ -1,9 +1,13 @@
 -- A call of the plan alone goes by its steps: lists of steps with restarts among them, and runs, one step longer.
-use Rattle.std.proofs.Common.{◌+◌, ◌++◌, ◌⊎◌, inl, inr, ℕ, List, [], ◌∷◌, refl, ap, subst, arith}
+use Rattle.std.proofs.Common.{◌≡◌, ◌+◌, ◌++◌, ◌⊎◌, inl, inr, ℕ, List, [], ◌∷◌, refl, sym, ap, subst, arith}
 use Rattle.mg_model.specs.declared.plans.PlanStep.{PlanStep}
 use Rattle.mg_model.specs.declared.plans.PlanStep.TheVariants.{Restarts}
-use Rattle.mg_model.specs.Reports.{IsPlacing, Progress, StepHappens, StepIsIdle, StepsRun}
+use Rattle.mg_model.specs.Reports.{IsPlacing, Progress, StepHappens, StepIsIdle, StepsRun, start_as}
 use Rattle.mg_model.specs.Script.{Script}
+use Rattle.mg_model.specs.World.{Opened}
+use Rattle.shards.specs.Shards.{ShardValue}
+use Rattle.runner.specs.Replays.{IsAlone, IsShownBy}
+use Rattle.runner.specs.declared.alone.Alone.{Alone}
 
 -- ---- steps with restarts among them
 
@@ -37,3 +41,34 @@ unfolding StepsRun
 run_more script first [] p q step after runs steps = (after, subst (λ (x : Progress). StepsTo script first x step after) runs steps, refl)
 run_more script first (one ∷ placed) p q step after (next, taken, runs) steps =
     (next, taken, run_more script first placed next q step after runs steps)
+
+-- ---- a call alone
+
+module _ (script : Script) (one : Opened) (steps : List PlanStep) (v : ShardValue) (a : Alone) (is : IsAlone script one steps v a) (w : ShardValue) (b : Alone)
+    (after : Progress) where
+  -- by a step more of its own
+  pub one_step : (step : PlanStep) → b.others ≡ a.others → StepsTo script one.call is.at step after → IsShownBy script one w b after
+      → IsAlone script one (steps ++ step ∷ []) w b
+  one_step step others taken shown = record {
+    placed = is.placed ++ step ∷ [];
+    placing = subst (λ (n : ℕ). IsPlacing (steps ++ step ∷ []) n (is.placed ++ step ∷ [])) (sym others) (placed_more steps a.others is.placed step is.placing);
+    start = is.start;
+    at = after;
+    opens = is.opens;
+    every_number = is.every_number;
+    runs = run_more script one.call is.placed (start_as one is.start) is.at step after is.runs taken;
+    shown = shown;
+  }
+
+  -- by a restart of another call
+  pub one_restart : b.others ≡ a.others + 1 → StepsTo script one.call is.at Restarts after → IsShownBy script one w b after → IsAlone script one steps w b
+  one_restart others taken shown = record {
+    placed = is.placed ++ Restarts ∷ [];
+    placing = subst (λ (n : ℕ). IsPlacing steps n (is.placed ++ Restarts ∷ [])) (sym others) (placed_restart steps a.others is.placed is.placing);
+    start = is.start;
+    at = after;
+    opens = is.opens;
+    every_number = is.every_number;
+    runs = run_more script one.call is.placed (start_as one is.start) is.at Restarts after is.runs taken;
+    shown = shown;
+  }

@@ -37,23 +37,23 @@ module _ (script : Script) (one : Opened) (steps : List PlanStep) (v : ShardValu
 
   same_association : association ≡ is.at.world.gateway.association
   unfolding gateway_of
-  same_association = now ∙ sym (ap (λ g. g.association) is.shows.shows.gateway)
+  same_association = now ∙ sym (ap (λ g. g.association) is.shown.shows.shows.gateway)
 
   phase_is : phase_text (phase_in (agent.association == association) (variant_of a.next))
       ≡ phase_word (agent.association == is.at.world.gateway.association) (state_of script agent.state).is_end agent.phase
   phase_is =
       ap (λ (n : ℕ). phase_text (phase_in (agent.association == n) (variant_of a.next))) same_association
       ∙ ap (λ (k : Kind). phase_text (phase_in (agent.association == is.at.world.gateway.association) k))
-      (is.kind ∙ ap (λ (s : Script). kind_in s agent) is.call_script)
+      (is.shown.kind ∙ ap (λ (s : Script). kind_in s agent) is.shown.call_script)
       ∙ word_is (agent.association == is.at.world.gateway.association) (state_of script agent.state).is_end agent.phase
 
   line_is : standing_line script a.next a.idle association ≡ line_now script agent is.at
   line_is =
       ap (λ (phase : List ℕ). line script agent.state phase (length (value_of a.next).transcript) a.idle) phase_is
       ∙ ap (λ (n : ℕ). line script agent.state
-      (phase_word (agent.association == is.at.world.gateway.association) (state_of script agent.state).is_end agent.phase) n a.idle) is.events
+      (phase_word (agent.association == is.at.world.gateway.association) (state_of script agent.state).is_end agent.phase) n a.idle) is.shown.events
       ∙ ap (λ (n : ℕ). line script agent.state
-      (phase_word (agent.association == is.at.world.gateway.association) (state_of script agent.state).is_end agent.phase) is.at.events n) is.idle
+      (phase_word (agent.association == is.at.world.gateway.association) (state_of script agent.state).is_end agent.phase) is.at.events n) is.shown.idle
 
   pub reported : (lines : List ReportLine) → lines ≡ lines_told script a.gone.items a.next a.idle association → IsReported script one steps a.others lines
   reported lines told = record {
@@ -65,8 +65,8 @@ module _ (script : Script) (one : Opened) (steps : List PlanStep) (v : ShardValu
     opens = is.opens;
     every_number = is.every_number;
     runs = is.runs;
-    stands = is.stands;
-    lines_are = told ∙ ap (λ (gone : List ReportLine). gone ++ standing_line script a.next a.idle association ∷ []) is.gone
+    stands = is.shown.stands;
+    lines_are = told ∙ ap (λ (gone : List ReportLine). gone ++ standing_line script a.next a.idle association ∷ []) is.shown.gone
         ∙ ap (λ (last : ReportLine). is.at.retired ++ last ∷ []) line_is;
   }
 

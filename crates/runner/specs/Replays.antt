@@ -23,15 +23,8 @@ use Rattle.runner.specs.ReportLines.{gone_line}
 abbrev pub EndsWithoutTimer : Script → Next → Type 0
 EndsWithoutTimer script next = variant_of next ≡ has_ended → (state_of script (agent_of (value_of next).agent).state).timer ≡ None
 
--- how far a run of it alone is, by these steps of its own, and that the shard and the call show it
-pub record IsAlone (script : Script) (one : Opened) (steps : List PlanStep) (v : ShardValue) (a : Alone) : Type 0 where
-  pub placed : List PlanStep
-  pub placing : IsPlacing steps a.others placed
-  pub start : World
-  pub at : Progress
-  pub opens : IsOpening script (one ∷ []) start
-  pub every_number : (n : ℕ) → IsTrue (start.gateway.board.class n)
-  pub runs : StepsRun script one.call placed (start_as one start) at
+-- how far a run of it alone is, as its shard and the call that stands show it, and as it is counted
+pub record IsShownBy (script : Script) (one : Opened) (v : ShardValue) (a : Alone) (at : Progress) : Type 0 where
   -- the shard shows its world, and the call that stands is its agent there
   pub of_script : v.script ≡ script
   pub shows : IsWorldOf v at.world
@@ -44,6 +37,17 @@ pub record IsAlone (script : Script) (one : Opened) (steps : List PlanStep) (v :
   pub events : length (value_of a.next).transcript ≡ at.events
   pub idle : a.idle ≡ at.idle
   pub gone : map (gone_line script) a.gone.items ≡ at.retired
+
+-- it went by these steps of its own, and by so many restarts of others, from an opening of it alone
+pub record IsAlone (script : Script) (one : Opened) (steps : List PlanStep) (v : ShardValue) (a : Alone) : Type 0 where
+  pub placed : List PlanStep
+  pub placing : IsPlacing steps a.others placed
+  pub start : World
+  pub at : Progress
+  pub opens : IsOpening script (one ∷ []) start
+  pub every_number : (n : ℕ) → IsTrue (start.gateway.board.class n)
+  pub runs : StepsRun script one.call placed (start_as one start) at
+  pub shown : IsShownBy script one v a at
 
 -- whatever call it was, and whatever steps it went by, it has gone by these too
 abbrev pub GoesBy : Script → List PlanStep → ShardValue → Alone → ShardValue → Alone → Type 0

@@ -3,7 +3,7 @@ use Rattle.std.proofs.Common.{ℕ, [], map, subst}
 use Rattle.mg_model.specs.Reports.{IsReported}
 use Rattle.runner.specs.ReportLines.{line_of}
 use Rattle.runner.specs.Turns.{steps_of}
-use Rattle.runner.proofs.AloneSteps.{if_ok}
+use Rattle.runner.proofs.AloneOutcomes.{if_ok}
 use Rattle.runner.proofs.ReportedAlone.{reported}
 use Rattle.runner.proofs.replay.go.Goals as goal
 

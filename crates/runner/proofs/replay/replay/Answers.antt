@@ -7,7 +7,7 @@ use Rattle.mg_model.specs.Script.{Script}
 use Rattle.runner.specs.ReportLines.{line_of}
 use Rattle.runner.specs.Replays.{IsAlone}
 use Rattle.runner.specs.Turns.{steps_of}
-use Rattle.runner.proofs.AloneSteps.{if_ok}
+use Rattle.runner.proofs.AloneOutcomes.{if_ok}
 use Rattle.runner.proofs.replay.replay.Goals as goal
 
 pub returns : goal.returns

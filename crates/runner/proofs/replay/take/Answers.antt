@@ -2,7 +2,7 @@
 use Rattle.std.proofs.Common.{◌++◌, ◌∷◌, [], sym, subst}
 use Rattle.mg_model.specs.declared.plans.PlanStep.{PlanStep}
 use Rattle.runner.specs.Replays.{IsAlone}
-use Rattle.runner.proofs.AloneSteps.{restarted_after}
+use Rattle.runner.proofs.AloneRestarts.{restarted_after}
 use Rattle.runner.proofs.replay.take.Goals as goal
 
 pub returns-then-is_restart : goal.returns-then-is_restart

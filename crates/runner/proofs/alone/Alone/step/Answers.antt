@@ -4,7 +4,7 @@ use Rattle.agent.specs.declared.refusal.Refusal.{Refusal}
 use Rattle.shards.specs.Stepping.{IsStep}
 use Rattle.shards.specs.declared.stepped.Stepped.{Stepped}
 use Rattle.runner.specs.Replays.{GoesBy, IsIdler}
-use Rattle.runner.proofs.AloneSteps.{begun_so, happened_so, if_ok, none_meant, not_happened}
+use Rattle.runner.proofs.AloneOutcomes.{begun_so, happened_so, if_ok, none_meant, not_happened}
 use Rattle.runner.proofs.alone.Alone.step.Goals as goal
 
 pub returns-in_default-meaning : goal.returns-in_default-meaning

@@ -1,6 +1,6 @@
 -- One restart more is one of another call.
 use Rattle.std.proofs.Common.{◌≡◌, ◌+◌, refl, arith}
-use Rattle.runner.proofs.AloneSteps.{waited_after}
+use Rattle.runner.proofs.AloneRestarts.{waited_after}
 use Rattle.runner.proofs.alone.Alone.waits_for.Goals as goal
 
 pub loop-preserved : goal.loop-preserved
