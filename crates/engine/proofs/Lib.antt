@@ -1,2 +1,4 @@
+pub mod ReportLemmas
+pub mod RunLemmas
 pub mod Told
 pub mod VerdictLines

@@ -8,7 +8,7 @@ use Rattle.mg_model.specs.Obligations.{IsFirstFault}
 use Rattle.scriptreader.specs.declared.fault.ScriptFault.{ScriptFault}
 use Rattle.scriptreader.specs.Reading.{ReadsScript, tree_read}
 use Rattle.script_table.specs.Words.{words_of}
-use Rattle.engine.specs.Output.{Text, Line, usage, sections, too_long, script_fault, certificate_fault, yes, no, no_memory}
+use Rattle.engine.specs.Output.{Text, Line, usage, sections, too_long, script_fault, certificate_fault, plan_fault, run_fault, yes, no, no_memory}
 use Rattle.composition.specs.Verdict.{AreRead}
 use Rattle.engine.specs.VerdictLines.{Judges, NamesFault}
 
@@ -47,3 +47,5 @@ told script certificate table entries fault too_long read first names = absurd n
 told script certificate table entries fault (script_fault number name) read first names = absurd names
 told script certificate table entries fault (certificate_fault number name) read first names = absurd names
 told script certificate table entries fault (yes states count points) read first names = absurd names
+told script certificate table entries fault (plan_fault number name) read first names = absurd names
+told script certificate table entries fault (run_fault number name) read first names = absurd names

@@ -1,4 +1,5 @@
 pub mod Engine
 pub mod Output
 pub mod Replies
+pub mod RunAnswers
 pub mod VerdictLines

@@ -8,7 +8,7 @@ use Rattle.engine.specs.declared.reply.InputFault.{InputFault}
 use Rattle.engine.specs.declared.reply.InputFault.TheVariants as input
 use Rattle.engine.specs.declared.reply.Reply.{Reply}
 use Rattle.engine.specs.declared.reply.Reply.TheVariants as reply
-use Rattle.engine.specs.Output.{Line, usage, sections, too_long, script_fault, certificate_fault, yes, no, no_memory}
+use Rattle.engine.specs.Output.{Line, usage, sections, too_long, script_fault, certificate_fault, plan_fault, run_fault, yes, no, no_memory}
 
 abbrev pub broken_line : Broken → Line
 broken_line broken =
@@ -29,3 +29,5 @@ abbrev pub line_of : Reply → Line
 line_of reply.Usage = usage
 line_of (reply.Input fault) = input_line fault
 line_of (reply.Checked answer) = answer_line answer
+line_of (reply.PlanFault number name) = plan_fault number name.now
+line_of (reply.RunFault number name) = run_fault number name.now

@@ -14,6 +14,8 @@ use Rattle.script_table.specs.Words.{words_of}
 use Rattle.certificate.specs.declared.fault.CertFault.{CertFault}
 use Rattle.certificate.specs.FaultNames as certificate_names
 use Rattle.composition.specs.Verdict.{AreRead, HasScriptFault, HasCertificateFault, IsChecked}
+use Rattle.composition.specs.declared.verdict.CheckFault.{CheckFault}
+use Rattle.composition.specs.declared.verdict.CheckFault.TheVariants as fault
 use Rattle.engine.specs.Output.{Text, Line, script_fault, certificate_fault, yes, no, no_memory}
 
 pub record IsScriptFault (script : Text) (number : ℕ) (name : Text) : Type 0 where
@@ -63,3 +65,9 @@ NamesFault script fault (no obligation entry point step) =
     × (table : Script) × ReadsScript script (Ok table) × (step ≡ option_map (words_of table.lines) fault.step)
 NamesFault script fault no_memory = Unit {0}
 NamesFault script fault _ = ⊥
+
+-- the line names the fault for which there is no verdict
+abbrev pub NamesRefusal : CheckFault → Line → Type 0
+NamesRefusal (fault.Script refused) l = l ≡ script_fault (script_names.number_of refused) (script_names.name_of refused)
+NamesRefusal (fault.Cert refused) l = l ≡ certificate_fault (certificate_names.number_of refused) (certificate_names.name_of refused)
+NamesRefusal fault.NoMemory l = l ≡ no_memory

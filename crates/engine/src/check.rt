@@ -2,7 +2,7 @@
 ghost use Rattle.std.specs.Prelude.{◌≡◌, IfOk, option_map, string_bytes};
 ghost use Rattle.composition.specs.Verdicts.{IsVerdict};
 ghost use Rattle.engine.specs.Replies.{answer_line};
-ghost use Rattle.engine.specs.VerdictLines.{Judges, NamesFault};
+ghost use Rattle.engine.specs.VerdictLines.{Judges, NamesFault, NamesRefusal};
 ghost use Rattle.script_table.specs.Words.{words_of};
 
 use crate::answer::{Answer, Broken};
@@ -29,7 +29,7 @@ fn words_of(
 }
 
 /// What is said of a broken obligation. A step's words name lines, so the script is read again.
-fn broken(alloc: Global, bytes: &[u8], fault: &Fault) -> Answer
+pub(crate) fn broken(alloc: Global, bytes: &[u8], fault: &Fault) -> Answer
     ensures { NamesFault bytes.now fault.now (answer_line result) }
 {
     let Ok(script) = read_script(alloc, bytes) else {
@@ -43,6 +43,23 @@ fn broken(alloc: Global, bytes: &[u8], fault: &Fault) -> Answer
             step,
         }),
         Err(_) => Answer::NoMemory,
+    }
+}
+
+/// What is said where there is no verdict.
+pub(crate) fn refused(fault: CheckFault) -> Answer
+    ensures { NamesRefusal fault (answer_line result) }
+{
+    match fault {
+        CheckFault::Script(fault) => Answer::ScriptFault {
+            number: fault.number(),
+            name: fault.name(),
+        },
+        CheckFault::Cert(fault) => Answer::CertificateFault {
+            number: fault.number(),
+            name: fault.name(),
+        },
+        CheckFault::NoMemory => Answer::NoMemory,
     }
 }
 
@@ -80,14 +97,6 @@ pub fn answer(
             points: checked.points(),
         },
         Ok(Verdict::No(fault)) => broken(alloc, script, &fault),
-        Err(CheckFault::Script(fault)) => Answer::ScriptFault {
-            number: fault.number(),
-            name: fault.name(),
-        },
-        Err(CheckFault::Cert(fault)) => Answer::CertificateFault {
-            number: fault.number(),
-            name: fault.name(),
-        },
-        Err(CheckFault::NoMemory) => Answer::NoMemory,
+        Err(fault) => refused(fault),
     }
 }

@@ -1,112 +1,112 @@
 //! The program from its words and its input to its output.
-ghost use Rattle.std.specs.Prelude.{◌≡◌, ◌+◌, ◌-◌, ◌^◌, ◌<◌, is_some, map, option_map, string_bytes, if◌then◌else◌};
-ghost use Rattle.engine.specs.Engine.{IsLineOfSections, IsReply, RepliesToSource, Runs, Sends, Tells};
+ghost use Rattle.std.specs.Prelude.{◌≡◌, ◌+◌, ◌-◌, ◌^◌, ◌<◌, map, string_bytes};
+ghost use Rattle.engine.specs.Engine.{IsLineOfSections, IsOutputOf, IsRunOutput, Runs, Serves, ServesRequest};
 ghost use Rattle.engine.specs.Replies.{line_of};
-ghost use Rattle.program_rim.specs.Sections.{pair_of, sections_of};
+ghost use Rattle.program_rim.specs.Sections.{pair_of, sections_of, triple_of};
 ghost use Rattle.program_rim.specs.Statuses.{failures_of};
 
 use crate::answer::Answer;
 use crate::check::answer;
 use crate::reply::{InputFault, Reply};
+use crate::run::write_run;
+use crate::telling::write_reply;
 use program_rim::input::{Input, read_all};
-use program_rim::sections::two_sections;
-use program_rim::sink::{Sink, write_all};
+use program_rim::sections::{three_sections, two_sections};
+use program_rim::sink::Sink;
 use program_rim::source::Source;
 use program_rim::status::Status;
 use program_rim::words::{Request, WordsFault, read_words};
 use std::alloc::Global;
+use std::sync::Wait;
 use std::thread::Threads;
 
 /// The reply to a whole input within its limit, whose certificate is checked in so many pieces.
-fn reply_to_input(rt: &(impl Threads + Sync), alloc: Global, input: &[u8], pieces: u8) -> Reply
+fn reply_to_check(rt: &(impl Threads + Sync), alloc: Global, input: &[u8], pieces: u8) -> Reply
     ensures { IsLineOfSections (pair_of (sections_of input.now)) (line_of result) }
 {
     match two_sections(input) {
         Some((script, certificate)) => {
             Reply::Checked(answer(rt, alloc, script, certificate, pieces))
-        },
+        }
         None => Reply::Input(InputFault::Sections),
     }
 }
 
-/// Reads the input and checks it, in so many pieces. Nothing where a read failed.
-fn reply_to_source<R: Source>(
-    rt: &(impl Threads + Sync),
+/// Answers a whole input within its limit, whose plan is run on so many workers.
+fn serve_run<W: Sink, T: Threads + Wait + Sync>(
+    rt: &T,
     alloc: Global,
-    source: &mut R,
-    pieces: u8,
-) -> Option<Reply>
-    requires { R.faults source.old < 2 ^ 64 - 1 }
-    ensures line { RepliesToSource (R.remaining source.old) (R.remaining source.new) (option_map line_of result) }
-    ensures counted { R.faults source.new ≡ R.faults source.old + (if is_some result then 0 else 1) }
-{
-    match read_all(alloc, source) {
-        Input::Whole(bytes) => Some(reply_to_input(rt, alloc, bytes.as_slice(), pieces)),
-        Input::TooLong => Some(Reply::Input(InputFault::TooLong)),
-        Input::NoMemory => Some(Reply::Checked(Answer::NoMemory)),
-        Input::Failed => None,
-    }
-}
-
-/// Does what the words ask for. Nothing where a read failed.
-fn reply_to_words<R: Source>(
-    rt: &(impl Threads + Sync),
-    alloc: Global,
-    words: &[String],
-    source: &mut R,
-) -> Option<Reply>
-    requires { R.faults source.old < 2 ^ 64 - 1 }
-    ensures line { IsReply (map string_bytes words.now) (R.remaining source.old) (R.remaining source.new) (option_map line_of result) }
-    ensures counted { R.faults source.new ≡ R.faults source.old + (if is_some result then 0 else 1) }
-{
-    match read_words(alloc, words) {
-        Ok(Request::Check { pieces }) => reply_to_source(rt, alloc, source, pieces),
-        Err(WordsFault::Refused) => Some(Reply::Usage),
-        Err(WordsFault::NoMemory) => Some(Reply::Checked(Answer::NoMemory)),
-    }
-}
-
-/// Writes a line that goes with a status. A write that fails has a status of its own.
-fn send<W: Sink>(sink: &mut W, line: &[u8], status: Status) -> Status
+    input: &[u8],
+    workers: u16,
+    sink: &mut W,
+) -> Status
     requires { W.faults sink.old < 2 ^ 64 - 1 }
-    ensures line { Sends (W.contents sink.old) (W.contents sink.new) line.now status result }
-    ensures counted { failures_of status ≡ 0 → W.faults sink.new ≡ W.faults sink.old + failures_of result }
-{
-    match write_all(sink, line) {
-        Ok(()) => status,
-        Err(_) => Status::DeviceFailed,
-    }
-}
-
-/// Writes the line of a reply.
-pub fn write_reply<W: Sink>(alloc: Global, reply: &Reply, sink: &mut W) -> Status
-    requires { W.faults sink.old < 2 ^ 64 - 1 }
-    ensures line { Tells (line_of reply.now) (W.contents sink.old) (W.contents sink.new) result }
+    ensures output { Serves (IsRunOutput workers (triple_of (sections_of input.now))) (W.contents sink.old) (W.contents sink.new) result }
     ensures counted { W.faults sink.new ≡ W.faults sink.old + failures_of result }
 {
-    match format!(in alloc; "{reply}\n") {
-        Ok(line) => send(sink, line.as_bytes(), reply.status()),
-        Err(_) => send(sink, b"no memory\n", Status::NoMemory),
+    match three_sections(input) {
+        Some(sections) => write_run(rt, alloc, sections, workers, sink),
+        None => write_reply(alloc, &Reply::Input(InputFault::Sections), sink),
+    }
+}
+
+/// Answers a whole input within its limit.
+fn serve_input<W: Sink, T: Threads + Wait + Sync>(
+    rt: &T,
+    alloc: Global,
+    request: Request,
+    input: &[u8],
+    sink: &mut W,
+) -> Status
+    requires { W.faults sink.old < 2 ^ 64 - 1 }
+    ensures output { Serves (IsOutputOf request input.now) (W.contents sink.old) (W.contents sink.new) result }
+    ensures counted { W.faults sink.new ≡ W.faults sink.old + failures_of result }
+{
+    match request {
+        Request::Check { pieces } => {
+            write_reply(alloc, &reply_to_check(rt, alloc, input, pieces), sink)
+        }
+        Request::Run { workers } => serve_run(rt, alloc, input, workers, sink),
+    }
+}
+
+/// Reads the input and answers it. Nothing is written where a read failed.
+fn serve_source<S: Source, W: Sink, T: Threads + Wait + Sync>(
+    rt: &T,
+    alloc: Global,
+    request: Request,
+    source: &mut S,
+    sink: &mut W,
+) -> Status
+    requires source { S.faults source.old < 2 ^ 64 - 1 }
+    requires sink { W.faults sink.old < 2 ^ 64 - 1 }
+    ensures output { ServesRequest request (S.remaining source.old) (S.remaining source.new) (W.contents sink.old) (W.contents sink.new) result }
+    ensures counted { S.faults source.new + W.faults sink.new ≡ S.faults source.old + W.faults sink.old + failures_of result }
+{
+    match read_all(alloc, source) {
+        Input::Whole(bytes) => serve_input(rt, alloc, request, bytes.as_slice(), sink),
+        Input::TooLong => write_reply(alloc, &Reply::Input(InputFault::TooLong), sink),
+        Input::NoMemory => write_reply(alloc, &Reply::Checked(Answer::NoMemory), sink),
+        Input::Failed => Status::DeviceFailed,
     }
 }
 
 /// The whole program. Its status is 6 exactly where the source or the sink failed in this call.
-pub fn engine<R: Source, W: Sink>(
-    rt: &(impl Threads + Sync),
+pub fn engine<S: Source, W: Sink, T: Threads + Wait + Sync>(
+    rt: &T,
     alloc: Global,
     words: &[String],
-    source: &mut R,
+    source: &mut S,
     sink: &mut W,
 ) -> Status
-    requires source { R.faults source.old < 2 ^ 64 - 1 }
+    requires source { S.faults source.old < 2 ^ 64 - 1 }
     requires sink { W.faults sink.old < 2 ^ 64 - 1 }
-    ensures output { Runs (map string_bytes words.now) (R.remaining source.old) (R.remaining source.new)
-        (W.contents sink.old) (W.contents sink.new) result }
-    ensures counted { R.faults source.new + W.faults sink.new
-        ≡ R.faults source.old + W.faults sink.old + failures_of result }
+    ensures output { Runs (map string_bytes words.now) (S.remaining source.old) (S.remaining source.new) (W.contents sink.old) (W.contents sink.new) result }
+    ensures counted { S.faults source.new + W.faults sink.new ≡ S.faults source.old + W.faults sink.old + failures_of result }
 {
-    match reply_to_words(rt, alloc, words, source) {
-        Some(reply) => write_reply(alloc, &reply, sink),
-        None => Status::DeviceFailed,
+    match read_words(alloc, words) {
+        Ok(request) => serve_source(rt, alloc, request, source, sink),
+        Err(WordsFault::Refused) => write_reply(alloc, &Reply::Usage, sink),
+        Err(WordsFault::NoMemory) => write_reply(alloc, &Reply::Checked(Answer::NoMemory), sink),
     }
 }

@@ -1,14 +1,14 @@
 //! The program's replies, as lines and as exit statuses.
 ghost use Rattle.std.specs.Prelude.{◌≡◌, Some};
 ghost use Rattle.engine.specs.Replies.{answer_line, broken_line, input_line, line_of};
-ghost use Rattle.engine.specs.Output.{status_of, text_of};
+ghost use Rattle.engine.specs.Output.{line_status, text_of};
 ghost use Rattle.program_rim.specs.Statuses.{code_of};
 
 use crate::answer::{Answer, Broken};
 use program_rim::status::Status;
 use std::fmt;
 
-/// Why the input has no two sections to check.
+/// Why the input has no sections to read.
 #[derive(Clone, Copy, Debug, PartialEq, Eq)]
 pub enum InputFault {
     /// It has another number of sections.
@@ -26,12 +26,16 @@ pub enum Reply {
     Input(InputFault),
     /// What checking came to, or running out of memory.
     Checked(Answer),
+    /// The plan is not read, by the number and the name of its fault.
+    PlanFault { number: u8, name: &'static str },
+    /// The plan is not run, or its run is not told, by the number and the name of the fault.
+    RunFault { number: u8, name: &'static str },
 }
 
 impl Reply {
     /// The status that goes with the reply.
     pub fn status(&self) -> Status
-        ensures { code_of result ≡ status_of (line_of self.now) }
+        ensures { code_of result ≡ line_status (line_of self.now) }
     {
         match self {
             Reply::Usage => Status::Usage,
@@ -43,6 +47,8 @@ impl Reply {
                 Answer::CertificateFault { .. } => Status::Unreadable,
                 Answer::NoMemory => Status::NoMemory,
             },
+            Reply::PlanFault { .. } => Status::Unreadable,
+            Reply::RunFault { .. } => Status::RunFault,
         }
     }
 }
@@ -119,6 +125,8 @@ impl fmt::Display for Reply {
             Reply::Usage => write!(f, "usage: mgcall check [--pieces N] | run [--workers N]"),
             Reply::Input(fault) => write!(f, "{fault}"),
             Reply::Checked(answer) => write!(f, "{answer}"),
+            Reply::PlanFault { number, name } => write!(f, "plan fault {number} {name}"),
+            Reply::RunFault { number, name } => write!(f, "run fault {number} {name}"),
         }
     }
 }

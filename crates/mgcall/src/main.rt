@@ -1,18 +1,21 @@
 //! `mgcall check [--pieces N]`: reads a script and a certificate from standard input, and says in
-//! one line whether every obligation holds.
+//! one line whether every obligation holds. `mgcall run [--workers N]`: reads a script, a certificate and a plan, checks the
+//! script, runs the plan and writes its report.
 //!
-//! The program is `engine`, in the crate of that name, over devices of its own; its contract says which line it writes
+//! The program is `engine`, in the crate of that name, over devices of its own; its contract says what it writes
 //! for the words and the input, and with which status. What is here binds it to the process: the words of the command
 //! line, standard input and output, its threads, and the exit status.
 #![tactic(auto)]
 
 use engine::answer::Answer;
-use engine::program::{engine, write_reply};
+use engine::program::engine;
 use engine::reply::Reply;
+use engine::telling::write_reply;
 use program_rim::host::Host;
 use program_rim::status::Status;
 use std::alloc::Global;
 use std::process::ExitCode;
+use std::sync::Wait;
 use std::thread::Threads;
 use std::{env, io};
 
@@ -30,7 +33,7 @@ fn reply_to_failure(error: &io::Error) -> Reply {
     }
 }
 
-fn run(alloc: Global, rt: &HostRuntime, threads: &(impl Threads + Sync)) -> Status {
+fn run(alloc: Global, rt: &HostRuntime, threads: &(impl Threads + Wait + Sync)) -> Status {
     let mut sink = Host::new(rt.stdout());
     match arguments(rt) {
         Ok(words) => {

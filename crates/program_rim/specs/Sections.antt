@@ -39,3 +39,8 @@ sections_of input = grouped (lines_of input)
 abbrev pub pair_of : List (List ℕ) → Option (List ℕ × List ℕ)
 pair_of (script ∷ certificate ∷ []) = Some (script, certificate)
 pair_of _ = None
+
+-- the only three sections
+abbrev pub triple_of : List (List ℕ) → Option (List ℕ × List ℕ × List ℕ)
+triple_of (script ∷ certificate ∷ plan ∷ []) = Some (script, certificate, plan)
+triple_of _ = None

@@ -1,7 +1,8 @@
 //! The rim of the program, which knows of no script and no certificate: the words of the command line, devices to read
-//! from and write to with their faults counted, the whole input within its limit, its sections, and the exit statuses.
+//! from and write to with their faults counted, text that is gathered for one, the whole input within its limit, its sections, and the exit statuses.
 #![tactic(auto)]
 
+pub mod gathered;
 pub mod host;
 pub mod input;
 pub mod sections;

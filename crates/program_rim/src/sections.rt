@@ -1,7 +1,7 @@
 //! Cutting the input into its sections.
 ghost use Rattle.std.specs.Prelude.{◌≡◌, ◌+◌, ◌-◌, ◌<◌, ◌≤◌, [], ◌∷◌, ◌++◌, length, take, drop, MatchOption, option_map, IsTrue};
 ghost use Rattle.std.specs.Prelude.{◌==◌, position};
-ghost use Rattle.program_rim.specs.Sections.{is_divider, lines_of, sections_of, pair_of};
+ghost use Rattle.program_rim.specs.Sections.{is_divider, lines_of, sections_of, pair_of, triple_of};
 
 /// Whether a line, with its end, has two percent signs and nothing else. A carriage return may
 /// stand before its end, and the last line may lack the end.
@@ -58,4 +58,14 @@ pub fn two_sections(input: &[u8]) -> Option<(&[u8], &[u8])>
         None => Some((script, rest)),
         Some(_) => None,
     }
+}
+
+/// The three sections of an input: the script, the certificate and the plan. Nothing where the
+/// input has another number of sections.
+pub fn three_sections(input: &[u8]) -> Option<(&[u8], &[u8], &[u8])>
+    ensures { option_map (λ parts. (parts.0.now, parts.1.now, parts.2.now)) result ≡ triple_of (sections_of input.now) }
+{
+    let (script, rest) = cut(input)?;
+    let (certificate, plan) = two_sections(rest)?;
+    Some((script, certificate, plan))
 }

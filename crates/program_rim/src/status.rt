@@ -5,16 +5,18 @@ ghost use Rattle.program_rim.specs.Statuses.{code_of};
 /// How a run of the program ended.
 #[derive(Clone, Copy, Debug, PartialEq, Eq)]
 pub enum Status {
-    /// Every obligation holds.
+    /// Every obligation holds, and what was asked for is done.
     Yes,
     /// An obligation is broken.
     No,
     /// The words of the command line were refused.
     Usage,
-    /// The input, the script or the certificate can't be read.
+    /// The input, the script, the certificate or the plan can't be read.
     Unreadable,
     /// There was no memory.
     NoMemory,
+    /// A plan wasn't run, or its run wasn't told.
+    RunFault,
     /// A read or a write failed.
     DeviceFailed,
 }
@@ -30,6 +32,7 @@ impl Status {
             Status::Usage => 2,
             Status::Unreadable => 3,
             Status::NoMemory => 4,
+            Status::RunFault => 5,
             Status::DeviceFailed => 6,
         }
     }
