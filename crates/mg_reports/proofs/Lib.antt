@@ -3,3 +3,4 @@ pub mod PlanRows
 pub mod SameRequests
 pub mod SameEvents
 pub mod SameReports
+pub mod AddedUp
