@@ -1,10 +1,12 @@
--- The lines that a run tells, as the report has them. A reader should check that no line is told without its call, and that each has its number. This profile's own.
+-- The lines that a run tells, as the report has them. A reader should check that no line is told without its call, that each has its number, and that those of
+-- a call of the plan count each of its steps other than a restart once. This profile's own.
 use Rattle.std.specs.Prelude.{◌≡◌, ℕ, zero, suc, ◌+◌, ◌==◌, Bool, List, [], ◌∷◌, ◌++◌, length, map, codes, if◌then◌else◌}
 use Rattle.std.specs.List.{flat_map}
 use Rattle.mg_model.specs.Plans.{Plan}
 use Rattle.mg_model.specs.Reports.{IsReport, ReportLine}
 use Rattle.mg_model.specs.Script.{Script}
 use Rattle.mg_model.specs.Tables.{state_of}
+use Rattle.mg_reports.specs.Sums.{AddUp}
 use Rattle.agent.specs.AgentValue.{agent_of}
 use Rattle.agent.specs.CallValue.{Kind, rests, waits, has_ended}
 use Rattle.agent.specs.Calls.{value_of, variant_of}
@@ -78,4 +80,6 @@ pub record IsReportOf (script : Script) (plan : Plan) (lines : List Line) : Type
   pub of_calls : List (List Line)
   pub reported : IsReport script plan (map (λ (own : List Line). map (line_of script) own) of_calls)
   pub numbered : AreAllNumbered 0 of_calls
+  -- those of each call add up to its steps other than restarts
+  pub add_up : AddUp plan.calls (map (λ (own : List Line). map (line_of script) own) of_calls)
   pub are : lines ≡ flat_map (λ (own : List Line). own) of_calls

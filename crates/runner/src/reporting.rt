@@ -11,6 +11,7 @@ use crate::report::{Line, lines_of};
 use composition::Checked;
 use mg_model::plans::PlanStep;
 use mg_names::identifiers::Assoc;
+use mg_reports::laws::reports_add_up;
 use plans::{Plan, PlanCall};
 use std::alloc::Global;
 
@@ -104,6 +105,7 @@ pub(crate) fn report(
 ) -> Result<Vec<Line>, RunFault>
     ensures { IfOk result (λ lines. IsReportOf checked.now.table plan.now lines.items) }
 {
+    reports_add_up();
     let Some(restarts) = restarts_of_all(plan) else {
         return Err(RunFault::Disagree);
     };

@@ -2,7 +2,7 @@
 use Rattle.std.proofs.Common.{◌≡◌, ◌∙◌, ◌+◌, ◌≤◌, ◌<◌, ◌++◌, ℕ, List, [], ◌∷◌, length, map, take, refl, sym, ap, subst, arith}
 use Rattle.std.proofs.lemmas.List.{length-append, length-take-le, map-append, take_all, take_more}
 use Rattle.mg_model.specs.Plans.{PlanCall}
-use Rattle.mg_model.specs.Reports.{AreReported, ReportLine}
+use Rattle.mg_model.specs.Reports.{AreReported, IsReport, ReportLine}
 use Rattle.runner.specs.ReportLines.{AreNumbered, line_of}
 use Rattle.runner.specs.declared.report.Line.{Line}
 use Rattle.runner.proofs.ReportedAlone.{Reported, lines_more, none_reported, numbered_more, reported_more}
@@ -62,11 +62,16 @@ returns c =
     let so_far = c.loop-call.invariant.1 in
     let past : length c.args.plan.now.calls ≤ c.loop-call.call-index =
     subst (λ (calls : List PlanCall). length calls ≤ c.loop-call.call-index) c.calls-call-items.ensures c.loop-call-test.false in
+    let reported : IsReport c.args.checked.now.table c.args.plan.now
+        (map (λ (own : List Line). map (line_of c.args.checked.now.table) own) c.loop-call.invariant.0) =
+    subst (λ (calls : List PlanCall). AreReported c.args.checked.now.table c.args.plan.now 0 calls
+    (map (λ (own : List Line). map (line_of c.args.checked.now.table) own) c.loop-call.invariant.0))
+    (take_all c.loop-call.call-index c.args.plan.now.calls past) so_far.reported in
     record {
       of_calls = c.loop-call.invariant.0;
-      reported = subst (λ (calls : List PlanCall). AreReported c.args.checked.now.table c.args.plan.now 0 calls
-          (map (λ (own : List Line). map (line_of c.args.checked.now.table) own) c.loop-call.invariant.0))
-          (take_all c.loop-call.call-index c.args.plan.now.calls past) so_far.reported;
+      reported = reported;
       numbered = so_far.numbered;
+      add_up = c.reports_add_up.ensures c.args.checked.now.table c.args.plan.now
+          (map (λ (own : List Line). map (line_of c.args.checked.now.table) own) c.loop-call.invariant.0) reported;
       are = so_far.are;
     }
