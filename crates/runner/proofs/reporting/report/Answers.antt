@@ -63,7 +63,7 @@ returns c =
     let past : length c.args.plan.now.calls ≤ c.loop-call.call-index =
     subst (λ (calls : List PlanCall). length calls ≤ c.loop-call.call-index) c.calls-call-items.ensures c.loop-call-test.false in
     let reported : IsReport c.args.checked.now.table c.args.plan.now
-        (map (λ (own : List Line). map (line_of c.args.checked.now.table) own) c.loop-call.invariant.0) =
+    (map (λ (own : List Line). map (line_of c.args.checked.now.table) own) c.loop-call.invariant.0) =
     subst (λ (calls : List PlanCall). AreReported c.args.checked.now.table c.args.plan.now 0 calls
     (map (λ (own : List Line). map (line_of c.args.checked.now.table) own) c.loop-call.invariant.0))
     (take_all c.loop-call.call-index c.args.plan.now.calls past) so_far.reported in
