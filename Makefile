@@ -9,6 +9,7 @@ PROGRAM = crates/mgcall/out/mgcall
 
 demo:
 	@tools/check examples/watch/script.toml examples/watch/certificate.json
+	@echo "next: tools/run examples/watch/script.toml examples/watch/certificate.json examples/watch/plan.toml" >&2
 
 build:
 	cd crates/mgcall && rt run mgcall -- check < ../../examples/watch/input
