@@ -3,6 +3,7 @@ pub mod Slots
 pub mod SlotTable
 pub mod Shows
 pub mod Shards
+pub mod Standings
 pub mod Stepping
 pub mod Beginnings
 pub mod Opening
