@@ -1,5 +1,6 @@
-//! An agent with its script and its transcript. On any refusal nothing changes: what isn't enabled is told first, then the place in
-//! the transcript is made, then the step is taken, and then its event is put into that place, which takes no memory.
+//! An agent with its script and its transcript. On any refusal nothing changes: the place in the transcript is made first, then the
+//! step is taken, and then its event is put into that place, which takes no memory. Where memory runs out, what isn't enabled is told
+//! all the same, and not want of memory.
 ghost use Rattle.std.specs.Prelude.{◌≡◌, ◌≤◌, [], OnOk, OnErr, length, map, slice_index_or};
 ghost use Rattle.mg_model.specs.Agent as model;
 ghost use Rattle.mg_model.specs.declared.events.Event.TheVariants.{OfCall};
@@ -7,10 +8,11 @@ ghost use Rattle.mg_model.specs.Tables.{line_places, state_of};
 ghost use Rattle.mg_model.specs.World as event;
 ghost use Rattle.agent.specs.AgentValue.{agent_of};
 ghost use Rattle.agent.specs.Preparing.{stepped_by};
-ghost use Rattle.agent.specs.Calls.{IsDone, IsWritten, IsBegunAnew, with_room, is_loggable};
+ghost use Rattle.agent.specs.Calls.{IsDone, IsRefused, IsWritten, IsBegunAnew, with_room, is_loggable};
 
 use crate::call::Retired;
 use crate::delivered::Delivery;
+use crate::fault::PlainFault;
 use crate::plain::Plain;
 use crate::refusal::Refusal;
 use mg_model::events::{CallEvent, Event};
@@ -108,19 +110,30 @@ impl<'s> Logged<'s> {
         }
     }
 
+    /// Why a step isn't taken for which memory ran out. Whether it could be taken is asked here alone: a step that is taken has told so by itself.
+    fn refusal(&self, delivery: &Delivery<'_>) -> Refusal
+        ensures { IsRefused (stepped_by self.now.script (agent_of self.now.agent) delivery.now) result }
+    {
+        if self.agent.can_take(self.script, delivery) {
+            Refusal::NoMemory
+        } else {
+            Refusal::NotEnabled
+        }
+    }
+
     /// Takes the step at what reaches the call, and logs it as this event. `NotEnabled` where its agent can't, and `NoMemory` where it can.
     fn step(&mut self, delivery: &Delivery<'_>, event: CallEvent) -> Result<(), Refusal>
         ensures { IsDone (stepped_by self.old.script (agent_of self.old.agent) delivery.now) (OfCall (record { 0 = self.old.agent.call }) event) self.old self.new result }
     {
         let event = self.event(event);
-        if !self.agent.can_take(self.script, delivery) {
-            return Err(Refusal::NotEnabled);
-        }
         let Ok(()) = self.transcript.reserve(1) else {
-            return Err(Refusal::NoMemory);
+            return Err(self.refusal(delivery));
         };
         if let Err(fault) = self.agent.step(self.script, delivery) {
-            return Err(Refusal::of(fault));
+            return Err(match fault {
+                PlainFault::NotEnabled => Refusal::NotEnabled,
+                PlainFault::NoMemory => self.refusal(delivery),
+            });
         }
         self.transcript.push_reserved(event);
         self.room = false;

@@ -1,8 +1,7 @@
 //! Why a call doesn't take a step.
 ghost use Rattle.std.specs.Prelude.{◌≡◌};
-ghost use Rattle.agent.specs.Calls.{number_of, name_of, refusal_of};
+ghost use Rattle.agent.specs.Calls.{number_of, name_of};
 
-use crate::fault::PlainFault;
 use thiserror::Error;
 
 /// Why a call doesn't take a step; it is handed back as it was.
@@ -42,16 +41,6 @@ impl Refusal {
             Refusal::NotEnabled => "NotEnabled",
             Refusal::Behind { .. } => "Behind",
             Refusal::NoMemory => "NoMemory",
-        }
-    }
-
-    /// The refusal of a call whose agent doesn't take a step.
-    pub(crate) fn of(fault: PlainFault) -> Refusal
-        ensures { result ≡ refusal_of fault }
-    {
-        match fault {
-            PlainFault::NotEnabled => Refusal::NotEnabled,
-            PlainFault::NoMemory => Refusal::NoMemory,
         }
     }
 }
