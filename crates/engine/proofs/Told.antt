@@ -1,5 +1,5 @@
 -- What is sent is what is told, and what is told is what the program does.
-use Rattle.std.proofs.Common.{◌≡◌, ◌∙◌, Option, refl, ap, subst, sym, take, length, inl, inr}
+use Rattle.std.proofs.Common.{◌≡◌, ◌∙◌, Option, refl, ap, subst, sym, take, length, ◌⊎◌, inl, inr}
 use Rattle.std.proofs.Math.Seq.{take-length}
 use Rattle.std.specs.Io.KnownBytes.{Appends}
 use Rattle.program_rim.specs.declared.status.Status.{Status}
@@ -29,17 +29,17 @@ told old new bytes out meant Unreadable is code p = (subst (Appends old new) is 
 told old new bytes out meant NoMemory is code p = (subst (Appends old new) is p.0, ap code_of p.1 ∙ code)
 told old new bytes out meant RunFault is code p = (subst (Appends old new) is p.0, ap code_of p.1 ∙ code)
 
--- a line that was told is an output that may be written
-pub serves : (Is : Output → Type 0) (l : Line) (held holds : Option Text) (status : Status) → Is (line l) → Tells l held holds status
-    → Serves Is held holds status
-serves Is l held holds status is tells = elim tells.1 [
-  | inl same ↦ (line tells.0, inr (subst (λ (m : Line). Is (line m)) (sym same) is), tells.2)
+-- a line that was told is an output that may be written, where it may be or says that there is no memory
+may_serve : (Is : Output → Type 0) (l : Line) (held holds : Option Text) (status : Status) → (line l ≡ line no_memory) ⊎ Is (line l)
+    → Tells l held holds status → Serves Is held holds status
+may_serve Is l held holds status may tells = elim tells.1 [
+  | inl same ↦ (line tells.0, subst (λ (m : Line). (line m ≡ line no_memory) ⊎ Is (line m)) (sym same) may, tells.2)
   | inr none ↦ (line tells.0, inl (ap line none), tells.2)
 ]
 
--- and so is that there is no memory
+pub serves : (Is : Output → Type 0) (l : Line) (held holds : Option Text) (status : Status) → Is (line l) → Tells l held holds status
+    → Serves Is held holds status
+serves Is l held holds status is tells = may_serve Is l held holds status (inr is) tells
+
 pub serves_none : (Is : Output → Type 0) (held holds : Option Text) (status : Status) → Tells no_memory held holds status → Serves Is held holds status
-serves_none Is held holds status tells = elim tells.1 [
-  | inl same ↦ (line tells.0, inl (ap line same), tells.2)
-  | inr none ↦ (line tells.0, inl (ap line none), tells.2)
-]
+serves_none Is held holds status tells = may_serve Is no_memory held holds status (inl refl) tells

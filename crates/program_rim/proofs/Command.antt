@@ -25,17 +25,6 @@ pub mgcall_is_simple : is_simple mgcall_app ≡ true
 unfolding clap_on_literals
 mgcall_is_simple = refl
 
--- the number that `get_one` reads
-pub pieces_read : {E : Type 0} (gives : List ℕ → Result ℕ E → Type 0)
-    → ((t : List ℕ) (r : Result ℕ E) → gives t r → ParsesUnsigned 8 10 t r)
-    → (o : Option Text) (found : Option ℕ) → (o ≡ None → found ≡ None) → ((t : List ℕ) → o ≡ Some t → ReadsOne gives t found)
-    → unwrap_or found 0 ≡ option_map_or byte_or_zero o 0
-pieces_read {E} gives parses None found none some = ap (λ f. unwrap_or f 0) (none refl)
-pieces_read {E} gives parses (Some t) None none some =
-    let failed = some t refl in
-    byte_read {E = E} t (Err failed.0) (parses t (Err failed.0) failed.1)
-pieces_read {E} gives parses (Some t) (Some n) none some = byte_read {E = E} t (Ok n) (parses t (Ok n) (some t refl))
-
 -- ---- a number of 16 bits
 
 digits_pass : (digits : List ℕ) → AllDigits 10 digits → list_all (λ d. nat_lt (digit_value d) 10) digits ≡ true
@@ -64,16 +53,29 @@ word_read text (Err e) h = go (is_word (without_leading_plus text)) refl
         let inner = both _ _ outer.0 in
         absurd (h ((ltb-true _ _ inner.0, digits_from (without_leading_plus text) inner.1), ltb-true _ _ outer.1))
 
--- the number of workers that `get_one` reads
-pub workers_read : {E : Type 0} (gives : List ℕ → Result ℕ E → Type 0)
-    → ((t : List ℕ) (r : Result ℕ E) → gives t r → ParsesUnsigned 16 10 t r)
+-- ---- the number that `get_one` reads
+
+-- of so many bits, or 0 where it is none of them
+number_read : {E : Type 0} (bits : ℕ) (or_zero : List ℕ → ℕ) (gives : List ℕ → Result ℕ E → Type 0)
+    → ((t : List ℕ) (r : Result ℕ E) → ParsesUnsigned bits 10 t r → result_unwrap_or r 0 ≡ or_zero t)
+    → ((t : List ℕ) (r : Result ℕ E) → gives t r → ParsesUnsigned bits 10 t r)
+    → (o : Option Text) (found : Option ℕ) → (o ≡ None → found ≡ None) → ((t : List ℕ) → o ≡ Some t → ReadsOne gives t found)
+    → unwrap_or found 0 ≡ option_map_or or_zero o 0
+number_read bits or_zero gives read parses None found none some = ap (λ f. unwrap_or f 0) (none refl)
+number_read bits or_zero gives read parses (Some t) None none some =
+    let failed = some t refl in
+    read t (Err failed.0) (parses t (Err failed.0) failed.1)
+number_read bits or_zero gives read parses (Some t) (Some n) none some = read t (Ok n) (parses t (Ok n) (some t refl))
+
+pub pieces_read : {E : Type 0} (gives : List ℕ → Result ℕ E → Type 0) → ((t : List ℕ) (r : Result ℕ E) → gives t r → ParsesUnsigned 8 10 t r)
+    → (o : Option Text) (found : Option ℕ) → (o ≡ None → found ≡ None) → ((t : List ℕ) → o ≡ Some t → ReadsOne gives t found)
+    → unwrap_or found 0 ≡ option_map_or byte_or_zero o 0
+pieces_read {E} gives = number_read 8 byte_or_zero gives (λ t r. byte_read {E = E} t r)
+
+pub workers_read : {E : Type 0} (gives : List ℕ → Result ℕ E → Type 0) → ((t : List ℕ) (r : Result ℕ E) → gives t r → ParsesUnsigned 16 10 t r)
     → (o : Option Text) (found : Option ℕ) → (o ≡ None → found ≡ None) → ((t : List ℕ) → o ≡ Some t → ReadsOne gives t found)
     → unwrap_or found 0 ≡ option_map_or word_or_zero o 0
-workers_read {E} gives parses None found none some = ap (λ f. unwrap_or f 0) (none refl)
-workers_read {E} gives parses (Some t) None none some =
-    let failed = some t refl in
-    word_read {E = E} t (Err failed.0) (parses t (Err failed.0) failed.1)
-workers_read {E} gives parses (Some t) (Some n) none some = word_read {E = E} t (Ok n) (parses t (Ok n) (some t refl))
+workers_read {E} gives = number_read 16 word_or_zero gives (λ t r. word_read {E = E} t r)
 
 -- ---- requests
 

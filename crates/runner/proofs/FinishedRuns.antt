@@ -23,11 +23,15 @@ use Rattle.shards.specs.Shards.{ShardValue, opened_as}
 use Rattle.runner.specs.Comparing.{Agree}
 use Rattle.runner.specs.Finishing.{AreFinished, IsFinished}
 use Rattle.runner.specs.Kept.{AreKept, IsKept}
+use Rattle.runner.specs.Left.{IsLeftAmong}
 use Rattle.runner.specs.Parts.{ArePartsFrom, IsPart, numbers_in, opened_calls}
 use Rattle.runner.specs.ReportLines.{IsReportOf}
 use Rattle.runner.specs.Runs.{IsOutcome, IsRunOf, OutcomeValue, is_within, within}
+use Rattle.runner.specs.declared.report.Line.{Line}
 use Rattle.runner.proofs.AgreedTrails.{trails_agree}
 use Rattle.runner.proofs.ApartParts.{part_numbered, shards_apart}
+use Rattle.runner.proofs.FinishedShards.{all_histories, all_shards, shard_of, shards_from}
+use Rattle.runner.proofs.LeftRuns.{line_left}
 use Rattle.runner.proofs.PartCalls.{all_in_parts, parts_in_all}
 
 -- ---- one more shard
@@ -46,32 +50,6 @@ pub finished_more : (restarts : ℕ) (vs : List ShardValue) (v : ShardValue) →
     → AreFinished restarts (vs ++ v ∷ [])
 finished_more restarts [] v all last = (last, tt)
 finished_more restarts (first ∷ more) v (one, all) last = (one, finished_more restarts more v all last)
-
--- ---- the shards of a run, as the model has them
-
-abbrev pub shard_of : (count restarts number : ℕ) (v : ShardValue) → IsFinished restarts v → Shard
-shard_of count restarts number v is = record {
-  calls = map opened_as v.calls;
-  numbers = numbers_in count number;
-  start = is.kept.is_world.start;
-  history = v.history;
-  end = is.kept.world;
-}
-
-abbrev pub shards_from : (count restarts number : ℕ) (vs : List ShardValue) → AreFinished restarts vs → List Shard
-shards_from count restarts number [] all = []
-shards_from count restarts number (v ∷ more) (one, others) = shard_of count restarts number v one ∷ shards_from count restarts (number + 1) more others
-
-pub all_shards : (count restarts number : ℕ) (vs : List ShardValue) (all : AreFinished restarts vs)
-    → length (shards_from count restarts number vs all) ≡ length vs
-all_shards count restarts number [] all = refl
-all_shards count restarts number (v ∷ more) (one, others) = ap suc (all_shards count restarts (number + 1) more others)
-
-all_histories : (count restarts number : ℕ) (vs : List ShardValue) (all : AreFinished restarts vs)
-    → histories (shards_from count restarts number vs all) ≡ map cut_at_restarts (map (λ v. v.history) vs)
-all_histories count restarts number [] all = refl
-all_histories count restarts number (v ∷ more) (one, others) =
-    ap (λ (hs : List History). cut_at_restarts v.history ∷ hs) (all_histories count restarts (number + 1) more others)
 
 -- ---- a history has events of its shard's calls alone
 
@@ -189,8 +167,9 @@ module _ (script : Script) (plan : Plan) (restarts : ℕ) (few : length plan.cal
   pub is_run : MergesAreRuns → (vs : List ShardValue) (v : OutcomeValue) → IsPlanFor script plan → length vs ≡ plan.shards
       → AreKept script plan.calls plan.shards 0 vs → (all : AreFinished restarts vs) → Agree plan.shards (map (λ w. w.history) vs) v.trails
       → v.history ≡ merged (map cut_at_restarts (map (λ w. w.history) vs)) restarts → length v.trails ≡ length plan.calls
-      → IsReportOf script plan v.lines → IsRunOf script plan v
-  is_run law vs v is sized kept all agree merges calls report =
+      → IsOutcome v.history v.trails → IsReportOf script plan v.lines
+      → ((l : Line) → Contains v.lines l → IsLeftAmong script plan.shards vs v.trails l) → IsRunOf script plan v
+  is_run law vs v is sized kept all agree merges calls outcome report left =
       let shards = shards_from plan.shards restarts 0 vs all in
       let counted : length shards ≡ plan.shards = all_shards plan.shards restarts 0 vs all ∙ sized in
       let some : 0 < plan.shards = omega (arith, is.some_shard) in
@@ -216,6 +195,7 @@ module _ (script : Script) (plan : Plan) (restarts : ℕ) (few : length plan.cal
         opens = opens;
         runs = subst (λ (history : List Event). Runs script history run.start run.end) (sym whole) run.runs;
         report = report;
+        left = λ l among. line_left script plan.shards restarts vs all run v.history v.trails outcome l (left l among);
         good = λ before later w split runs. of_script.1 (opened_calls 0 plan.calls) before run.start w opens runs;
       }
 

@@ -8,7 +8,10 @@ pub mod ApartParts
 pub mod BeginLemmas
 pub mod CountLemmas
 pub mod FinishedRuns
+pub mod FinishedShards
 pub mod FollowedTrails
+pub mod LeftLines
+pub mod LeftRuns
 pub mod MergedAssociations
 pub mod MergedParts
 pub mod MergedPlaces

@@ -19,7 +19,7 @@ use Rattle.runner.specs.Replays.{IsAlone}
 use Rattle.runner.specs.declared.alone.Alone.{Alone}
 use Rattle.runner.specs.declared.report.Line.{Line}
 
-word_is : (test is_end : Bool) (phase : Phase)
+pub word_is : (test is_end : Bool) (phase : Phase)
     → phase_text (phase_in test (if is_resting phase then (if is_end then has_ended else rests) else waits)) ≡ phase_word test is_end phase
 word_is false is_end phase = refl
 word_is true is_end (awaits_reply request) = refl

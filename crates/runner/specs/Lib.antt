@@ -2,6 +2,8 @@ pub mod Comparing
 pub mod FaultNames
 pub mod Finishing
 pub mod Kept
+pub mod Leaving
+pub mod Left
 pub mod Merging
 pub mod Parts
 pub mod Passing

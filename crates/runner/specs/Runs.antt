@@ -9,6 +9,7 @@ use Rattle.mg_model.specs.Plans.{Plan}
 use Rattle.mg_model.specs.Script.{Script}
 use Rattle.mg_model.specs.Shards.{Shard, IsShardRun, histories, merged, restarts_in}
 use Rattle.mg_model.specs.World.{World, IsGood, IsOpening, Runs}
+use Rattle.runner.specs.Left.{IsLeft}
 use Rattle.runner.specs.Parts.{ArePartsFrom, opened_calls}
 use Rattle.runner.specs.ReportLines.{IsReportOf}
 use Rattle.runner.specs.declared.report.Line.{Line}
@@ -43,7 +44,7 @@ IsOutcome history trails = (number : ℕ) → within number history ≡ slice_in
 
 -- each shard is a run from an opening of its part of the calls, on its class of identifiers, and all were restarted equally often. Their merge is the history:
 -- association by association, in each shard after shard, one restart between two. It is a run of the plan's calls, and so is each beginning of it, and
--- each leads to a good world. Its lines are the plan's report
+-- each leads to a good world. Its lines are the plan's report, and each of them is as the history leaves its call
 pub record IsRunOf (script : Script) (plan : Plan) (v : OutcomeValue) : Type 0 where
   pub all_calls : length v.trails ≡ length plan.calls
   pub shards : List Shard
@@ -57,6 +58,7 @@ pub record IsRunOf (script : Script) (plan : Plan) (v : OutcomeValue) : Type 0 w
   pub opens : IsOpening script (opened_calls 0 plan.calls) start
   pub runs : Runs script v.history start end
   pub report : IsReportOf script plan v.lines
+  pub left : (line : Line) → Contains v.lines line → IsLeft script v.history end line
   pub good : (before later : List Event) (w : World) → v.history ≡ before ++ later → Runs script before start w → IsGood script w
 
 -- ---- the answer

@@ -90,7 +90,7 @@ pub(crate) fn push_of(
 }
 
 /// Whether so much happened to a call of the plan, with all that began within it.
-fn ends_at(course: &Course<'_>, place: usize) -> bool
+pub(crate) fn ends_at(course: &Course<'_>, place: usize) -> bool
     ensures { IsTrue result → length (trail_of course.now) ≡ place }
 {
     let all = course
@@ -102,7 +102,7 @@ fn ends_at(course: &Course<'_>, place: usize) -> bool
 }
 
 /// What happened at a place to a call of the plan, with all that began within it.
-fn event_at(course: &Course<'_>, place: usize) -> Option<Event>
+pub(crate) fn event_at(course: &Course<'_>, place: usize) -> Option<Event>
     ensures { result ≡ slice_get (trail_of course.now) place }
 {
     let before = course.log.trail.len();

@@ -157,7 +157,7 @@ pub(crate) fn finish<'s>(
         return Err(RunFault::NoMemory);
     };
     let last = association_after(restarts);
-    let report = report(alloc, checked, plan, courses.as_slice(), last)?;
+    let report = report(alloc, checked, plan, shards, courses.as_slice(), last)?;
     Ok(Outcome {
         history,
         report,

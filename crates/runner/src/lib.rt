@@ -10,6 +10,7 @@ mod fault;
 mod finish;
 mod gate;
 mod kept;
+mod left;
 mod merge;
 mod opening;
 mod outcome;

@@ -1,11 +1,15 @@
-//! The report of a run: for each call of the plan the lines that a run of it alone tells, which have to be those that the run itself tells.
-ghost use Rattle.std.specs.Prelude.{◌≡◌, ◌∷◌, [], IfOk, IfSome, map};
+//! The report of a run: for each call of the plan the lines that a run of it alone tells, which have to be those that the run itself tells, and what its shards
+//! and transcripts leave.
+ghost use Rattle.std.specs.Prelude.{◌≡◌, ◌∷◌, [], Contains, IfOk, IfSome, map};
 ghost use Rattle.mg_model.specs.Plans as plans;
 ghost use Rattle.mg_model.specs.Reports.{IsReported};
+ghost use Rattle.runner.specs.Comparing.{trails_of};
+ghost use Rattle.runner.specs.Left.{IsLeftAmong};
 ghost use Rattle.runner.specs.ReportLines.{AreNumbered, IsReportOf, line_of};
 
 use crate::course::Course;
 use crate::fault::RunFault;
+use crate::left::are_left;
 use crate::replay::replay;
 use crate::report::{Line, lines_of};
 use composition::Checked;
@@ -13,6 +17,7 @@ use mg_model::plans::PlanStep;
 use mg_names::identifiers::Assoc;
 use mg_reports::laws::reports_add_up;
 use plans::{Plan, PlanCall};
+use shards::Shard;
 use std::alloc::Global;
 
 /// 1 for a restart, and 0 for any other step.
@@ -100,12 +105,15 @@ pub(crate) fn report(
     alloc: Global,
     checked: &Checked,
     plan: &Plan,
+    shards: &[Shard<'_>],
     courses: &[Course<'_>],
     last: Assoc,
 ) -> Result<Vec<Line>, RunFault>
-    ensures { IfOk result (λ lines. IsReportOf checked.now.table plan.now lines.items) }
+    ensures report { IfOk result (λ lines. IsReportOf checked.now.table plan.now lines.items) }
+    ensures left { IfOk result (λ lines. (l : Line) → Contains lines.items l → IsLeftAmong checked.now.table plan.now.shards shards.now (trails_of courses.now) l) }
 {
     reports_add_up();
+    let count = u32::from(plan.shards());
     let Some(restarts) = restarts_of_all(plan) else {
         return Err(RunFault::Disagree);
     };
@@ -116,6 +124,9 @@ pub(crate) fn report(
             return Err(RunFault::Disagree);
         };
         let own = told(alloc, checked, plan, number, call, course, restarts, last)?;
+        if !are_left(checked.script(), count, shards, courses, number, own.as_slice()) {
+            return Err(RunFault::Disagree);
+        }
         let Ok(()) = lines.extend_from_slice(own.as_slice()) else {
             return Err(RunFault::NoMemory);
         };

@@ -3,11 +3,10 @@ use Rattle.std.proofs.Common.{◌≡◌, ◌∙◌, ◌+◌, ◌++◌, ℕ, Bool
 use Rattle.std.specs.Prelude.{not, slice_get}
 use Rattle.std.specs.Option.{option_eq}
 use Rattle.std.proofs.lemmas.Grind.{common_steps}
-use Rattle.std.proofs.lemmas.List.{take_more}
-use Rattle.std.proofs.lemmas.Option.{get_or_from_slice_get, slice_get_within}
 use Rattle.mg_model.specs.contracts.events.EventPartialEq.TheImpl.{eq-value as events}
 use Rattle.mg_model.specs.declared.events.Event.{Event}
 use Rattle.runner.specs.Comparing.{trail_of}
+use Rattle.runner.proofs.CountLemmas.{one_more}
 use Rattle.runner.proofs.SameEvents.{same_event}
 use Rattle.runner.proofs.compare.place_behind.Goals as goal
 
@@ -18,12 +17,6 @@ found_there (Some other) event alike = by_test (events.it other event) refl alik
     by_test : (same : Bool) → events.it other event ≡ same → false ≡ not same → Some other ≡ Some event
     by_test true same alike = ap Some (same_event other event same)
     by_test false same alike = absurd (true≢false (sym alike))
-
-one_more : (trail : List Event) (place : ℕ) (event : Event) → slice_get trail place ≡ Some event
-    → take (place + 1) trail ≡ take place trail ++ event ∷ []
-one_more trail place event there =
-    take_more trail place event (slice_get_within trail place event there)
-    ∙ ap (λ (e : Event). take place trail ++ e ∷ []) (get_or_from_slice_get trail place event event there)
 
 pub returns : goal.returns
 returns c =
