@@ -23,6 +23,7 @@ test:
 	tools/readme
 	tools/cases
 	tools/runs
+	tools/gallery
 	tools/refusals
 
 bench: build
