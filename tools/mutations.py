@@ -23,7 +23,7 @@ WORDS = (
     "a-b a>b b>a a>a idle done call epochs shards off flash pause digit execute refuse reply pass note hear begin true false null [ ] { } = , . # '"
 ).split()
 BYTES = (b"\0", b"\xff", b"\x80", b"\xc0\x80", b"\xed\xa0\x80", b"\xf4\x90\x80\x80", b"\xc3", b"\xef\xbb\xbf", b"\r", b"\r\n", b"\n", b"\x7f", b"\x1b", b"\\")
-TOKEN = re.compile(rb'"(?:[^"\\\n]|\\.)*"|[A-Za-z_][A-Za-z0-9_.]*|[-+]?[0-9][0-9_.]*|[ \t]+|[^\x00]', re.S)
+TOKEN = re.compile(rb'"(?:[^"\\\n]|\\.)*"|[A-Za-z_][A-Za-z0-9_.]*|[-+]?[0-9][0-9_.]*|[ \t]+|.', re.S)
 PAIR = re.compile(rb'"\w+" *: *(?:\[[^][]*\]|"[^"]*"|[0-9]+) *,')
 
 

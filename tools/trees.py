@@ -88,12 +88,13 @@ def with_fresh_name(value, number):
 
 
 def grow(draw, holder, key):
-    """A list with one item so often that it comes to a limit, or one past it."""
+    """A list with one item so often that it comes to a limit, or one past it; fewer calls, each of which has many steps."""
     items = holder[key]
     if not isinstance(items, list) or not items:
         return
-    wanted = draw.choice((4, 5, 16, 17, 64, 65, 256, 257)) + draw.choice((0, 0, 0, 743, 744))
     item = draw.choice(items)
+    is_call = isinstance(item, dict) and "epochs" in item
+    wanted = draw.choice((2, 16, 17, 64)) if is_call else draw.choice((4, 5, 16, 17, 64, 65, 256, 257, 999, 1000, 1001))
     fresh = draw.random() < 0.8
     items += [with_fresh_name(item, number) if fresh else copy.deepcopy(item) for number in range(wanted - len(items))]
 
