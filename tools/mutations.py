@@ -179,9 +179,9 @@ class Generator:
         self.others = [[parts[place] for _, parts in self.sources if len(parts) > place] for place in range(3)]
 
     def changed(self, draw, parts):
-        """The sections with one of them changed; the plan most often where there is one."""
-        place = draw.choice(range(len(parts))) if draw.random() < 0.5 else len(parts) - 1
-        by = draw.choice((by_byte, by_token, by_token, by_tree, by_tree, by_tree))
+        """The sections with one of them changed."""
+        place = draw.randrange(len(parts))
+        by = draw.choice((by_byte, by_token, by_token, by_tree, by_tree, by_tree, by_tree, by_tree))
         return [by(draw, part, self.others[min(at, 2)]) if at == place else part for at, part in enumerate(parts)]
 
     def case(self, number):

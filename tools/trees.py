@@ -100,10 +100,15 @@ def grow(draw, holder, key):
 
 
 def spread(draw, holder, key):
-    """A component of an entry with all the words that it may have, or with some."""
-    if isinstance(holder, dict) and isinstance(key, str):
-        words = SETS.get(key, ["free", "live", "stale"] if len(key) < 3 else ["no", "yes"])
-        holder[key] = draw.choice((words, draw.sample(words, draw.randrange(len(words)))))
+    """A component of an entry with all the words that it may have, or with some; or all components of the entry with all of theirs."""
+    if not isinstance(holder, dict) or not isinstance(key, str):
+        return
+    words = SETS.get(key, ["free", "live", "stale"] if len(key) < 3 else ["no", "yes"])
+    holder[key] = draw.choice((words, draw.sample(words, draw.randrange(len(words)))))
+    if "link" in holder and draw.random() < 0.3:
+        every = {part: SETS[part] for part in ("mode", "plays", "events")}
+        holder |= {"link": SETS["link"], "lines": {line: every for line in draw.choice(("a", "ab"))}, "contexts": {"c": ["free", "live", "stale"]}}
+        holder["cuts"] = {"a>b": ["no", "yes"], "b>a": ["no", "yes"]}
 
 
 def move(draw, tree, holder, key):
@@ -119,10 +124,23 @@ def move(draw, tree, holder, key):
 
 
 def alike(draw, held, holder, key):
-    """Another value of the same kind in a place: one that stands under the same key, or any of the tree, so that a document keeps its shape."""
+    """Another value of the same kind in a place: one that stands under the same key, or any of the tree, so that a document keeps its shape; a number
+    most often becomes the next one."""
     same = [other[at] for other, at in held if type(other[at]) is type(holder[key])]
     under = [other[at] for other, at in held if at == key and type(other[at]) is type(holder[key])]
-    holder[key] = copy.deepcopy(draw.choice(under if isinstance(key, str) and draw.random() < 0.7 else same))
+    if isinstance(holder[key], int) and draw.random() < 0.7:
+        holder[key] = (not holder[key]) if isinstance(holder[key], bool) else holder[key] + draw.choice((-1, 1))
+    else:
+        holder[key] = copy.deepcopy(draw.choice(under if isinstance(key, str) and draw.random() < 0.7 else same))
+
+
+def aimed(draw, held):
+    """A place to change: any, or one of a key that is drawn first, so that keys that are seldom there are drawn as often as others."""
+    keys = sorted({key for _, key in held if isinstance(key, str)})
+    if not keys or draw.random() < 0.4:
+        return draw.choice(held)
+    wanted = draw.choice(keys)
+    return draw.choice([(holder, key) for holder, key in held if key == wanted])
 
 
 def once(draw, tree, others):
@@ -130,7 +148,7 @@ def once(draw, tree, others):
     held = list(spots(tree))
     if not held:
         return
-    holder, key = draw.choice(held)
+    holder, key = aimed(draw, held)
     kind = draw.randrange(14)
     if kind == 0:
         holder.pop(key)
@@ -142,14 +160,14 @@ def once(draw, tree, others):
         move(draw, tree, holder, key)
     elif kind == 4:
         holder[key] = draw.choice(([holder[key]], {"a": holder[key]}))
-    elif kind == 5:
-        grow(draw, *draw.choice([(other, at) for other, at in held if isinstance(other[at], list)] or [(holder, key)]))
-    elif kind == 6:
-        spread(draw, *draw.choice([(other, at) for other, at in held if isinstance(other, dict)] or [(holder, key)]))
-    elif kind == 7 and isinstance(holder[key], list):
-        draw.shuffle(holder[key])
+    elif kind in (5, 6):
+        grow(draw, *aimed(draw, [(other, at) for other, at in held if isinstance(other[at], list)] or [(holder, key)]))
+    elif kind == 7:
+        spread(draw, *aimed(draw, [(other, at) for other, at in held if isinstance(other, dict)] or [(holder, key)]))
     elif kind == 8:
         holder[key] = value_for(draw, tree, others)
+    elif kind == 9 and isinstance(holder[key], list):
+        draw.shuffle(holder[key])
     else:
         alike(draw, held, holder, key)
 
