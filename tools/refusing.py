@@ -50,9 +50,8 @@ class Refusing:
         environment.update({f"REFUSE_{name.upper()}": str(value) for name, value in refusal.items()})
         source = {"input": given} if stdin is None else {"stdin": stdin}
         try:
-            result = subprocess.run(
-                [str(word) for word in command], **source, stdout=stdout, stderr=subprocess.PIPE, pass_fds=[tells], env=environment, timeout=SECONDS, check=False
-            )
+            devices = {**source, "stdout": stdout, "stderr": subprocess.PIPE, "pass_fds": [tells]}
+            result = subprocess.run([str(word) for word in command], **devices, env=environment, timeout=SECONDS, check=False)
             status, output, error = result.returncode, result.stdout or b"", result.stderr
         except subprocess.TimeoutExpired:
             status, output, error = None, b"", b"it took too long"

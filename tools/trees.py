@@ -5,7 +5,9 @@ import math
 import re
 
 LIMIT = 4_294_967_295
-VALUES = (0, 1, 2, -1, 255, 256, 65_535, 65_536, LIMIT, LIMIT + 1, 2**63 - 1, 2**63, 2**64, 2**64 + 1, -(2**63), 1.0, 2.5, True, False, None, "", [], {}, [[]], " ")
+VALUES = (
+    0, 1, 2, -1, 255, 256, 65_535, 65_536, LIMIT, LIMIT + 1, 2**63 - 1, 2**63, 2**64, 2**64 + 1, -(2**63), 1.0, 2.5, True, False, None, "", [], {}, [[]], " ",
+)
 NAMES = "none armed gone absent a b c e idle done rearm A 1a a-b a.b aaaaaaaaaaaaaaaa aaaaaaaaaaaaaaaaa é".split()
 BARE = re.compile("[A-Za-z0-9_-]+")
 MODES = ["Inactive", "SendOnly", "ReceiveOnly", "SendReceive"]
