@@ -189,7 +189,7 @@ class Generator:
         draw = random.Random(f"{self.seed} {number}")
         name, parts = draw.choice(self.sources)
         parts = with_plan(draw, parts)
-        for _ in range(draw.choice((0, 1, 1, 1, 1, 1, 2, 2, 3, 5))):
+        for _ in range(draw.choice((0, 1, 1, 1, 1, 1, 1, 2, 2, 5))):
             parts = self.changed(draw, parts)
         text = join(parts)
         if draw.random() < 0.05:

@@ -17,6 +17,7 @@ STEPS = {
     "note": 16, "execute": 16, "reply": 16, "pass": 8, "off": 8, "on": 6, "timer": 3, "hear": 3, "digit": 3, "flash": 2, "pause": 2, "end": 2,
     "begin": 3, "execute refuse": 3, "numbered": 4, "restart": 1,
 }
+PARTS = ("lines", "contexts")
 SIGNALS = ("al/ri", "cg/dt", "cg/rt", "cg/bt", "cg/ct")
 
 
@@ -102,15 +103,46 @@ def grow(draw, holder, key):
 
 
 def spread(draw, holder, key):
-    """A component of an entry with all the words that it may have, or with some; or all components of the entry with all of theirs."""
-    if not isinstance(holder, dict) or not isinstance(key, str):
-        return
-    words = SETS.get(key, ["free", "live", "stale"] if len(key) < 3 else ["no", "yes"])
-    holder[key] = draw.choice((words, draw.sample(words, draw.randrange(len(words)))))
-    if "link" in holder and draw.random() < 0.3:
-        every = {part: SETS[part] for part in ("mode", "plays", "events")}
-        holder |= {"link": SETS["link"], "lines": {line: every for line in draw.choice(("a", "ab"))}, "contexts": {"c": ["free", "live", "stale"]}}
-        holder["cuts"] = {"a>b": ["no", "yes"], "b>a": ["no", "yes"]}
+    """A component of an entry with all the words that it may have, or with some, or none."""
+    if isinstance(holder, dict) and isinstance(key, str):
+        words = SETS.get(key, ["free", "live", "stale"] if len(key) < 3 else ["no", "yes"])
+        holder[key] = draw.choice((words, draw.sample(words, draw.randrange(len(words)))))
+
+
+def widen(held, entry):
+    """An entry with all values of all components of the lines, contexts and pairs that entries of the tree speak of."""
+    named = {part: sorted({name for holder, key in held if key == part and isinstance(holder[key], dict) for name in holder[key]}) for part in PARTS}
+    every = {part: SETS[part] for part in ("mode", "plays", "events")} | {"at": ["-", *named["contexts"]]}
+    entry |= {"link": SETS["link"], "lines": {line: every for line in named["lines"]}}
+    entry["contexts"] = {context: ["free", "live", "stale"] for context in named["contexts"]}
+    entry["cuts"] = {f"{one}>{other}": ["no", "yes"] for one in named["lines"] for other in named["lines"] if one != other}
+
+
+def extend(draw, held, state):
+    """A state with a key more, or a command more that is one of the tree turned round: what it creates, or where, is subtracted."""
+    names = [holder[key] for holder, key in held if key in ("start", "restart", "ok", "fault", "timer") and isinstance(holder[key], str)] or ["idle"]
+    state[draw.choice(("end", "ok", "fault", "timer"))] = draw.choice(names)
+    if draw.random() < 0.3:
+        state["end"] = True
+    commands = [holder[key] for holder, key in held if isinstance(holder[key], str) and holder[key].startswith("add ")]
+    if commands and isinstance(state.get("do"), list) and draw.random() < 0.6:
+        words = draw.choice([command for command in state["do"] if isinstance(command, str) and command.startswith("add ")] or commands).split()
+        context, added = (word.lstrip("$") for word in [*words, "c", "c"][1:3])
+        state["do"].insert(draw.randrange(len(state["do"]) + 1), draw.choice((f"subtract {context} *", f"subtract {context} {added}")))
+
+
+def telling(draw, held):
+    """A change that a rule of a format speaks of."""
+    tables = [holder[key] for holder, key in held if isinstance(holder[key], dict)]
+    entries, states = ([table for table in tables if key in table] for key in ("link", "name"))
+    lists = [(holder, key) for holder, key in held if isinstance(holder[key], list) and isinstance(key, str)]
+    if entries:
+        widen(held, draw.choice(entries)) if draw.random() < 0.5 else spread(draw, *draw.choice(lists))
+    elif states and draw.random() < 0.7:
+        extend(draw, held, draw.choice(states))
+    elif calls := [table for table in tables if isinstance(table.get("epochs"), list)]:
+        epochs = draw.choice(calls)["epochs"]
+        grow(draw, {"epochs": epochs}, "epochs") if draw.random() < 0.5 or not epochs else grow(draw, dict(enumerate(epochs)), draw.randrange(len(epochs)))
 
 
 def move(draw, tree, holder, key):
@@ -151,7 +183,7 @@ def once(draw, tree, others):
     if not held:
         return
     holder, key = aimed(draw, held)
-    kind = draw.randrange(14)
+    kind = draw.randrange(16)
     if kind == 0:
         holder.pop(key)
     elif kind == 1 and isinstance(holder, list):
@@ -170,6 +202,8 @@ def once(draw, tree, others):
         holder[key] = value_for(draw, tree, others)
     elif kind == 9 and isinstance(holder[key], list):
         draw.shuffle(holder[key])
+    elif kind in (10, 11, 12):
+        telling(draw, held)
     else:
         alike(draw, held, holder, key)
 
