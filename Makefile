@@ -1,9 +1,10 @@
 # make demo    checks examples/watch, with the proved program if it is there, else with one that is built without its proofs
 # make build   leaves the proved program in crates/mgcall/out/mgcall
 # make test    the whole gate
+# make soak    what takes too long for the gate: many inputs from several seeds, and a hundred runs of 10,000 calls; after make test, which leaves the programs
 # make bench   how time grows with the size of the input, and what is checked in a second
 
-.PHONY: demo build test bench
+.PHONY: demo build test soak bench
 
 PROGRAM = crates/mgcall/out/mgcall
 
@@ -24,7 +25,14 @@ test:
 	tools/cases
 	tools/runs
 	tools/gallery
+	tools/bytes
+	tools/devices
 	tools/refusals
+	tools/load 3
+
+soak:
+	for seed in 1 2 3; do tools/bytes $$seed 10000 || exit 1; done
+	tools/load
 
 bench: build
 	cd crates/boardbench && rt run boardbench -- 100 20 1000 6

@@ -1,9 +1,13 @@
-/* Preloaded into the program by tools/refusals. What fails is told by the environment:
-     REFUSE_CALL=N   the growth of memory with this number, from 0, is refused; each call that gives a program memory is one
-     REFUSE_READ=N   reads give N bytes, and then fail
-     REFUSE_WRITE=N  writes take N bytes, and then fail
-     REFUSE_FULL=N   writes take N bytes, and then none
-   A byte on the descriptor REFUSE_TELL says that a growth was refused, at once: a program with threads may end without its destructors. */
+/* Preloaded into a program by tools/refusing.py. What fails is told by the environment:
+     REFUSE_CALL=N        the growth of memory with this number, from 0, is refused; each call that gives a program memory is one
+     REFUSE_READ=N        reads of standard input give N bytes, and then fail
+     REFUSE_READ_CALL=N   the read of standard input with this number, from 0, fails, and no other
+     REFUSE_WRITE=N       writes to standard output take N bytes, and then fail
+     REFUSE_WRITE_CALL=N  the write to standard output with this number, from 0, fails, and no other
+     REFUSE_FULL=N        writes to standard output take N bytes, and then none
+     REFUSE_SHORT=N       each read of standard input and each write to standard output takes N bytes at most
+     REFUSE_ERROR=E       the number with which they fail, EIO where it isn't given
+   A byte on the descriptor REFUSE_TELL says that something was refused, at once: a program with threads may end without its destructors. */
 #define _GNU_SOURCE
 #include <errno.h>
 #include <stdlib.h>
@@ -17,6 +21,7 @@ extern void *__libc_realloc(void *block, size_t size);
 extern void *__libc_memalign(size_t alignment, size_t size);
 
 static long call = 0, refused_call = -1, tell = -1, read_left = -1, write_left = -1, full_left = -1;
+static long reads_left = -1, writes_left = -1, most = -1, error = -1;
 
 static long number(const char *name)
 {
@@ -31,6 +36,10 @@ __attribute__((constructor)) static void begin(void)
     read_left = number("REFUSE_READ");
     write_left = number("REFUSE_WRITE");
     full_left = number("REFUSE_FULL");
+    reads_left = number("REFUSE_READ_CALL");
+    writes_left = number("REFUSE_WRITE_CALL");
+    most = number("REFUSE_SHORT");
+    error = number("REFUSE_ERROR");
     call = 0;
 }
 
@@ -41,6 +50,18 @@ static int refuses(void)
     syscall(SYS_write, tell, "r", 1);
     errno = ENOMEM;
     return 1;
+}
+
+static ssize_t failure(void)
+{
+    syscall(SYS_write, tell, "r", 1);
+    errno = error < 0 ? EIO : error;
+    return -1;
+}
+
+static size_t least(size_t size, long other)
+{
+    return other > 0 && (size_t)other < size ? (size_t)other : size;
 }
 
 void *malloc(size_t size)
@@ -93,13 +114,15 @@ void *mremap(void *address, size_t old_size, size_t size, int flags, ...)
 
 ssize_t read(int fd, void *buffer, size_t size)
 {
-    if (read_left == 0) {
-        errno = EIO;
-        return -1;
+    if (fd != STDIN_FILENO)
+        return syscall(SYS_read, fd, buffer, size);
+    if (read_left == 0 || reads_left == 0) {
+        reads_left = -1;
+        return failure();
     }
-    if (read_left > 0 && (size_t)read_left < size)
-        size = read_left;
-    ssize_t got = syscall(SYS_read, fd, buffer, size);
+    if (reads_left > 0)
+        reads_left--;
+    ssize_t got = syscall(SYS_read, fd, buffer, least(least(size, most), read_left));
     if (read_left > 0 && got > 0)
         read_left -= got;
     return got;
@@ -107,17 +130,19 @@ ssize_t read(int fd, void *buffer, size_t size)
 
 ssize_t write(int fd, const void *buffer, size_t size)
 {
-    if (full_left == 0)
+    if (fd != STDOUT_FILENO)
+        return syscall(SYS_write, fd, buffer, size);
+    if (full_left == 0) {
+        syscall(SYS_write, tell, "r", 1);
         return 0;
-    if (write_left == 0) {
-        errno = EIO;
-        return -1;
     }
-    if (write_left > 0 && (size_t)write_left < size)
-        size = write_left;
-    if (full_left > 0 && (size_t)full_left < size)
-        size = full_left;
-    ssize_t put = syscall(SYS_write, fd, buffer, size);
+    if (write_left == 0 || writes_left == 0) {
+        writes_left = -1;
+        return failure();
+    }
+    if (writes_left > 0)
+        writes_left--;
+    ssize_t put = syscall(SYS_write, fd, buffer, least(least(least(size, most), write_left), full_left));
     if (write_left > 0 && put > 0)
         write_left -= put;
     if (full_left > 0 && put > 0)

@@ -1,13 +1,15 @@
 //! `run_tour`: reads a script, its certificate and plans, divided by lines `%%`, runs each plan, and prints a line for each call, or the fault of the run. Its first word
 //! says on how many workers, one where there is none. With a second word, `meet`, calls 1 and 2 wait for each other before their first steps, and a line says whether they met. With
-//! `count` in its place, it prints how many events each run has in place of its lines, for `tools/bench` to time. `stdout` says what it must print for `stdin`.
+//! `count` in its place, it prints how many events each run has in place of its lines, for `tools/bench` to time. With `stop` and a number, workers are stopped at random, by that seed. `stdout` says what it must print for `stdin`.
 #![tactic(auto)]
 
 ghost use Rattle.plans.specs.Accepted.{IsPlanFor};
 
 mod meeting;
+mod stopping;
 
 use crate::meeting::Meeting;
+use crate::stopping::Stopping;
 use composition::{Checked, Verdict, check};
 use plans::Plan;
 use runner::{Gate, Line, Open, Outcome, RunFault, run};
@@ -52,6 +54,7 @@ enum Kind {
     Lines,
     Meet,
     Count,
+    Stop { seed: u64 },
 }
 
 /// The name of a state.
@@ -137,6 +140,21 @@ fn meet<T: Threads + Wait + Sync>(
     Ok(())
 }
 
+/// A run whose workers are stopped at random.
+fn stop<T: Threads + Wait + Sync>(
+    rt: &HostRuntime,
+    threads: &T,
+    checked: &Checked,
+    plan: &Plan,
+    workers: usize,
+    seed: u64,
+) -> Result<(), Failure>
+    requires { IsPlanFor checked.now.table plan.now }
+{
+    let gate = Stopping::new(rt, seed);
+    go(rt, threads, checked, plan, workers, &gate, Kind::Lines)
+}
+
 /// A plan for this script, read and run.
 fn tour<T: Threads + Wait + Sync>(
     rt: &HostRuntime,
@@ -151,6 +169,7 @@ fn tour<T: Threads + Wait + Sync>(
     };
     match kind {
         Kind::Meet => meet(rt, threads, checked, &plan, workers),
+        Kind::Stop { seed } => stop(rt, threads, checked, &plan, workers, seed),
         _ => go(rt, threads, checked, &plan, workers, &Open, kind),
     }
 }
@@ -164,12 +183,28 @@ fn asked(rt: &HostRuntime) -> Result<(usize, Kind), Failure> {
     let Ok(workers) = workers.as_str().parse() else {
         return Err(Failure::Refused);
     };
-    let kind = match words.as_slice().get(2) {
-        None => Kind::Lines,
-        Some(word) if word.as_str() == "meet" => Kind::Meet,
-        Some(_) => Kind::Count,
+    Ok((workers, kind_of(words.as_slice())?))
+}
+
+/// What the words behind the number of workers ask for.
+fn kind_of(words: &[String]) -> Result<Kind, Failure> {
+    match words.get(2) {
+        None => Ok(Kind::Lines),
+        Some(word) if word.as_str() == "meet" => Ok(Kind::Meet),
+        Some(word) if word.as_str() == "stop" => stop_by(words.get(3)),
+        Some(_) => Ok(Kind::Count),
+    }
+}
+
+/// Workers that are stopped by the seed that a word says.
+fn stop_by(word: Option<&String>) -> Result<Kind, Failure> {
+    let Some(word) = word else {
+        return Err(Failure::Refused);
     };
-    Ok((workers, kind))
+    match word.as_str().parse() {
+        Ok(seed) => Ok(Kind::Stop { seed }),
+        Err(_) => Err(Failure::Refused),
+    }
 }
 
 fn all<T: Threads + Wait + Sync>(rt: &HostRuntime, threads: &T) -> Result<(), Failure> {

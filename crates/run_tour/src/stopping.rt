@@ -1,0 +1,47 @@
+//! A gate that stops workers at random.
+use runner::Gate;
+use std::sync::Wait;
+use std::thread;
+use std::time::{Clock, Duration};
+
+/// How long a worker is stopped at most, in microseconds.
+const LONGEST: u64 = 2_000;
+
+/// A gate at which a step in sixteen waits a while and half of the others let another thread go first. Which and how long, a seed says; which thread
+/// comes next, the machine.
+#[derive(Drop)]
+pub(crate) struct Stopping<'r, C> {
+    clock: &'r C,
+    seed: u64,
+}
+
+impl<'r, C> Stopping<'r, C> {
+    /// The gate of a seed.
+    pub(crate) fn new(clock: &'r C, seed: u64) -> Stopping<'r, C> {
+        Stopping { clock, seed }
+    }
+
+    /// A number for a step of a call.
+    fn drawn(&self, call: u32, step: usize) -> u64 {
+        let place = u64::from(call)
+            .wrapping_mul(1_000_003)
+            .wrapping_add(step as u64);
+        let mixed = self
+            .seed
+            .wrapping_add(place)
+            .wrapping_mul(0x9E37_79B9_7F4A_7C15);
+        let mixed = (mixed ^ (mixed >> 31)).wrapping_mul(0xBF58_476D_1CE4_E5B9);
+        mixed ^ (mixed >> 29)
+    }
+}
+
+impl<C: Clock + Sync> Gate for Stopping<'_, C> {
+    fn pass<R: Wait>(&self, _rt: &R, call: u32, step: usize) {
+        let drawn = self.drawn(call, step);
+        match drawn % 16 {
+            0 => thread::sleep(self.clock, Duration::from_micros(drawn / 16 % LONGEST)),
+            1..8 => thread::yield_now(),
+            _ => {}
+        }
+    }
+}
