@@ -1,5 +1,5 @@
 -- The lines of a call of the plan, one after the other: each has the events behind those of the lines before it, and tells what its shard shows.
-use Rattle.std.proofs.Common.{◌≡◌, ◌∙◌, ◌+◌, ◌<◌, ◌≤◌, ◌++◌, ◌==◌, ◌⊎◌, inl, inr, ℕ, Bool, Some, List, [], ◌∷◌, length, get_or, take, if◌then◌else◌, refl, sym, ap, subst, arith}
+use Rattle.std.proofs.Common.{◌≡◌, ◌∙◌, ◌+◌, ◌<◌, ◌≤◌, ◌++◌, ◌==◌, inl, inr, ℕ, Bool, Some, List, [], ◌∷◌, length, get_or, take, if◌then◌else◌, refl, sym, ap, subst, arith}
 use Rattle.std.specs.Prelude.{◌%◌, Contains}
 use Rattle.std.proofs.lemmas.Bool.{eq-eqb, ne_eqb}
 use Rattle.std.proofs.lemmas.List.{take_all, take_more}
@@ -8,7 +8,6 @@ use Rattle.mg_model.proofs.Single.{none_in, only_one}
 use Rattle.mg_model.specs.declared.events.Event.{Event}
 use Rattle.mg_model.specs.Agent.{is_resting}
 use Rattle.mg_model.specs.Numbers.{plan_calls}
-use Rattle.mg_model.specs.Reports.{phase_word}
 use Rattle.mg_model.specs.Script.{Script}
 use Rattle.mg_model.specs.Tables.{state_of}
 use Rattle.mg_model.specs.World.{World}

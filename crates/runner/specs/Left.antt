@@ -1,7 +1,7 @@
 -- Where a run leaves the call of a line. A reader should check that a line has the state and the phase of the agent that its call has in the world that the
 -- run ends in, that it tells a call as retired only where none is open there any more and the history has the beginning of another on it, and that
 -- each has as many events as the history has of its call. This profile's own.
-use Rattle.std.specs.Prelude.{◌≡◌, ℕ, ◌==◌, ◌%◌, IsTrue, List, length, Contains, Option, Some, None, ◌⊎◌, slice_get, slice_index_or, []}
+use Rattle.std.specs.Prelude.{◌≡◌, ℕ, ◌==◌, ◌%◌, IsTrue, List, length, Contains, Some, None, ◌⊎◌, slice_get, slice_index_or, []}
 use Rattle.mg_model.specs.declared.events.Event.{Event}
 use Rattle.mg_model.specs.Agent.{Agent}
 use Rattle.mg_model.specs.Numbers.{plan_calls}

@@ -1,5 +1,5 @@
 -- The next event of a trail is one more that is taken.
-use Rattle.std.proofs.Common.{◌≡◌, ◌∙◌, ◌+◌, ◌++◌, ℕ, Bool, true, false, true≢false, List, [], ◌∷◌, Option, None, Some, arith, refl, sym, ap, take}
+use Rattle.std.proofs.Common.{◌≡◌, ◌∙◌, ◌+◌, ◌++◌, Bool, true, false, true≢false, [], ◌∷◌, Option, None, Some, arith, refl, sym, ap, take}
 use Rattle.std.specs.Prelude.{not, slice_get}
 use Rattle.std.specs.Option.{option_eq}
 use Rattle.std.proofs.lemmas.Grind.{common_steps}

@@ -1,6 +1,6 @@
 -- The shard and the transcripts of the call are among all.
-use Rattle.std.proofs.Common.{◌≡◌, ◌∙◌, List, [], length, map, refl, sym, ap, subst}
-use Rattle.std.specs.Prelude.{◌%◌, Option, Some, slice_get, slice_index_or, ℕ}
+use Rattle.std.proofs.Common.{◌≡◌, ◌∙◌, List, [], length, refl, sym, ap, subst}
+use Rattle.std.specs.Prelude.{◌%◌, Some, slice_get, slice_index_or, ℕ}
 use Rattle.std.proofs.lemmas.List.{get_or-map}
 use Rattle.std.proofs.lemmas.Option.{slice_get_read}
 use Rattle.mg_model.specs.declared.events.Event.{Event}
