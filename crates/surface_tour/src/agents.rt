@@ -1,6 +1,6 @@
 //! The agent of a call as data, with a gateway.
 use crate::failure::{Failure, once_more};
-use crate::gateways::{self, CALL, LINES};
+use crate::gateways::{self, CALL, LATER, LINES};
 use agent::{Plain, PlainFault};
 use gateway::{Gateway, Hook};
 use mg_names::identifiers::Assoc;
@@ -96,15 +96,23 @@ fn talk(gateway: &mut Gateway, plain: &mut Plain, script: &Script) -> Result<(),
     pass(plain, script)
 }
 
-/// The state that a call ends in, and the one after it has heard of a restart.
-pub(crate) fn agents(alloc: Global, script: &Script) -> Result<(u8, u8), Failure> {
+/// The gateway restarts, and the agent hears of it.
+fn restart(gateway: &mut Gateway, plain: &mut Plain, script: &Script) -> Result<(), Failure> {
+    match gateway.restart() {
+        Ok(association) => hear(plain, script, association),
+        Err(_) => Err(Failure::Refused),
+    }
+}
+
+/// The state that a call ends in, that of the call on its lines after it has heard of a restart, and how many lines and open calls the gateway has then.
+pub(crate) fn agents(alloc: Global, script: &Script) -> Result<(u8, u8, usize, usize), Failure> {
     let mut gateway = gateways::opened(alloc)?;
     let mut plain = Plain::enter(alloc, script, CALL, &LINES);
     talk(&mut gateway, &mut plain, script)?;
     let end = plain.state();
-    match gateway.restart() {
-        Ok(association) => hear(&mut plain, script, association)?,
-        Err(_) => return Err(Failure::Refused),
-    }
-    Ok((end, plain.state()))
+    gateways::begin(&mut gateway)?;
+    plain.begin(script, LATER);
+    restart(&mut gateway, &mut plain, script)?;
+    let lines = gateways::lines_of(&gateway)?;
+    Ok((end, plain.state(), lines, gateways::calls_of(&gateway)?))
 }

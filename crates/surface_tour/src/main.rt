@@ -1,10 +1,9 @@
-//! `surface_tour`: calls of each layer from digit maps to typed calls that may want memory. Where one does, what it was made on is compared with what it was, and the call is made once
+//! `surface_tour`: calls of each layer from digit maps to agents that may want memory. Where one does, what it was made on is compared with what it was, and the call is made once
 //! more; so what the tour prints is always the same, as `stdout` says. It ends with status 4 where a growth was refused outside of these calls, and with 1 where one changed what it was made on.
 #![tactic(auto)]
 
 mod agents;
 mod boards;
-mod calls;
 mod failure;
 mod gateways;
 mod line_sets;
@@ -31,12 +30,11 @@ fn lower(rt: &HostRuntime) -> Result<(), Failure> {
     Ok(())
 }
 
-/// A gateway with the agent of a call, as data and as typed calls.
+/// A gateway with the agent of a call, as data.
 fn upper(rt: &HostRuntime) -> Result<(), Failure> {
     let script = script::read(rt.alloc())?;
-    let (end, heard) = agents::agents(rt.alloc(), &script)?;
+    let (end, heard, lines, calls) = agents::agents(rt.alloc(), &script)?;
     println!(rt; "agent: ends in {end}, is in {heard} after a restart")?;
-    let (lines, calls) = calls::calls(rt.alloc(), &script)?;
     println!(rt; "gateway: lines {lines}, calls {calls}")?;
     Ok(())
 }
