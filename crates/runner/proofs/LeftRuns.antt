@@ -31,10 +31,12 @@ shard_among : (count restarts number : ℕ) (vs : List ShardValue) (all : AreFin
 shard_among count restarts number [] all k v there = absurd (true≢false (sym (ap (λ (o : Option ShardValue). is_some o) there)))
 shard_among count restarts number (first ∷ more) (one, others) zero v there =
     subst (λ (w : ShardValue). (is : IsFinished restarts w) × Contains (shards_from count restarts number (first ∷ more) (one, others)) (shard_of count restarts (number + 0) w is))
-    (some_same first v there)
-    (one, subst (λ (n : ℕ). Contains (shards_from count restarts number (first ∷ more) (one, others)) (shard_of count restarts n first one))
-    (let same : number ≡ number + 0 = omega arith in same)
-    (first_in (shard_of count restarts number first one) (shards_from count restarts (number + 1) more others)))
+    (some_same first v there) (
+      one,
+      subst (λ (n : ℕ). Contains (shards_from count restarts number (first ∷ more) (one, others)) (shard_of count restarts n first one))
+          (let same : number ≡ number + 0 = omega arith in same)
+          (first_in (shard_of count restarts number first one) (shards_from count restarts (number + 1) more others)),
+    )
 shard_among count restarts number (first ∷ more) (one, others) (suc k) v there =
     let later = shard_among count restarts (number + 1) more others k v there in (
       later.0,

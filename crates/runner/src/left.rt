@@ -60,10 +60,12 @@ fn is_begun_on(course: &Course<'_>, place: usize, number: CallNo) -> bool
     ensures { IsTrue result → (next : ℕ) × Contains (trail_of course.now) (begin next number.0) }
 {
     match event_at(course, place) {
-        Some(Event::OfCall {
-            event: CallEvent::Begin { old },
-            ..
-        }) => old == number,
+        Some(
+            Event::OfCall {
+                event: CallEvent::Begin { old },
+                ..
+            },
+        ) => old == number,
         _ => false,
     }
 }

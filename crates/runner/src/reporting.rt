@@ -124,7 +124,14 @@ pub(crate) fn report(
             return Err(RunFault::Disagree);
         };
         let own = told(alloc, checked, plan, number, call, course, restarts, last)?;
-        if !are_left(checked.script(), count, shards, courses, number, own.as_slice()) {
+        if !are_left(
+            checked.script(),
+            count,
+            shards,
+            courses,
+            number,
+            own.as_slice(),
+        ) {
             return Err(RunFault::Disagree);
         }
         let Ok(()) = lines.extend_from_slice(own.as_slice()) else {
