@@ -8,9 +8,9 @@ use mg_names::identifiers::{Assoc, CallNo};
 /// Where a call that is open in a shard is. This profile's own.
 #[derive(Clone, Copy, Debug)]
 pub struct Standing {
-    /// The association of its agent.
+    /// The association of its agent, from 1.
     pub association: Assoc,
-    /// Its state, by its place in the script.
+    /// Its state, by its place in the script, from 0.
     pub state: u8,
     /// Whether it waits for no reply and for no pass.
     pub is_resting: bool,
