@@ -25,7 +25,7 @@ use mg_names::strictness::Strict;
 use script_table::Script;
 
 /// Whether a state marks two lines, in either order.
-fn is_marked(talk: &[Pair], one: Slot, other: Slot) -> bool
+pub fn is_marked(talk: &[Pair], one: Slot, other: Slot) -> bool
     ensures { result ≡ is_marked talk.now one other }
 {
     talk.iter().any(|pair| {

@@ -59,7 +59,8 @@ impl Config {
     }
 
     pub(crate) fn cuts_word(&self) -> u64
-        ensures { result ≡ self.now.cuts }
+        ensures value { result ≡ self.now.cuts }
+        ensures packed { IsPacked self.now }
     {
         self.cuts
     }

@@ -1,6 +1,7 @@
 //! A set of values for one component of a configuration, asked of the words.
 ghost use Rattle.std.specs.Prelude.{◌≡◌, ◌+◌, ◌≤◌, ◌<◌};
 ghost use Rattle.std.specs.List.{list_all};
+ghost use Rattle.configuration.specs.Packed.{IsPacked};
 ghost use Rattle.configuration.specs.Regions.{is_in, word_at};
 
 use crate::config::Config;
@@ -46,7 +47,8 @@ impl Model for ValueSet {
 
 /// A configuration's word with a number.
 fn config_word(config: &Config, number: u8) -> u64
-    ensures { result ≡ word_at config.now number }
+    ensures value { result ≡ word_at config.now number }
+    ensures packed { IsPacked config.now }
 {
     match number {
         0 => config.lines_word(),
@@ -71,7 +73,7 @@ pub(crate) fn are_in(sets: &[ValueSet], config: &Config) -> bool
 impl ValueSet {
     ghost use Rattle.std.specs.Prelude.{◌^◌, ◌==◌, true, IsTrue, IfSome};
     ghost use Rattle.configuration.specs.Fields.{field_of};
-    ghost use Rattle.configuration.specs.Packed.{Words};
+    ghost use Rattle.configuration.specs.Packed.{IsPacked, Words};
     ghost use Rattle.configuration.specs.Regions.{is_in, word_at};
 
     fn of_field(word: u8, at: u32, bits: u8, allowed: u64) -> ValueSet
@@ -118,8 +120,9 @@ impl ValueSet {
     }
 
     /// Whether a configuration has its value in the set.
-    pub(crate) fn has(&self, config: &Config) -> bool
-        ensures { result ≡ is_in self.now config.now }
+    pub fn has(&self, config: &Config) -> bool
+        ensures value { result ≡ is_in self.now config.now }
+        ensures packed { IsPacked config.now }
     {
         let word = config_word(config, self.word());
         let number = field(word, self.place(), self.size()) as u32;

@@ -29,7 +29,7 @@ fn words_of(
 }
 
 /// What is said of a broken obligation. A step's words name lines, so the script is read again.
-pub(crate) fn broken(alloc: Global, bytes: &[u8], fault: &Fault) -> Answer
+pub fn broken(alloc: Global, bytes: &[u8], fault: &Fault) -> Answer
     ensures { NamesFault bytes.now fault.now (answer_line result) }
 {
     let Ok(script) = read_script(alloc, bytes) else {
@@ -47,7 +47,7 @@ pub(crate) fn broken(alloc: Global, bytes: &[u8], fault: &Fault) -> Answer
 }
 
 /// What is said where there is no verdict.
-pub(crate) fn refused(fault: CheckFault) -> Answer
+pub fn refused(fault: CheckFault) -> Answer
     ensures { NamesRefusal fault (answer_line result) }
 {
     match fault {

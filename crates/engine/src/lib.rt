@@ -7,7 +7,7 @@
 #![tactic(auto)]
 
 pub mod answer;
-mod check;
+pub mod check;
 pub mod program;
 pub mod reply;
 mod report;

@@ -133,6 +133,13 @@ impl Entry {
         self.product
     }
 
+    /// Its components, in the order of the format's table.
+    pub fn components(&self) -> &[Component]
+        ensures { shown_all result.now ≡ self.now.components }
+    {
+        self.components.as_slice()
+    }
+
     /// Whether it has a configuration: it is well formed, one of the entry's state, and has each component in its set.
     pub fn contains(&self, config: &Config) -> bool
         ensures { IsTrue result ↔ Includes self.now (configuration_of config.now) }

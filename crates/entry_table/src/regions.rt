@@ -8,6 +8,7 @@ ghost use Rattle.entry_table.specs.Regions.{IsRegion};
 ghost use Rattle.entry_table.specs.Shown.{shown, shown_all};
 
 use crate::component::Component;
+use configuration::config::Config;
 use configuration::region::Region;
 use configuration::value_set::ValueSet;
 use std::alloc::{AllocError, Global};
@@ -41,4 +42,13 @@ pub(crate) fn region_of(
         region.narrow(set_of(component))?;
     }
     Ok(region)
+}
+
+impl Component {
+    /// Whether a configuration has one of its values.
+    pub fn allows(&self, config: &Config) -> bool
+        ensures { IsTrue result ↔ Allows (configuration_of config.now) (shown self.now) }
+    {
+        set_of(self).has(config)
+    }
 }

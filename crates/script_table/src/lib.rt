@@ -9,6 +9,7 @@
 
 mod lists;
 mod named;
+mod names;
 mod places;
 mod script;
 mod state;

@@ -28,4 +28,4 @@ returns-clause-value c u h =
     rw c.field.ensures.value (row_bits c.args.config.now c.args.source u c.context_number-number.result c.args.senders c.cut_row.result
     c.requires.source h c.context_number-number.ensures.value c.if-number-eq0.false c.context_number-number.ensures.small
     (way _ _ c.mode_number.ensures.inward c.if-mode_number-lt2.false c.mode_number.ensures.small) c.requires.senders
-    (rw c.cuts_word.ensures at c.cut_row.ensures) (fits_or c.cut_row.result c.args.source c.cut_row.type_inv))
+    (rw c.cuts_word.ensures.value at c.cut_row.ensures) (fits_or c.cut_row.result c.args.source c.cut_row.type_inv))

@@ -13,7 +13,7 @@ pub loop-set-preserved : goal.loop-set-preserved
 loop-set-preserved c =
     let test : ValueSet → Bool = λ set. is_in set c.args.config.now in
     let here = at c.args.sets.now c.loop-set.set-index c.set-item.result c.loop-set-test.true c.set-item.is in
-    let passes : test c.set-item.result ≡ true = sym c.has.ensures ∙ c.if-not-has.false in
+    let passes : test c.set-item.result ≡ true = sym c.has.ensures.value ∙ c.if-not-has.false in
     sym (ap (list_all test) here ∙ ap (λ b. b && list_all test (drop (c.loop-set.set-index + 1) c.args.sets.now)) passes)
     ∙ c.loop-set.invariant
 
@@ -21,7 +21,7 @@ pub returns-then-not-has : goal.returns-then-not-has
 returns-then-not-has c =
     let test : ValueSet → Bool = λ set. is_in set c.args.config.now in
     let here = at c.args.sets.now c.loop-set.set-index c.set-item.result c.loop-set-test.true c.set-item.is in
-    let fails : test c.set-item.result ≡ false = sym c.has.ensures ∙ c.if-not-has.true in
+    let fails : test c.set-item.result ≡ false = sym c.has.ensures.value ∙ c.if-not-has.true in
     sym (sym c.loop-set.invariant ∙ ap (list_all test) here
     ∙ ap (λ b. b && list_all test (drop (c.loop-set.set-index + 1) c.args.sets.now)) fails)
 

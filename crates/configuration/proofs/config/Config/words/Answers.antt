@@ -25,5 +25,5 @@ returns c =
     let packed = c.lines_word-lines.ensures.packed.ephemerals in
     let whole = second_whole c.args.self.now.ephemerals (rw c.ephemerals_word.ensures.value at c.ephemerals_word.type_inv) packed in
     let second = c.ephemerals_word.ensures.value ∙ sym whole ∙ sym (second_back c.args.self.now packed) in
-    let third = (rw c.cuts_word.ensures at c.field-2.ensures.value) ∙ sym (third_back c.args.self.now) in
+    let third = (rw c.cuts_word.ensures.value at c.field-2.ensures.value) ∙ sym (third_back c.args.self.now) in
     rw (first, second, third) refl

@@ -10,5 +10,5 @@ returns-clause-value c =
     (record { lines = c.self.inside.lines; ephemerals = c.self.inside.ephemerals; cuts = c.self.inside.cuts })
     (record { lines = c.mask.inside.lines; ephemerals = c.mask.inside.ephemerals; cuts = c.mask.inside.cuts })
     c.lines_word.result c.ephemerals_word.result c.cuts_word.result
-    c.lines_word.ensures.value c.ephemerals_word.ensures.value c.cuts_word.ensures
+    c.lines_word.ensures.value c.ephemerals_word.ensures.value c.cuts_word.ensures.value
     ∙ ap₂ (are_alike c.args.config.now) c.self.view_is c.mask.view_is

@@ -10,9 +10,9 @@ pub field-requires-clause-place : goal.field-requires-clause-place
 field-requires-clause-place c =
     omega (arith, c.field-number.ensures.small, power_le c.size.result 5 c.size.ensures.small)
 
-pub returns : goal.returns
+pub returns-clause-value : goal.returns-clause-value
 unfolding is_in has
-returns c =
-    let number = rw (c.config_word-word.ensures, c.word.ensures.value, c.place.ensures.value, c.size.ensures.value)
+returns-clause-value c =
+    let number = rw (c.config_word-word.ensures.value, c.word.ensures.value, c.place.ensures.value, c.size.ensures.value)
     at c.field-number.ensures.value in
     ap (λ n. not (nat_eq n 0)) (c.field.ensures.value ∙ ap₂ (λ a n. field_of a n 1) c.allowed.ensures number)
