@@ -1,7 +1,9 @@
 -- What is told of each call of a plan is the plan's report.
 use Rattle.std.proofs.Common.{◌≡◌, ◌∙◌, ◌+◌, ◌++◌, ℕ, suc, zero, List, [], ◌∷◌, Option, Some, length, map, inl, inr, refl, sym, ap, subst, arith}
 use Rattle.std.specs.List.{AllZip, flat_map, range_with_len}
-use Rattle.std.specs.Prelude.{Contains, slice_get}
+use Rattle.std.specs.Prelude.{Contains, IfOk, MatchResult, Result, Ok, Err, slice_get}
+use Rattle.std.specs.declared.alloc.Global.{Global}
+use Rattle.std.specs.declared.vec.Vec.{Vec}
 use Rattle.std.proofs.lemmas.List.Elements.{Contains-append_cases}
 use Rattle.mg_model.proofs.Single.{none_in}
 use Rattle.mg_model.specs.declared.events.Event.{Event}
@@ -28,6 +30,14 @@ module _ {X Y Z : Type 0} (R : X → Z → Type 0) (f : Y → Z) where
   back [] (y ∷ ys) all = absurd all
   back (x ∷ xs) [] all = absurd all
   back (x ∷ xs) (y ∷ ys) (one, all) = (one, back xs ys all)
+
+-- where all are Ok, each of what was collected is as its place asks
+pub if_all : {X Y E : Type 0} (R : X → Y → Type 0) (xs : List X) (rs : List (Result Y E)) (r : Result (Vec Y Global) E)
+    → AllZip (λ x one. IfOk one (R x)) xs rs
+    → MatchResult r (λ v. (ys : List Y) × (rs ≡ map Ok ys) × (v.items ≡ ys)) (λ e. Contains rs (Err e)) → IfOk r (λ v. AllZip R xs v.items)
+if_all R xs rs (Ok v) all (ys, same, items) =
+    subst (AllZip R xs) (sym items) (back (λ x one. IfOk one (R x)) Ok xs ys (subst (AllZip (λ x one. IfOk one (R x)) xs) same all))
+if_all R xs rs (Err e) all is = tt
 
 -- ---- all calls of a plan
 
