@@ -3,6 +3,7 @@ use Rattle.std.proofs.Common.{◌≡◌, ◌∙◌, ◌+◌, ◌==◌, inl, inr,
 use Rattle.std.specs.Prelude.{◌%◌, Contains, IsTrue, is_some, slice_get, slice_index_or}
 use Rattle.std.specs.List.{filter}
 use Rattle.std.proofs.lemmas.Bool.{eq-eqb, true≢false}
+use Rattle.std.proofs.lemmas.Option.{same_Some}
 use Rattle.mg_model.proofs.Single.{first_in, none_in}
 use Rattle.mg_model.specs.declared.events.Event.{Event}
 use Rattle.mg_model.specs.Numbers.{plan_calls}
@@ -23,15 +24,12 @@ use Rattle.runner.proofs.FinishedShards.{shard_of, shards_from}
 
 -- ---- a shard of the run
 
-some_same : (v w : ShardValue) → Some v ≡ Some w → v ≡ w
-some_same v w same = cc
-
 shard_among : (count restarts number : ℕ) (vs : List ShardValue) (all : AreFinished restarts vs) (k : ℕ) (v : ShardValue) → slice_get vs k ≡ Some v
     → (is : IsFinished restarts v) × Contains (shards_from count restarts number vs all) (shard_of count restarts (number + k) v is)
 shard_among count restarts number [] all k v there = absurd (true≢false (sym (ap (λ (o : Option ShardValue). is_some o) there)))
 shard_among count restarts number (first ∷ more) (one, others) zero v there =
     subst (λ (w : ShardValue). (is : IsFinished restarts w) × Contains (shards_from count restarts number (first ∷ more) (one, others)) (shard_of count restarts (number + 0) w is))
-    (some_same first v there) (
+    (same_Some first v there) (
       one,
       subst (λ (n : ℕ). Contains (shards_from count restarts number (first ∷ more) (one, others)) (shard_of count restarts n first one))
           (let same : number ≡ number + 0 = omega arith in same)

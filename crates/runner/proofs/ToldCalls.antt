@@ -1,10 +1,11 @@
 -- What is told of each call of a plan is the plan's report.
-use Rattle.std.proofs.Common.{◌≡◌, ◌∙◌, ◌+◌, ◌++◌, ℕ, suc, zero, List, [], ◌∷◌, Option, Some, length, map, inl, inr, refl, sym, ap, subst, arith}
+use Rattle.std.proofs.Common.{◌≡◌, ◌∙◌, ◌+◌, ◌++◌, ℕ, suc, zero, List, [], ◌∷◌, Some, length, map, inl, inr, refl, sym, ap, subst, arith}
 use Rattle.std.specs.List.{AllZip, flat_map, range_with_len}
 use Rattle.std.specs.Prelude.{Contains, IfOk, MatchResult, Result, Ok, Err, slice_get}
 use Rattle.std.specs.declared.alloc.Global.{Global}
 use Rattle.std.specs.declared.vec.Vec.{Vec}
 use Rattle.std.proofs.lemmas.List.Elements.{Contains-append_cases}
+use Rattle.std.proofs.lemmas.Option.{same_Some}
 use Rattle.mg_model.proofs.Single.{none_in}
 use Rattle.mg_model.specs.declared.events.Event.{Event}
 use Rattle.mg_model.specs.Plans.{Plan, PlanCall, epochs_of, opened_as, restarts_of_others, steps_in}
@@ -41,13 +42,6 @@ if_all R xs rs (Err e) all is = tt
 
 -- ---- all calls of a plan
 
-some_same : {X : Type 0} (x y : X) → Some x ≡ Some y → x ≡ y
-some_same x y same = ap (λ (o : Option X). or_else o) same
-  where
-    or_else : Option X → X
-    or_else (Some one) = one
-    or_else None = x
-
 module _ (script : Script) (plan : Plan) (shards : List ShardValue) (trails : List (List Event)) where
   abbrev Told : ℕ → List Line → Type 0
   Told = IsTold script plan shards trails
@@ -62,7 +56,7 @@ module _ (script : Script) (plan : Plan) (shards : List ShardValue) (trails : Li
 
   own_call : (number : ℕ) (call : PlanCall) (calls : List PlanCall) (own : List Line) → AreFrom number (call ∷ calls) → (told : Told number own) → told.call ≡ call
   own_call number call calls own from told =
-      some_same told.call call
+      same_Some told.call call
       (sym told.is ∙ ap (slice_get plan.calls) (let same : number ≡ number + 0 = omega arith in same) ∙ sym (from 0))
 
   pub are_reported : (number : ℕ) (calls : List PlanCall) (all : List (List Line)) → AreFrom number calls

@@ -7,8 +7,8 @@ use Rattle.gateway.specs.Openings as gateway
 use Rattle.systems.specs.Openings.{line_at}
 use Rattle.shards.proofs.opening.open_one.Goals as goal
 
-pub returns : goal.returns
-returns c = (
+pub returns-in-Ok-enter : goal.returns-in-Ok-enter
+returns-in-Ok-enter c = (
   record {
     all_lines = ap (λ (lines : List LineNo). length lines) (sym same) ∙ c.if-lines.false ∙ c.lines.ensures.value;
     may = subst (λ (lines : List LineNo). gateway.opening (gateway_of c.args.gateway.now) (is_taken c.args.gateway.now c.args.call.now.call.0) lines ≡ Ok tt) same c.in-Ok.ensures.answer;
@@ -24,10 +24,10 @@ returns c = (
     slots = c.in-Ok-put.ensures;
   },
   record {
-    kind = c.enter-2.ensures.kind;
-    agent = c.enter-2.ensures.agent ∙ ap (λ (lines : List LineNo). opened c.args.script.now c.args.call.now.call.0 (line_at lines)) same;
-    of_script = c.enter-2.ensures.script;
-    transcript = c.enter-2.ensures.transcript;
+    kind = c.in-Ok-enter.ensures.kind;
+    agent = c.in-Ok-enter.ensures.agent ∙ ap (λ (lines : List LineNo). opened c.args.script.now c.args.call.now.call.0 (line_at lines)) same;
+    of_script = c.in-Ok-enter.ensures.script;
+    transcript = c.in-Ok-enter.ensures.transcript;
   },
 )
   where
