@@ -92,4 +92,4 @@ module _ (script : Script) (plan : Plan) (shards : List ShardValue) (trails : Li
 -- the lines of all, as they are owned
 pub lines_owned : {X Y : Type 0} (f : X → List Y) (all : List X) → flat_map f all ≡ flat_map (λ (own : List Y). own) (map f all)
 lines_owned f [] = refl
-lines_owned f (one ∷ all) = ap (λ (rest : List Y). f one ++ rest) (lines_owned f all)
+lines_owned {Y = Y} f (one ∷ all) = ap (λ (rest : List Y). f one ++ rest) (lines_owned f all)

@@ -88,12 +88,23 @@ impl<'s> Alone<'s> {
     fn stands_idle(self) -> Result<Alone<'s>, RunFault>
         ensures { IfOk result (λ after. IsIdler self.entry after) }
     {
-        let mut alone = self;
-        let Some(idle) = alone.idle.checked_add(1) else {
+        let Alone {
+            next,
+            standing,
+            gone,
+            idle,
+            others,
+        } = self;
+        let Some(idle) = idle.checked_add(1) else {
             return Err(RunFault::Disagree);
         };
-        alone.idle = idle;
-        Ok(alone)
+        Ok(Alone {
+            next,
+            standing,
+            gone,
+            idle,
+            others,
+        })
     }
 
     /// An event is refused: the step is idle where it can't happen.

@@ -16,6 +16,7 @@ pub(crate) struct Measured<'a> {
 }
 
 impl<'a> Model for Measured<'a> {
+    ghost use Rattle.std.specs.Prelude.{◌≡◌};
     ghost use Rattle.mg_model.specs.Plans as plans;
 
     ghost Value = { plans.Plan };

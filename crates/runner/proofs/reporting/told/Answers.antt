@@ -21,11 +21,11 @@ returns c =
     let calls = c.calls.result.now in
     let at = c.in-Some.ensures.lookup in
     let lines = c.in_ok-lines.lines.items in
-    let number : c.in-Ok.number ≡ c.args.place = c.in-Ok.ensures in
-    let count : c.from-count.result ≡ plan.shards = c.from-count.ensures ∙ c.shards.ensures ∙ ap (λ (p : Plan). p.shards) c.plan.ensures in
+    let number : c.in-Ok.number ≡ c.args.place = c.in-Ok.ensures.1 in
+    let count : c.from-count.result ≡ plan.shards = c.from-count.ensures ∙ c.shards.ensures ∙ ap (λ (p : Plan). p.shards) c.plan-plan.ensures in
     record {
       call = call;
-      is = subst (λ (cs : List PlanCall). slice_get cs c.args.place ≡ Some call) (c.calls.ensures ∙ ap (λ (p : Plan). p.calls) c.plan.ensures)
+      is = subst (λ (cs : List PlanCall). slice_get cs c.args.place ≡ Some call) (c.calls.ensures ∙ ap (λ (p : Plan). p.calls) c.plan-plan.ensures)
           (slice_get_read calls (length calls) c.args.place call refl at.3.0 (at.3.1 call));
       reported = subst (λ (n : ℕ). IsReported script (opened_as n call) (steps_in (epochs_of plan.calls) call.epochs) (restarts_of_others plan call) (map (line_of script) lines))
           number c.in_ok-lines.ensures.0;
