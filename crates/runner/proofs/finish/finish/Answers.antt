@@ -15,7 +15,7 @@ use Rattle.runner.proofs.FinishedRuns.{is_outcome, is_run}
 use Rattle.runner.proofs.finish.finish.Goals as goal
 
 pub invariant_of-result : goal.invariant_of-result
-invariant_of-result c =
+invariant_of-result g c =
     let shards = c.args.shards.now in
     let plan = c.args.plan.now in
     let restarts = c.restarts_of-restarts.result in
@@ -36,7 +36,7 @@ invariant_of-result c =
     is_outcome plan restarts shards c.in-Ok-merge.history.items (trails_of courses) some sized all agree merges
 
 pub returns : goal.returns
-returns c =
+returns g c =
     let shards = c.args.shards.now in
     let plan = c.args.plan.now in
     let restarts = c.restarts_of-restarts.result in

@@ -1,15 +1,13 @@
 -- What is told of each call is the report of all.
-use Rattle.std.proofs.Common.{◌≡◌, ◌∙◌, ◌+◌, ℕ, List, length, map, refl, sym, ap, subst, arith}
+use Rattle.std.proofs.Common.{◌≡◌, ◌∙◌, ◌+◌, ℕ, List, length, map, ap, subst, arith}
 use Rattle.std.specs.List.{AllZip, flat_map, range_with_len}
-use Rattle.std.specs.Prelude.{Contains, IfOk, slice_get}
+use Rattle.std.specs.Prelude.{Contains, slice_get}
 use Rattle.std.specs.declared.alloc.Global.{Global}
 use Rattle.std.specs.declared.vec.Vec.{Vec}
-use Rattle.mg_model.specs.Plans.{Plan, PlanCall}
-use Rattle.mg_model.specs.Reports.{IsReport, ReportLine}
-use Rattle.mg_model.specs.Script.{Script}
+use Rattle.mg_model.specs.Plans.{Plan}
+use Rattle.mg_model.specs.Reports.{IsReport}
 use Rattle.runner.specs.Comparing.{trails_of}
-use Rattle.runner.specs.Left.{IsLeftAmong}
-use Rattle.runner.specs.ReportLines.{IsReportOf, line_of}
+use Rattle.runner.specs.ReportLines.{line_of}
 use Rattle.runner.specs.Told.{IsTold}
 use Rattle.runner.specs.declared.report.Line.{Line}
 use Rattle.runner.proofs.ToldCalls.{are_left, are_numbered, are_reported, lines_owned, through}
