@@ -386,3 +386,8 @@ init {
     run restarts()
   }
 }
+
+/* Asked by `spin -a -DENDS`: a call that talks has ended at some time. It isn't so, since nothing has to happen. */
+#ifdef ENDS
+ltl ends { [] (call[0].state == TALK -> <> (call[0].state == DONE)) }
+#endif
