@@ -167,18 +167,42 @@ fn request(alloc: Global) -> Result<Request, Failure> {
     Ok(Request::new(id, commands(alloc)?))
 }
 
+/// How many contexts stand after the request ran once more.
+fn contexts_again(
+    connections: &Connections,
+    request: &Request,
+    results: &[Done],
+) -> Result<usize, Failure> {
+    let again = followed(connections, request, results)?;
+    Ok(again.board().contexts())
+}
+
+/// What the request came to. Nothing is owned here that each exit would let go.
+fn told(
+    connections: &Connections,
+    request: &Request,
+    after: &Connections,
+    outcome: &Outcome,
+) -> Result<(usize, usize, usize, usize), Failure> {
+    let again = contexts_again(connections, request, outcome.results.as_slice())?;
+    let (results, notes) = (outcome.results.len(), outcome.notes.len());
+    Ok((results, notes, after.board().contexts(), again))
+}
+
+/// The same, where the request runs.
+fn ended(
+    connections: &Connections,
+    request: &Request,
+) -> Result<(usize, usize, usize, usize), Failure> {
+    let (after, outcome) = ran(connections, request)?;
+    told(connections, request, &after, &outcome)
+}
+
 /// How many results and notes the request has; and how many contexts stand after it, and after it ran once more.
 pub(crate) fn requested(
     alloc: Global,
     connections: &Connections,
 ) -> Result<(usize, usize, usize, usize), Failure> {
     let request = request(alloc)?;
-    let (after, outcome) = ran(connections, &request)?;
-    let again = followed(connections, &request, outcome.results.as_slice())?;
-    Ok((
-        outcome.results.len(),
-        outcome.notes.len(),
-        after.board().contexts(),
-        again.board().contexts(),
-    ))
+    ended(connections, &request)
 }

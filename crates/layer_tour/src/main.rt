@@ -39,18 +39,41 @@ fn raised(connections: &mut Connections) -> Result<LineNote, Failure> {
     }
 }
 
-/// Requests on connections, messages, and an agent.
-fn tell_requests(rt: &HostRuntime, script: &Script) -> Result<(), Failure> {
-    let mut connections = connected::opened(rt.alloc())?;
-    let (results, notes, after, again) = connected::requested(rt.alloc(), &connections)?;
+/// A request, and messages.
+fn tell_messages(rt: &HostRuntime, connections: &mut Connections) -> Result<(), Failure> {
+    let (results, notes, after, again) = connected::requested(rt.alloc(), connections)?;
     println!(rt; "request: results {results}, notes {notes}, contexts {after} and {again}")?;
-    let raised = raised(&mut connections)?;
-    let (notes, request, note) = messages::messages(rt.alloc(), raised)?;
+    let (notes, request, note) = messages::messages(rt.alloc(), raised(connections)?)?;
     println!(rt; "messages: notes {notes}, request {request}, note {note}")?;
-    let (state, done) = agents::agents(rt.alloc(), script, &mut connections)?;
+    Ok(())
+}
+
+/// An agent.
+fn tell_agent(
+    rt: &HostRuntime,
+    script: &Script,
+    connections: &mut Connections,
+) -> Result<(), Failure> {
+    let (state, done) = agents::agents(rt.alloc(), script, connections)?;
     let events = agents::timed(rt.alloc(), script)?;
     println!(rt; "agent: state {state}, done {done}, events {events}")?;
     Ok(())
+}
+
+/// Requests on connections, messages, and an agent. The connections are another function's, so that no exit here lets them go.
+fn tell_both(
+    rt: &HostRuntime,
+    script: &Script,
+    connections: &mut Connections,
+) -> Result<(), Failure> {
+    tell_messages(rt, connections)?;
+    tell_agent(rt, script, connections)
+}
+
+/// All of that, on connections of two lines.
+fn tell_requests(rt: &HostRuntime, script: &Script) -> Result<(), Failure> {
+    let mut connections = connected::opened(rt.alloc())?;
+    tell_both(rt, script, &mut connections)
 }
 
 fn tour<T: Threads + Sync>(rt: &HostRuntime, threads: &T) -> Result<(), Failure> {

@@ -145,22 +145,34 @@ fn queue(alloc: Global) -> Result<(), Failure> {
     }
 }
 
+/// Tells what is named by numbers.
+fn tell_numbers(rt: &HostRuntime) -> Result<(), Failure> {
+    let alloc = rt.alloc();
+    let (numbers, calls, lines) = (numbers(alloc)?, calls(alloc)?, lines(alloc)?);
+    println!(rt; "numbers {numbers}, calls {calls}, lines {lines}")?;
+    Ok(())
+}
+
+/// Tells what a list, a region and a certificate are.
+fn tell_checks(rt: &HostRuntime) -> Result<(), Failure> {
+    let (steps, before, after) = configurations(rt.alloc())?;
+    let entries = empty(rt.alloc())?;
+    println!(rt; "list {steps}, region {before} {after}, entries {entries}")?;
+    Ok(())
+}
+
+/// Tells what texts and keys are read.
+fn tell_texts(rt: &HostRuntime) -> Result<(), Failure> {
+    let (words, length) = texts(rt.alloc())?;
+    let (keys, only) = read_keys(rt.alloc())?;
+    println!(rt; "words {words}, length {length}, keys {keys} {only}")?;
+    Ok(())
+}
+
 /// Tells all of that.
 pub(crate) fn tell(rt: &HostRuntime) -> Result<(), Failure> {
-    let alloc = rt.alloc();
-    println!(rt;
-        "numbers {}, calls {}, lines {}",
-        numbers(alloc)?,
-        calls(alloc)?,
-        lines(alloc)?
-    )?;
-    let (steps, before, after) = configurations(alloc)?;
-    println!(rt;
-        "list {steps}, region {before} {after}, entries {}",
-        empty(alloc)?
-    )?;
-    let (words, length) = texts(alloc)?;
-    let (keys, only) = read_keys(alloc)?;
-    println!(rt; "words {words}, length {length}, keys {keys} {only}")?;
-    queue(alloc)
+    tell_numbers(rt)?;
+    tell_checks(rt)?;
+    tell_texts(rt)?;
+    queue(rt.alloc())
 }
