@@ -1,12 +1,15 @@
 # make demo    checks examples/watch, with the proved program if it is there, else with one that is built without its proofs
 # make build   leaves the proved program in crates/mgcall/out/mgcall
+# make install puts the proved programs and their man pages under PREFIX, in DESTDIR where that is given; builds what isn't proved yet
 # make test    the whole gate
 # make soak    what takes too long for the gate: many inputs from several seeds, and a hundred runs of 10,000 calls; after make test, which leaves the programs
 # make bench   how time grows with the size of the input, and what is checked in a second
 
-.PHONY: demo build test soak bench
+.PHONY: demo build install test soak bench
 
 PROGRAM = crates/mgcall/out/mgcall
+PREFIX = /usr/local
+DESTDIR =
 
 demo:
 	@tools/check examples/watch/script.toml examples/watch/certificate.json
@@ -14,6 +17,9 @@ demo:
 
 build:
 	cd crates/mgcall && rt run mgcall -- check < ../../examples/watch/input
+
+install:
+	tools/install "$(DESTDIR)$(PREFIX)"
 
 test:
 	tools/sides
@@ -25,6 +31,7 @@ test:
 	tools/cases
 	tools/runs
 	tools/gallery
+	tools/pipeline
 	tools/bytes
 	tools/devices
 	tools/refusals

@@ -29,7 +29,7 @@ PAIR = re.compile(rb'"\w+" *: *(?:\[[^][]*\]|"[^"]*"|[0-9]+) *,')
 
 def sources():
     """The name and the sections of each example, stored case and stored run."""
-    for folder in sorted(EXAMPLES.iterdir()):
+    for folder in sorted(path.parent for path in EXAMPLES.glob("*/script.toml")):
         parts = [(folder / name).read_bytes() for name in ("script.toml", "certificate.json", "plan.toml") if (folder / name).exists()]
         yield folder.name, parts
     for path in sorted((*TESTS.glob("cases/*.in"), *TESTS.glob("runs/*.in"))):

@@ -77,20 +77,42 @@ fn copied(reply: &Reply) -> Result<Reply, Failure> {
     }
 }
 
+/// A copy of a reply reaches the agent.
+fn reply_copied(plain: &mut Plain, script: &Script, told: &Reply) -> Result<(), Failure> {
+    let copied = copied(told)?;
+    reply(plain, script, &copied)
+}
+
+/// The gateway executes what the agent asks.
+fn told(gateway: &mut Gateway, plain: &Plain) -> Result<Reply, Failure> {
+    match plain.request() {
+        Some(request) => gateways::execute(gateway, CALL, request),
+        None => Err(Failure::Refused),
+    }
+}
+
 /// The gateway executes what the agent asks, and its reply reaches it.
 fn ask(gateway: &mut Gateway, plain: &mut Plain, script: &Script) -> Result<(), Failure> {
-    let Some(request) = plain.request() else {
-        return Err(Failure::Refused);
-    };
-    let told = gateways::execute(gateway, CALL, request)?;
-    reply(plain, script, &copied(&told)?)
+    let told = told(gateway, plain)?;
+    reply_copied(plain, script, &told)
+}
+
+/// The hook of line 1 goes to a state, and the note reaches the agent.
+fn hook(
+    gateway: &mut Gateway,
+    plain: &mut Plain,
+    script: &Script,
+    to: Hook,
+) -> Result<(), Failure> {
+    let raised = gateways::hook(gateway, to)?;
+    note(plain, script, &raised)
 }
 
 /// Both lines talk, and part.
 fn talk(gateway: &mut Gateway, plain: &mut Plain, script: &Script) -> Result<(), Failure> {
-    note(plain, script, &gateways::hook(gateway, Hook::Off)?)?;
+    hook(gateway, plain, script, Hook::Off)?;
     ask(gateway, plain, script)?;
-    note(plain, script, &gateways::hook(gateway, Hook::On)?)?;
+    hook(gateway, plain, script, Hook::On)?;
     ask(gateway, plain, script)?;
     ask(gateway, plain, script)?;
     pass(plain, script)
@@ -104,15 +126,25 @@ fn restart(gateway: &mut Gateway, plain: &mut Plain, script: &Script) -> Result<
     }
 }
 
-/// The state that a call ends in, that of the call on its lines after it has heard of a restart, and how many lines and open calls the gateway has then.
+/// The state that a call ends in, that of the call on its lines after it has heard of a restart, and how many lines and open calls the gateway has then. The gateway and the agent are
+/// another function's, so that no exit here lets them go.
+fn lived(
+    gateway: &mut Gateway,
+    plain: &mut Plain,
+    script: &Script,
+) -> Result<(u8, u8, usize, usize), Failure> {
+    talk(gateway, plain, script)?;
+    let end = plain.state();
+    gateways::begin(gateway)?;
+    plain.begin(script, LATER);
+    restart(gateway, plain, script)?;
+    let lines = gateways::lines_of(gateway)?;
+    Ok((end, plain.state(), lines, gateways::calls_of(gateway)?))
+}
+
+/// All of that, on a gateway with a call.
 pub(crate) fn agents(alloc: Global, script: &Script) -> Result<(u8, u8, usize, usize), Failure> {
     let mut gateway = gateways::opened(alloc)?;
     let mut plain = Plain::enter(alloc, script, CALL, &LINES);
-    talk(&mut gateway, &mut plain, script)?;
-    let end = plain.state();
-    gateways::begin(&mut gateway)?;
-    plain.begin(script, LATER);
-    restart(&mut gateway, &mut plain, script)?;
-    let lines = gateways::lines_of(&gateway)?;
-    Ok((end, plain.state(), lines, gateways::calls_of(&gateway)?))
+    lived(&mut gateway, &mut plain, script)
 }

@@ -49,6 +49,12 @@ fn exec(board: &mut Board, item: &Item) -> Result<Done, Failure> {
     }
 }
 
+/// A command is executed, and its result is let go.
+fn change(board: &mut Board, item: &Item) -> Result<(), Failure> {
+    exec(board, item)?;
+    Ok(())
+}
+
 /// A line is added to a context.
 fn add_line(board: &mut Board, context: ContextId, line: LineNo) -> Result<ContextId, Failure> {
     let added = Added::Line(line);
@@ -95,7 +101,7 @@ fn joined(board: &mut Board) -> Result<(), Failure> {
         termination,
         settings,
     };
-    let _modified = exec(board, &item)?;
+    change(board, &item)?;
     gathered(board, near, far)
 }
 
@@ -107,21 +113,20 @@ fn gathered(board: &mut Board, near: ContextId, far: ContextId) -> Result<(), Fa
         termination: two,
         settings: BOTH_WAYS,
     };
-    let _moved = exec(board, &moved)?;
+    change(board, &moved)?;
     let cut = Item::SetTopology {
         context: near,
         first: one,
         second: two,
         topology: Topology::Isolate,
     };
-    let _cut = exec(board, &cut)?;
+    change(board, &cut)?;
     let subtracted = Item::Subtract {
         context: near,
         termination: one,
     };
-    let _subtracted = exec(board, &subtracted)?;
-    let _emptied = exec(board, &Item::SubtractAll { context: far })?;
-    Ok(())
+    change(board, &subtracted)?;
+    change(board, &Item::SubtractAll { context: far })
 }
 
 /// An equal board.
@@ -156,12 +161,22 @@ fn ephemerals_of(board: &Board) -> Result<usize, Failure> {
     }
 }
 
-/// How many contexts, lines and ephemerals a copy has, after all of that was done.
+/// How many contexts, lines and ephemerals a board tells.
+fn told(board: &Board) -> Result<(usize, usize, usize), Failure> {
+    let contexts = contexts_of(board)?;
+    Ok((contexts, lines_of(board)?, ephemerals_of(board)?))
+}
+
+/// The same of a copy, after all of that was done on a board.
+fn copied_after(board: &mut Board) -> Result<(usize, usize, usize), Failure> {
+    joined(board)?;
+    board.settle();
+    let copied = copied(board)?;
+    told(&copied)
+}
+
+/// The same, on a new board.
 pub(crate) fn boards(alloc: Global) -> Result<(usize, usize, usize), Failure> {
     let mut board = opened(alloc)?;
-    joined(&mut board)?;
-    board.settle();
-    let copied = copied(&board)?;
-    let contexts = contexts_of(&copied)?;
-    Ok((contexts, lines_of(&copied)?, ephemerals_of(&copied)?))
+    copied_after(&mut board)
 }

@@ -85,13 +85,19 @@ fn answer(gateway: &mut Gateway, call: CallNo, request: &Request) -> Result<Answ
     }
 }
 
+/// A request is asked, and the answer is let go.
+fn ask(gateway: &mut Gateway, call: CallNo, request: &Request) -> Result<(), Failure> {
+    answer(gateway, call, request)?;
+    Ok(())
+}
+
 /// The reply to a request that is asked twice: it is executed, and its reply is kept.
 pub(crate) fn execute(
     gateway: &mut Gateway,
     call: CallNo,
     request: &Request,
 ) -> Result<Reply, Failure> {
-    let _executed = answer(gateway, call, request)?;
+    ask(gateway, call, request)?;
     match answer(gateway, call, request)? {
         Answer::Kept(reply) => Ok(reply),
         _ => Err(Failure::Refused),

@@ -70,15 +70,37 @@ fn list(alloc: Global) -> Result<EventList, Failure> {
     copied_list(alloc, &EventList::new(items))
 }
 
-/// How many items the list of a line has in a copy, and what it was armed by.
+/// Nine lines are added.
+fn add_lines(lines: &mut LineSet) -> Result<(), Failure> {
+    for line in 1..10 {
+        add_line(lines, LineNo(line))?;
+    }
+    Ok(())
+}
+
+/// A line is armed twice. What it reports is let go at once.
+fn arm_twice(lines: &mut LineSet, list: &EventList) -> Result<(), Failure> {
+    arm(lines, list, 1)?;
+    arm(lines, list, 2)?;
+    Ok(())
+}
+
+/// A line is armed with that list.
+fn armed(alloc: Global, lines: &mut LineSet) -> Result<(), Failure> {
+    let list = list(alloc)?;
+    arm_twice(lines, &list)
+}
+
+/// What is seen of a line in a copy, where nine were added and one was armed.
+fn copied_after(alloc: Global, lines: &mut LineSet) -> Result<SeenLine, Failure> {
+    add_lines(lines)?;
+    armed(alloc, lines)?;
+    let copied = copied(lines)?;
+    Ok(seen(copied.row(LINE)))
+}
+
+/// The same, of new lines.
 pub(crate) fn line_sets(alloc: Global) -> Result<SeenLine, Failure> {
     let mut lines = LineSet::new(alloc);
-    for line in 1..10 {
-        add_line(&mut lines, LineNo(line))?;
-    }
-    let list = list(alloc)?;
-    let _first = arm(&mut lines, &list, 1)?;
-    let _second = arm(&mut lines, &list, 2)?;
-    let copied = copied(&lines)?;
-    Ok(seen(copied.row(LINE)))
+    copied_after(alloc, &mut lines)
 }

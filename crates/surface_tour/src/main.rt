@@ -11,6 +11,7 @@ mod script;
 mod tables;
 
 use crate::failure::Failure;
+use script_table::Script;
 use std::process::ExitCode;
 
 /// Tables, and lines with their descriptors.
@@ -31,12 +32,17 @@ fn lower(rt: &HostRuntime) -> Result<(), Failure> {
 }
 
 /// A gateway with the agent of a call, as data.
-fn upper(rt: &HostRuntime) -> Result<(), Failure> {
-    let script = script::read(rt.alloc())?;
-    let (end, heard, lines, calls) = agents::agents(rt.alloc(), &script)?;
+fn tell_agents(rt: &HostRuntime, script: &Script) -> Result<(), Failure> {
+    let (end, heard, lines, calls) = agents::agents(rt.alloc(), script)?;
     println!(rt; "agent: ends in {end}, is in {heard} after a restart")?;
     println!(rt; "gateway: lines {lines}, calls {calls}")?;
     Ok(())
+}
+
+/// The same, by the script of the tour.
+fn upper(rt: &HostRuntime) -> Result<(), Failure> {
+    let script = script::read(rt.alloc())?;
+    tell_agents(rt, &script)
 }
 
 fn tour(rt: &HostRuntime) -> Result<(), Failure> {

@@ -64,15 +64,21 @@ fn in_use(alloc: Global, numbers: &Identifiers<u8>) -> Result<usize, Failure> {
     }
 }
 
-/// How many numbers are in use after some were given and one was freed.
-pub(crate) fn numbers(alloc: Global) -> Result<usize, Failure> {
-    let mut numbers = Identifiers::new(alloc, 0, 1, 100);
+/// Nine numbers are given, one is freed, and one is given again.
+fn use_some(numbers: &mut Identifiers<u8>) -> Result<(), Failure> {
     for value in 0..9 {
-        create(&mut numbers, value)?;
+        create(numbers, value)?;
     }
     let _freed = numbers.free(1);
     numbers.settle();
-    create(&mut numbers, 9)?;
+    create(numbers, 9)?;
+    Ok(())
+}
+
+/// How many numbers are in use after that.
+pub(crate) fn numbers(alloc: Global) -> Result<usize, Failure> {
+    let mut numbers = Identifiers::new(alloc, 0, 1, 100);
+    use_some(&mut numbers)?;
     in_use(alloc, &numbers)
 }
 
@@ -126,17 +132,28 @@ fn ephemerals_of(alloc: Global, terms: &Terms) -> Result<usize, Failure> {
     }
 }
 
-/// How many lines and ephemerals the copy of a table has.
-pub(crate) fn terms(alloc: Global) -> Result<(usize, usize), Failure> {
-    let mut terms = Terms::new(alloc);
+/// Nine lines are added, and five ephemerals are created.
+fn fill(terms: &mut Terms) -> Result<(), Failure> {
     for line in 1..10 {
-        add_line(&mut terms, LineNo(line))?;
+        add_line(terms, LineNo(line))?;
     }
     for _ in 0..5 {
-        create_ephemeral(&mut terms)?;
+        create_ephemeral(terms)?;
     }
-    let copied = copied_terms(&terms)?;
+    Ok(())
+}
+
+/// How many lines and ephemerals the copy of a table has.
+fn copied_after(alloc: Global, terms: &mut Terms) -> Result<(usize, usize), Failure> {
+    fill(terms)?;
+    let copied = copied_terms(terms)?;
     Ok((lines_of(alloc, &copied)?, ephemerals_of(alloc, &copied)?))
+}
+
+/// The same, of a new table.
+pub(crate) fn terms(alloc: Global) -> Result<(usize, usize), Failure> {
+    let mut terms = Terms::new(alloc);
+    copied_after(alloc, &mut terms)
 }
 
 /// A note is accepted.
