@@ -1,0 +1,5 @@
+pub mod Added
+pub mod Created
+pub mod Lacks
+pub mod NearestSoFar
+pub mod StepsShown

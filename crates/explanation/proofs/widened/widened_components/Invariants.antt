@@ -1,0 +1,9 @@
+-- Each component that was added has the configuration's value.
+use Rattle.std.specs.List.{All}
+use Rattle.configuration.specs.Config.{configuration_of}
+use Rattle.mg_model.specs.Entries.{Allows}
+use Rattle.entry_table.specs.Shown.{shown_all}
+use Rattle.explanation.proofs.widened.widened_components.Given as goal
+
+abbrev pub invariant-loop-component : goal.invariant-loop-component
+invariant-loop-component l = All (Allows (configuration_of l.config)) (shown_all l.wide.items)

@@ -1,0 +1,5 @@
+pub mod Located
+pub mod Uncovered
+pub mod Nearest
+pub mod Paths
+pub mod Breaches
