@@ -26,3 +26,7 @@ pub has_with : {X : Type 0} (xs : List X) (wanted : Bool) (x : X) → (wanted �
     → Contains (xs ++ (if wanted then x ∷ [] else [])) x
 has_with xs true x is = Contains-push xs x
 has_with xs false x is = Contains-append_left xs [] x (is refl)
+
+-- what was there is there still
+pub kept_with : {X : Type 0} (xs : List X) (wanted : Bool) (x y : X) → Contains xs y → Contains (xs ++ (if wanted then x ∷ [] else [])) y
+kept_with xs wanted x y has = Contains-append_left xs (if wanted then x ∷ [] else []) y has

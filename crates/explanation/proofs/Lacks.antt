@@ -1,7 +1,7 @@
 -- What components lack is one number.
 use Rattle.std.proofs.Common.{◌≡◌, ◌+◌, ◌≤◌, ℕ, zero, suc, List, [], ◌∷◌, length, drop, inl, inr, sym, ◌∙◌, ap, refl, arith}
 use Rattle.mg_model.specs.Configuration.{Configuration}
-use Rattle.mg_model.specs.Entries.{Component, Allows}
+use Rattle.mg_model.specs.Entries.{Component}
 use Rattle.explanation.specs.Nearest.{Lack}
 
 pub lack_once : (c : Configuration) (components : List Component) (one other : ℕ) → Lack c components one → Lack c components other → one ≡ other

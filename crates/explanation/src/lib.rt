@@ -6,18 +6,22 @@
 //! here. This profile's own.
 #![tactic(auto)]
 
+mod breach;
 mod breaches;
+mod created;
 mod located;
 mod media;
 mod mended;
 mod nearest;
+mod only;
 mod paths;
 mod uncovered;
 mod widened;
 
-pub use breaches::{Breach, find_breaches};
+pub use breach::Breach;
+pub use breaches::find_breaches;
 pub use located::{Located, locate};
-pub use mended::{alone, mend};
+pub use mended::{Mended, alone, mend};
 pub use nearest::{Nearest, find_nearest, lacking};
 pub use paths::{Crossing, find_path};
 pub use uncovered::uncovered_step;

@@ -5,6 +5,7 @@ ghost use Rattle.mg_model.specs.Configuration.{IsWellFormed};
 ghost use Rattle.mg_model.specs.Entries.{Allows, Includes};
 ghost use Rattle.configuration.specs.Config.{configuration_of};
 ghost use Rattle.entry_table.specs.Shown.{shown, shown_all};
+ghost use Rattle.explanation.specs.Alone.{HasAllOf, KeepAll, Keeps};
 
 use configuration::config::Config;
 use entry_table::{Component, Entry, product_of};
@@ -32,7 +33,7 @@ pub(crate) fn values_with<T: Copy>(
 }
 
 /// A component with a configuration's value behind its own, if that is wanted.
-#[tactic(auto, using(crate::proofs::Added::has_with))]
+#[tactic(auto, using(crate::proofs::Added::has_with, crate::proofs::Added::kept_with))]
 fn component_with(
     alloc: Global,
     component: &Component,
@@ -40,7 +41,8 @@ fn component_with(
     config: &Config,
 ) -> Result<Component, AllocError>
     requires { wanted ≡ false → Allows (configuration_of config.now) (shown component.now) }
-    ensures { IfOk result (λ wide. Allows (configuration_of config.now) (shown wide)) }
+    ensures has { IfOk result (λ wide. Allows (configuration_of config.now) (shown wide)) }
+    ensures keeps { IfOk result (λ wide. Keeps (shown component.now) (shown wide)) }
 {
     match component {
         Component::Links(values) => {
@@ -84,7 +86,8 @@ fn widened_component(
     component: &Component,
     config: &Config,
 ) -> Result<Component, AllocError>
-    ensures { IfOk result (λ wide. Allows (configuration_of config.now) (shown wide)) }
+    ensures has { IfOk result (λ wide. Allows (configuration_of config.now) (shown wide)) }
+    ensures keeps { IfOk result (λ wide. Keeps (shown component.now) (shown wide)) }
 {
     component_with(alloc, component, !component.allows(config), config)
 }
@@ -95,7 +98,8 @@ fn widened_components(
     components: &[Component],
     config: &Config,
 ) -> Result<Vec<Component>, AllocError>
-    ensures { IfOk result (λ wide. All (Allows (configuration_of config.now)) (shown_all wide.items)) }
+    ensures have { IfOk result (λ wide. All (Allows (configuration_of config.now)) (shown_all wide.items)) }
+    ensures keep { IfOk result (λ wide. KeepAll (shown_all components.now) (shown_all wide.items)) }
 {
     let mut wide = Vec::new(alloc);
     for component in components {
@@ -114,7 +118,8 @@ pub fn widen(
 ) -> Result<Option<Entry>, AllocError>
     requires well_formed { IsWellFormed (configuration_of config.now) }
     requires state { entry.now.state ≡ (configuration_of config.now).state }
-    ensures { IfOk result (λ found. IfSome found (λ wide. Includes wide (configuration_of config.now))) }
+    ensures includes { IfOk result (λ found. IfSome found (λ wide. Includes wide (configuration_of config.now))) }
+    ensures keeps { IfOk result (λ found. IfSome found (λ wide. HasAllOf wide entry.now)) }
 {
     let components = widened_components(alloc, entry.components(), config)?;
     let size = product_of(components.as_slice());

@@ -1,5 +1,5 @@
 -- One component more is counted, if it doesn't have the value; at the end none is left.
-use Rattle.std.proofs.Common.{◌≡◌, ◌∙◌, ◌+◌, ◌<◌, ◌∷◌, [], ℕ, List, drop, inl, inr, sym, ap, subst, refl, arith}
+use Rattle.std.proofs.Common.{◌≡◌, ◌∙◌, ◌+◌, ◌∷◌, [], ℕ, List, drop, inl, inr, sym, ap, subst, refl, arith}
 use Rattle.mg_model.specs.Entries.{Component as Listed}
 use Rattle.configuration.specs.Config.{configuration_of}
 use Rattle.entry_table.specs.Shown.{shown_all}

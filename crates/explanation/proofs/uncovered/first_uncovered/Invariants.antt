@@ -1,5 +1,4 @@
 -- The results of the steps that were passed are in some entry.
-use Rattle.std.proofs.Common.{◌≡◌, ◌<◌, ℕ}
 use Rattle.closure.specs.Shown.{shown}
 use Rattle.closure.specs.Findings.{AreCoveredBelow}
 use Rattle.explanation.proofs.uncovered.first_uncovered.Given as goal
