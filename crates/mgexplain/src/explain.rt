@@ -1,10 +1,11 @@
 //! The page on a No: what the first broken obligation is about.
 use crate::component_text::{component_text, word_in};
 use crate::config_text::config_text;
-use crate::entry_text::{EntryText, entry_text};
+use crate::entry_text::entry_text;
 use crate::facts::facts;
+use crate::listed::listed_text;
 use crate::page::{Lack, NearText, Page, PointText};
-use crate::rules::obligation_rule;
+use crate::rules::{advice, obligation_rule};
 use crate::step_text::step_text;
 use closure::steps::{opening, reset};
 use configuration::config::Config;
@@ -16,6 +17,14 @@ use mg_names::obligations::Obligation;
 use program_rim::status::Status;
 use script_table::Script;
 use std::alloc::{AllocError, Global};
+
+/// The two documents, with the text of the second.
+#[derive(Clone, Copy)]
+pub(crate) struct Documents<'a> {
+    pub(crate) script: &'a Script,
+    pub(crate) cert: &'a Cert,
+    pub(crate) certificate: &'a [u8],
+}
 
 /// A page with a line, the rule that is broken, and where.
 pub(crate) fn new_page<'a>(
@@ -36,6 +45,8 @@ pub(crate) fn new_page<'a>(
         uncovered: None,
         nearest: None,
         entry: None,
+        widens: None,
+        advice: None,
     }
 }
 
@@ -73,61 +84,61 @@ fn lacks<'a>(
 /// The entry that comes nearest to having a configuration.
 fn near_text<'a>(
     alloc: Global,
-    script: &'a Script,
-    cert: &Cert,
+    documents: &Documents<'a>,
     config: &Config,
 ) -> Result<Option<NearText<'a>>, AllocError> {
-    let Some(found) = find_nearest(cert, config) else {
-        return Ok(None);
+    let (script, place) = match find_nearest(documents.cert, config) {
+        Some(found) => (documents.script, found.place),
+        None => return Ok(None),
     };
-    let Some(entry) = cert.entries().get(found.place) else {
+    let Some(entry) = documents.cert.entries().get(place) else {
         return Ok(None);
     };
     Ok(Some(NearText {
-        entry: found.place,
-        listed: entry_text(alloc, script, entry)?,
+        entry: place,
+        listed: listed_text(alloc, script, documents.certificate, place, entry)?,
         lacks: lacks(alloc, script, entry.components(), config)?,
     }))
 }
 
-/// An entry that has a configuration, if it is well formed: those that a step leads to are.
-fn mended_text(
+/// Adds an entry that has a configuration, if it is well formed: those that a step leads to are.
+fn add_mended(
     alloc: Global,
-    script: &Script,
-    cert: &Cert,
+    page: &mut Page<'_>,
+    documents: &Documents<'_>,
     config: &Config,
-) -> Result<Option<EntryText>, AllocError> {
+) -> Result<(), AllocError> {
     if !is_well_formed(config) {
-        return Ok(None);
+        return Ok(());
     }
-    let entry = mend(alloc, script, cert, config)?;
-    Ok(Some(entry_text(alloc, script, &entry)?))
+    let mended = mend(alloc, documents.script, documents.cert, config)?;
+    page.entry = Some(entry_text(alloc, documents.script, &mended.entry)?);
+    page.widens = mended.widens;
+    Ok(())
 }
 
 /// Adds what is said of a configuration that no entry has.
 fn add_uncovered<'a>(
     alloc: Global,
     page: &mut Page<'a>,
-    script: &'a Script,
-    cert: &Cert,
+    documents: &Documents<'a>,
     config: &Config,
 ) -> Result<(), AllocError> {
-    page.nearest = near_text(alloc, script, cert, config)?;
-    page.entry = mended_text(alloc, script, cert, config)?;
-    Ok(())
+    page.nearest = near_text(alloc, documents, config)?;
+    add_mended(alloc, page, documents, config)
 }
 
 /// Adds a step that leads where no entry is.
 fn add_step<'a>(
     alloc: Global,
     page: &mut Page<'a>,
-    script: &'a Script,
-    cert: &Cert,
+    documents: &Documents<'a>,
     config: &Config,
 ) -> Result<(), AllocError> {
-    if let Some(step) = uncovered_step(alloc, script, cert, config)? {
+    let script = documents.script;
+    if let Some(step) = uncovered_step(alloc, script, documents.cert, config)? {
         page.step = Some(step_text(alloc, script, config, &step)?);
-        add_uncovered(alloc, page, script, cert, &step.result)?;
+        add_uncovered(alloc, page, documents, &step.result)?;
     }
     Ok(())
 }
@@ -136,15 +147,15 @@ fn add_step<'a>(
 fn add_point<'a>(
     alloc: Global,
     page: &mut Page<'a>,
-    script: &'a Script,
-    cert: &Cert,
+    documents: &Documents<'a>,
     point: &Located,
 ) -> Result<(), AllocError> {
-    if let Some(entry) = cert.entries().get(point.place) {
+    let script = documents.script;
+    if let Some(entry) = documents.cert.entries().get(point.place) {
         page.point = Some(PointText {
             entry: point.place,
             number: point.number,
-            listed: entry_text(alloc, script, entry)?,
+            listed: listed_text(alloc, script, documents.certificate, point.place, entry)?,
             configuration: config_text(alloc, script, &point.config)?,
         });
     }
@@ -155,37 +166,38 @@ fn add_point<'a>(
 fn add_whole<'a>(
     alloc: Global,
     page: &mut Page<'a>,
-    script: &'a Script,
-    cert: &Cert,
+    documents: &Documents<'a>,
     obligation: Obligation,
 ) -> Result<(), AllocError> {
+    let script = documents.script;
     let config = match obligation {
         Obligation::ResetCovered => reset(script),
         _ => opening(script),
     };
     page.uncovered = Some(config_text(alloc, script, &config)?);
-    add_uncovered(alloc, page, script, cert, &config)
+    add_uncovered(alloc, page, documents, &config)
 }
 
 /// The page on the first obligation that is broken.
 pub(crate) fn no_page<'a>(
     alloc: Global,
     line: String,
-    script: &'a Script,
-    cert: &Cert,
+    documents: &Documents<'a>,
     fault: &Fault,
 ) -> Result<Page<'a>, AllocError> {
-    let rule = obligation_rule(fault.obligation);
+    let obligation = fault.obligation;
+    let rule = obligation_rule(obligation);
     let mut page = new_page(alloc, line, Status::No, Some(rule), None);
-    let Some(point) = locate(cert, fault) else {
-        add_whole(alloc, &mut page, script, cert, fault.obligation)?;
+    page.advice = advice(obligation);
+    let Some(point) = locate(documents.cert, fault) else {
+        add_whole(alloc, &mut page, documents, obligation)?;
         return Ok(page);
     };
-    add_point(alloc, &mut page, script, cert, &point)?;
-    if matches!(fault.obligation, Obligation::StepsCovered) {
-        add_step(alloc, &mut page, script, cert, &point.config)?;
+    add_point(alloc, &mut page, documents, &point)?;
+    if matches!(obligation, Obligation::StepsCovered) {
+        add_step(alloc, &mut page, documents, &point.config)?;
         return Ok(page);
     }
-    page.facts = facts(alloc, script, &point.config, fault.obligation)?;
+    page.facts = facts(alloc, documents.script, &point.config, obligation)?;
     Ok(page)
 }

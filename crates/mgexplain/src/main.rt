@@ -11,6 +11,7 @@ mod config_text;
 mod entry_text;
 mod explain;
 mod facts;
+mod listed;
 mod names;
 mod page;
 mod picture;

@@ -2,6 +2,7 @@
 use crate::config_text::ConfigText;
 use crate::entry_text::EntryText;
 use crate::facts::Fact;
+use crate::listed::ListedText;
 use crate::step_text::StepText;
 use serde::Serialize;
 use std::fmt;
@@ -21,7 +22,7 @@ pub(crate) struct Lack<'a> {
 #[derive(Drop, Serialize)]
 pub(crate) struct NearText<'a> {
     pub(crate) entry: usize,
-    pub(crate) listed: EntryText,
+    pub(crate) listed: ListedText,
     pub(crate) lacks: Vec<Lack<'a>>,
 }
 
@@ -30,7 +31,7 @@ pub(crate) struct NearText<'a> {
 pub(crate) struct PointText<'a> {
     pub(crate) entry: usize,
     pub(crate) number: u32,
-    pub(crate) listed: EntryText,
+    pub(crate) listed: ListedText,
     pub(crate) configuration: ConfigText<'a>,
 }
 
@@ -65,6 +66,12 @@ pub(crate) struct Page<'a> {
     /// An entry that would have it.
     #[serde(skip_serializing_if = "Option::is_none")]
     pub(crate) entry: Option<EntryText>,
+    /// The entry whose place that one may take.
+    #[serde(skip_serializing_if = "Option::is_none")]
+    pub(crate) widens: Option<usize>,
+    /// What may be done about it.
+    #[serde(skip_serializing_if = "Option::is_none")]
+    pub(crate) advice: Option<&'static str>,
 }
 
 impl fmt::Display for Lack<'_> {
@@ -80,9 +87,12 @@ impl fmt::Display for Lack<'_> {
 
 impl fmt::Display for NearText<'_> {
     fn fmt<W: fmt::Write>(&self, f: &mut fmt::Formatter<W>) -> fmt::Result {
-        let (entry, listed) = (self.entry, &self.listed.line);
-        writeln!(f, "The nearest entry of that state is entry {entry}:")?;
-        writeln!(f, "  {listed}")?;
+        let (entry, listed, line) = (self.entry, &self.listed, self.listed.at_line);
+        writeln!(
+            f,
+            "The nearest entry of that state is entry {entry}, at line {line} of the certificate:"
+        )?;
+        write!(f, "{listed}")?;
         writeln!(f, "These of its components don't have it:")?;
         for lack in self.lacks.as_slice() {
             write!(f, "{lack}")?;
@@ -93,13 +103,13 @@ impl fmt::Display for NearText<'_> {
 
 impl fmt::Display for PointText<'_> {
     fn fmt<W: fmt::Write>(&self, f: &mut fmt::Formatter<W>) -> fmt::Result {
-        let (entry, number, listed) = (self.entry, self.number, &self.listed.line);
+        let (entry, number) = (self.entry, self.number);
+        let (listed, line) = (&self.listed, self.listed.at_line);
         writeln!(
             f,
-            "Entry {entry} of the certificate, counted from 0 and without what may be left out:"
+            "Entry {entry}, counted from 0, at line {line} of the certificate:"
         )?;
-        writeln!(f, "  {listed}")?;
-        writeln!(f)?;
+        writeln!(f, "{listed}")?;
         writeln!(f, "Point {number} of it is this configuration:")?;
         write!(f, "{}", self.configuration)
     }
@@ -140,13 +150,30 @@ impl fmt::Display for Page<'_> {
         paragraph(f, &self.step)?;
         paragraph(f, &self.uncovered)?;
         paragraph(f, &self.nearest)?;
-        if let Some(entry) = &self.entry {
-            let text = &entry.line;
-            write!(
+        self.write_entry(f)?;
+        sentence(f, &self.advice)
+    }
+}
+
+impl Page<'_> {
+    /// Writes the entry that would have the configuration, and where to put it.
+    fn write_entry<W: fmt::Write>(&self, f: &mut fmt::Formatter<W>) -> fmt::Result {
+        let Some(entry) = &self.entry else {
+            return Ok(());
+        };
+        let text = &entry.line;
+        match self.widens {
+            Some(place) => {
+                writeln!(
+                    f,
+                    "\nThis is entry {place} with that value, and would have it. Put it in the place of that one:"
+                )?;
+            }
+            None => writeln!(
                 f,
-                "\nThis entry would have it. Paste it behind the last one:\n  {text}\n"
-            )?;
+                "\nThis entry would have it. Paste it behind the last one:"
+            )?,
         }
-        Ok(())
+        writeln!(f, "  {text}")
     }
 }

@@ -35,6 +35,29 @@ pub(crate) fn obligation_rule(obligation: Obligation) -> &'static str {
     }
 }
 
+/// What may be done where it is broken, beside giving the entry that is wanted.
+pub(crate) fn advice(obligation: Obligation) -> Option<&'static str> {
+    match obligation {
+        Obligation::OpeningCovered => None,
+        Obligation::ResetCovered => None,
+        Obligation::StepsCovered => {
+            Some("If no call is to come there, it is the script that has to change.")
+        }
+        Obligation::JoinedMarked => Some(
+            "If they may talk here, give the state the pair in its `talk`. At link `sent` and `fault` there stands what the states before have left: a state that parts them has the pair too. Else a state before has to part them, or the entry has more than calls come to.",
+        ),
+        Obligation::EndedCleared => Some(
+            "A state that leads here has to do this in its request, and lead here by `ok` alone. If one does, the entry has more than calls come to.",
+        ),
+        Obligation::CreatedUnbound => Some(
+            "A state on the way here has to free the name: a context by `subtract CONTEXT *`, an ephemeral by subtracting it. If one does, the entry has more than calls come to.",
+        ),
+        Obligation::NamesLive => Some(
+            "Take the last one out of a context by `subtract CONTEXT *`, which frees its name, and set a Remote to `none` before what it names is subtracted. If this is done, the entry has more than calls come to.",
+        ),
+    }
+}
+
 /// What a script must be for it not to have this fault.
 pub(crate) fn script_rule(fault: &ScriptFault) -> &'static str {
     match fault {

@@ -1,5 +1,5 @@
 //! What the program writes for an input, with its status.
-use crate::explain::{new_page, no_page};
+use crate::explain::{Documents, new_page, no_page};
 use crate::page::Page;
 use crate::picture::{Marked, picture};
 use crate::places::{certificate_place, script_place};
@@ -138,7 +138,12 @@ fn no(
         let marked = marked(&script, &cert, fault);
         picture(alloc, line.as_str(), Some(&script), Some(marked))?
     } else {
-        let page = no_page(alloc, line, &script, &cert, fault)?;
+        let documents = Documents {
+            script: &script,
+            cert: &cert,
+            certificate,
+        };
+        let page = no_page(alloc, line, &documents, fault)?;
         written(alloc, form, &page)?
     };
     Ok(Told {
