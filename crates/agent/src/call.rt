@@ -1,6 +1,6 @@
 //! A call whose type says whether it rests, waits or has ended. A step takes the call, and hands it back with its kind or, where it is
 //! refused, as it was.
-ghost use Rattle.std.specs.Prelude.{◌≡◌, ◌≤◌, [], OnOk, OnErr, length, map, option_map, slice_index_or};
+ghost use Rattle.std.specs.Prelude.{◌≡◌, ◌≤◌, [], IfOk, OnOk, OnErr, length, map, option_map, slice_index_or};
 ghost use Rattle.mg_model.specs.Agent as model;
 ghost use Rattle.mg_model.specs.Tables.{line_places};
 ghost use Rattle.mg_model.specs.World as event;
@@ -30,10 +30,10 @@ pub struct Waiting(());
 pub struct Ended(());
 
 /// A call: its agent, the script that it was opened with, and what happened to it so far. `S` says which of the three it is. It can't
-/// be copied, so each call goes on along one line. This profile's own.
+/// be copied, so each call goes on along one line: whoever takes a step passes it on by value, which moves a pointer. This profile's own.
 #[derive(Drop)]
 pub struct Call<'s, S> {
-    logged: Logged<'s>,
+    logged: Box<Logged<'s>>,
     of: PhantomData<S>,
 }
 
@@ -42,7 +42,7 @@ impl<'s, S> Model for Call<'s, S> {
 
     ghost Value = { CallValue };
 
-    ghost view = { λ c. c.logged };
+    ghost view = { λ c. c.logged.value };
 }
 
 /// A call after a step, by what it is then.
@@ -78,8 +78,8 @@ pub struct Retired {
 
 impl<'s, S> Call<'s, S> {
     /// A call, said to be of a kind.
-    fn of(logged: Logged<'s>) -> Call<'s, S>
-        ensures { result ≡ logged.entry }
+    fn of(logged: Box<Logged<'s>>) -> Call<'s, S>
+        ensures { result ≡ logged.entry.value }
     {
         Call {
             logged,
@@ -118,9 +118,9 @@ impl<'s, S> Call<'s, S> {
 
 /// A call, by what it is.
 #[tactic(auto, unfolding(crate::specs::AgentValue::agent_of))]
-fn by_kind<'s>(logged: Logged<'s>) -> Next<'s>
+fn by_kind<'s>(logged: Box<Logged<'s>>) -> Next<'s>
     ensures kind { IsNext result }
-    ensures same { value_of result ≡ logged.entry }
+    ensures same { value_of result ≡ logged.entry.value }
 {
     if !logged.is_resting() {
         return Next::Waiting(Call::of(logged));
@@ -132,8 +132,11 @@ fn by_kind<'s>(logged: Logged<'s>) -> Next<'s>
 }
 
 /// The answer of a step, with the call in it.
-fn answer<'s, S>(logged: Logged<'s>, done: Result<(), Refusal>) -> Result<Next<'s>, Refused<'s, S>>
-    ensures { IsHandedOn logged.entry done result }
+fn answer<'s, S>(
+    logged: Box<Logged<'s>>,
+    done: Result<(), Refusal>,
+) -> Result<Next<'s>, Refused<'s, S>>
+    ensures { IsHandedOn logged.entry.value done result }
 {
     match done {
         Ok(()) => Ok(by_kind(logged)),
@@ -147,15 +150,21 @@ fn answer<'s, S>(logged: Logged<'s>, done: Result<(), Refusal>) -> Result<Next<'
 impl<'s> Call<'s, Resting> {
     /// A call that opens on these lines of the gateway, the first of them for the first line of the script, 4 at most: in the script's
     /// start state and in the first association, each line expected to report with RequestID 0, and nothing happened to it (this
-    /// profile's own).
-    pub fn enter(alloc: Global, script: &'s Script, call: CallNo, lines: &[LineNo]) -> Next<'s>
+    /// profile's own). `AllocError` where memory ran out.
+    pub fn enter(
+        alloc: Global,
+        script: &'s Script,
+        call: CallNo,
+        lines: &[LineNo],
+    ) -> Result<Next<'s>, AllocError>
         requires { length lines.now ≤ 4 }
-        ensures kind { IsNext result }
-        ensures agent { agent_of (value_of result).agent ≡ model.opened script.now call.0 (λ i. slice_index_or (map (λ l. l.0) lines.now) i 0) }
-        ensures script { (value_of result).script ≡ script.now }
-        ensures transcript { (value_of result).transcript ≡ [] }
+        ensures kind { IfOk result (λ next. IsNext next) }
+        ensures agent { IfOk result (λ next. agent_of (value_of next).agent ≡ model.opened script.now call.0 (λ i. slice_index_or (map (λ l. l.0) lines.now) i 0)) }
+        ensures script { IfOk result (λ next. (value_of next).script ≡ script.now) }
+        ensures transcript { IfOk result (λ next. (value_of next).transcript ≡ []) }
     {
-        by_kind(Logged::enter(alloc, script, call, lines))
+        let logged = Box::new(alloc, Logged::enter(alloc, script, call, lines))?;
+        Ok(by_kind(logged))
     }
 }
 

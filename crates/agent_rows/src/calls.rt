@@ -57,7 +57,7 @@ fn refused<'s, S: Drop>(answer: Result<Next<'s>, Refused<'s, S>>) -> Option<Call
 
 /// The call, at rest in `idle`.
 fn opened<'s>(alloc: Global, script: &'s Script) -> Option<Call<'s, Resting>> {
-    match Call::enter(alloc, script, CALL, &LINES) {
+    match Call::enter(alloc, script, CALL, &LINES).ok()? {
         Next::Resting(call) => Some(call),
         _ => None,
     }

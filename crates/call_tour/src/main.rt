@@ -40,7 +40,7 @@ fn opened<'r>(rt: &'r HostRuntime, script: &'r Script) -> Result<Trip<'r>, Failu
 
 /// The call from its opening to its end.
 fn first_call<'r>(trip: &mut Trip<'r>) -> Result<Next<'r>, Failure> {
-    let call = Call::enter(trip.rt.alloc(), trip.script, FIRST, &LINES);
+    let call = Call::enter(trip.rt.alloc(), trip.script, FIRST, &LINES)?;
     trip.tell("enter", &call)?;
     let call = trip.hook(call, LINES[0], Hook::Off)?;
     let call = trip.request(call)?;

@@ -70,7 +70,7 @@ fn note(lines: &mut LineSet, number: u32) -> Option<SentNote> {
 
 /// The call, at rest.
 fn opened(alloc: Global, script: &Script) -> Option<Call<'_, Resting>> {
-    match Call::enter(alloc, script, CALL, &[LINE, OTHER]) {
+    match Call::enter(alloc, script, CALL, &[LINE, OTHER]).ok()? {
         Next::Resting(call) => Some(call),
         _ => None,
     }

@@ -21,4 +21,5 @@ pub mod Replayed
 pub mod ReportedAlone
 pub mod SameEvents
 pub mod StepMeanings
+pub mod ToldCalls
 pub mod TurnLemmas

@@ -10,4 +10,5 @@ pub mod Passing
 pub mod Replays
 pub mod ReportLines
 pub mod Runs
+pub mod Told
 pub mod Turns

@@ -25,6 +25,7 @@ use plans::Plan;
 use shards::Shard;
 use std::alloc::{AllocError, Global};
 use std::sync::Mutex;
+use std::thread::Threads;
 
 /// The most executes of a plan: 10,000 calls of 1,000 steps each.
 const MOST_EXECUTES: usize = 10_000_000;
@@ -121,14 +122,16 @@ fn histories<'a>(alloc: Global, shards: &'a [Shard<'_>]) -> Result<Vec<&'a [Even
     Ok(histories)
 }
 
-/// What a run of a plan came to: `Disagree` where the shards weren't restarted equally often, or have another history than the calls went through, and
+/// What a run of a plan on so many workers came to: `Disagree` where the shards weren't restarted equally often, or have another history than the calls went through, and
 /// `NoMemory` where memory ran out.
-pub(crate) fn finish<'s>(
+pub(crate) fn finish<'s, R: Threads + Sync>(
+    rt: &R,
     alloc: Global,
     checked: &Checked,
     plan: &Plan,
     shards: &[Shard<'_>],
     courses: Vec<Course<'s>>,
+    workers: usize,
 ) -> Result<Outcome<'s>, RunFault>
     requires plan { IsPlanFor checked.now.table plan.now }
     requires few { length plan.now.calls ≤ plan_calls }
@@ -157,7 +160,16 @@ pub(crate) fn finish<'s>(
         return Err(RunFault::NoMemory);
     };
     let last = association_after(restarts);
-    let report = report(alloc, checked, plan, shards, courses.as_slice(), last)?;
+    let report = report(
+        rt,
+        alloc,
+        checked,
+        plan,
+        shards,
+        courses.as_slice(),
+        last,
+        workers,
+    )?;
     Ok(Outcome {
         history,
         report,

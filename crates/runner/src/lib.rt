@@ -11,6 +11,7 @@ mod finish;
 mod gate;
 mod kept;
 mod left;
+mod measured;
 mod merge;
 mod opening;
 mod outcome;

@@ -9,12 +9,13 @@ ghost use Rattle.runner.specs.Turns.{steps_of};
 
 use crate::alone::{self, Alone};
 use crate::fault::RunFault;
+use crate::measured::Measured;
 use crate::report::Line;
 use crate::turns::{self, Turn};
 use composition::Checked;
 use mg_model::plans::PlanStep;
 use mg_names::identifiers::Assoc;
-use plans::{Plan, PlanCall};
+use plans::PlanCall;
 use script_table::Script;
 use shards::Shard;
 use std::alloc::Global;
@@ -92,16 +93,16 @@ fn go<'s>(
 pub(crate) fn replay(
     alloc: Global,
     checked: &Checked,
-    plan: &Plan,
+    measured: &Measured<'_>,
     number: u32,
     call: &PlanCall,
     marks: &[Assoc],
     others: usize,
     last: Assoc,
 ) -> Result<Vec<Line>, RunFault>
-    ensures { IfOk result (λ lines. IsReported checked.now.table (plans.opened_as number call.now) (plans.steps_in (plans.epochs_of plan.now.calls) call.now.epochs) others (map (line_of checked.now.table) lines.items) × AreNumbered number lines.items) }
+    ensures { IfOk result (λ lines. IsReported checked.now.table (plans.opened_as number call.now) (plans.steps_in (plans.epochs_of measured.now.calls) call.now.epochs) others (map (line_of checked.now.table) lines.items) × AreNumbered number lines.items) }
 {
-    let turns = turns::of(alloc, plan, call, marks)?;
+    let turns = turns::of(alloc, measured.epochs(), call, marks)?;
     let (mut shard, alone) = alone::open(alloc, checked, number, call)?;
     let turns = turns.as_slice();
     go(

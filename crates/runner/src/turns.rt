@@ -77,19 +77,19 @@ fn push_steps(
     Ok(place)
 }
 
-/// All steps of a call in turn, where it was marked with these associations. `Disagree` where there are more or fewer marks than steps, and `NoMemory` where
+/// All steps of a call in turn, in so many epochs, where it was marked with these associations. `Disagree` where there are more or fewer marks than steps, and `NoMemory` where
 /// memory ran out.
 pub(crate) fn of(
     alloc: Global,
-    plan: &Plan,
+    epochs: usize,
     call: &PlanCall,
     marks: &[Assoc],
 ) -> Result<Vec<Turn>, RunFault>
-    ensures { IfOk result (λ turns. steps_of turns.items ≡ plans.steps_in (plans.epochs_of plan.now.calls) call.now.epochs) }
+    ensures { IfOk result (λ turns. steps_of turns.items ≡ plans.steps_in epochs call.now.epochs) }
 {
     let mut turns = Vec::new(alloc);
     let mut place = 0;
-    for epoch in 0..epochs_of(plan) {
+    for epoch in 0..epochs {
         let Ok(()) = push_ending(&mut turns, epoch) else {
             return Err(RunFault::NoMemory);
         };

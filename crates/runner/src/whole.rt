@@ -78,7 +78,15 @@ fn go<'s, G: Gate, B: Running + Send + Sync, R: Threads + Wait + Sync>(
     let places = pass_all(rt, alloc, plan, gate, shards.as_slice(), workers, places)?;
     let shards = unlocked(alloc, shards)?;
     let courses = all_courses(alloc, places)?;
-    finish(alloc, checked, plan, shards.as_slice(), courses)
+    finish(
+        rt,
+        alloc,
+        checked,
+        plan,
+        shards.as_slice(),
+        courses,
+        workers,
+    )
 }
 
 /// Runs a plan of calls of a checked script, which was read with that script, on 1 to 64 workers, over as many gateways as the plan has shards. Calls pass

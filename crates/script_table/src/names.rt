@@ -34,11 +34,7 @@ impl Script {
         match list {
             EventsName::Empty => Some("none"),
             EventsName::Armed => Some("armed"),
-            EventsName::Own(place) => self
-                .tables
-                .lists
-                .get(place.index())
-                .map(|list| list.name()),
+            EventsName::Own(place) => self.tables.lists.get(place.index()).map(|list| list.name()),
         }
     }
 

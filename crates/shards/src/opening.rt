@@ -66,7 +66,10 @@ fn open_one<'s>(
     let Ok(()) = slots::put(slots, call.call, slot) else {
         return Err(OpenFault::NoMemory);
     };
-    Ok(Call::enter(alloc, script, call.call, lines))
+    match Call::enter(alloc, script, call.call, lines) {
+        Ok(next) => Ok(next),
+        Err(_) => Err(OpenFault::NoMemory),
+    }
 }
 
 /// Opens calls on a new gateway of a class, one after the other.

@@ -1,7 +1,7 @@
 -- The call opens alone, and goes by its steps.
-use Rattle.std.proofs.Common.{◌∙◌, List, [], sym, ap, map, subst}
+use Rattle.std.proofs.Common.{◌∙◌, ℕ, List, [], sym, ap, map, subst}
 use Rattle.mg_model.specs.declared.plans.PlanStep.{PlanStep}
-use Rattle.mg_model.specs.Plans.{opened_as}
+use Rattle.mg_model.specs.Plans.{opened_as, steps_in}
 use Rattle.mg_model.specs.Reports.{IsReported}
 use Rattle.mg_model.specs.Script.{Script}
 use Rattle.runner.specs.ReportLines.{line_of}
@@ -16,7 +16,7 @@ returns c =
     if_ok c.go.result _ _
     (λ lines so. (
       subst (λ (steps : List PlanStep). IsReported c.args.checked.now.table one steps c.args.others (map (line_of c.args.checked.now.table) lines.items))
-          (ap steps_of c.as_slice-turns.ensures.value ∙ c.in_ok-turns.ensures)
+          (ap steps_of c.as_slice-turns.ensures.value ∙ c.in_ok-turns.ensures ∙ ap (λ (n : ℕ). steps_in n c.args.call.now.epochs) c.epochs.ensures)
           (subst (λ (s : Script). IsReported s one (steps_of c.as_slice-turns.result.now) c.args.others (map (line_of s) lines.items)) c.script.ensures.table
           (so.0 one (subst (λ (s : Script). IsAlone s one [] c.in_ok-shard.shard c.in_ok-shard.alone) (sym c.script.ensures.table) c.in_ok-shard.ensures))),
       so.1,
