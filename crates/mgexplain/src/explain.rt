@@ -11,7 +11,7 @@ use closure::steps::{opening, reset};
 use configuration::config::Config;
 use configuration::well_formed::is_well_formed;
 use entry_table::{Cert, Component};
-use explanation::{Located, find_nearest, locate, mend, uncovered_step};
+use explanation::{Located, alone, find_nearest, locate, mend, uncovered_step};
 use mg_model::faults::Fault;
 use mg_names::obligations::Obligation;
 use program_rim::status::Status;
@@ -46,6 +46,7 @@ pub(crate) fn new_page<'a>(
         nearest: None,
         entry: None,
         widens: None,
+        alone: None,
         advice: None,
     }
 }
@@ -101,7 +102,8 @@ fn near_text<'a>(
     }))
 }
 
-/// Adds an entry that has a configuration, if it is well formed: those that a step leads to are.
+/// Adds an entry that has a configuration, and where that is another one widened, the one of that point alone; if it is well formed, as those that
+/// a step leads to are.
 fn add_mended(
     alloc: Global,
     page: &mut Page<'_>,
@@ -113,7 +115,11 @@ fn add_mended(
     }
     let mended = mend(alloc, documents.script, documents.cert, config)?;
     page.entry = Some(entry_text(alloc, documents.script, &mended.entry)?);
-    page.widens = mended.widens;
+    if mended.widens.is_some() {
+        page.widens = mended.widens;
+        let alone = alone(alloc, documents.script, config)?;
+        page.alone = Some(entry_text(alloc, documents.script, &alone)?);
+    }
     Ok(())
 }
 

@@ -18,11 +18,12 @@ mod picture;
 mod places;
 mod request_text;
 mod rules;
+mod said;
 mod step_text;
 mod told;
 mod words;
 
-use crate::told::{Told, answer_to};
+use crate::told::{Outcome, outcome};
 use crate::words::{Form, read_form};
 use program_rim::host::Host;
 use program_rim::input::read_all;
@@ -49,10 +50,10 @@ fn form(rt: &HostRuntime) -> Option<Form> {
     }
 }
 
-/// What is said of standard input. Nothing is where a read failed.
-fn answer(alloc: Global, rt: &HostRuntime, form: Form) -> Option<Told> {
+/// What comes of standard input.
+fn input_outcome(alloc: Global, rt: &HostRuntime, form: Form) -> Outcome {
     let mut source = Host::new(rt.stdin());
-    answer_to(alloc, form, &read_all(alloc, &mut source))
+    outcome(alloc, form, &read_all(alloc, &mut source))
 }
 
 /// Writes a text that goes with a status. A write that fails has a status of its own.
@@ -68,9 +69,10 @@ fn run(alloc: Global, rt: &HostRuntime) -> Status {
     let Some(form) = form(rt) else {
         return send(rt, USAGE, Status::Usage);
     };
-    match answer(alloc, rt, form) {
-        Some(told) => send(rt, told.text.as_str(), told.status),
-        None => Status::DeviceFailed,
+    match input_outcome(alloc, rt, form) {
+        Outcome::Told(said) => send(rt, said.text.as_str(), said.status),
+        Outcome::NoMemory => send(rt, "no memory\n", Status::NoMemory),
+        Outcome::ReadFailed => Status::DeviceFailed,
     }
 }
 

@@ -1,4 +1,4 @@
-//! What is said of a script and a certificate: as text paragraph by paragraph, and the same as one JSON value.
+//! What is said of a script and a certificate under the line of the check: as text paragraph by paragraph, and as one JSON value with that line.
 use crate::config_text::ConfigText;
 use crate::entry_text::EntryText;
 use crate::facts::Fact;
@@ -69,6 +69,9 @@ pub(crate) struct Page<'a> {
     /// The entry whose place that one may take.
     #[serde(skip_serializing_if = "Option::is_none")]
     pub(crate) widens: Option<usize>,
+    /// Where it may take one's place, an entry of one point that would have it too.
+    #[serde(skip_serializing_if = "Option::is_none")]
+    pub(crate) alone: Option<EntryText>,
     /// What may be done about it.
     #[serde(skip_serializing_if = "Option::is_none")]
     pub(crate) advice: Option<&'static str>,
@@ -139,8 +142,6 @@ fn sentence<W: fmt::Write, T: fmt::Display>(
 
 impl fmt::Display for Page<'_> {
     fn fmt<W: fmt::Write>(&self, f: &mut fmt::Formatter<W>) -> fmt::Result {
-        let line = &self.line;
-        writeln!(f, "{line}")?;
         sentence(f, &self.rule)?;
         sentence(f, &self.place)?;
         paragraph(f, &self.point)?;
@@ -174,6 +175,20 @@ impl Page<'_> {
                 "\nThis entry would have it. Paste it behind the last one:"
             )?,
         }
+        writeln!(f, "  {text}")?;
+        self.write_alone(f)
+    }
+
+    /// Writes the entry of one point, where there is another.
+    fn write_alone<W: fmt::Write>(&self, f: &mut fmt::Formatter<W>) -> fmt::Result {
+        let Some(alone) = &self.alone else {
+            return Ok(());
+        };
+        let text = &alone.line;
+        writeln!(
+            f,
+            "Or, if that one gets configurations that no call comes to, paste this one behind the last, which has no other:"
+        )?;
         writeln!(f, "  {text}")
     }
 }
