@@ -25,6 +25,7 @@ test:
 	tools/cases
 	tools/runs
 	tools/gallery
+	tools/explain
 	tools/bytes
 	tools/devices
 	tools/refusals
@@ -32,6 +33,7 @@ test:
 
 soak:
 	for seed in 1 2 3; do tools/bytes $$seed 10000 || exit 1; done
+	tools/explain --long
 	tools/load
 
 bench: build

@@ -1,5 +1,5 @@
 //! A command as a script writes it in `do`.
-use crate::names::{Worded, context_name, ephemeral_name, line_name, termination_name};
+use crate::names::{context_name, ephemeral_name, line_name, termination_name};
 use mg_model::commands::{Command, EphemeralOptions, LineOptions, Place, RemoteOption};
 use mg_names::slots::Slot;
 use script_table::Script;
@@ -23,7 +23,7 @@ impl fmt::Display for LineOptionsText<'_> {
             write!(f, " mode={}", mode.text())?;
         }
         if let Some(events) = options.events {
-            write!(f, " events={}", events.word(script))?;
+            write!(f, " events={}", script.events_name(events).unwrap_or("?"))?;
         }
         if let Some(signals) = options.signals {
             write!(
@@ -33,6 +33,14 @@ impl fmt::Display for LineOptionsText<'_> {
             )?;
         }
         Ok(())
+    }
+}
+
+/// A Remote that an option gives.
+fn remote_word(script: &Script, remote: RemoteOption) -> &str {
+    match remote {
+        RemoteOption::NoneGiven => "none",
+        RemoteOption::Peer(peer) => ephemeral_name(script, peer),
     }
 }
 
@@ -46,13 +54,10 @@ impl fmt::Display for EphemeralOptionsText<'_> {
         if let Some(mode) = options.mode {
             write!(f, " mode={}", mode.text())?;
         }
-        match options.remote {
-            Some(RemoteOption::NoneGiven) => write!(f, " remote=none"),
-            Some(RemoteOption::Peer(peer)) => {
-                write!(f, " remote={}", ephemeral_name(script, peer))
-            }
-            None => Ok(()),
+        if let Some(remote) = options.remote {
+            write!(f, " remote={}", remote_word(script, remote))?;
         }
+        Ok(())
     }
 }
 

@@ -56,16 +56,16 @@ impl fmt::Display for Fact<'_> {
 fn hop_within<'a>(
     script: &'a Script,
     config: &Config,
-    from: Termination,
-    to: Termination,
+    from: &Termination,
+    to: &Termination,
 ) -> Hop<'a> {
-    let context = match config.spot(from) {
+    let context = match config.spot(*from) {
         Spot::In(context) => Some(context_name(script, context)),
         _ => None,
     };
     Hop {
-        from: termination_name(script, from),
-        to: termination_name(script, to),
+        from: termination_name(script, *from),
+        to: termination_name(script, *to),
         context,
     }
 }
@@ -82,7 +82,7 @@ fn hops<'a>(
     let mut hops = Vec::new(alloc);
     let mut at = Termination::Line(from);
     for crossing in crossings {
-        hops.push(hop_within(script, config, at, Termination::Ephemeral(crossing.from)))?;
+        hops.push(hop_within(script, config, &at, &Termination::Ephemeral(crossing.from)))?;
         at = Termination::Ephemeral(crossing.to);
         hops.push(Hop {
             from: ephemeral_name(script, crossing.from),
@@ -90,7 +90,7 @@ fn hops<'a>(
             context: None,
         })?;
     }
-    hops.push(hop_within(script, config, at, Termination::Line(to)))?;
+    hops.push(hop_within(script, config, &at, &Termination::Line(to)))?;
     Ok(hops)
 }
 

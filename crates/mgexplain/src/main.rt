@@ -45,7 +45,7 @@ fn arguments(rt: &HostRuntime) -> io::Result<Vec<String>> {
 /// What the words ask for; `None` where they ask for nothing that the program does.
 fn form(rt: &HostRuntime) -> Option<Form> {
     match arguments(rt) {
-        Ok(words) => read_form(rt.alloc(), words.as_slice()),
+        Ok(words) => read_form(words.as_slice()),
         Err(_) => None,
     }
 }

@@ -1,6 +1,6 @@
 //! The words of the command line.
-use clap::{Arg, ArgAction, Command};
-use std::alloc::{AllocError, Global};
+ghost use Rattle.std.specs.Prelude.{◌≡◌, map, string_bytes};
+ghost use Rattle.mgexplain.specs.Forms.{form_named, form_of};
 
 /// In which form the program answers.
 #[derive(Clone, Copy, Debug, PartialEq, Eq)]
@@ -13,30 +13,26 @@ pub(crate) enum Form {
     Dot,
 }
 
-fn flag<'a>(alloc: Global, name: &'a str) -> Arg<'a> {
-    Arg::new(alloc, name).long(name).action(ArgAction::SetTrue)
-}
-
-fn mgexplain_command<'a>(alloc: Global) -> Result<Command<'a>, AllocError> {
-    let json = flag(alloc, "json");
-    let dot = flag(alloc, "dot").conflicts_with("json")?;
-    Command::new(alloc, "mgexplain").arg(json)?.arg(dot)
-}
-
-/// Reads the form off the words, the program's name first. `None` where they ask for nothing that the program does, for help, or where there was
-/// no memory to read them.
-pub(crate) fn read_form(alloc: Global, words: &[String]) -> Option<Form> {
-    let Ok(command) = mgexplain_command(alloc) else {
-        return None;
-    };
-    let Ok(matches) = command.try_get_matches_from(words) else {
-        return None;
-    };
-    if matches.get_flag("json") {
+/// The form that a word names.
+fn form_named(word: &str) -> Option<Form>
+    ensures { result ≡ form_named word.now }
+{
+    if word == "--json" {
         return Some(Form::Json);
     }
-    if matches.get_flag("dot") {
+    if word == "--dot" {
         return Some(Form::Dot);
     }
-    Some(Form::Text)
+    None
+}
+
+/// The form that the words ask for, the program's name first. `None` where they ask for nothing that the program does, or for help.
+pub(crate) fn read_form(words: &[String]) -> Option<Form>
+    ensures { result ≡ form_of (map string_bytes words.now) }
+{
+    match words {
+        [_] => Some(Form::Text),
+        [_, word] => form_named(word.as_str()),
+        _ => None,
+    }
 }
