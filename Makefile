@@ -31,6 +31,7 @@ test:
 	tools/cases
 	tools/runs
 	tools/gallery
+	tools/explain
 	tools/pipeline
 	tools/bytes
 	tools/devices
@@ -38,7 +39,8 @@ test:
 	tools/load 3
 
 soak:
-	for seed in 1 2 3; do tools/bytes $$seed 10000 || exit 1; done
+	for seed in 1 2 3; do tools/bytes $$seed 3000 || exit 1; done
+	tools/explain --long
 	tools/load
 
 bench: build

@@ -1,0 +1,7 @@
+pub mod Added
+pub mod Lacks
+pub mod NearestSoFar
+pub mod Picked
+pub mod Single
+pub mod StepsShown
+pub mod Ways

@@ -1,0 +1,131 @@
+//! Components with a configuration's value among theirs.
+ghost use Rattle.std.specs.Prelude.{◌≡◌, ◌++◌, ◌∷◌, [], false, IfOk, IfSome, if◌then◌else◌};
+ghost use Rattle.std.specs.List.{All};
+ghost use Rattle.mg_model.specs.Configuration.{IsWellFormed};
+ghost use Rattle.mg_model.specs.Entries.{Allows, Includes};
+ghost use Rattle.configuration.specs.Config.{configuration_of};
+ghost use Rattle.entry_table.specs.Shown.{shown, shown_all};
+ghost use Rattle.explanation.specs.Alone.{HasAllOf, KeepAll, Keeps};
+
+use configuration::config::Config;
+use entry_table::{Component, Entry, product_of};
+use script_table::Script;
+use std::alloc::{AllocError, Global};
+
+/// How many points an entry may have.
+const POINTS: u64 = 65_536;
+
+/// Some values, and one more behind them if it is wanted.
+pub(crate) fn values_with<T: Copy>(
+    alloc: Global,
+    values: &[T],
+    wanted: bool,
+    value: T,
+) -> Result<Vec<T>, AllocError>
+    ensures { IfOk result (λ all. all.items ≡ values.now ++ (if wanted then value ∷ [] else [])) }
+{
+    let mut all = Vec::new(alloc);
+    all.extend_from_slice(values)?;
+    if wanted {
+        all.push(value)?;
+    }
+    Ok(all)
+}
+
+/// A component with a configuration's value behind its own, if that is wanted.
+#[tactic(auto, using(crate::proofs::Added::has_with, crate::proofs::Added::kept_with))]
+fn component_with(
+    alloc: Global,
+    component: &Component,
+    wanted: bool,
+    config: &Config,
+) -> Result<Component, AllocError>
+    requires { wanted ≡ false → Allows (configuration_of config.now) (shown component.now) }
+    ensures has { IfOk result (λ wide. Allows (configuration_of config.now) (shown wide)) }
+    ensures keeps { IfOk result (λ wide. Keeps (shown component.now) (shown wide)) }
+{
+    match component {
+        Component::Links(values) => {
+            let all = values_with(alloc, values.as_slice(), wanted, config.link())?;
+            Ok(Component::Links(all))
+        }
+        Component::Spots(t, values) => {
+            let all = values_with(alloc, values.as_slice(), wanted, config.spot(*t))?;
+            Ok(Component::Spots(*t, all))
+        }
+        Component::Modes(t, values) => {
+            let all = values_with(alloc, values.as_slice(), wanted, config.mode(*t))?;
+            Ok(Component::Modes(*t, all))
+        }
+        Component::Events(i, values) => {
+            let all = values_with(alloc, values.as_slice(), wanted, config.events(*i))?;
+            Ok(Component::Events(*i, all))
+        }
+        Component::Plays(i, values) => {
+            let all = values_with(alloc, values.as_slice(), wanted, config.plays(*i))?;
+            Ok(Component::Plays(*i, all))
+        }
+        Component::Contexts(j, values) => {
+            let all = values_with(alloc, values.as_slice(), wanted, config.context(*j))?;
+            Ok(Component::Contexts(*j, all))
+        }
+        Component::Remotes(k, values) => {
+            let all = values_with(alloc, values.as_slice(), wanted, config.remote(*k))?;
+            Ok(Component::Remotes(*k, all))
+        }
+        Component::Cuts(t, u, values) => {
+            let all = values_with(alloc, values.as_slice(), wanted, config.cut(*t, *u))?;
+            Ok(Component::Cuts(*t, *u, all))
+        }
+    }
+}
+
+/// A component with a configuration's value among its own.
+fn widened_component(
+    alloc: Global,
+    component: &Component,
+    config: &Config,
+) -> Result<Component, AllocError>
+    ensures has { IfOk result (λ wide. Allows (configuration_of config.now) (shown wide)) }
+    ensures keeps { IfOk result (λ wide. Keeps (shown component.now) (shown wide)) }
+{
+    component_with(alloc, component, !component.allows(config), config)
+}
+
+/// Some components, each with a configuration's value among its own.
+fn widened_components(
+    alloc: Global,
+    components: &[Component],
+    config: &Config,
+) -> Result<Vec<Component>, AllocError>
+    ensures have { IfOk result (λ wide. All (Allows (configuration_of config.now)) (shown_all wide.items)) }
+    ensures keep { IfOk result (λ wide. KeepAll (shown_all components.now) (shown_all wide.items)) }
+{
+    let mut wide = Vec::new(alloc);
+    for component in components {
+        wide.push(widened_component(alloc, component, config)?)?;
+    }
+    Ok(wide)
+}
+
+/// An entry with the values of a configuration of its state added where it lacks them. `None` where it would have more points than an entry may.
+/// The only error is running out of memory.
+pub fn widen(
+    alloc: Global,
+    script: &Script,
+    entry: &Entry,
+    config: &Config,
+) -> Result<Option<Entry>, AllocError>
+    requires well_formed { IsWellFormed (configuration_of config.now) }
+    requires state { entry.now.state ≡ (configuration_of config.now).state }
+    ensures includes { IfOk result (λ found. IfSome found (λ wide. Includes wide (configuration_of config.now))) }
+    ensures keeps { IfOk result (λ found. IfSome found (λ wide. HasAllOf wide entry.now)) }
+{
+    let components = widened_components(alloc, entry.components(), config)?;
+    let size = product_of(components.as_slice());
+    if size == 0 || size > POINTS {
+        return Ok(None);
+    }
+    let wide = Entry::new(alloc, config.state(), script.lines(), components)?;
+    Ok(Some(wide))
+}

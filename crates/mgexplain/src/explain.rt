@@ -1,0 +1,209 @@
+//! The page on a No: what the first broken obligation is about.
+use crate::component_text::{component_text, word_in};
+use crate::config_text::config_text;
+use crate::entry_text::entry_text;
+use crate::facts::facts;
+use crate::listed::listed_text;
+use crate::page::{Lack, NearText, Page, PointText};
+use crate::rules::{advice, obligation_rule};
+use crate::step_text::step_text;
+use closure::steps::{opening, reset};
+use configuration::config::Config;
+use configuration::well_formed::is_well_formed;
+use entry_table::{Cert, Component};
+use explanation::{Located, alone, find_nearest, locate, mend, uncovered_step};
+use mg_model::faults::Fault;
+use mg_names::obligations::Obligation;
+use program_rim::status::Status;
+use script_table::Script;
+use std::alloc::{AllocError, Global};
+
+/// The two documents, with the text of the second.
+#[derive(Clone, Copy)]
+pub(crate) struct Documents<'a> {
+    pub(crate) script: &'a Script,
+    pub(crate) cert: &'a Cert,
+    pub(crate) certificate: &'a [u8],
+}
+
+/// A page with a line, the rule that is broken, and where.
+pub(crate) fn new_page<'a>(
+    alloc: Global,
+    line: String,
+    status: Status,
+    rule: Option<&'static str>,
+    place: Option<String>,
+) -> Page<'a> {
+    Page {
+        line,
+        status: status.code(),
+        rule,
+        place,
+        point: None,
+        facts: Vec::new(alloc),
+        step: None,
+        uncovered: None,
+        nearest: None,
+        entry: None,
+        widens: None,
+        alone: None,
+        advice: None,
+    }
+}
+
+/// What a component lacks of a configuration.
+fn lack<'a>(
+    alloc: Global,
+    script: &'a Script,
+    component: &Component,
+    config: &Config,
+) -> Result<Lack<'a>, AllocError> {
+    let text = component_text(alloc, script, component)?;
+    Ok(Lack {
+        component: text.path,
+        has: text.words,
+        lacks: word_in(script, component, config),
+    })
+}
+
+/// What components lack of a configuration, those that do.
+fn lacks<'a>(
+    alloc: Global,
+    script: &'a Script,
+    components: &[Component],
+    config: &Config,
+) -> Result<Vec<Lack<'a>>, AllocError> {
+    let mut lacks = Vec::new(alloc);
+    for component in components {
+        if !component.allows(config) {
+            lacks.push(lack(alloc, script, component, config)?)?;
+        }
+    }
+    Ok(lacks)
+}
+
+/// The entry that comes nearest to having a configuration.
+fn near_text<'a>(
+    alloc: Global,
+    documents: &Documents<'a>,
+    config: &Config,
+) -> Result<Option<NearText<'a>>, AllocError> {
+    let (script, place) = match find_nearest(documents.cert, config) {
+        Some(found) => (documents.script, found.place),
+        None => return Ok(None),
+    };
+    let Some(entry) = documents.cert.entries().get(place) else {
+        return Ok(None);
+    };
+    Ok(Some(NearText {
+        entry: place,
+        listed: listed_text(alloc, script, documents.certificate, place, entry)?,
+        lacks: lacks(alloc, script, entry.components(), config)?,
+    }))
+}
+
+/// Adds an entry that has a configuration, and where that is another one widened, the one of that point alone; if it is well formed, as those that
+/// a step leads to are.
+fn add_mended(
+    alloc: Global,
+    page: &mut Page<'_>,
+    documents: &Documents<'_>,
+    config: &Config,
+) -> Result<(), AllocError> {
+    if !is_well_formed(config) {
+        return Ok(());
+    }
+    let mended = mend(alloc, documents.script, documents.cert, config)?;
+    page.entry = Some(entry_text(alloc, documents.script, &mended.entry)?);
+    if mended.widens.is_some() {
+        page.widens = mended.widens;
+        let alone = alone(alloc, documents.script, config)?;
+        page.alone = Some(entry_text(alloc, documents.script, &alone)?);
+    }
+    Ok(())
+}
+
+/// Adds what is said of a configuration that no entry has.
+fn add_uncovered<'a>(
+    alloc: Global,
+    page: &mut Page<'a>,
+    documents: &Documents<'a>,
+    config: &Config,
+) -> Result<(), AllocError> {
+    page.nearest = near_text(alloc, documents, config)?;
+    add_mended(alloc, page, documents, config)
+}
+
+/// Adds a step that leads where no entry is.
+fn add_step<'a>(
+    alloc: Global,
+    page: &mut Page<'a>,
+    documents: &Documents<'a>,
+    config: &Config,
+) -> Result<(), AllocError> {
+    let script = documents.script;
+    if let Some(step) = uncovered_step(alloc, script, documents.cert, config)? {
+        page.step = Some(step_text(alloc, script, config, &step)?);
+        add_uncovered(alloc, page, documents, &step.result)?;
+    }
+    Ok(())
+}
+
+/// Adds a point with its entry.
+fn add_point<'a>(
+    alloc: Global,
+    page: &mut Page<'a>,
+    documents: &Documents<'a>,
+    point: &Located,
+) -> Result<(), AllocError> {
+    let script = documents.script;
+    if let Some(entry) = documents.cert.entries().get(point.place) {
+        page.point = Some(PointText {
+            entry: point.place,
+            number: point.number,
+            listed: listed_text(alloc, script, documents.certificate, point.place, entry)?,
+            configuration: config_text(alloc, script, &point.config)?,
+        });
+    }
+    Ok(())
+}
+
+/// Adds the configuration of the opening or of the restart.
+fn add_whole<'a>(
+    alloc: Global,
+    page: &mut Page<'a>,
+    documents: &Documents<'a>,
+    obligation: Obligation,
+) -> Result<(), AllocError> {
+    let script = documents.script;
+    let config = match obligation {
+        Obligation::ResetCovered => reset(script),
+        _ => opening(script),
+    };
+    page.uncovered = Some(config_text(alloc, script, &config)?);
+    add_uncovered(alloc, page, documents, &config)
+}
+
+/// The page on the first obligation that is broken.
+pub(crate) fn no_page<'a>(
+    alloc: Global,
+    line: String,
+    documents: &Documents<'a>,
+    fault: &Fault,
+) -> Result<Page<'a>, AllocError> {
+    let obligation = fault.obligation;
+    let rule = obligation_rule(obligation);
+    let mut page = new_page(alloc, line, Status::No, Some(rule), None);
+    page.advice = advice(obligation);
+    let Some(point) = locate(documents.cert, fault) else {
+        add_whole(alloc, &mut page, documents, obligation)?;
+        return Ok(page);
+    };
+    add_point(alloc, &mut page, documents, &point)?;
+    if matches!(obligation, Obligation::StepsCovered) {
+        add_step(alloc, &mut page, documents, &point.config)?;
+        return Ok(page);
+    }
+    page.facts = facts(alloc, documents.script, &point.config, obligation)?;
+    Ok(page)
+}

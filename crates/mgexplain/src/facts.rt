@@ -1,0 +1,220 @@
+//! What of a point breaks an obligation, in sentences; and the ways that media takes between joined lines, hop by hop.
+use crate::names::{context_name, ephemeral_name, line_name, state_name, termination_name};
+use configuration::config::Config;
+use explanation::{Breach, Crossing, find_breaches, find_path};
+use mg_model::commands::Termination;
+use mg_model::components::Spot;
+use mg_model::transitions::Pair;
+use mg_names::obligations::Obligation;
+use mg_names::slots::Slot;
+use script_table::Script;
+use serde::Serialize;
+use std::alloc::{AllocError, Global};
+use std::fmt;
+
+/// A hop of media within a context, or its crossing from one ephemeral to another.
+#[derive(Drop, Serialize)]
+pub(crate) struct Hop<'a> {
+    from: &'a str,
+    to: &'a str,
+    /// The context of a hop; none for a crossing.
+    context: Option<&'a str>,
+}
+
+impl fmt::Display for Hop<'_> {
+    fn fmt<W: fmt::Write>(&self, f: &mut fmt::Formatter<W>) -> fmt::Result {
+        let (from, to) = (self.from, self.to);
+        match self.context {
+            Some(context) => writeln!(f, "  from {from} to {to} in context {context}"),
+            None => writeln!(f, "  from {from} over to {to}, each the other's Remote"),
+        }
+    }
+}
+
+/// One thing that breaks the obligation.
+#[derive(Drop, Serialize)]
+pub(crate) struct Fact<'a> {
+    /// What it is.
+    says: String,
+    /// For joined lines, the way that media takes.
+    #[serde(skip_serializing_if = "Vec::is_empty")]
+    path: Vec<Hop<'a>>,
+}
+
+impl fmt::Display for Fact<'_> {
+    fn fmt<W: fmt::Write>(&self, f: &mut fmt::Formatter<W>) -> fmt::Result {
+        let says = &self.says;
+        writeln!(f, "{says}")?;
+        for hop in self.path.as_slice() {
+            write!(f, "{hop}")?;
+        }
+        Ok(())
+    }
+}
+
+/// A hop from one termination to another of its context.
+fn hop_within<'a>(
+    script: &'a Script,
+    config: &Config,
+    from: &Termination,
+    to: &Termination,
+) -> Hop<'a> {
+    let context = match config.spot(*from) {
+        Spot::In(context) => Some(context_name(script, context)),
+        _ => None,
+    };
+    Hop {
+        from: termination_name(script, *from),
+        to: termination_name(script, *to),
+        context,
+    }
+}
+
+/// The hops of a way over these crossings.
+fn hops<'a>(
+    alloc: Global,
+    script: &'a Script,
+    config: &Config,
+    from: Slot,
+    crossings: &[Crossing],
+    to: Slot,
+) -> Result<Vec<Hop<'a>>, AllocError> {
+    let mut hops = Vec::new(alloc);
+    let mut at = Termination::Line(from);
+    for crossing in crossings {
+        hops.push(hop_within(script, config, &at, &Termination::Ephemeral(crossing.from)))?;
+        at = Termination::Ephemeral(crossing.to);
+        hops.push(Hop {
+            from: ephemeral_name(script, crossing.from),
+            to: ephemeral_name(script, crossing.to),
+            context: None,
+        })?;
+    }
+    hops.push(hop_within(script, config, &at, &Termination::Line(to)))?;
+    Ok(hops)
+}
+
+/// The way that media takes between two lines, from the first to the second if it goes there.
+fn path<'a>(
+    alloc: Global,
+    script: &'a Script,
+    config: &Config,
+    pair: Pair,
+) -> Result<Vec<Hop<'a>>, AllocError> {
+    if let Some(crossings) = find_path(alloc, config, pair.first, pair.second)? {
+        return hops(
+            alloc,
+            script,
+            config,
+            pair.first,
+            crossings.as_slice(),
+            pair.second,
+        );
+    }
+    if let Some(crossings) = find_path(alloc, config, pair.second, pair.first)? {
+        return hops(
+            alloc,
+            script,
+            config,
+            pair.second,
+            crossings.as_slice(),
+            pair.first,
+        );
+    }
+    Ok(Vec::new(alloc))
+}
+
+/// The sentence on a breach.
+fn says(
+    alloc: Global,
+    script: &Script,
+    config: &Config,
+    breach: &Breach,
+) -> Result<String, AllocError> {
+    let state = state_name(script, config.state());
+    match *breach {
+        Breach::Joined(pair) => {
+            let (first, second) = (
+                line_name(script, pair.first),
+                line_name(script, pair.second),
+            );
+            format!(in alloc;
+                "Lines {first} and {second} are joined, and state {state} has no `{first}-{second}` in its `talk`. Media goes"
+            )
+        }
+        Breach::Away(line) => {
+            format!(in alloc;
+                "Line {} is not in the null context.",
+                line_name(script, line)
+            )
+        }
+        Breach::Playing(line) => {
+            format!(in alloc; "Line {} may still play a signal.", line_name(script, line))
+        }
+        Breach::NotArmed(line) => {
+            format!(in alloc;
+                "The events list of line {} is not exactly `al/of`.",
+                line_name(script, line)
+            )
+        }
+        Breach::Remaining(name) => {
+            format!(in alloc; "Ephemeral {} still exists.", ephemeral_name(script, name))
+        }
+        Breach::BoundContext(name) => {
+            format!(in alloc;
+                "State {state} creates context {}, and that name is bound.",
+                context_name(script, name)
+            )
+        }
+        Breach::BoundEphemeral(name) => {
+            format!(in alloc;
+                "State {state} creates ephemeral {}, and it exists.",
+                ephemeral_name(script, name)
+            )
+        }
+        Breach::StaleContext(name) => {
+            format!(in alloc;
+                "Context {} has been deleted, and its name is bound.",
+                context_name(script, name)
+            )
+        }
+        Breach::GoneRemote(name) => {
+            format!(in alloc;
+                "The Remote of ephemeral {} has been destroyed.",
+                ephemeral_name(script, name)
+            )
+        }
+    }
+}
+
+/// What is said of a breach.
+fn fact_on<'a>(
+    alloc: Global,
+    script: &'a Script,
+    config: &Config,
+    breach: &Breach,
+) -> Result<Fact<'a>, AllocError> {
+    let path = match *breach {
+        Breach::Joined(pair) => path(alloc, script, config, pair)?,
+        _ => Vec::new(alloc),
+    };
+    Ok(Fact {
+        says: says(alloc, script, config, breach)?,
+        path,
+    })
+}
+
+/// All that breaks an obligation of a configuration.
+pub(crate) fn facts<'a>(
+    alloc: Global,
+    script: &'a Script,
+    config: &Config,
+    obligation: Obligation,
+) -> Result<Vec<Fact<'a>>, AllocError> {
+    let found = find_breaches(alloc, script, config, obligation)?;
+    let mut facts = Vec::new(alloc);
+    for breach in found.as_slice() {
+        facts.push(fact_on(alloc, script, config, breach)?)?;
+    }
+    Ok(facts)
+}

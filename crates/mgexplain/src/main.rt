@@ -1,0 +1,81 @@
+//! `mgexplain [--json | --dot]`: reads a script and a certificate from standard input, as `mgcall check` does, and says in words what that
+//! program's line says. The first line is that line, by the same calls, and the exit status is the same. `--json` says the same facts as one JSON
+//! value; `--dot` writes the script's state machine as Graphviz text, with what a No names marked.
+//!
+//! `explain` puts together what is said, a `Page`; the facts in it are those of the crate `explanation`. What is here binds it to the process.
+#![tactic(auto)]
+
+mod command_text;
+mod component_text;
+mod config_text;
+mod entry_text;
+mod explain;
+mod facts;
+mod listed;
+mod names;
+mod page;
+mod picture;
+mod places;
+mod request_text;
+mod rules;
+mod said;
+mod step_text;
+mod told;
+mod words;
+
+use crate::told::{Outcome, outcome};
+use crate::words::{Form, read_form};
+use program_rim::host::Host;
+use program_rim::input::read_all;
+use program_rim::sink::write_all;
+use program_rim::status::Status;
+use std::alloc::Global;
+use std::process::ExitCode;
+use std::{env, io};
+
+/// How the program is called.
+const USAGE: &str = "usage: mgexplain [--json | --dot]\n";
+
+/// The words that the process was called with, its own name first.
+fn arguments(rt: &HostRuntime) -> io::Result<Vec<String>> {
+    let words = env::args(rt)?.collect(rt.alloc())?;
+    Ok(words)
+}
+
+/// What the words ask for; `None` where they ask for nothing that the program does.
+fn form(rt: &HostRuntime) -> Option<Form> {
+    match arguments(rt) {
+        Ok(words) => read_form(words.as_slice()),
+        Err(_) => None,
+    }
+}
+
+/// What comes of standard input.
+fn input_outcome(alloc: Global, rt: &HostRuntime, form: Form) -> Outcome {
+    let mut source = Host::new(rt.stdin());
+    outcome(alloc, form, &read_all(alloc, &mut source))
+}
+
+/// Writes a text that goes with a status. A write that fails has a status of its own.
+fn send(rt: &HostRuntime, text: &str, status: Status) -> Status {
+    let mut sink = Host::new(rt.stdout());
+    match write_all(&mut sink, text.as_bytes()) {
+        Ok(()) => status,
+        Err(_) => Status::DeviceFailed,
+    }
+}
+
+fn run(alloc: Global, rt: &HostRuntime) -> Status {
+    let Some(form) = form(rt) else {
+        return send(rt, USAGE, Status::Usage);
+    };
+    match input_outcome(alloc, rt, form) {
+        Outcome::Told(said) => send(rt, said.text.as_str(), said.status),
+        Outcome::NoMemory => send(rt, "no memory\n", Status::NoMemory),
+        Outcome::ReadFailed => Status::DeviceFailed,
+    }
+}
+
+fn main(rt: HostRuntime) -> ExitCode {
+    ExitCode::from(run(rt.alloc(), &rt).code())
+}

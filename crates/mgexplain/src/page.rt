@@ -1,0 +1,194 @@
+//! What is said of a script and a certificate under the line of the check: as text paragraph by paragraph, and as one JSON value with that line.
+use crate::config_text::ConfigText;
+use crate::entry_text::EntryText;
+use crate::facts::Fact;
+use crate::listed::ListedText;
+use crate::step_text::StepText;
+use serde::Serialize;
+use std::fmt;
+
+/// A component of an entry that doesn't have a configuration's value.
+#[derive(Drop, Serialize)]
+pub(crate) struct Lack<'a> {
+    /// Its keys in the entry.
+    pub(crate) component: String,
+    /// The values that the entry has.
+    pub(crate) has: Vec<&'a str>,
+    /// The value of the configuration.
+    pub(crate) lacks: &'a str,
+}
+
+/// The entry of a configuration's state that comes nearest to it.
+#[derive(Drop, Serialize)]
+pub(crate) struct NearText<'a> {
+    pub(crate) entry: usize,
+    pub(crate) listed: ListedText,
+    pub(crate) lacks: Vec<Lack<'a>>,
+}
+
+/// A point with its entry.
+#[derive(Drop, Serialize)]
+pub(crate) struct PointText<'a> {
+    pub(crate) entry: usize,
+    pub(crate) number: u32,
+    pub(crate) listed: ListedText,
+    pub(crate) configuration: ConfigText<'a>,
+}
+
+/// All that is said.
+#[derive(Drop, Serialize)]
+pub(crate) struct Page<'a> {
+    /// The line of the check.
+    pub(crate) line: String,
+    /// The exit status that goes with it.
+    pub(crate) status: u8,
+    /// The rule that is broken.
+    #[serde(skip_serializing_if = "Option::is_none")]
+    pub(crate) rule: Option<&'static str>,
+    /// Where a text breaks it.
+    #[serde(skip_serializing_if = "Option::is_none")]
+    pub(crate) place: Option<String>,
+    /// The point that a No names.
+    #[serde(skip_serializing_if = "Option::is_none")]
+    pub(crate) point: Option<PointText<'a>>,
+    /// What of the point breaks the obligation.
+    #[serde(skip_serializing_if = "Vec::is_empty")]
+    pub(crate) facts: Vec<Fact<'a>>,
+    /// The step that leads where no entry is.
+    #[serde(skip_serializing_if = "Option::is_none")]
+    pub(crate) step: Option<StepText<'a>>,
+    /// The configuration of no point that no entry has.
+    #[serde(skip_serializing_if = "Option::is_none")]
+    pub(crate) uncovered: Option<ConfigText<'a>>,
+    /// The entry that comes nearest to having what no entry has.
+    #[serde(skip_serializing_if = "Option::is_none")]
+    pub(crate) nearest: Option<NearText<'a>>,
+    /// An entry that would have it.
+    #[serde(skip_serializing_if = "Option::is_none")]
+    pub(crate) entry: Option<EntryText>,
+    /// The entry whose place that one may take.
+    #[serde(skip_serializing_if = "Option::is_none")]
+    pub(crate) widens: Option<usize>,
+    /// Where it may take one's place, an entry of one point that would have it too.
+    #[serde(skip_serializing_if = "Option::is_none")]
+    pub(crate) alone: Option<EntryText>,
+    /// What may be done about it.
+    #[serde(skip_serializing_if = "Option::is_none")]
+    pub(crate) advice: Option<&'static str>,
+}
+
+impl fmt::Display for Lack<'_> {
+    fn fmt<W: fmt::Write>(&self, f: &mut fmt::Formatter<W>) -> fmt::Result {
+        let (component, lacks) = (&self.component, self.lacks);
+        write!(f, "  {component} lacks {lacks}; it has")?;
+        for word in self.has.as_slice() {
+            write!(f, " {word}")?;
+        }
+        writeln!(f)
+    }
+}
+
+impl fmt::Display for NearText<'_> {
+    fn fmt<W: fmt::Write>(&self, f: &mut fmt::Formatter<W>) -> fmt::Result {
+        let (entry, listed, line) = (self.entry, &self.listed, self.listed.at_line);
+        writeln!(
+            f,
+            "The nearest entry of that state is entry {entry}, at line {line} of the certificate:"
+        )?;
+        write!(f, "{listed}")?;
+        writeln!(f, "These of its components don't have it:")?;
+        for lack in self.lacks.as_slice() {
+            write!(f, "{lack}")?;
+        }
+        Ok(())
+    }
+}
+
+impl fmt::Display for PointText<'_> {
+    fn fmt<W: fmt::Write>(&self, f: &mut fmt::Formatter<W>) -> fmt::Result {
+        let (entry, number) = (self.entry, self.number);
+        let (listed, line) = (&self.listed, self.listed.at_line);
+        writeln!(
+            f,
+            "Entry {entry}, counted from 0, at line {line} of the certificate:"
+        )?;
+        writeln!(f, "{listed}")?;
+        writeln!(f, "Point {number} of it is this configuration:")?;
+        write!(f, "{}", self.configuration)
+    }
+}
+
+/// Writes a paragraph, behind an empty line, where there is one.
+fn paragraph<W: fmt::Write, T: fmt::Display>(
+    f: &mut fmt::Formatter<W>,
+    said: &Option<T>,
+) -> fmt::Result {
+    match said {
+        Some(said) => write!(f, "\n{said}"),
+        None => Ok(()),
+    }
+}
+
+/// Writes a line behind an empty one, where there is one.
+fn sentence<W: fmt::Write, T: fmt::Display>(
+    f: &mut fmt::Formatter<W>,
+    said: &Option<T>,
+) -> fmt::Result {
+    match said {
+        Some(said) => writeln!(f, "\n{said}"),
+        None => Ok(()),
+    }
+}
+
+impl fmt::Display for Page<'_> {
+    fn fmt<W: fmt::Write>(&self, f: &mut fmt::Formatter<W>) -> fmt::Result {
+        sentence(f, &self.rule)?;
+        sentence(f, &self.place)?;
+        paragraph(f, &self.point)?;
+        for fact in self.facts.as_slice() {
+            write!(f, "\n{fact}")?;
+        }
+        paragraph(f, &self.step)?;
+        paragraph(f, &self.uncovered)?;
+        paragraph(f, &self.nearest)?;
+        self.write_entry(f)?;
+        sentence(f, &self.advice)
+    }
+}
+
+impl Page<'_> {
+    /// Writes the entry that would have the configuration, and where to put it.
+    fn write_entry<W: fmt::Write>(&self, f: &mut fmt::Formatter<W>) -> fmt::Result {
+        let Some(entry) = &self.entry else {
+            return Ok(());
+        };
+        let text = &entry.line;
+        match self.widens {
+            Some(place) => {
+                writeln!(
+                    f,
+                    "\nThis is entry {place} with that value, and would have it. Put it in the place of that one:"
+                )?;
+            }
+            None => writeln!(
+                f,
+                "\nThis entry would have it. Paste it behind the last one:"
+            )?,
+        }
+        writeln!(f, "  {text}")?;
+        self.write_alone(f)
+    }
+
+    /// Writes the entry of one point, where there is another.
+    fn write_alone<W: fmt::Write>(&self, f: &mut fmt::Formatter<W>) -> fmt::Result {
+        let Some(alone) = &self.alone else {
+            return Ok(());
+        };
+        let text = &alone.line;
+        writeln!(
+            f,
+            "Or, if that one gets configurations that no call comes to, paste this one behind the last, which has no other:"
+        )?;
+        writeln!(f, "  {text}")
+    }
+}

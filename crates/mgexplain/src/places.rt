@@ -1,0 +1,102 @@
+//! Where a text breaks its format, as far as the library that reads it tells a place.
+use certificate::CertFault;
+use digits::DigitMap;
+use scriptreader::ScriptFault;
+use serde_json::Value;
+use std::alloc::{AllocError, Global};
+
+/// What is said where the reader tells no place.
+const NOWHERE: &str =
+    "The reader tells no place for this fault: of all that the document has, it gives the one with the lowest number.";
+
+/// The line of a byte of a text, from 1.
+pub(crate) fn line_of(text: &[u8], byte: usize) -> usize {
+    let end = byte.min(text.len());
+    text[..end].iter().filter(|other| **other == b'\n').count() + 1
+}
+
+/// Where a text is no TOML.
+fn toml_place(alloc: Global, script: &[u8]) -> Result<String, AllocError> {
+    match toml::table_from_slice(alloc, script) {
+        Ok(_) => String::from_str(alloc, NOWHERE),
+        Err(error) => {
+            let message = error.message();
+            match error.span() {
+                Some(span) => {
+                    let line = line_of(script, span.start);
+                    format!(in alloc; "At line {line} of the script, counted from 1: {message}.")
+                }
+                None => format!(in alloc; "{message}."),
+            }
+        }
+    }
+}
+
+/// Where the text of a map of a script is no digit map.
+fn fault_of_map(alloc: Global, map: &toml::Value) -> Result<Option<String>, AllocError> {
+    let name = map.get("name").and_then(toml::Value::as_str).unwrap_or("");
+    let Some(text) = map.get("map").and_then(toml::Value::as_str) else {
+        return Ok(None);
+    };
+    match DigitMap::parse(alloc, text) {
+        Ok(_) => Ok(None),
+        Err(fault) => Ok(Some(format!(in alloc; "In the map `{name}`: {fault}, counted from 0.")?)),
+    }
+}
+
+/// Where the first of some maps is no digit map.
+fn fault_of_maps(alloc: Global, maps: &[toml::Value]) -> Result<String, AllocError> {
+    for map in maps {
+        if let Some(place) = fault_of_map(alloc, map)? {
+            return Ok(place);
+        }
+    }
+    String::from_str(alloc, NOWHERE)
+}
+
+/// Where a digit map of a script can't be read.
+fn map_place(alloc: Global, script: &[u8]) -> Result<String, AllocError> {
+    let Ok(table) = toml::table_from_slice(alloc, script) else {
+        return Err(AllocError);
+    };
+    match table.get("maps").and_then(toml::Value::as_array) {
+        Some(maps) => fault_of_maps(alloc, maps.as_slice()),
+        None => String::from_str(alloc, NOWHERE),
+    }
+}
+
+/// Where a text is no JSON.
+fn json_place(alloc: Global, certificate: &[u8]) -> Result<String, AllocError> {
+    match Value::from_slice(alloc, certificate) {
+        Ok(_) => String::from_str(alloc, NOWHERE),
+        Err(error) => {
+            let (line, column) = (error.line(), error.column());
+            format!(in alloc; "At line {line}, column {column} of the certificate, counted from 1.")
+        }
+    }
+}
+
+/// Where a script has a fault.
+pub(crate) fn script_place(
+    alloc: Global,
+    fault: &ScriptFault,
+    script: &[u8],
+) -> Result<String, AllocError> {
+    match fault {
+        ScriptFault::NotToml => toml_place(alloc, script),
+        ScriptFault::BadMap => map_place(alloc, script),
+        _ => String::from_str(alloc, NOWHERE),
+    }
+}
+
+/// Where a certificate has a fault.
+pub(crate) fn certificate_place(
+    alloc: Global,
+    fault: &CertFault,
+    certificate: &[u8],
+) -> Result<String, AllocError> {
+    match fault {
+        CertFault::NotJson => json_place(alloc, certificate),
+        _ => String::from_str(alloc, NOWHERE),
+    }
+}

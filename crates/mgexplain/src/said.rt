@@ -1,0 +1,38 @@
+//! A text with its status, under the line of a reply.
+ghost use Rattle.std.specs.Prelude.{◌≡◌, IfOk};
+ghost use Rattle.engine.specs.Output.{line_status};
+ghost use Rattle.engine.specs.Replies.{line_of};
+ghost use Rattle.program_rim.specs.Statuses.{code_of};
+ghost use Rattle.mgexplain.specs.Saying.{IsHeaded};
+
+use engine::reply::Reply;
+use program_rim::status::Status;
+use std::alloc::{AllocError, Global};
+
+/// A text and the status that goes with it.
+#[derive(Drop)]
+pub(crate) struct Said {
+    pub(crate) text: String,
+    pub(crate) status: Status,
+}
+
+/// The line of a reply, and a text under it.
+pub(crate) fn headed(alloc: Global, reply: &Reply, rest: &str) -> Result<Said, AllocError>
+    ensures { IfOk result (λ said. IsHeaded (line_of reply.now) said) }
+{
+    let text = format!(in alloc; "{reply}\n{rest}")?;
+    Ok(Said {
+        text,
+        status: reply.status(),
+    })
+}
+
+/// A text with the status of a reply.
+pub(crate) fn with_status(reply: &Reply, text: String) -> Said
+    ensures { code_of result.status ≡ line_status (line_of reply.now) }
+{
+    Said {
+        text,
+        status: reply.status(),
+    }
+}

@@ -1,0 +1,268 @@
+//! What the program says of an input: under the line of the check, which is made by the same calls.
+ghost use Rattle.std.specs.Prelude.{IfOk};
+ghost use Rattle.engine.specs.Engine.{IsLineOfSections};
+ghost use Rattle.engine.specs.Output.{too_long};
+ghost use Rattle.engine.specs.Replies.{line_of};
+ghost use Rattle.engine.specs.VerdictLines.{Judges, NamesRefusal};
+ghost use Rattle.program_rim.specs.Sections.{pair_of, sections_of};
+ghost use Rattle.mgexplain.specs.declared.words.Form.TheVariants as Form;
+ghost use Rattle.mgexplain.specs.Saying.{IsOutcome, IsOutcomeOf, IsSaid, IsUnder};
+
+use crate::explain::{Documents, new_page, no_page};
+use crate::page::Page;
+use crate::picture::{Marked, picture};
+use crate::places::{certificate_place, script_place};
+use crate::rules::{YES_RULE, certificate_rule, input_rule, script_rule};
+use crate::said::{Said, headed, with_status};
+use crate::words::Form;
+use certificate::read_cert;
+use closure::steps::{opening, reset};
+use composition::{CheckFault, Checked, Verdict, check};
+use engine::answer::Answer;
+use engine::check::{broken, refused};
+use engine::reply::{InputFault, Reply};
+use entry_table::Cert;
+use explanation::locate;
+use mg_model::faults::Fault;
+use mg_names::obligations::Obligation;
+use program_rim::input::Input;
+use program_rim::sections::two_sections;
+use script_table::Script;
+use scriptreader::read_script;
+use std::alloc::{AllocError, Global};
+
+/// What comes of an input.
+#[derive(Drop)]
+pub(crate) enum Outcome {
+    /// This is said.
+    Told(Said),
+    /// There was no memory to say it.
+    NoMemory,
+    /// A read failed, and nothing is said.
+    ReadFailed,
+}
+
+/// The line of a reply, as the check writes it, without its end.
+fn line(alloc: Global, reply: &Reply) -> Result<String, AllocError> {
+    format!(in alloc; "{reply}")
+}
+
+/// A page as one JSON value, or as text under the line of its reply.
+fn page_told(alloc: Global, form: Form, reply: &Reply, page: &Page<'_>) -> Result<Said, AllocError>
+    ensures { IfOk result (IsUnder form (line_of reply.now)) }
+{
+    if matches!(form, Form::Json) {
+        return match serde_json::to_string(alloc, page) {
+            Ok(text) => Ok(with_status(reply, format!(in alloc; "{text}\n")?)),
+            Err(_) => Err(AllocError),
+        };
+    }
+    let text = format!(in alloc; "{page}")?;
+    headed(alloc, reply, text.as_str())
+}
+
+/// A picture, which has the line of its reply for a title.
+fn picture_told(
+    alloc: Global,
+    reply: &Reply,
+    script: Option<&Script>,
+    marked: Option<Marked>,
+) -> Result<Said, AllocError>
+    ensures { IfOk result (IsUnder Form.Dot (line_of reply.now)) }
+{
+    let line = line(alloc, reply)?;
+    let text = picture(alloc, line.as_str(), script, marked)?;
+    Ok(with_status(reply, text))
+}
+
+/// What is said where no script is read.
+fn unread(
+    alloc: Global,
+    form: Form,
+    reply: &Reply,
+    rule: Option<&'static str>,
+    place: Option<String>,
+) -> Result<Said, AllocError>
+    ensures { IfOk result (IsUnder form (line_of reply.now)) }
+{
+    if matches!(form, Form::Dot) {
+        return picture_told(alloc, reply, None, None);
+    }
+    let line = line(alloc, reply)?;
+    let page = new_page(alloc, line, reply.status(), rule, place);
+    page_told(alloc, form, reply, &page)
+}
+
+/// What is said of a yes.
+fn yes_told(alloc: Global, form: Form, reply: &Reply, checked: &Checked) -> Result<Said, AllocError>
+    ensures { IfOk result (IsUnder form (line_of reply.now)) }
+{
+    if matches!(form, Form::Dot) {
+        return picture_told(alloc, reply, Some(checked.script()), None);
+    }
+    let line = line(alloc, reply)?;
+    let page = new_page(alloc, line, reply.status(), Some(YES_RULE), None);
+    page_told(alloc, form, reply, &page)
+}
+
+/// What a No marks of a picture: the state of its point, or the one that a call opens in, or that after a restart.
+fn marked(script: &Script, cert: &Cert, fault: &Fault) -> Marked {
+    let config = match locate(cert, fault) {
+        Some(point) => point.config,
+        None => match fault.obligation {
+            Obligation::ResetCovered => reset(script),
+            _ => opening(script),
+        },
+    };
+    Marked {
+        config,
+        fault: *fault,
+    }
+}
+
+/// What is said of a No.
+fn no_told(
+    alloc: Global,
+    form: Form,
+    reply: &Reply,
+    documents: &Documents<'_>,
+    fault: &Fault,
+) -> Result<Said, AllocError>
+    ensures { IfOk result (IsUnder form (line_of reply.now)) }
+{
+    if matches!(form, Form::Dot) {
+        let marked = marked(documents.script, documents.cert, fault);
+        return picture_told(alloc, reply, Some(documents.script), Some(marked));
+    }
+    let line = line(alloc, reply)?;
+    let page = no_page(alloc, line, documents, fault)?;
+    page_told(alloc, form, reply, &page)
+}
+
+/// What is said of a No, whose documents are read once more.
+fn no_read_told(
+    alloc: Global,
+    form: Form,
+    reply: &Reply,
+    script: &[u8],
+    certificate: &[u8],
+    fault: &Fault,
+) -> Result<Said, AllocError>
+    ensures { IfOk result (IsUnder form (line_of reply.now)) }
+{
+    let Ok(script) = read_script(alloc, script) else {
+        return Err(AllocError);
+    };
+    let Ok(cert) = read_cert(alloc, certificate, &script) else {
+        return Err(AllocError);
+    };
+    let documents = Documents {
+        script: &script,
+        cert: &cert,
+        certificate,
+    };
+    no_told(alloc, form, reply, &documents, fault)
+}
+
+/// The rule that a fault breaks, and where the text breaks it.
+fn rule_and_place(
+    alloc: Global,
+    script: &[u8],
+    certificate: &[u8],
+    fault: &CheckFault,
+) -> Result<(&'static str, String), AllocError> {
+    match fault {
+        CheckFault::Script(fault) => Ok((script_rule(fault), script_place(alloc, fault, script)?)),
+        CheckFault::Cert(fault) => Ok((
+            certificate_rule(fault),
+            certificate_place(alloc, fault, certificate)?,
+        )),
+        CheckFault::NoMemory => Err(AllocError),
+    }
+}
+
+/// What is said of a fault of the script or of the certificate.
+fn fault_told(
+    alloc: Global,
+    form: Form,
+    script: &[u8],
+    certificate: &[u8],
+    fault: CheckFault,
+) -> Result<Said, AllocError>
+    ensures { IfOk result (IsSaid (NamesRefusal fault) form) }
+{
+    let (rule, place) = rule_and_place(alloc, script, certificate, &fault)?;
+    let reply = Reply::Checked(refused(fault));
+    unread(alloc, form, &reply, Some(rule), Some(place))
+}
+
+/// What is said of a script and a certificate.
+fn documents_told(
+    alloc: Global,
+    form: Form,
+    script: &[u8],
+    certificate: &[u8],
+) -> Result<Said, AllocError>
+    ensures { IfOk result (IsSaid (Judges script.now certificate.now) form) }
+{
+    match check(alloc, script, certificate) {
+        Ok(Verdict::Yes(checked)) => {
+            let reply = Reply::Checked(Answer::Yes {
+                states: checked.states(),
+                entries: checked.entries(),
+                points: checked.points(),
+            });
+            yes_told(alloc, form, &reply, &checked)
+        }
+        Ok(Verdict::No(fault)) => {
+            let reply = Reply::Checked(broken(alloc, script, &fault));
+            no_read_told(alloc, form, &reply, script, certificate, &fault)
+        }
+        Err(fault) => fault_told(alloc, form, script, certificate, fault),
+    }
+}
+
+/// What is said of an input that was read to its end.
+fn input_told(alloc: Global, form: Form, input: &[u8]) -> Result<Said, AllocError>
+    ensures { IfOk result (IsSaid (IsLineOfSections (pair_of (sections_of input.now))) form) }
+{
+    match two_sections(input) {
+        Some((script, certificate)) => documents_told(alloc, form, script, certificate),
+        None => {
+            let fault = InputFault::Sections;
+            let reply = Reply::Input(fault);
+            unread(alloc, form, &reply, Some(input_rule(fault)), None)
+        }
+    }
+}
+
+/// What is said of an input past the limit.
+fn too_long_told(alloc: Global, form: Form) -> Result<Said, AllocError>
+    ensures { IfOk result (IsUnder form too_long) }
+{
+    let fault = InputFault::TooLong;
+    let reply = Reply::Input(fault);
+    unread(alloc, form, &reply, Some(input_rule(fault)), None)
+}
+
+/// What comes of it where something is said, or memory runs out.
+fn outcome_of(told: Result<Said, AllocError>) -> Outcome
+    ensures { IsOutcomeOf told result }
+{
+    match told {
+        Ok(said) => Outcome::Told(said),
+        Err(AllocError) => Outcome::NoMemory,
+    }
+}
+
+/// What comes of an input.
+pub(crate) fn outcome(alloc: Global, form: Form, input: &Input) -> Outcome
+    ensures { IsOutcome form input.now result }
+{
+    match input {
+        Input::Whole(bytes) => outcome_of(input_told(alloc, form, bytes.as_slice())),
+        Input::TooLong => outcome_of(too_long_told(alloc, form)),
+        Input::NoMemory => Outcome::NoMemory,
+        Input::Failed => Outcome::ReadFailed,
+    }
+}
