@@ -68,8 +68,8 @@ impl fmt::Display for LineOptionsText<'_> {
 }
 
 /// The word of a Remote that is given.
-fn remote_word(script: &Script, remote: Option<RemoteOption>) -> Option<&str> {
-    match remote {
+fn remote_word<'a>(script: &'a Script, remote: &Option<RemoteOption>) -> Option<&'a str> {
+    match *remote {
         Some(RemoteOption::NoneGiven) => Some("none"),
         Some(RemoteOption::Peer(peer)) => Some(ephemeral_name(script, peer)),
         None => None,
@@ -84,7 +84,7 @@ impl fmt::Display for EphemeralOptionsText<'_> {
     fn fmt<W: fmt::Write>(&self, f: &mut fmt::Formatter<W>) -> fmt::Result {
         let (script, options) = (self.0, &self.1);
         let mode = OptionText("mode", mode_word(options.mode));
-        let remote = OptionText("remote", remote_word(script, options.remote));
+        let remote = OptionText("remote", remote_word(script, &options.remote));
         write!(f, "{mode}{remote}")
     }
 }
