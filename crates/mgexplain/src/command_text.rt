@@ -1,6 +1,9 @@
 //! A command as a script writes it in `do`.
-use crate::names::{context_name, ephemeral_name, line_name, termination_name};
-use mg_model::commands::{Command, EphemeralOptions, LineOptions, Place, RemoteOption};
+use crate::names::{NO_NAME, context_name, ephemeral_name, line_name, termination_name};
+use mg_model::commands::{
+    Command, EphemeralOptions, EventsName, LineOptions, Place, RemoteOption, SignalsName,
+};
+use mg_names::modes::Mode;
 use mg_names::slots::Slot;
 use script_table::Script;
 use std::fmt;
@@ -12,35 +15,64 @@ pub(crate) struct CommandText<'a> {
     pub(crate) command: &'a Command,
 }
 
+/// An option of a line or an ephemeral with its word, behind a blank; nothing where it isn't given.
+#[derive(Clone, Copy)]
+struct OptionText<'a>(&'a str, Option<&'a str>);
+
+impl fmt::Display for OptionText<'_> {
+    fn fmt<W: fmt::Write>(&self, f: &mut fmt::Formatter<W>) -> fmt::Result {
+        let key = self.0;
+        match self.1 {
+            Some(word) => write!(f, " {key}={word}"),
+            None => Ok(()),
+        }
+    }
+}
+
+/// The word of a mode that is given.
+fn mode_word(mode: Option<Mode>) -> Option<&'static str> {
+    match mode {
+        Some(mode) => Some(mode.text()),
+        None => None,
+    }
+}
+
+/// The name of an events list that is given.
+fn events_word(script: &Script, list: Option<EventsName>) -> Option<&str> {
+    match list {
+        Some(list) => Some(script.events_name(list).unwrap_or(NO_NAME)),
+        None => None,
+    }
+}
+
+/// The name of a signals list that is given.
+fn signals_word(script: &Script, list: Option<SignalsName>) -> Option<&str> {
+    match list {
+        Some(list) => Some(script.signals_name(list).unwrap_or(NO_NAME)),
+        None => None,
+    }
+}
+
 /// The options of a line, each behind a blank.
 #[derive(Clone, Copy)]
 struct LineOptionsText<'a>(&'a Script, LineOptions);
 
 impl fmt::Display for LineOptionsText<'_> {
     fn fmt<W: fmt::Write>(&self, f: &mut fmt::Formatter<W>) -> fmt::Result {
-        let (script, options) = (self.0, self.1);
-        if let Some(mode) = options.mode {
-            write!(f, " mode={}", mode.text())?;
-        }
-        if let Some(events) = options.events {
-            write!(f, " events={}", script.events_name(events).unwrap_or("?"))?;
-        }
-        if let Some(signals) = options.signals {
-            write!(
-                f,
-                " signals={}",
-                script.signals_name(signals).unwrap_or("?")
-            )?;
-        }
-        Ok(())
+        let (script, options) = (self.0, &self.1);
+        let mode = OptionText("mode", mode_word(options.mode));
+        let events = OptionText("events", events_word(script, options.events));
+        let signals = OptionText("signals", signals_word(script, options.signals));
+        write!(f, "{mode}{events}{signals}")
     }
 }
 
-/// A Remote that an option gives.
-fn remote_word(script: &Script, remote: RemoteOption) -> &str {
-    match remote {
-        RemoteOption::NoneGiven => "none",
-        RemoteOption::Peer(peer) => ephemeral_name(script, peer),
+/// The word of a Remote that is given.
+fn remote_word<'a>(script: &'a Script, remote: &Option<RemoteOption>) -> Option<&'a str> {
+    match *remote {
+        Some(RemoteOption::NoneGiven) => Some("none"),
+        Some(RemoteOption::Peer(peer)) => Some(ephemeral_name(script, peer)),
+        None => None,
     }
 }
 
@@ -50,14 +82,10 @@ struct EphemeralOptionsText<'a>(&'a Script, EphemeralOptions);
 
 impl fmt::Display for EphemeralOptionsText<'_> {
     fn fmt<W: fmt::Write>(&self, f: &mut fmt::Formatter<W>) -> fmt::Result {
-        let (script, options) = (self.0, self.1);
-        if let Some(mode) = options.mode {
-            write!(f, " mode={}", mode.text())?;
-        }
-        if let Some(remote) = options.remote {
-            write!(f, " remote={}", remote_word(script, remote))?;
-        }
-        Ok(())
+        let (script, options) = (self.0, &self.1);
+        let mode = OptionText("mode", mode_word(options.mode));
+        let remote = OptionText("remote", remote_word(script, &options.remote));
+        write!(f, "{mode}{remote}")
     }
 }
 

@@ -23,7 +23,7 @@ mod step_text;
 mod told;
 mod words;
 
-use crate::told::{Outcome, outcome};
+use crate::told::{Outcome, told_of};
 use crate::words::{Form, read_form};
 use program_rim::host::Host;
 use program_rim::input::read_all;
@@ -53,7 +53,7 @@ fn form(rt: &HostRuntime) -> Option<Form> {
 /// What comes of standard input.
 fn input_outcome(alloc: Global, rt: &HostRuntime, form: Form) -> Outcome {
     let mut source = Host::new(rt.stdin());
-    outcome(alloc, form, &read_all(alloc, &mut source))
+    told_of(alloc, form, &read_all(alloc, &mut source))
 }
 
 /// Writes a text that goes with a status. A write that fails has a status of its own.

@@ -8,7 +8,7 @@ use mg_names::slots::Slot;
 use script_table::Script;
 
 /// What stands for a name that the script doesn't have; what its reader accepts has each.
-const NO_NAME: &str = "?";
+pub(crate) const NO_NAME: &str = "?";
 
 pub(crate) fn state_name(script: &Script, state: u8) -> &str {
     match script.state(state) {

@@ -31,8 +31,6 @@ pub(crate) fn headed(alloc: Global, reply: &Reply, rest: &str) -> Result<Said, A
 pub(crate) fn with_status(reply: &Reply, text: String) -> Said
     ensures { code_of result.status ≡ line_status (line_of reply.now) }
 {
-    Said {
-        text,
-        status: reply.status(),
-    }
+    let status = reply.status();
+    Said { text, status }
 }

@@ -256,7 +256,7 @@ fn outcome_of(told: Result<Said, AllocError>) -> Outcome
 }
 
 /// What comes of an input.
-pub(crate) fn outcome(alloc: Global, form: Form, input: &Input) -> Outcome
+pub(crate) fn told_of(alloc: Global, form: Form, input: &Input) -> Outcome
     ensures { IsOutcome form input.now result }
 {
     match input {
