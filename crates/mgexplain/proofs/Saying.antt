@@ -1,0 +1,13 @@
+-- What stands under a line of a kind.
+use Rattle.std.proofs.Common.{Result, Ok, Err, rules}
+use Rattle.std.specs.Prelude.{IfOk}
+use Rattle.std.specs.declared.alloc.AllocError.{AllocError}
+use Rattle.engine.specs.Output.{Line}
+use Rattle.mgexplain.specs.Saying.{IsSaid, IsUnder}
+use Rattle.mgexplain.specs.declared.said.Said.{Said}
+use Rattle.mgexplain.specs.declared.words.Form.{Form}
+
+pub said_under : (Is : Line → Type 0) (form : Form) (l : Line) → Is l → (result : Result Said AllocError) → IfOk result (IsUnder form l)
+    → IfOk result (IsSaid Is form)
+said_under Is form l is (Ok said) under = (l, is, under)
+said_under Is form l is (Err error) under = search rules

@@ -1,0 +1,14 @@
+-- The fault that the checker found is the one that is told.
+use Rattle.std.proofs.Common.{subst, Ok}
+use Rattle.composition.specs.Verdicts.{IsVerdict}
+use Rattle.engine.proofs.VerdictLines.{told}
+use Rattle.engine.specs.Replies.{answer_line}
+use Rattle.engine.specs.VerdictLines.{Judges}
+use Rattle.mgexplain.proofs.Saying.{said_under}
+use Rattle.mgexplain.proofs.told.documents_told.Goals as goal
+
+pub returns-in-Ok-No : goal.returns-in-Ok-No
+returns-in-Ok-No c =
+    let found = subst (λ verdict. IsVerdict c.args.script.now c.args.certificate.now (Ok verdict)) c.in-Ok-No.field-0-is c.in-Ok-No.ensures.verdict in
+    let judged = told c.args.script.now c.args.certificate.now found.0 found.1 c.in-Ok-No.fault (answer_line c.broken.result) found.2 found.3 c.broken.ensures in
+    said_under (Judges c.args.script.now c.args.certificate.now) c.args.form (answer_line c.broken.result) judged c.no_read_told.result c.no_read_told.ensures
