@@ -1,6 +1,7 @@
 //! `run_tour`: reads a script, its certificate and plans, divided by lines `%%`, runs each plan, and prints a line for each call, or the fault of the run. Its first word
 //! says on how many workers, one where there is none. With a second word, `meet`, calls 1 and 2 wait for each other before their first steps, and a line says whether they met. With
 //! `count` in its place, it prints how many events each run has in place of its lines, for `tools/bench` to time. With `stop` and a number, workers are stopped at random, by that seed. `stdout` says what it must print for `stdin`.
+//! What happened to the call of each line is asked too, once more where that wanted memory; where memory was wanted elsewhere the status is 4.
 #![tactic(auto)]
 
 ghost use Rattle.plans.specs.Accepted.{IsPlanFor};
@@ -10,21 +11,27 @@ mod stopping;
 
 use crate::meeting::Meeting;
 use crate::stopping::Stopping;
-use composition::{Checked, Verdict, check};
-use plans::Plan;
+use composition::{CheckFault, Checked, Verdict, check};
+use mg_names::identifiers::CallNo;
+use plans::{Plan, PlanFault};
 use runner::{Gate, Line, Open, Outcome, RunFault, run};
 use script_table::Script;
-use std::alloc::{AllocError, AllocFailed};
+use std::alloc::{AllocError, AllocFailed, Global};
 use std::env;
 use std::io::{self, Read, Write};
 use std::process::ExitCode;
 use std::sync::Wait;
 use std::thread::Threads;
 
+/// The `g`th call that begins within call `n` of the plan has the number `g` times this, and `n`.
+const PLAN_CALLS: u32 = 10_000;
+
 /// Why the tour ends early.
 #[derive(Debug, Drop)]
 enum Failure {
-    /// Memory ran out, or the input isn't what it should be.
+    /// Memory ran out.
+    Memory,
+    /// The input isn't what it should be, or an answer isn't.
     Refused,
     /// The input can't be read, or the output can't be written.
     Device,
@@ -32,19 +39,22 @@ enum Failure {
 
 impl From<AllocError> for Failure {
     fn from(_e: AllocError) -> Failure {
-        Failure::Refused
+        Failure::Memory
     }
 }
 
 impl<T: Drop> From<AllocFailed<T>> for Failure {
     fn from(_e: AllocFailed<T>) -> Failure {
-        Failure::Refused
+        Failure::Memory
     }
 }
 
 impl From<io::Error> for Failure {
-    fn from(_e: io::Error) -> Failure {
-        Failure::Device
+    fn from(e: io::Error) -> Failure {
+        match e.kind() {
+            io::ErrorKind::OutOfMemory => Failure::Memory,
+            _ => Failure::Device,
+        }
     }
 }
 
@@ -82,6 +92,32 @@ fn tell_line(rt: &HostRuntime, script: &Script, line: &Line) -> Result<(), Failu
     Ok(())
 }
 
+/// The call that a line tells of.
+fn call_of(line: &Line) -> Result<CallNo, Failure> {
+    let Ok(begun) = u32::try_from(line.begun) else {
+        return Err(Failure::Refused);
+    };
+    let number = begun.saturating_mul(PLAN_CALLS);
+    Ok(CallNo(number.saturating_add(line.call)))
+}
+
+/// How much happened to a call, asked once more where that wanted memory.
+fn events_of(alloc: Global, outcome: &Outcome<'_>, call: CallNo) -> Result<usize, AllocError> {
+    if let Ok(events) = outcome.transcript(alloc, call) {
+        return Ok(events.len());
+    }
+    let events = outcome.transcript(alloc, call)?;
+    Ok(events.len())
+}
+
+/// A line, which counts what happened to its call.
+fn check_line(alloc: Global, outcome: &Outcome<'_>, line: &Line) -> Result<(), Failure> {
+    if events_of(alloc, outcome, call_of(line)?)? != line.events {
+        return Err(Failure::Refused);
+    }
+    Ok(())
+}
+
 /// What a run came to.
 fn tell(
     rt: &HostRuntime,
@@ -94,6 +130,7 @@ fn tell(
         return Ok(());
     }
     for line in outcome.lines() {
+        check_line(rt.alloc(), outcome, line)?;
         tell_line(rt, script, line)?;
     }
     Ok(())
@@ -113,6 +150,7 @@ fn go<G: Gate, T: Threads + Wait + Sync>(
 {
     match run(threads, rt.alloc(), checked, plan, workers, gate) {
         Ok(outcome) => tell(rt, checked.script(), &outcome, kind),
+        Err(RunFault::NoMemory) => Err(Failure::Memory),
         Err(fault) => tell_fault(rt, fault),
     }
 }
@@ -164,8 +202,10 @@ fn tour<T: Threads + Wait + Sync>(
     workers: usize,
     kind: Kind,
 ) -> Result<(), Failure> {
-    let Ok(plan) = Plan::read(rt.alloc(), text.as_bytes(), checked.script()) else {
-        return Err(Failure::Refused);
+    let plan = match Plan::read(rt.alloc(), text.as_bytes(), checked.script()) {
+        Ok(plan) => plan,
+        Err(PlanFault::NoMemory) => return Err(Failure::Memory),
+        Err(_) => return Err(Failure::Refused),
     };
     match kind {
         Kind::Meet => meet(rt, threads, checked, &plan, workers),
@@ -215,9 +255,10 @@ fn all<T: Threads + Wait + Sync>(rt: &HostRuntime, threads: &T) -> Result<(), Fa
     let [script, certificate, plans @ ..] = sections.as_slice() else {
         return Err(Failure::Refused);
     };
-    let Ok(Verdict::Yes(checked)) = check(rt.alloc(), script.as_bytes(), certificate.as_bytes())
-    else {
-        return Err(Failure::Refused);
+    let checked = match check(rt.alloc(), script.as_bytes(), certificate.as_bytes()) {
+        Ok(Verdict::Yes(checked)) => checked,
+        Err(CheckFault::NoMemory) => return Err(Failure::Memory),
+        _ => return Err(Failure::Refused),
     };
     for plan in plans {
         tour(rt, threads, &checked, plan, workers, kind)?;
@@ -228,6 +269,7 @@ fn all<T: Threads + Wait + Sync>(rt: &HostRuntime, threads: &T) -> Result<(), Fa
 fn main(rt: HostRuntime) -> ExitCode {
     match all(&rt, &rt) {
         Ok(()) => ExitCode::SUCCESS,
+        Err(Failure::Memory) => ExitCode::from(4),
         Err(_) => ExitCode::FAILURE,
     }
 }
