@@ -1,4 +1,4 @@
-// A plain runner of calls, which nobody proved, for `make bench` to compare with: the same gateways, shards, locks and queue as those of `mgcall run`, with
+// A plain runner of calls, which nobody proved, for `make bench` to compare with: the same gateways, shards, locks and queues as those of `mgcall run`, with
 // histories, transcripts, their comparison, the merge, and each call alone once more. It reads no script and no plan: its calls go by one script, in which line
 // a goes off hook and on again, and each call does so a number of times, the later ones as calls that begin on its lines.
 //     plain_runner CALLS ROUNDS SHARDS WORKERS
@@ -412,18 +412,20 @@ int main(int count, char** words) {
         shards.back()->gateway.next = Number(number);
         shards.back()->gateway.stride = Number(shard_count);
     }
-    Queue queue(std::max<size_t>(calls, 1));
+    std::vector<std::unique_ptr<Queue>> queues;
+    for (size_t number = 0; number < shard_count; number++) queues.push_back(std::make_unique<Queue>(std::max<size_t>(calls, 1)));
     for (size_t number = 0; number < calls; number++) {
         auto course = std::make_unique<Course>();
         course->number = course->standing = Number(number);
         course->call = shards[number % shard_count]->open(Number(number), {Number(2 * number + 1), Number(2 * number + 2)});
-        queue.push(course);
+        queues[number % shard_count]->push(course);
     }
     double opened = now();
     std::vector<std::vector<std::unique_ptr<Course>>> done(workers);
-    auto work = [&](size_t worker) {
+    auto serve = [&](size_t worker, size_t number) {
+        Shard& shard = *shards[number];
+        Queue& queue = *queues[number];
         while (auto course = queue.pop()) {
-            Shard& shard = *shards[course->number % shard_count];
             for (int turn = 0; turn < 8 && course->place < steps.size(); turn++, course->place++) {
                 std::lock_guard<std::mutex> held(shard.lock);
                 step(shard, *course, steps[course->place]);
@@ -431,6 +433,9 @@ int main(int count, char** words) {
             if (course->place == steps.size()) done[worker].push_back(std::move(course));
             else while (!queue.push(course)) {}
         }
+    };
+    auto work = [&](size_t worker) {
+        for (size_t turn = 0; turn < shard_count; turn++) serve(worker, (worker * shard_count / workers + turn) % shard_count);
     };
     std::vector<std::thread> threads;
     for (size_t worker = 1; worker < workers; worker++) threads.emplace_back(work, worker);

@@ -20,6 +20,7 @@ pub mod PartCalls
 pub mod Replayed
 pub mod ReportedAlone
 pub mod SameEvents
+pub mod StationLemmas
 pub mod StepMeanings
 pub mod ToldCalls
 pub mod TurnLemmas

@@ -1,11 +1,9 @@
 -- What is told of a call alone is a report's.
-use Rattle.std.proofs.Common.{◌≡◌, ◌∙◌, ◌==◌, ◌+◌, ◌++◌, ℕ, suc, zero, Bool, true, false, List, [], ◌∷◌, length, map, if◌then◌else◌, refl, sym, ap, subst, arith}
-use Rattle.std.specs.List.{flat_map}
-use Rattle.std.proofs.lemmas.List.{append-nil, append_assoc, length-append, length-map, map-append}
+use Rattle.std.proofs.Common.{◌≡◌, ◌∙◌, ◌==◌, ◌+◌, ◌++◌, ℕ, suc, zero, Bool, true, false, List, [], ◌∷◌, length, map, if◌then◌else◌, refl, sym, ap, arith}
+use Rattle.std.proofs.lemmas.List.{length-append, length-map, map-append}
 use Rattle.mg_model.specs.declared.plans.PlanStep.{PlanStep}
 use Rattle.mg_model.specs.Agent.{Agent, Phase, awaits_reply, awaits_pass, resting, is_resting}
-use Rattle.mg_model.specs.Plans.{Plan, PlanCall, epochs_of, opened_as, restarts_of_others, steps_in}
-use Rattle.mg_model.specs.Reports.{AreReported, IsReported, ReportLine, line_now, phase_word}
+use Rattle.mg_model.specs.Reports.{IsReported, ReportLine, line_now, phase_word}
 use Rattle.mg_model.specs.Script.{Script}
 use Rattle.mg_model.specs.Tables.{state_of}
 use Rattle.mg_model.specs.World.{Opened}
@@ -14,7 +12,7 @@ use Rattle.agent.specs.CallValue.{Kind, rests, waits, has_ended, kind_in}
 use Rattle.agent.specs.Calls.{value_of, variant_of}
 use Rattle.gateway.specs.GatewayValue.{gateway_of}
 use Rattle.shards.specs.Shards.{ShardValue}
-use Rattle.runner.specs.ReportLines.{AreAllNumbered, AreNumbered, lines_told, number_of, numbers_from, phase_in, phase_text, standing_line}
+use Rattle.runner.specs.ReportLines.{AreNumbered, lines_told, number_of, numbers_from, phase_in, phase_text, standing_line}
 use Rattle.runner.specs.Replays.{IsAlone}
 use Rattle.runner.specs.declared.alone.Alone.{Alone}
 use Rattle.runner.specs.declared.report.Line.{Line}
@@ -70,32 +68,6 @@ module _ (script : Script) (one : Opened) (steps : List PlanStep) (v : ShardValu
         ∙ ap (λ (last : ReportLine). is.at.retired ++ last ∷ []) line_is;
   }
 
--- ---- all calls of a plan
-
-module _ (script : Script) (plan : Plan) where
-  abbrev pub Reported : ℕ → PlanCall → List ReportLine → Type 0
-  Reported number call lines =
-      IsReported script (opened_as number call) (steps_in (epochs_of plan.calls) call.epochs) (restarts_of_others plan call) lines
-
-  -- one call more
-  pub reported_more : (number : ℕ) (calls : List PlanCall) (all : List (List ReportLine)) (call : PlanCall) (lines : List ReportLine)
-      → AreReported script plan number calls all → Reported (number + length calls) call lines
-      → AreReported script plan number (calls ++ call ∷ []) (all ++ lines ∷ [])
-  unfolding AreReported
-  reported_more number [] [] call lines are is =
-      (subst (λ (n : ℕ). Reported n call lines) (let same : number + 0 ≡ number = omega arith in same) is, tt)
-  reported_more number (first ∷ calls) (own ∷ all) call lines (one, are) is = (
-    one,
-    reported_more (number + 1) calls all call lines are
-        (subst (λ (n : ℕ). Reported n call lines) (let same : number + length (first ∷ calls) ≡ number + 1 + length calls = omega arith in same) is),
-  )
-  reported_more number [] (own ∷ all) call lines are is = absurd are
-  reported_more number (first ∷ calls) [] call lines are is = absurd are
-
-  pub none_reported : (number : ℕ) → AreReported script plan number [] []
-  unfolding AreReported
-  none_reported number = tt
-
 -- ---- numbers
 
 -- one number more
@@ -134,21 +106,3 @@ numbered_lines call count front lines last before own are =
     counted =
         let all : length lines ≡ length (front ++ last ∷ []) = ap (λ (ls : List Line). length ls) are in
         let more : length (front ++ last ∷ []) ≡ length front + 1 = length-append front (last ∷ []) in omega (arith, fronted, all, more)
-
--- and one call more
-pub numbered_more : (number : ℕ) (all : List (List Line)) (own : List Line) → AreAllNumbered number all → AreNumbered (number + length all) own
-    → AreAllNumbered number (all ++ own ∷ [])
-numbered_more number [] own are is =
-    (subst (λ (n : ℕ). AreNumbered n own) (let same : number + 0 ≡ number = omega arith in same) is, tt)
-numbered_more number (first ∷ all) own (one, are) is = (
-  one,
-  numbered_more (number + 1) all own are
-      (subst (λ (n : ℕ). AreNumbered n own) (let same : number + length (first ∷ all) ≡ number + 1 + length all = omega arith in same) is),
-)
-
--- the lines of all, and those of one call more
-pub lines_more : (all : List (List Line)) (lines : List Line)
-    → flat_map (λ (own : List Line). own) (all ++ lines ∷ []) ≡ flat_map (λ (own : List Line). own) all ++ lines
-lines_more [] lines = append-nil lines
-lines_more (own ∷ all) lines =
-    ap (λ (rest : List Line). own ++ rest) (lines_more all lines) ∙ sym (append_assoc own (flat_map (λ (own : List Line). own) all) lines)

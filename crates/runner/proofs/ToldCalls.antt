@@ -1,5 +1,5 @@
 -- What is told of each call of a plan is the plan's report.
-use Rattle.std.proofs.Common.{◌≡◌, ◌∙◌, ◌+◌, ◌++◌, ℕ, suc, zero, List, [], ◌∷◌, Some, length, map, inl, inr, refl, sym, ap, subst, arith}
+use Rattle.std.proofs.Common.{◌≡◌, ◌∙◌, ◌+◌, ◌++◌, ℕ, suc, zero, List, [], ◌∷◌, length, map, inl, inr, refl, sym, ap, subst, arith}
 use Rattle.std.specs.List.{AllZip, flat_map, range_with_len}
 use Rattle.std.specs.Prelude.{Contains, IfOk, MatchResult, Result, Ok, Err, slice_get}
 use Rattle.std.specs.declared.alloc.Global.{Global}
@@ -9,7 +9,7 @@ use Rattle.std.proofs.lemmas.Option.{same_Some}
 use Rattle.mg_model.proofs.Single.{none_in}
 use Rattle.mg_model.specs.declared.events.Event.{Event}
 use Rattle.mg_model.specs.Plans.{Plan, PlanCall, epochs_of, opened_as, restarts_of_others, steps_in}
-use Rattle.mg_model.specs.Reports.{AreReported, IsReported, ReportLine}
+use Rattle.mg_model.specs.Reports.{AreReported, IsReported}
 use Rattle.mg_model.specs.Script.{Script}
 use Rattle.shards.specs.Shards.{ShardValue}
 use Rattle.runner.specs.Left.{IsLeftAmong}

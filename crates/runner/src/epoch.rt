@@ -1,76 +1,171 @@
-//! An epoch: all calls go into a line, workers do their steps of it, and all come back.
-ghost use Rattle.std.specs.Prelude.{◌≡◌, ◌+◌, ◌<◌, ◌≤◌, [], IfOk, OnOk, length, vec_len};
+//! An epoch: the calls of each shard go into a line of their own, workers do their steps of it, and all come back.
+ghost use Rattle.std.specs.Prelude.{◌≡◌, ◌≤◌, [], IfOk, OnOk, length, vec_len};
 ghost use Rattle.std.specs.List.{All};
 ghost use Rattle.mg_model.specs.Numbers.{plan_calls};
 ghost use Rattle.handover.specs.Hands.{all_parts, hand};
 ghost use Rattle.handover.specs.Lines.{IsTicketOf, hand_of, room_of};
-ghost use Rattle.runner.specs.Passing.{Accounts, HaveBegun, HoldsNothing, IsWorkers};
+ghost use Rattle.runner.specs.Passing.{HoldsNothing, IsOrigin, IsWorkersAt};
 
 use crate::course::Course;
 use crate::fault::RunFault;
 use crate::gate::Gate;
-use crate::places::in_order;
+use crate::origin::{Origin, drain};
+use crate::places::seat;
 use crate::running::Running;
 use crate::site::Site;
-use crate::worker::{Job, Worked, work};
+use crate::worker::{Job, Station, Worked, work};
 use handover::{Carried, Line, Ticket};
 use std::alloc::Global;
 use std::sync::Wait;
 use std::thread;
 use std::thread::Threads;
 
-/// Calls, each with its number in the plan.
-pub(crate) type Courses<'s> = Vec<Carried<Course<'s>>>;
-
 /// The calls of a plan by their numbers.
 pub(crate) type Places<'s> = Vec<Option<Course<'s>>>;
 
-/// Puts all calls into the line, each at the first step of its epoch.
+/// The lines of all shards.
+type Lines<'s> = Vec<Line<Course<'s>>>;
+
+/// The call that stands at this number, where it is one of this shard, of so many: at the first step of its epoch. Its place is empty then.
+fn called<'s>(
+    place: &mut Option<Course<'s>>,
+    number: u32,
+    shard: usize,
+    shards: usize,
+) -> Option<Course<'s>> {
+    if (number as usize).checked_rem(shards) != Some(shard) {
+        return None;
+    }
+    let mut course = place.take()?;
+    course.log.place = 0;
+    Some(course)
+}
+
+/// Puts all calls of a shard into its line.
 fn begin_all<'s, R: Wait>(
     rt: &R,
     line: &Line<Course<'s>>,
     ticket: &mut Ticket<Course<'s>>,
-    places: Places<'s>,
+    places: &mut [Option<Course<'s>>],
+    shard: usize,
+    shards: usize,
 )
     requires ticket { IsTicketOf line.now ticket.old }
     requires fresh { hand_of ticket.old ≡ hand all_parts [] [] [] }
-    requires room { vec_len places ≤ room_of line.now }
-    requires few { vec_len places ≤ plan_calls }
+    requires room { length places.old ≤ room_of line.now }
+    requires few { length places.old ≤ plan_calls }
     ensures ticket { IsTicketOf line.now ticket.new }
     ensures parts { (hand_of ticket.new).parts ≡ all_parts }
     ensures nothing { HoldsNothing (hand_of ticket.new) }
 {
     let mut number: u32 = 0;
-    for place in places {
-        if let Some(mut load) = place {
-            load.log.place = 0;
+    for place in places.iter_mut() {
+        if let Some(load) = called(place, number, shard, shards) {
             line.begin(rt, ticket, Carried { number, load });
         }
         number += 1;
     }
 }
 
+/// The line of a shard with all of its calls in it, and its first ticket.
+fn open_line<'s, R: Wait>(
+    rt: &R,
+    alloc: Global,
+    places: &mut Places<'s>,
+    shard: usize,
+    shards: usize,
+) -> Result<(Line<Course<'s>>, Ticket<Course<'s>>), RunFault>
+    requires few { vec_len places.old ≤ plan_calls }
+    ensures len { vec_len places.new ≡ vec_len places.old }
+    ensures ticket { IfOk result (λ r. IsTicketOf r.0 r.1) }
+    ensures parts { IfOk result (λ r. (hand_of r.1).parts ≡ all_parts) }
+    ensures nothing { IfOk result (λ r. HoldsNothing (hand_of r.1)) }
+{
+    let Ok((line, mut ticket)) = Line::open(alloc, places.len().max(1)) else {
+        return Err(RunFault::NoMemory);
+    };
+    begin_all(rt, &line, &mut ticket, places.as_mut_slice(), shard, shards);
+    Ok((line, ticket))
+}
+
+/// A line for each of so many shards with its calls, and the run's station at each.
+fn open_lines<'s, R: Wait>(
+    rt: &R,
+    alloc: Global,
+    places: &mut Places<'s>,
+    shards: usize,
+) -> Result<(Lines<'s>, Vec<Origin<'s>>), RunFault>
+    requires few { vec_len places.old ≤ plan_calls }
+    ensures len { vec_len places.new ≡ vec_len places.old }
+    ensures origins { IfOk result (λ r. All (λ o. IsOrigin r.0.items o) r.1.items) }
+{
+    let mut lines = Vec::new(alloc);
+    let mut origins = Vec::new(alloc);
+    for shard in 0..shards {
+        let (line, ticket) = open_line(rt, alloc, places, shard, shards)?;
+        let Ok(()) = lines.push(line) else {
+            return Err(RunFault::NoMemory);
+        };
+        let station = Station {
+            shard,
+            ticket,
+            done: Vec::new(alloc),
+        };
+        let Ok(()) = origins.push(Origin { station, away: 0 }) else {
+            return Err(RunFault::NoMemory);
+        };
+    }
+    Ok((lines, origins))
+}
+
+/// A station more at each line, for one worker, in the order in which it goes to them: that of this shard first, and then round.
+fn stations<'s>(
+    alloc: Global,
+    lines: &[Line<Course<'s>>],
+    origins: &mut Vec<Origin<'s>>,
+    first: usize,
+) -> Result<Vec<Station<'s>>, RunFault>
+    requires { All (λ o. IsOrigin lines.now o) origins.old.items }
+    ensures origins { All (λ o. IsOrigin lines.now o) origins.new.items }
+    ensures stations { IfOk result (λ made. All (λ s. IsWorkersAt lines.now s) made.items) }
+{
+    let count = origins.len();
+    let mut stations = Vec::new(alloc);
+    for turn in 0..count {
+        let shard = first.saturating_add(turn) % count;
+        let Some(origin) = origins.get_mut(shard) else {
+            return Err(RunFault::Disagree);
+        };
+        let station = origin.another(alloc, lines)?;
+        let Ok(()) = stations.push(station) else {
+            return Err(RunFault::NoMemory);
+        };
+    }
+    Ok(stations)
+}
+
 /// A job for each of so many workers.
 fn jobs<'a, 's, G, B: Running>(
     alloc: Global,
-    line: &'a Line<Course<'s>>,
-    ticket: &mut Ticket<Course<'s>>,
+    lines: &'a [Line<Course<'s>>],
+    origins: &mut Vec<Origin<'s>>,
     site: &'a Site<'a, 's, G, B>,
     workers: usize,
 ) -> Result<Vec<Job<'a, 's, G, B>>, RunFault>
-    requires ticket { IsTicketOf line.now ticket.old }
-    requires parts { workers < (hand_of ticket.old).parts }
-    ensures ticket { IsTicketOf line.now ticket.new }
-    ensures parts { OnOk result ((hand_of ticket.new).parts + workers ≡ (hand_of ticket.old).parts) }
-    ensures same { ((hand_of ticket.new).begun ≡ (hand_of ticket.old).begun) × ((hand_of ticket.new).put ≡ (hand_of ticket.old).put) × ((hand_of ticket.new).taken ≡ (hand_of ticket.old).taken) }
-    ensures ready { IfOk result (λ js. All (λ job. (job.line.now ≡ line.now) × IsTicketOf line.now job.ticket × (hand_of job.ticket ≡ hand 1 [] [] [])) js.items) }
+    requires { All (λ o. IsOrigin lines.now o) origins.old.items }
+    ensures origins { All (λ o. IsOrigin lines.now o) origins.new.items }
+    ensures ready { IfOk result (λ js. All (λ job. (job.lines.now ≡ lines.now) × All (λ s. IsWorkersAt lines.now s) job.stations.items) js.items) }
     ensures len { IfOk result (λ js. vec_len js ≡ workers) }
 {
+    let count = origins.len();
     let mut jobs = Vec::new(alloc);
-    for _ in 0..workers {
+    for worker in 0..workers {
+        // Workers begin as far from each other as they can, so that they meet at one line as late as they can.
+        let first = worker.saturating_mul(count) / workers;
+        let stations = stations(alloc, lines, origins, first)?;
         let job = Job {
-            line,
-            ticket: line.another(ticket),
+            lines,
+            stations,
             site,
         };
         let Ok(()) = jobs.push(job) else {
@@ -80,59 +175,66 @@ fn jobs<'a, 's, G, B: Running>(
     Ok(jobs)
 }
 
-/// Takes back the tickets of workers, and the calls that they are done with. The first trouble that one met, or `NoMemory`.
-fn gather<'s>(
-    alloc: Global,
-    line: &Line<Course<'s>>,
-    ticket: &mut Ticket<Course<'s>>,
-    all: Vec<Worked<'s>>,
-) -> Result<Courses<'s>, RunFault>
-    requires ticket { IsTicketOf line.now ticket.old }
-    requires workers { All (λ worked. IsWorkers line.now worked) all.items }
-    requires nothing { HoldsNothing (hand_of ticket.old) }
-    ensures ticket { IsTicketOf line.now ticket.new }
-    ensures parts { OnOk result ((hand_of ticket.new).parts ≡ (hand_of ticket.old).parts + vec_len all.entry) }
-    ensures begun { OnOk result ((hand_of ticket.new).begun ≡ (hand_of ticket.old).begun) }
-    ensures accounts { IfOk result (λ back. Accounts (hand_of ticket.new) back.items) }
+/// Takes back the stations of a worker, with the calls that it is done with. The trouble that it met, or `NoMemory`.
+fn absorb<'s>(
+    lines: &[Line<Course<'s>>],
+    origins: &mut Vec<Origin<'s>>,
+    worked: Worked<'s>,
+) -> Result<(), RunFault>
+    requires origins { All (λ o. IsOrigin lines.now o) origins.old.items }
+    requires workers { All (λ s. IsWorkersAt lines.now s) worked.stations.items }
+    ensures { OnOk result (All (λ o. IsOrigin lines.now o) origins.new.items) }
 {
-    let mut back = Vec::new(alloc);
-    for worked in all {
-        let Worked {
-            ticket: theirs,
-            done,
-            trouble,
-        } = worked;
-        line.absorb(ticket, theirs);
-        if let Some(fault) = trouble {
-            return Err(fault);
-        }
-        let mut done = done;
-        let Ok(()) = back.append(&mut done) else {
-            return Err(RunFault::NoMemory);
-        };
+    let Worked { stations, trouble } = worked;
+    if let Some(fault) = trouble {
+        return Err(fault);
     }
-    Ok(back)
+    for station in stations {
+        let shard = station.shard;
+        let Some(origin) = origins.get_mut(shard) else {
+            return Err(RunFault::Disagree);
+        };
+        origin.absorb(lines, station)?;
+    }
+    Ok(())
 }
 
-/// Takes out what stands in the line still, where a worker stopped early.
-fn drain<'s, R: Wait>(
-    rt: &R,
-    line: &Line<Course<'s>>,
-    ticket: &mut Ticket<Course<'s>>,
-    back: &mut Courses<'s>,
+/// Takes back the stations of all workers. The first trouble that one met, or `NoMemory`.
+fn gather<'s>(
+    lines: &[Line<Course<'s>>],
+    origins: &mut Vec<Origin<'s>>,
+    all: Vec<Worked<'s>>,
 ) -> Result<(), RunFault>
-    requires ticket { IsTicketOf line.now ticket.old }
-    requires whole { (hand_of ticket.old).parts ≡ all_parts }
-    requires accounts { Accounts (hand_of ticket.old) back.old.items }
-    ensures same { OnOk result (HaveBegun (hand_of ticket.old).begun back.new.items) }
+    requires origins { All (λ o. IsOrigin lines.now o) origins.old.items }
+    requires workers { All (λ worked. All (λ s. IsWorkersAt lines.now s) worked.stations.items) all.items }
+    ensures { OnOk result (All (λ o. IsOrigin lines.now o) origins.new.items) }
 {
-    for _ in rt.forever() {
-        let Some(carried) = line.take(rt, ticket) else {
-            return Ok(());
+    for worked in all {
+        absorb(lines, origins, worked)?;
+    }
+    Ok(())
+}
+
+/// Puts the calls of all lines back at their numbers. `Disagree` where a worker has a part of a ticket still.
+fn settle<'s, R: Wait>(
+    rt: &R,
+    lines: &[Line<Course<'s>>],
+    origins: Vec<Origin<'s>>,
+    places: &mut Places<'s>,
+) -> Result<(), RunFault>
+    requires { All (λ o. IsOrigin lines.now o) origins.items }
+    ensures { vec_len places.new ≡ vec_len places.old }
+{
+    for origin in origins {
+        let Origin { mut station, away } = origin;
+        if away > 0 {
+            return Err(RunFault::Disagree);
+        }
+        let Some(line) = lines.get(station.shard) else {
+            unreachable!()
         };
-        let Ok(()) = back.push(carried) else {
-            return Err(RunFault::NoMemory);
-        };
+        drain(rt, line, &mut station)?;
+        seat(station.done, places)?;
     }
     Ok(())
 }
@@ -145,28 +247,24 @@ pub(crate) fn pass<'a, 's, G: Gate, B: Running + Send + Sync, R: Threads + Wait 
     workers: usize,
     places: Places<'s>,
 ) -> Result<Places<'s>, RunFault>
-    requires workers { workers ≤ 64 }
     requires few { vec_len places ≤ plan_calls }
     ensures { IfOk result (λ back. vec_len back ≡ vec_len places.entry) }
 {
-    let count = places.len();
-    let Ok((line, mut ticket)) = Line::open(alloc, count.max(1)) else {
-        return Err(RunFault::NoMemory);
-    };
-    begin_all(rt, &line, &mut ticket, places);
-    let jobs = jobs(alloc, &line, &mut ticket, site, workers)?;
+    let mut places = places;
+    let (lines, mut origins) = open_lines(rt, alloc, &mut places, site.shards.len())?;
+    let lines = lines.as_slice();
+    let jobs = jobs(alloc, lines, &mut origins, site, workers)?;
     let Ok(all) = thread::map_vec(
         rt,
         jobs,
         &|job|
-            requires ticket { IsTicketOf job.line.now job.ticket }
-            requires fresh { hand_of job.ticket ≡ hand 1 [] [] [] }
-            ensures { IsWorkers job.entry.line.now result }
-        { work(rt, alloc, job) },
+            requires { All (λ s. IsWorkersAt job.lines.now s) job.stations.items }
+            ensures { All (λ s. IsWorkersAt job.entry.lines.now s) result.stations.items }
+        { work(rt, job) },
     ) else {
         return Err(RunFault::NoMemory);
     };
-    let mut back = gather(alloc, &line, &mut ticket, all)?;
-    drain(rt, &line, &mut ticket, &mut back)?;
-    in_order(alloc, back, count)
+    gather(lines, &mut origins, all)?;
+    settle(rt, lines, origins, &mut places)?;
+    Ok(places)
 }

@@ -14,6 +14,7 @@ mod left;
 mod measured;
 mod merge;
 mod opening;
+mod origin;
 mod outcome;
 mod places;
 mod replay;

@@ -1,8 +1,9 @@
 //! Calls in the order of the plan.
 ghost use Rattle.std.specs.Prelude.{◌≡◌, IfOk, vec_len};
 
-use crate::epoch::{Courses, Places};
+use crate::epoch::Places;
 use crate::fault::RunFault;
+use crate::worker::Courses;
 use handover::Carried;
 use std::alloc::Global;
 
@@ -19,15 +20,10 @@ pub(crate) fn empty<'s>(alloc: Global, count: usize) -> Result<Places<'s>, RunFa
     Ok(places)
 }
 
-/// Puts each call at its number, of so many. `Disagree` where one is past the last, and `NoMemory` where memory ran out.
-pub(crate) fn in_order<'s>(
-    alloc: Global,
-    courses: Courses<'s>,
-    count: usize,
-) -> Result<Places<'s>, RunFault>
-    ensures { IfOk result (λ places. vec_len places ≡ count) }
+/// Puts each call at its number. `Disagree` where one is past the last.
+pub(crate) fn seat<'s>(courses: Courses<'s>, places: &mut Places<'s>) -> Result<(), RunFault>
+    ensures { vec_len places.new ≡ vec_len places.old }
 {
-    let mut places = empty(alloc, count)?;
     for carried in courses {
         let Carried { number, load } = carried;
         let Some(place) = places.get_mut(number as usize) else {
@@ -35,5 +31,5 @@ pub(crate) fn in_order<'s>(
         };
         *place = Some(load);
     }
-    Ok(places)
+    Ok(())
 }

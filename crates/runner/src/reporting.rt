@@ -96,7 +96,7 @@ fn told(
     Ok(lines)
 }
 
-/// The lines of each call of the plan, told by as many threads as there are workers, as far as threads can be made.
+/// The lines of each call of the plan, told by at most as many threads as there are workers, as far as threads can be made.
 fn all_told<R: Threads + Sync>(
     rt: &R,
     alloc: Global,

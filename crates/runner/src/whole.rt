@@ -37,7 +37,6 @@ fn pass_all<'s, G: Gate, B: Running + Send + Sync, R: Threads + Wait + Sync>(
     workers: usize,
     places: Places<'s>,
 ) -> Result<Places<'s>, RunFault>
-    requires workers { workers ≤ 64 }
     requires few { vec_len places ≤ plan_calls }
     ensures { IfOk result (λ back. vec_len back ≡ vec_len places.entry) }
 {
@@ -68,7 +67,6 @@ fn go<'s, G: Gate, B: Running + Send + Sync, R: Threads + Wait + Sync>(
 ) -> Result<Outcome<'s>, RunFault>
     requires plan { IsPlanFor checked.now.table plan.now }
     requires few { length plan.now.calls ≤ plan_calls }
-    requires workers { workers ≤ 64 }
     requires script { B.script ≡ checked.now.table }
     requires calls { B.calls ≡ plan.now.calls }
     requires count { B.count ≡ plan.now.shards }
