@@ -15,6 +15,8 @@ pub(crate) struct Kept<'s, B: Running> {
     shard: Shard<'s>,
     number: u32,
     of: PhantomData<B>,
+    /// A cache line, so that what a worker writes of this shard is on none with the next one's lock, which another worker takes.
+    apart: [u64; 8],
 }
 
 impl<'s, B: Running> Model for Kept<'s, B> {
@@ -37,6 +39,7 @@ impl<'s, B: Running> Kept<'s, B> {
             shard,
             number,
             of: PhantomData,
+            apart: [0; 8],
         }
     }
 

@@ -14,7 +14,7 @@ ghost use Rattle.shards.specs.SlotTable.{OthersStay, slot_in};
 
 use crate::at_gateway;
 use crate::shard::Shard;
-use crate::slot::Slot;
+use crate::slot::{Boxed, Slot};
 use crate::slots::Slots;
 use agent::Plain;
 use mg_model::events::{CallEvent, Event};
@@ -195,7 +195,7 @@ fn event(slot: &Slot, association: Assoc, next: CallNo, step: &PlanStep) -> Opti
 
 /// The event that a step means for the call in an entry.
 fn event_of_entry(
-    entry: &mut Option<Slot>,
+    entry: &mut Option<Boxed>,
     association: Assoc,
     next: CallNo,
     step: &PlanStep,
@@ -207,8 +207,8 @@ fn event_of_entry(
 {
     match entry {
         Some(slot) => {
-            settle(slot);
-            event(slot, association, next, step)
+            settle(&mut slot.inner);
+            event(&slot.inner, association, next, step)
         }
         None => None,
     }

@@ -63,7 +63,7 @@ fn open_one<'s>(
         messages: Messages::new(alloc, 1),
         settled: 0,
     };
-    let Ok(()) = slots::put(slots, call.call, slot) else {
+    let Ok(()) = slots::put(slots, alloc, call.call, slot) else {
         return Err(OpenFault::NoMemory);
     };
     match Call::enter(alloc, script, call.call, lines) {

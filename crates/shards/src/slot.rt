@@ -1,6 +1,7 @@
 //! What a shard keeps of a call.
 use agent::Plain;
 use call_messages::Messages;
+use std::marker::Model;
 
 /// What a shard keeps of a call: its agent, how many events happened to it, all that was sent to it and by it, and up to where its notes are settled.
 #[derive(Drop)]
@@ -10,4 +11,18 @@ pub(crate) struct Slot {
     pub(crate) messages: Messages,
     /// How many of its notes, from the first on, are known to be settled: the agent never waits for them again.
     pub(crate) settled: usize,
+}
+
+/// A slot behind a pointer: where it stands among others it takes the room of one number.
+#[derive(Drop)]
+pub(crate) struct Boxed {
+    pub(crate) inner: Box<Slot>,
+}
+
+impl Model for Boxed {
+    ghost use Rattle.shards.specs.declared.slot.Slot.{Slot};
+
+    ghost Value = { Slot };
+
+    ghost view = { λ b. b.inner.value };
 }

@@ -4,7 +4,7 @@ ghost use Rattle.agent.specs.AgentValue.{agent_of};
 ghost use Rattle.shards.specs.Beginnings.{has_entry, HandsOver, IsBegunSlot};
 ghost use Rattle.shards.specs.SlotTable.{slot_in, CountsNotes, ExecutesIn, HappensIn, IsReady, OthersStay, StepsIn};
 
-use crate::slot::Slot;
+use crate::slot::{Boxed, Slot};
 use crate::{at_agent, at_gateway};
 use agent::{Next, Refusal};
 use call_messages::Messages;
@@ -17,8 +17,9 @@ use script_table::Script;
 use std::alloc::{AllocError, Global};
 use std::collections::BTreeMap;
 
-/// The slot of each call that is open. A number that a call is to have once it begins has an entry that is empty till then.
-pub(crate) type Slots = BTreeMap<u32, Option<Slot>>;
+/// The slot of each call that is open. A number that a call is to have once it begins has an entry that is empty till then. Slots are boxed, so that a search
+/// goes along numbers that stand close together.
+pub(crate) type Slots = BTreeMap<u32, Option<Boxed>>;
 
 /// The slot of a call.
 #[tactic(auto, unfolding(crate::specs::SlotTable::slot_in))]
@@ -26,14 +27,15 @@ pub(crate) fn slot(slots: &Slots, call: CallNo) -> Option<&Slot>
     ensures { option_map (λ s. s.now) result ≡ slot_in slots.now.entries call.0 }
 {
     match slots.get(&call.0) {
-        Some(entry) => entry.as_ref(),
+        Some(Some(slot)) => Some(&slot.inner),
+        Some(None) => None,
         None => None,
     }
 }
 
 /// A step of the agent in an entry.
 fn step_in<'s>(
-    entry: &mut Option<Slot>,
+    entry: &mut Option<Boxed>,
     script: &Script,
     next: Next<'s>,
     event: CallEvent,
@@ -42,7 +44,7 @@ fn step_in<'s>(
     ensures { StepsIn script.now next.entry event entry.old entry.new result.0 result.1 }
 {
     match entry {
-        Some(slot) => at_agent::step(slot, script, next, event),
+        Some(slot) => at_agent::step(&mut slot.inner, script, next, event),
         None => (next, Err(Refusal::NotEnabled)),
     }
 }
@@ -69,7 +71,7 @@ pub(crate) fn step<'s>(
 /// A request of the call in an entry reaches the gateway.
 fn execute_in(
     gateway: &mut Gateway,
-    entry: &mut Option<Slot>,
+    entry: &mut Option<Boxed>,
     call: CallNo,
     number: u32,
     refusal: Option<ChosenRefusal>,
@@ -79,7 +81,7 @@ fn execute_in(
     ensures { ExecutesIn gateway.old gateway.new call.0 number refusal entry.old entry.new result }
 {
     match entry {
-        Some(slot) => at_gateway::execute(gateway, slot, call, number, refusal),
+        Some(slot) => at_gateway::execute(gateway, &mut slot.inner, call, number, refusal),
         None => Err(Refusal::NotEnabled),
     }
 }
@@ -107,7 +109,7 @@ pub(crate) fn execute(
 /// An event of a line of the call in an entry.
 fn happen_in(
     gateway: &mut Gateway,
-    entry: &mut Option<Slot>,
+    entry: &mut Option<Boxed>,
     call: CallNo,
     line: LineNo,
     event: LineEvent,
@@ -117,7 +119,7 @@ fn happen_in(
     ensures { HappensIn gateway.old gateway.new call.0 line.0 event entry.old entry.new result }
 {
     match entry {
-        Some(slot) => at_gateway::happen(gateway, slot, call, line, event),
+        Some(slot) => at_gateway::happen(gateway, &mut slot.inner, call, line, event),
         None => Err(Refusal::NotEnabled),
     }
 }
@@ -157,16 +159,22 @@ pub(crate) fn reserve(slots: &mut Slots, call: CallNo) -> Result<(), AllocError>
 
 /// Puts the slot of a call in place.
 #[tactic(auto, unfolding(crate::specs::SlotTable::slot_in))]
-pub(crate) fn put(slots: &mut Slots, call: CallNo, slot: Slot) -> Result<(), AllocError>
+pub(crate) fn put(
+    slots: &mut Slots,
+    alloc: Global,
+    call: CallNo,
+    slot: Slot,
+) -> Result<(), AllocError>
     ensures { OnOk result ((c : ℕ) → slot_in slots.new.entries c ≡ (if c == call.0 then Some slot else slot_in slots.old.entries c)) }
 {
-    slots.insert(call.0, Some(slot))?;
+    let inner = Box::new(alloc, slot)?;
+    slots.insert(call.0, Some(Boxed { inner }))?;
     Ok(())
 }
 
 /// Takes the slot of a call out, if there is one; its entry stays, and is empty.
 #[tactic(auto, unfolding(crate::specs::SlotTable::slot_in, crate::specs::Beginnings::has_entry))]
-fn take(slots: &mut Slots, call: CallNo) -> Option<Slot>
+fn take(slots: &mut Slots, call: CallNo) -> Option<Boxed>
     ensures slot { result ≡ slot_in slots.old.entries call.0 }
     ensures taken { (c : ℕ) → slot_in slots.new.entries c ≡ (if c == call.0 then None else slot_in slots.old.entries c) }
     ensures entries { (c : ℕ) → has_entry slots.new.entries c ≡ has_entry slots.old.entries c }
@@ -179,7 +187,7 @@ fn take(slots: &mut Slots, call: CallNo) -> Option<Slot>
 
 /// Puts a slot into the entry of a call, where there is one.
 #[tactic(auto, unfolding(crate::specs::SlotTable::slot_in, crate::specs::Beginnings::has_entry))]
-fn fill(slots: &mut Slots, call: CallNo, slot: Slot)
+fn fill(slots: &mut Slots, call: CallNo, slot: Boxed)
     ensures { (c : ℕ) → slot_in slots.new.entries c ≡ (if (c == call.0) && has_entry slots.old.entries c then Some slot else slot_in slots.old.entries c) }
 {
     if let Some(entry) = slots.get_mut(&call.0) {
@@ -187,19 +195,15 @@ fn fill(slots: &mut Slots, call: CallNo, slot: Slot)
     }
 }
 
-/// The slot of a call that begins on the lines of another.
-fn begun(slot: Slot, alloc: Global, script: &Script, call: CallNo) -> Slot
-    ensures { IsBegunSlot script.now call.0 slot result }
+/// The slot becomes that of a call that begins on the lines of its own.
+fn renew(slot: &mut Slot, alloc: Global, script: &Script, call: CallNo)
+    ensures { IsBegunSlot script.now call.0 slot.old slot.new }
 {
     let first = slot.agent.next_number();
-    let mut agent = slot.agent;
-    agent.begin(script, call);
-    Slot {
-        agent,
-        events: 1,
-        messages: Messages::new(alloc, first),
-        settled: 0,
-    }
+    slot.agent.begin(script, call);
+    slot.events = 1;
+    slot.messages = Messages::new(alloc, first);
+    slot.settled = 0;
 }
 
 /// A call begins on the lines of another, and has its slot in place of that one's. It takes no memory.
@@ -213,9 +217,9 @@ pub(crate) fn hand_over(
     requires { has_entry slots.old.entries call.0 ≡ true }
     ensures { (s : Slot) → slot_in slots.old.entries old.0 ≡ Some s → HandsOver script.now slots.old.entries slots.new.entries old.0 call.0 s }
 {
-    let Some(slot) = take(slots, old) else {
+    let Some(mut slot) = take(slots, old) else {
         return;
     };
-    let begun = begun(slot, alloc, script, call);
-    fill(slots, call, begun);
+    renew(&mut slot.inner, alloc, script, call);
+    fill(slots, call, slot);
 }
