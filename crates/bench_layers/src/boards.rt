@@ -1,19 +1,14 @@
-//! `boardbench CONTEXTS COMMANDS CHAIN CROSSINGS`: makes so many contexts of two lines each, then executes so many commands on
-//! them, one context after the other, and says how many contexts there are; then makes a chain of contexts, and two contexts with
-//! so many crossings between them, and says whether media goes through. `tools/bench` times it; it promises nothing else.
-#![tactic(auto)]
-
-mod ways;
-
+//! Contexts of two lines each, on which commands are executed one context after the other; a chain of contexts, and two contexts with crossings between
+//! them, in which a path is looked for.
+use crate::failure::Failure;
+use crate::ways;
+use crate::words::number;
 use contexts::Board;
 use mg_model::items::{Added, Item, Settings};
 use mg_names::identifiers::{ContextId, LineNo, TermId};
 use mg_names::modes::Mode;
 use mg_names::topologies::Topology;
 use std::alloc::Global;
-use std::io::Write;
-use std::process::ExitCode;
-use std::{env, io};
 
 /// A context with its two lines.
 #[derive(Clone, Copy)]
@@ -23,18 +18,11 @@ struct Pair {
     second: TermId,
 }
 
-const SETTINGS: Settings = Settings {
+/// A termination sends and receives.
+pub(crate) const SETTINGS: Settings = Settings {
     mode: Some(Mode::SendReceive),
     remote: None,
 };
-
-/// Why nothing was measured.
-#[derive(Debug, Drop)]
-enum Failure {
-    Words,
-    Memory,
-    Refused,
-}
 
 /// The lines 1 to twice the number of contexts.
 fn lines(alloc: Global, contexts: u32) -> Result<Vec<LineNo>, Failure> {
@@ -129,72 +117,16 @@ fn run(alloc: Global, contexts: u32, count: u32) -> Result<usize, Failure> {
     Ok(board.contexts())
 }
 
-/// What is asked for.
-#[derive(Clone, Copy)]
-struct Sizes {
-    contexts: u32,
-    commands: u32,
-    chain: u32,
-    crossings: u32,
-}
-
-/// The numbers of the command line.
-fn asked_sizes(rt: &HostRuntime) -> io::Result<Option<Sizes>> {
-    let words: Vec<String> = env::args(rt)?.collect(rt.alloc())?;
-    let [_, contexts, commands, chain, crossings] = words.as_slice() else {
-        return Ok(None);
-    };
-    let (Ok(contexts), Ok(commands), Ok(chain), Ok(crossings)) = (
-        contexts.as_str().parse::<u32>(),
-        commands.as_str().parse::<u32>(),
-        chain.as_str().parse::<u32>(),
-        crossings.as_str().parse::<u32>(),
-    ) else {
-        return Ok(None);
-    };
-    Ok(Some(Sizes {
-        contexts,
-        commands,
-        chain,
-        crossings,
-    }))
-}
-
-/// What is written.
-#[derive(Drop)]
-struct Measured {
-    contexts: usize,
-    chain: bool,
-    crossings: bool,
-}
-
-fn measure(rt: &HostRuntime) -> Result<Measured, Failure> {
-    let Ok(Some(asked)) = asked_sizes(rt) else {
+/// Makes so many contexts and executes so many commands on them, then makes a chain, and so many crossings: `CONTEXTS COMMANDS CHAIN CROSSINGS`.
+pub(crate) fn measured(alloc: Global, words: &[String]) -> Result<String, Failure> {
+    let [contexts, commands, chain, crossings] = words else {
         return Err(Failure::Words);
     };
-    let contexts = run(rt.alloc(), asked.contexts, asked.commands)?;
-    let chain = ways::goes_through(rt.alloc(), asked.chain)?;
-    let crossings = ways::goes_past(rt.alloc(), asked.crossings)?;
-    Ok(Measured {
-        contexts,
-        chain,
-        crossings,
-    })
-}
-
-fn main(rt: HostRuntime) -> ExitCode {
-    let Ok(found) = measure(&rt) else {
-        return ExitCode::FAILURE;
-    };
-    let written = writeln!(
-        rt.stdout(),
-        "{} contexts, through the chain {}, past the crossings {}",
-        found.contexts,
-        found.chain,
-        found.crossings
-    );
-    match written {
-        Ok(()) => ExitCode::SUCCESS,
-        Err(_) => ExitCode::FAILURE,
-    }
+    let contexts = run(alloc, number(contexts)?, number(commands)?)?;
+    let chain = ways::goes_through(alloc, number(chain)?)?;
+    let crossings = ways::goes_past(alloc, number(crossings)?)?;
+    let told = format!(in alloc;
+        "{contexts} contexts, through the chain {chain}, past the crossings {crossings}"
+    )?;
+    Ok(told)
 }

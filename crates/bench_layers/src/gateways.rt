@@ -1,26 +1,13 @@
-//! `gatebench CALLS REQUESTS`: opens so many calls with a line each, then executes so many requests, one call after the other, and says
-//! how many contexts there are. Each request adds the call's line to a new context and a new ephemeral beside it, and subtracts both again.
-//! `gatebench CALLS BEGINNINGS begin`: opens so many calls with two lines each, and then so many new calls begin, one after the other, each on
-//! the lines of the call that is open the longest. `tools/bench` times it; it promises nothing else.
-#![tactic(auto)]
-
+//! Open calls with a line each, whose requests are executed one call after the other: each adds the call's line to a new context and a new ephemeral
+//! beside it, and subtracts both again. Or open calls with two lines each, on whose lines new calls begin, each on those of the call that is open the longest.
+use crate::failure::Failure;
+use crate::words::number;
 use gateway::{Answer, Gateway};
 use mg_model::references::{ContextRef, SettingsRef};
 use mg_names::identifiers::{CallNo, ContextId, LineNo};
 use mg_names::modes::Mode;
 use requests::{LineDescriptors, MessageId, Newcomer, Request, RequestCommand};
 use std::alloc::Global;
-use std::io::Write;
-use std::process::ExitCode;
-use std::{env, io};
-
-/// Why nothing was measured.
-#[derive(Debug, Drop)]
-enum Failure {
-    Words,
-    Memory,
-    Refused,
-}
 
 /// The lines from 1 on, so many.
 fn lines(alloc: Global, count: u32) -> Result<Vec<LineNo>, Failure> {
@@ -179,35 +166,15 @@ fn work_of(count: u32, word: &[String]) -> Option<Work> {
     }
 }
 
-/// The number of calls and the work of the command line.
-fn asked(rt: &HostRuntime) -> io::Result<Option<(u32, Work)>> {
-    let words: Vec<String> = env::args(rt)?.collect(rt.alloc())?;
-    let [_, calls, count, word @ ..] = words.as_slice() else {
-        return Ok(None);
-    };
-    let (Ok(calls), Ok(count)) = (calls.as_str().parse::<u32>(), count.as_str().parse::<u32>())
-    else {
-        return Ok(None);
-    };
-    match work_of(count, word) {
-        Some(work) => Ok(Some((calls, work))),
-        None => Ok(None),
-    }
-}
-
-fn measured(rt: &HostRuntime) -> Result<usize, Failure> {
-    let Ok(Some((calls, work))) = asked(rt) else {
+/// Opens so many calls and executes so many requests, or so many calls begin: `CALLS REQUESTS` or `CALLS BEGINNINGS begin`.
+pub(crate) fn measured(alloc: Global, words: &[String]) -> Result<String, Failure> {
+    let [calls, count, word @ ..] = words else {
         return Err(Failure::Words);
     };
-    run(rt.alloc(), calls, work)
-}
-
-fn main(rt: HostRuntime) -> ExitCode {
-    match measured(&rt) {
-        Ok(contexts) => match writeln!(rt.stdout(), "{contexts}") {
-            Ok(()) => ExitCode::SUCCESS,
-            Err(_) => ExitCode::FAILURE,
-        },
-        Err(_) => ExitCode::FAILURE,
-    }
+    let Some(work) = work_of(number(count)?, word) else {
+        return Err(Failure::Words);
+    };
+    let contexts = run(alloc, number(calls)?, work)?;
+    let told = format!(in alloc; "{contexts}")?;
+    Ok(told)
 }

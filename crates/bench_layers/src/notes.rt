@@ -1,7 +1,6 @@
-//! `callbench NOTES STRIDE`: so many notes reach a call that rests, numbered from 1, each as far from the one before it as STRIDE says, and
-//! round again; prints how many were accepted. `tools/bench` times it; it promises nothing else.
-#![tactic(auto)]
-
+//! Notes that reach a call at rest, numbered from 1, each as far from the one before it as a stride says, and round again.
+use crate::failure::Failure;
+use crate::words::number;
 use agent::{Call, Next, Resting};
 use line_events::{EventList, LineSet};
 use mg_model::line_events::Hook;
@@ -12,9 +11,6 @@ use requests::{LineNote, MessageId, SentNote};
 use script_table::Script;
 use scriptreader::read_script;
 use std::alloc::Global;
-use std::io::Write;
-use std::process::ExitCode;
-use std::{env, fmt, io};
 
 /// A state that nothing leads out of.
 const SCRIPT: &str = "lines = ['a', 'b']\nstart = 's'\nrestart = 's'\n[[state]]\nname = 's'\n";
@@ -25,27 +21,6 @@ const CALL: CallNo = CallNo(1);
 const LINE: LineNo = LineNo(1);
 
 const OTHER: LineNo = LineNo(2);
-
-/// Why nothing was measured.
-#[derive(Debug, Drop)]
-enum Failure {
-    /// The two words aren't two numbers.
-    Words,
-    /// The script can't be read.
-    Script,
-    /// A note wasn't made, or led somewhere.
-    Note,
-}
-
-impl fmt::Display for Failure {
-    fn fmt<W: fmt::Write>(&self, f: &mut fmt::Formatter<W>) -> fmt::Result {
-        match self {
-            Failure::Words => write!(f, "usage: callbench NOTES STRIDE"),
-            Failure::Script => write!(f, "the script can't be read"),
-            Failure::Note => write!(f, "a note wasn't accepted"),
-        }
-    }
-}
 
 /// A line on hook that reports each time that it goes off hook.
 fn line(alloc: Global) -> Option<LineSet> {
@@ -97,43 +72,17 @@ fn accepted(alloc: Global, script: &Script, notes: u32, stride: u32) -> Option<u
     Some(call.transcript().len())
 }
 
-/// The two numbers of the command line.
-fn asked(rt: &HostRuntime) -> io::Result<Option<(u32, u32)>> {
-    let words: Vec<String> = env::args(rt)?.collect(rt.alloc())?;
-    let [_, notes, stride] = words.as_slice() else {
-        return Ok(None);
-    };
-    let (Ok(notes), Ok(stride)) = (
-        notes.as_str().parse::<u32>(),
-        stride.as_str().parse::<u32>(),
-    ) else {
-        return Ok(None);
-    };
-    Ok(Some((notes, stride)))
-}
-
-fn measured(rt: &HostRuntime) -> Result<usize, Failure> {
-    let Ok(Some((notes, stride))) = asked(rt) else {
+/// How many of so many notes are accepted: `NOTES STRIDE`.
+pub(crate) fn measured(alloc: Global, words: &[String]) -> Result<String, Failure> {
+    let [notes, stride] = words else {
         return Err(Failure::Words);
     };
-    let Ok(script) = read_script(rt.alloc(), SCRIPT.as_bytes()) else {
-        return Err(Failure::Script);
+    let Ok(script) = read_script(alloc, SCRIPT.as_bytes()) else {
+        return Err(Failure::Memory);
     };
-    match accepted(rt.alloc(), &script, notes, stride) {
-        Some(count) => Ok(count),
-        None => Err(Failure::Note),
-    }
-}
-
-fn main(rt: HostRuntime) -> ExitCode {
-    match measured(&rt) {
-        Ok(count) => match writeln!(rt.stdout(), "{count}") {
-            Ok(()) => ExitCode::SUCCESS,
-            Err(_) => ExitCode::FAILURE,
-        },
-        Err(failure) => {
-            let _told = writeln!(rt.stderr(), "{failure}");
-            ExitCode::FAILURE
-        }
-    }
+    let Some(count) = accepted(alloc, &script, number(notes)?, number(stride)?) else {
+        return Err(Failure::Refused);
+    };
+    let told = format!(in alloc; "{count}")?;
+    Ok(told)
 }

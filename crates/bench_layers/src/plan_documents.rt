@@ -1,13 +1,8 @@
-//! `planbench toml|plan`: reads a plan from standard input, for calls of two lines `a` and `b`, as a tree alone or whole, and says how many calls it has.
-//! `tools/bench` times it; it promises nothing else.
-#![tactic(auto)]
-
+//! A plan that is read for calls of two lines `a` and `b`, as a tree alone or whole.
+use crate::failure::Failure;
 use plans::Plan;
 use script_table::{Script, Tables};
 use std::alloc::{AllocError, Global};
-use std::io::{Read, Write};
-use std::process::ExitCode;
-use std::{env, io};
 
 /// A script of two lines, with no state.
 fn script(alloc: Global) -> Result<Script, AllocError> {
@@ -42,32 +37,20 @@ fn keys_of(alloc: Global, bytes: &[u8]) -> Option<usize> {
     }
 }
 
-/// Whether a plan is asked for, and not its tree alone.
-fn asks_for_plan(rt: &HostRuntime) -> io::Result<bool> {
-    let words: Vec<String> = env::args(rt)?.collect(rt.alloc())?;
-    match words.as_slice() {
-        [_, word] => Ok(word.as_str() == "plan"),
-        _ => Ok(false),
-    }
-}
-
-fn counted(rt: &HostRuntime) -> Option<usize> {
-    let is_plan = asks_for_plan(rt).ok()?;
-    let mut bytes = Vec::new(rt.alloc());
-    let _read = rt.stdin().read_to_end(&mut bytes).ok()?;
-    if is_plan {
-        calls_of(rt.alloc(), bytes.as_slice())
-    } else {
-        keys_of(rt.alloc(), bytes.as_slice())
-    }
-}
-
-fn main(rt: HostRuntime) -> ExitCode {
-    let Some(count) = counted(&rt) else {
-        return ExitCode::FAILURE;
+/// How many calls a plan has, or how many keys its tree: `plan` or `toml`.
+pub(crate) fn measured(
+    alloc: Global,
+    words: &[String],
+    document: &[u8],
+) -> Result<String, Failure> {
+    let found = match words {
+        [word] if word.as_str() == "plan" => calls_of(alloc, document),
+        [word] if word.as_str() == "toml" => keys_of(alloc, document),
+        _ => return Err(Failure::Words),
     };
-    match writeln!(rt.stdout(), "{count}") {
-        Ok(()) => ExitCode::SUCCESS,
-        Err(_) => ExitCode::FAILURE,
-    }
+    let Some(count) = found else {
+        return Err(Failure::Refused);
+    };
+    let told = format!(in alloc; "{count}")?;
+    Ok(told)
 }

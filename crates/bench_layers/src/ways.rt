@@ -1,6 +1,7 @@
 //! Boards on which media has far to go, or many ways to go.
 
-use crate::{Failure, SETTINGS};
+use crate::boards::SETTINGS;
+use crate::failure::Failure;
 use contexts::{Board, Done};
 use mg_model::items::{Added, Item, RemoteSetting, Settings};
 use mg_names::identifiers::{ContextId, LineNo, TermId};
