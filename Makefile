@@ -2,10 +2,12 @@
 # make build   leaves the proved program in crates/mgcall/out/mgcall
 # make install puts the proved programs and their man pages under PREFIX, in DESTDIR where that is given; builds what isn't proved yet
 # make test    the whole gate
+# make audit   whether the contracts are strong enough: wrong bodies, wrong definitions and wrong uses, each of which must be refused; with ANEW=1 all
+#              of them, else those that no record in the repository has, and a sample. It goes over the libraries that rt ci leaves
 # make soak    what takes too long for the gate: many inputs from several seeds, and a hundred runs of 10,000 calls; after make test, which leaves the programs
 # make bench   how time grows with the size of the input, and what is checked in a second
 
-.PHONY: demo build install test soak bench
+.PHONY: demo build install test audit soak bench
 
 PROGRAM = crates/mgcall/out/mgcall
 PREFIX = /usr/local
@@ -37,6 +39,9 @@ test:
 	tools/devices
 	tools/refusals
 	tools/load 3
+
+audit:
+	tools/audit $(if $(ANEW),--anew)
 
 soak:
 	for seed in 1 2 3; do tools/bytes $$seed 3000 || exit 1; done
