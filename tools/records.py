@@ -94,7 +94,9 @@ class Progress:
         self.total, self.done, self.begun = total, 0, time.monotonic()
 
     def add(self, what, count):
-        """So many more are done, of this."""
+        """So many more are done, of this; nothing is told of none."""
+        if not count:
+            return
         self.done += count
         print(f"{what}: {self.done} of {self.total}, {(time.monotonic() - self.begun) / 60:.1f} minutes", file=sys.stderr, flush=True)
 
@@ -102,12 +104,20 @@ class Progress:
 def told(tool, answers, recorded):
     """Prints how each edit was judged, by its name, how many the record had, and last what isn't as it should be, with the command that shows it
     again; returns the status."""
-    faults = {name: fault for name, fault in answers.items() if fault}
-    for name in sorted(answers.keys() - faults.keys()):
+    for name in sorted(name for name, fault in answers.items() if not fault):
         print(f"{name}: refused")
     print(f"{recorded} taken from the record")
+    return ended({name: f"{fault} (tools/{tool} {name})" for name, fault in answers.items() if fault}, len(answers) + recorded)
+
+
+def looked(faults):
+    """Prints which edits don't fit, of all that were looked at; returns the status."""
+    return ended({name: fault for name, fault in faults.items() if fault}, len(faults))
+
+
+def ended(faults, count):
+    """Prints what failed, of so many, and the last line; returns the status."""
     for name in sorted(faults):
-        print(f"failed: {name}: {faults[name]} (tools/{tool} {name})")
-    passed = len(answers) - len(faults) + recorded
-    print(f"{passed} passed, {len(faults)} failed")
-    return 1 if faults or not passed else 0
+        print(f"failed: {name}: {faults[name]}")
+    print(f"{count - len(faults)} passed, {len(faults)} failed")
+    return 1 if faults or not count else 0
