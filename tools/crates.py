@@ -10,6 +10,10 @@ FUNCTION = re.compile(r"([ \t]*)(?:pub(?:\([^)]*\))? )?(?:unsafe )?fn \w")
 CLAUSE = re.compile(r"^\s*((?:requires|ensures|ghost) .*?)[ ;]*$", re.MULTILINE)
 
 
+class Unusable(Exception):
+    """A library that can't be used: what the prover says of it."""
+
+
 def libraries():
     """The crates with the libraries that they use, in the order of the file."""
     lines = (line.split("#")[0].strip() for line in (TOP / "crates.txt").read_text().splitlines())
@@ -74,11 +78,13 @@ def contracts(text):
 
 
 def interface(name):
-    """What a crate above sees of a crate, as pairs of a file and a text: contracts, definitions and lemmas."""
+    """What a crate above sees of a crate, as pairs of a file and a text: contracts, definitions and lemmas. The lemmas stand in files whose folders
+    begin with a capital letter; what is shown of a function stands below its own name, which doesn't."""
     root = folder(name)
     code = [(path, contracts(path.read_text())) for path in sorted((root / "src").rglob("*.rt"))]
-    rest = [(path, path.read_text()) for part in ("specs", "proofs") for path in sorted((root / part).glob("*.antt"))]
-    return [(str(path.relative_to(root)), text) for path, text in code + rest]
+    rest = [(path, path.read_text()) for part in ("specs", "proofs") for path in sorted((root / part).rglob("*.antt"))]
+    files = [(path.relative_to(root), text) for path, text in code + rest]
+    return [(str(file), text) for file, text in files if file.suffix == ".rt" or all(part[0].isupper() for part in file.parts[1:-1])]
 
 
 def clauses(text):
