@@ -85,7 +85,12 @@ impl<'a> Scope<'a> {
         ensures { IfOk result (λ scope. IsScopeOf document.now scope) }
     {
         let mut scope = Scope::empty(alloc);
-        scope.fill(document)?;
-        Ok(scope)
+        match scope.fill(document) {
+            Ok(()) => Ok(scope),
+            Err(error) => {
+                drop(scope);
+                Err(error)
+            }
+        }
     }
 }

@@ -38,7 +38,9 @@ fn of_document(alloc: Global, document: &Document) -> Result<Script, ScriptFault
         return Err(fault);
     }
     let scope = faultless::scope(alloc, document)?;
-    in_scope(alloc, &scope, document)
+    let answer = in_scope(alloc, &scope, document);
+    drop(scope);
+    answer
 }
 
 /// The script that a tree is. The tree, which takes several times the memory of its document, is let go once that is read.

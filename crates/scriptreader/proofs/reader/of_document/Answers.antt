@@ -13,5 +13,5 @@ returns-in-Some c =
 pub scope-requires : goal.scope-requires
 scope-requires c = none_twice c.args.document.now (sym c.in_ok-fault.ensures ∙ c.in_default.is)
 
-pub in_scope-requires-clause-names : goal.in_scope-requires-clause-names
-in_scope-requires-clause-names c = sym c.in_ok-fault.ensures ∙ c.in_default.is
+pub in_scope-answer-requires-clause-names : goal.in_scope-answer-requires-clause-names
+in_scope-answer-requires-clause-names c = sym c.in_ok-fault.ensures ∙ c.in_default.is
