@@ -5,7 +5,7 @@ use Rattle.mg_model.specs.declared.faults.Fault.{Fault}
 use Rattle.mg_model.specs.Script.{Script}
 use Rattle.mg_model.specs.Entries.{Entry}
 use Rattle.mg_model.specs.Obligations.{IsFirstFault}
-use Rattle.scriptreader.specs.declared.fault.ScriptFault.{ScriptFault}
+use Rattle.script_faults.specs.declared.fault.ScriptFault.{ScriptFault}
 use Rattle.scriptreader.specs.Reading.{ReadsScript, tree_read}
 use Rattle.script_table.specs.Words.{words_of}
 use Rattle.check_lines.specs.Output.{Text, Line, usage, sections, too_long, script_fault, certificate_fault, plan_fault, run_fault, yes, no, no_memory}

@@ -7,12 +7,12 @@ use Rattle.mg_model.specs.declared.faults.Fault.{Fault}
 use Rattle.mg_model.specs.Script.{Script}
 use Rattle.mg_model.specs.Entries.{Entry}
 use Rattle.mg_model.specs.Obligations.{IsFirstFault}
-use Rattle.scriptreader.specs.declared.fault.ScriptFault.{ScriptFault}
-use Rattle.scriptreader.specs.FaultNames as script_names
+use Rattle.script_faults.specs.declared.fault.ScriptFault.{ScriptFault}
+use Rattle.script_faults.specs.FaultNames as script_names
 use Rattle.scriptreader.specs.Reading.{ReadsScript}
 use Rattle.script_table.specs.Words.{words_of}
-use Rattle.certificate.specs.declared.fault.CertFault.{CertFault}
-use Rattle.certificate.specs.FaultNames as certificate_names
+use Rattle.certificate_components.specs.declared.fault.CertFault.{CertFault}
+use Rattle.certificate_components.specs.FaultNames as certificate_names
 use Rattle.composition.specs.Verdict.{AreRead, HasScriptFault, HasCertificateFault, IsChecked}
 use Rattle.composition.specs.declared.verdict.CheckFault.{CheckFault}
 use Rattle.composition.specs.declared.verdict.CheckFault.TheVariants as fault
