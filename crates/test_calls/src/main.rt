@@ -1,0 +1,48 @@
+//! `test_calls`: reads a file of rows from standard input, makes the call that each row writes on the layer that the file's first line names, and writes the row again with the answer that it got. `tests/rows/README.md` says
+//! how rows are written; `tools/rows` compares. A call that wanted memory is made once more, after what it was made on is compared with what it was; so what is written is the same where one growth is refused. Where
+//! memory was wanted by the program itself the status is 4. It promises nothing else.
+#![tactic(auto)]
+
+mod agents;
+mod calls;
+mod documents;
+mod failure;
+mod mail;
+mod messages;
+mod rows;
+mod told;
+mod told_events;
+mod typed;
+
+use crate::failure::Failure;
+use std::io::Read;
+use std::process::ExitCode;
+
+/// Room for a file of rows, made at once.
+const ROOM: usize = 65_536;
+
+/// The rows of a layer.
+fn tell(rt: &HostRuntime, layer: &str, rows: &str) -> Result<(), Failure> {
+    match layer {
+        "agents" => agents::tell(rt, rows),
+        "calls" => calls::tell(rt, rows),
+        _ => Err(Failure::Rows),
+    }
+}
+
+fn run(rt: &HostRuntime) -> Result<(), Failure> {
+    let mut text = String::with_capacity(rt.alloc(), ROOM)?;
+    let _read = rt.stdin().read_to_string(&mut text)?;
+    let Some((layer, rows)) = text.as_str().split_once('\n') else {
+        return Err(Failure::Rows);
+    };
+    tell(rt, layer, rows)
+}
+
+fn main(rt: HostRuntime) -> ExitCode {
+    match run(&rt) {
+        Ok(()) => ExitCode::SUCCESS,
+        Err(Failure::Memory) => ExitCode::from(4),
+        Err(_) => ExitCode::FAILURE,
+    }
+}

@@ -1,0 +1,32 @@
+//! The lines of a file of rows: rows, lines of documents, and what is passed over.
+use crate::failure::{Failure, wanted};
+use std::alloc::{AllocError, Global};
+
+/// The row in a line, without the answer that may stand behind it; none in a comment, an empty line or a line of a document.
+pub(crate) fn row_in(line: &str) -> Option<&str> {
+    if line.is_empty() || line.starts_with('#') || line.starts_with('|') {
+        return None;
+    }
+    match line.split_once(" => ") {
+        Some((row, _)) => Some(row),
+        None => Some(line),
+    }
+}
+
+/// The words of a row.
+pub(crate) fn words(alloc: Global, row: &str) -> Result<Vec<&str>, AllocError> {
+    match row.split(' ').collect(alloc) {
+        Ok(words) => Ok(words),
+        Err(_) => row.split(' ').collect(alloc),
+    }
+}
+
+/// A whole number.
+pub(crate) fn number(word: &str) -> Result<u32, Failure> {
+    wanted(word.parse::<u32>().ok())
+}
+
+/// The number of an association.
+pub(crate) fn association(word: &str) -> Result<u64, Failure> {
+    wanted(word.parse::<u64>().ok())
+}
