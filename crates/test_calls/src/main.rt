@@ -5,13 +5,17 @@
 
 mod agents;
 mod calls;
+mod certificates;
 mod documents;
 mod failure;
 mod mail;
 mod messages;
+mod plan_rows;
 mod rows;
+mod scripts;
 mod told;
 mod told_events;
+mod told_plans;
 mod typed;
 
 use crate::failure::Failure;
@@ -24,8 +28,11 @@ const ROOM: usize = 65_536;
 /// The rows of a layer.
 fn tell(rt: &HostRuntime, layer: &str, rows: &str) -> Result<(), Failure> {
     match layer {
-        "agents" => agents::tell(rt, rows),
-        "calls" => calls::tell(rt, rows),
+        "layer agents" => agents::tell(rt, rows),
+        "layer calls" => calls::tell(rt, rows),
+        "layer certificates" => certificates::tell(rt, rows),
+        "layer plans" => plan_rows::tell(rt, rows),
+        "layer scripts" => scripts::tell(rt, rows),
         _ => Err(Failure::Rows),
     }
 }
