@@ -6,6 +6,7 @@
 mod agents;
 mod calls;
 mod certificates;
+mod checks;
 mod documents;
 mod failure;
 mod mail;
@@ -13,6 +14,7 @@ mod messages;
 mod plan_rows;
 mod rows;
 mod scripts;
+mod tables;
 mod told;
 mod told_events;
 mod told_plans;
@@ -21,33 +23,41 @@ mod typed;
 use crate::failure::Failure;
 use std::io::Read;
 use std::process::ExitCode;
+use std::thread::Threads;
 
 /// Room for a file of rows, made at once.
 const ROOM: usize = 65_536;
 
 /// The rows of a layer.
-fn tell(rt: &HostRuntime, layer: &str, rows: &str) -> Result<(), Failure> {
+fn tell<T: Threads + Sync>(
+    rt: &HostRuntime,
+    threads: &T,
+    layer: &str,
+    rows: &str,
+) -> Result<(), Failure> {
     match layer {
         "layer agents" => agents::tell(rt, rows),
         "layer calls" => calls::tell(rt, rows),
         "layer certificates" => certificates::tell(rt, rows),
+        "layer checks" => checks::tell(rt, threads, rows),
         "layer plans" => plan_rows::tell(rt, rows),
         "layer scripts" => scripts::tell(rt, rows),
+        "layer tables" => tables::tell(rt, rows),
         _ => Err(Failure::Rows),
     }
 }
 
-fn run(rt: &HostRuntime) -> Result<(), Failure> {
+fn run<T: Threads + Sync>(rt: &HostRuntime, threads: &T) -> Result<(), Failure> {
     let mut text = String::with_capacity(rt.alloc(), ROOM)?;
     let _read = rt.stdin().read_to_string(&mut text)?;
     let Some((layer, rows)) = text.as_str().split_once('\n') else {
         return Err(Failure::Rows);
     };
-    tell(rt, layer, rows)
+    tell(rt, threads, layer, rows)
 }
 
 fn main(rt: HostRuntime) -> ExitCode {
-    match run(&rt) {
+    match run(&rt, &rt) {
         Ok(()) => ExitCode::SUCCESS,
         Err(Failure::Memory) => ExitCode::from(4),
         Err(_) => ExitCode::FAILURE,
