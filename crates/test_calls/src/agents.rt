@@ -2,7 +2,7 @@
 use crate::documents;
 use crate::failure::{Failure, once_more, wanted};
 use crate::messages::{Delivered, Party, read_delivered, read_party};
-use crate::rows::{number, row_in, words};
+use crate::rows::{number, opening, row_in, words};
 use crate::told::{Phase, Standing, waiting};
 use agent::{Ahead, Delivery, Plain, PlainFault};
 use mg_names::identifiers::{Assoc, CallNo};
@@ -229,8 +229,7 @@ fn tell_rows(
 
 /// The rows from one that opens an agent up to the next such row.
 fn tell_opened(rt: &HostRuntime, script: &Script, section: &str) -> Result<(), Failure> {
-    let (opening, rows) = wanted(section.split_once('\n'))?;
-    let opening = wanted(row_in(opening))?;
+    let (opening, rows) = opening(section)?;
     let words = words(rt.alloc(), opening)?;
     let mut party = read_party(words.as_slice())?;
     let mut plain = Plain::enter(rt.alloc(), script, party.call, &party.lines);

@@ -3,7 +3,7 @@ use crate::documents;
 use crate::failure::{Failure, wanted};
 use crate::mail::{Mail, chosen, line_event};
 use crate::messages::{Party, read_party};
-use crate::rows::{number, row_in, words};
+use crate::rows::{number, opening, row_in, words};
 use crate::told_events::tell_events;
 use crate::typed::{Done, events, log, logged, room, standing, stepped};
 use agent::{Call, Ended, Next, Refusal, Retired, Waiting};
@@ -280,8 +280,7 @@ impl<'r> Desk<'r> {
 
 /// The rows from one that opens a call up to the next such row.
 fn tell_opened(rt: &HostRuntime, script: &Script, section: &str) -> Result<(), Failure> {
-    let (opening, rows) = wanted(section.split_once('\n'))?;
-    let opening = wanted(row_in(opening))?;
+    let (opening, rows) = opening(section)?;
     let words = words(rt.alloc(), opening)?;
     let party = read_party(words.as_slice())?;
     let mail = Mail::open(rt.alloc(), &party)?;

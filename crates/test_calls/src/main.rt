@@ -14,6 +14,8 @@ mod messages;
 mod plan_rows;
 mod rows;
 mod scripts;
+mod sent;
+mod shard_rows;
 mod tables;
 mod told;
 mod told_events;
@@ -40,8 +42,10 @@ fn tell<T: Threads + Sync>(
         "layer calls" => calls::tell(rt, rows),
         "layer certificates" => certificates::tell(rt, rows),
         "layer checks" => checks::tell(rt, threads, rows),
+        "layer messages" => sent::tell(rt, rows),
         "layer plans" => plan_rows::tell(rt, rows),
         "layer scripts" => scripts::tell(rt, rows),
+        "layer shards" => shard_rows::tell(rt, rows),
         "layer tables" => tables::tell(rt, rows),
         _ => Err(Failure::Rows),
     }

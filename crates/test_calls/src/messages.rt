@@ -50,7 +50,12 @@ pub(crate) fn read_party(words: &[&str]) -> Result<Party, Failure> {
 }
 
 /// What happens on a line that is armed for it, with this RequestID.
-fn raised(alloc: Global, line: LineNo, kind: Kind, request: u32) -> Result<Note, Failure> {
+pub(crate) fn raised(
+    alloc: Global,
+    line: LineNo,
+    kind: Kind,
+    request: u32,
+) -> Result<Note, Failure> {
     let item = match kind {
         Kind::On => EventItem::OnHook(Strict::Exact),
         Kind::Fl => EventItem::Flash,

@@ -37,7 +37,7 @@ pub(crate) fn first_step(plan: &Plan) -> Option<PlanStep> {
 }
 
 /// A plan of one call with this one step, which is written in quotes.
-pub(crate) fn write_step(document: &mut Document, step: &str) -> Result<(), Failure> {
+fn write_step(document: &mut Document, step: &str) -> Result<(), Failure> {
     document.clear();
     document.push("[[call]]\nlines = [1, 2]\nepochs = [[")?;
     document.push(step)?;

@@ -30,3 +30,12 @@ pub(crate) fn number(word: &str) -> Result<u32, Failure> {
 pub(crate) fn association(word: &str) -> Result<u64, Failure> {
     wanted(word.parse::<u64>().ok())
 }
+
+/// The row that opens what the rows of a section are of, after its verb, and those rows.
+pub(crate) fn opening(section: &str) -> Result<(&str, &str), Failure> {
+    let (opening, rows) = match section.split_once('\n') {
+        Some(parts) => parts,
+        None => (section, ""),
+    };
+    Ok((wanted(row_in(opening))?, rows))
+}
