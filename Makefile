@@ -1,49 +1,40 @@
 # make demo    checks examples/watch, with the proved program if it is there, else with one that is built without its proofs
-# make build   leaves the proved program in crates/mgcall/out/mgcall
+# make test    does it behave? every test of behaviour, with the proved programs if they are there, else with programs that are built without proofs
+# make prove   is it proved? every crate from nothing; leaves the proved programs in crates/NAME/out
+# make audit   are the contracts strong enough? wrong bodies and wrong definitions, each of which has to be refused: those that the records in wrong/
+#              don't have, and a sample of the others; ANEW=1 tries all. It goes over what make prove left
 # make install puts the proved programs and their man pages under PREFIX, in DESTDIR where that is given; builds what isn't proved yet
-# make test    the whole gate
-# make soak    what takes too long for the gate: many inputs from several seeds, and a hundred runs of 10,000 calls; after make test, which leaves the programs
-# make bench   how time grows with the size of the input, and what is checked in a second
+# make soak    what takes too long for every change: many inputs from several seeds, and a hundred runs of 10,000 calls; after make prove
+# make bench   how time grows with the size of the input, and what is checked in a second; after make prove
 
-.PHONY: demo build install test soak bench
+.PHONY: demo test prove audit install soak bench
 
-PROGRAM = crates/mgcall/out/mgcall
 PREFIX = /usr/local
 DESTDIR =
+ANEW =
 
 demo:
 	@tools/check examples/watch/script.toml examples/watch/certificate.json
 	@echo "next: tools/run examples/watch/script.toml examples/watch/certificate.json examples/watch/plan.toml" >&2
 
-build:
-	cd crates/mgcall && rt run mgcall -- check < ../../examples/watch/input
+test:
+	@tools/test
+
+prove:
+	@tools/prove
+
+audit:
+	@tools/audit $(if $(ANEW),--anew)
 
 install:
 	tools/install "$(DESTDIR)$(PREFIX)"
-
-test:
-	tools/sides
-	rt ci
-	tools/wrong_bodies
-	tools/wrong_models
-	tools/refused_uses
-	tools/readme
-	tools/cases
-	tools/runs
-	tools/gallery
-	tools/explain
-	tools/pipeline
-	tools/bytes
-	tools/devices
-	tools/refusals
-	tools/load 3
 
 soak:
 	for seed in 1 2 3; do tools/bytes $$seed 3000 || exit 1; done
 	tools/explain --long
 	tools/load
 
-bench: build
+bench:
 	cd crates/boardbench && rt run boardbench -- 100 20 1000 6
 	cd crates/gatebench && rt run gatebench -- 10 20
 	cd crates/callbench && rt run callbench -- 12 5

@@ -16,7 +16,7 @@ SECONDS = 120
 def proved():
     """The proved program, without which there is nothing to try."""
     if not programs.PROVED.exists() or programs.is_older(programs.PROVED):
-        sys.exit("the program isn't there, or is older than its sources: make build")
+        sys.exit("the program isn't there, or is older than its sources: make prove")
     return programs.PROVED
 
 

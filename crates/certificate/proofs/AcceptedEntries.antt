@@ -8,19 +8,19 @@ use Rattle.mg_model.specs.Script.{Script}
 use Rattle.script_table.specs.Table.{state_named}
 use Rattle.certificate.specs.Certificate.{are_known, listed_meant, checked_or, resolved_or, unless_old, has_empty, has_crowd, is_large}
 use Rattle.mg_model.specs.Entries.{Component}
-use Rattle.certificate.specs.Components.{component_meant, keys_of}
-use Rattle.certificate.specs.Document.{document_meant}
+use Rattle.certificate_components.specs.Components.{component_meant, keys_of}
+use Rattle.certificate_document.specs.Document.{document_meant}
 use Rattle.certificate.specs.Laws.{AcceptedCertificates}
 use Rattle.entry_table.specs.Listed.{Listed}
 use Rattle.typed_values.specs.Shape.{each, only_if, ◌>>=◌}
-use Rattle.certificate.specs.Written as written
-use Rattle.certificate.specs.declared.fault.CertFault.{CertFault}
-use Rattle.certificate.specs.declared.fault.CertFault.TheVariants.{EmptySet, TooManyEntries, TooManyPoints}
-use Rattle.certificate.specs.declared.key.Key.{Key}
+use Rattle.certificate_document.specs.Written as written
+use Rattle.certificate_components.specs.declared.fault.CertFault.{CertFault}
+use Rattle.certificate_components.specs.declared.fault.CertFault.TheVariants.{EmptySet, TooManyEntries, TooManyPoints}
+use Rattle.certificate_components.specs.declared.key.Key.{Key}
 use Rattle.certificate.proofs.Members.{some_is, none_is_some, each_read, each_is}
 use Rattle.certificate.proofs.DeclaredKeys.{link_key, spot_key, mode_key, events_key, plays_key, context_key, remote_key, cut_key}
 use Rattle.certificate.proofs.MeantComponents.{is_of, meant_passes}
-use Rattle.certificate.specs.declared.key.Key.TheVariants as key
+use Rattle.certificate_components.specs.declared.key.Key.TheVariants as key
 
 -- ---- an entry
 

@@ -1,13 +1,7 @@
 pub mod AcceptedEntries
 pub mod DeclaredKeys
-pub mod Each
 pub mod Limits
 pub mod MeantComponents
 pub mod Members
 pub mod OutlineLemmas
-pub mod Parts
-pub mod Passing
-pub mod RowLemmas
-pub mod Sources
-pub mod Trees
 pub mod VariedLemmas

@@ -7,10 +7,10 @@ use Rattle.mg_model.specs.Accepted.{is_links, is_spots, is_modes, is_events, is_
 use Rattle.mg_model.specs.Configuration.{is_same}
 use Rattle.mg_model.specs.Script.{Script}
 use Rattle.mg_model.specs.Entries.{Component, links, spots, modes, events, plays, contexts, remotes, cuts}
-use Rattle.certificate.specs.Components.{component_meant}
-use Rattle.certificate.specs.Written as written
-use Rattle.certificate.specs.declared.key.Key.{Key}
-use Rattle.certificate.specs.declared.key.Key.TheVariants as key
+use Rattle.certificate_components.specs.Components.{component_meant}
+use Rattle.certificate_document.specs.Written as written
+use Rattle.certificate_components.specs.declared.key.Key.{Key}
+use Rattle.certificate_components.specs.declared.key.Key.TheVariants as key
 use Rattle.certificate.proofs.Members.{some_is, none_is_some}
 
 -- the test that a component of a key passes

@@ -6,14 +6,14 @@ use Rattle.std.proofs.lemmas.List.Sums.{sum_by-cons}
 use Rattle.mg_model.specs.Script.{Script}
 use Rattle.entry_table.specs.Listed.{Listed}
 use Rattle.mg_model.specs.Memory.{Faults}
-use Rattle.certificate.specs.FaultNames.{is_memory}
+use Rattle.certificate_components.specs.FaultNames.{is_memory}
 use Rattle.certificate.specs.Certificate.{listed_meant, checked, checked_or, has_empty, is_large, has_crowd, entries_for, some_below}
 use Rattle.certificate.specs.Outlines.{outline_of, outline_meant, limit_passed, outlined_for, has_crowd_in}
 use Rattle.typed_values.specs.Shape.{each, ◌>>=◌}
-use Rattle.certificate.specs.Written as written
-use Rattle.certificate.specs.declared.fault.CertFault.{CertFault}
-use Rattle.certificate.specs.declared.fault.CertFault.TheVariants.{NotJson, BadKey, Unknown, EmptySet, TooManyEntries, TooManyPoints, OldVersion, NoMemory}
-use Rattle.certificate.specs.Naming.{Lacks}
+use Rattle.certificate_document.specs.Written as written
+use Rattle.certificate_components.specs.declared.fault.CertFault.{CertFault}
+use Rattle.certificate_components.specs.declared.fault.CertFault.TheVariants.{NotJson, BadKey, Unknown, EmptySet, TooManyEntries, TooManyPoints, OldVersion, NoMemory}
+use Rattle.certificate_components.specs.Naming.{Lacks}
 use Rattle.certificate.specs.declared.outline.Outline.{Outline}
 
 -- what is meant of each entry, outlined, is the outline meant of each

@@ -13,11 +13,11 @@ use Rattle.entry_table.proofs.Products.{at}
 use Rattle.typed_values.specs.Shape.{each, only_if, ◌>>=◌}
 use Rattle.script_table.specs.Table.{state_named}
 use Rattle.certificate.specs.Certificate.{are_known}
-use Rattle.certificate.specs.Components.{component_meant, keys_of}
+use Rattle.certificate_components.specs.Components.{component_meant, keys_of}
 use Rattle.certificate.specs.Outlines.{is_left_out, outline_of, outline_meant, varied}
-use Rattle.certificate.specs.Written as written
-use Rattle.certificate.specs.declared.key.Key.{Key}
-use Rattle.certificate.specs.declared.key.Key.TheVariants as key
+use Rattle.certificate_document.specs.Written as written
+use Rattle.certificate_components.specs.declared.key.Key.{Key}
+use Rattle.certificate_components.specs.declared.key.Key.TheVariants as key
 use Rattle.certificate.specs.declared.outline.Outline.{Outline}
 
 nothing : (n : ℕ) → (n == 0) ≡ true → n ≡ 0

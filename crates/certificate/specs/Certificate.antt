@@ -8,13 +8,13 @@ use Rattle.serde_json.specs.Read.{read as read_text}
 use Rattle.mg_model.specs.Script.{Script}
 use Rattle.script_table.specs.Table.{place_of, state_named}
 use Rattle.typed_values.specs.Shape.{◌>>=◌, each, only_if}
-use Rattle.certificate.specs.Naming.{pair_named}
-use Rattle.certificate.specs.Components.{component_meant, keys_of}
-use Rattle.certificate.specs.Document.{document_meant}
+use Rattle.certificate_components.specs.Naming.{pair_named}
+use Rattle.certificate_components.specs.Components.{component_meant, keys_of}
+use Rattle.certificate_document.specs.Document.{document_meant}
 use Rattle.entry_table.specs.Listed.{Listed, choices_of, size_of}
-use Rattle.certificate.specs.Written as written
-use Rattle.certificate.specs.declared.fault.CertFault.{CertFault}
-use Rattle.certificate.specs.declared.fault.CertFault.TheVariants.{NotJson, BadKey, Unknown, EmptySet, TooManyEntries, TooManyPoints, OldVersion, NoMemory}
+use Rattle.certificate_document.specs.Written as written
+use Rattle.certificate_components.specs.declared.fault.CertFault.{CertFault}
+use Rattle.certificate_components.specs.declared.fault.CertFault.TheVariants.{NotJson, BadKey, Unknown, EmptySet, TooManyEntries, TooManyPoints, OldVersion, NoMemory}
 
 -- whether each key that is a name stands for what its place asks for
 abbrev pub are_known : Script → written.Entry → Bool

@@ -1,10 +1,3 @@
 pub mod Certificate
-pub mod Components
-pub mod Document
-pub mod FaultNames
-pub mod Keys
 pub mod Laws
-pub mod Naming
 pub mod Outlines
-pub mod Ranks
-pub mod Written

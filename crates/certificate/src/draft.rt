@@ -3,18 +3,16 @@ ghost use Rattle.std.specs.Prelude.{◌≡◌, ◌==◌, is_some, length, nat_lt
 ghost use Rattle.std.specs.List.{list_all, list_any};
 ghost use Rattle.script_table.specs.Table.{place_of, state_named};
 ghost use Rattle.certificate.specs.Certificate.{are_known, has_empty, is_large, listed_meant};
-ghost use Rattle.certificate.specs.Components.{component_meant, keys_of};
+ghost use Rattle.certificate_components.specs.Components.{component_meant, keys_of};
 ghost use Rattle.entry_table.specs.Listed.{choices_of, size_of};
-ghost use Rattle.certificate.specs.Naming.{Resolves, pair_named};
+ghost use Rattle.certificate_components.specs.Naming.{Resolves, pair_named};
 ghost use Rattle.typed_values.specs.Shape.{each, only_if};
 ghost use Rattle.entry_table.specs.Shown.{shown_all};
 
-use crate::component::read_component;
-use crate::fault::CertFault;
-use crate::key::Key;
-use crate::names::{are_cuts, are_named};
-use crate::vocabulary::{ContextNames, EphemeralNames, LineNames};
-use crate::written::WrittenEntry;
+use certificate_components::{
+    CertFault, ContextNames, EphemeralNames, Key, LineNames, are_cuts, are_named, read_component,
+};
+use certificate_document::WrittenEntry;
 use entry_table::{Component, Entry, product_of};
 use script_table::Script;
 use std::alloc::{AllocError, Global};

@@ -1,21 +1,16 @@
 //! The reader of certificates. A document is either read into the entries that it describes, or refused with the lowest
 //! fault that it has anywhere. The format, a JSON text, is this profile's own.
+//!
+//! The way of a document: its bytes are a tree, and the tree is a document as it is written (`certificate_document`). Each entry is looked
+//! at for the limits before any is kept (`outline`, over `varied`), then its names are looked up (`draft`, over `certificate_components`),
+//! and the entries are made of that (`reader`). `laws` has what every certificate has that is read.
 #![tactic(auto)]
 
-mod component;
-mod document;
 mod draft;
-mod fault;
-mod key;
 pub mod laws;
-mod names;
 mod outline;
-mod ranked;
 mod reader;
-mod reads;
 mod varied;
-mod vocabulary;
-mod written;
 
-pub use fault::CertFault;
+pub use certificate_components::CertFault;
 pub use reader::read_cert;

@@ -3,16 +3,15 @@
 ghost use Rattle.std.specs.Prelude.{◌≡◌, map, option_map};
 ghost use Rattle.std.specs.List.{list_any};
 ghost use Rattle.certificate.specs.Certificate.{listed_meant};
-ghost use Rattle.certificate.specs.Components.{keys_of};
-ghost use Rattle.certificate.specs.Naming.{Resolves};
+ghost use Rattle.certificate_components.specs.Components.{keys_of};
+ghost use Rattle.certificate_components.specs.Naming.{Resolves};
 ghost use Rattle.certificate.specs.Outlines.{has_crowd_in, limit_passed, outline_meant, outline_of, outlined_for};
 ghost use Rattle.typed_values.specs.Shape.{each};
 
 use crate::draft::{self, are_large, state_of};
-use crate::fault::CertFault;
-use crate::key::Key;
 use crate::varied::varied;
-use crate::written::WrittenEntry;
+use certificate_components::{CertFault, Key};
+use certificate_document::WrittenEntry;
 use script_table::Script;
 use std::alloc::Global;
 

@@ -2,16 +2,14 @@
 ghost use Rattle.std.specs.Prelude.{◌≡◌, Some};
 ghost use Rattle.serde_json.specs.View.{view};
 ghost use Rattle.mg_model.specs.Memory.{Answers};
-ghost use Rattle.certificate.specs.FaultNames.{is_memory};
+ghost use Rattle.certificate_components.specs.FaultNames.{is_memory};
 ghost use Rattle.certificate.specs.Certificate.{Parses, ReadsCertificate, checked_or, document_read, listed_meant, resolved_or};
 ghost use Rattle.typed_values.specs.Shape.{each};
 
-use crate::document::read_document;
 use crate::draft::{drafts, entries};
-use crate::fault::CertFault;
-use crate::key::keys;
 use crate::outline::{limit_passed, outlines};
-use crate::written::{WrittenDocument, WrittenEntry};
+use certificate_components::{CertFault, keys};
+use certificate_document::{WrittenDocument, WrittenEntry, read_document};
 use entry_table::{Cert, Entry};
 use script_table::Script;
 use serde_json::Value;

@@ -2,18 +2,14 @@
 //! value empties no entry and makes none larger. For most keys of an entry nothing is written, and then nothing is made for them.
 ghost use Rattle.std.specs.Prelude.{◌≡◌, ◌==◌, ◌++◌, length, map, option_map, OnOk};
 ghost use Rattle.std.specs.List.{flat_map};
-ghost use Rattle.certificate.specs.Components.{component_meant, cut_at};
-ghost use Rattle.certificate.specs.Naming.{Resolves};
+ghost use Rattle.certificate_components.specs.Components.{component_meant, cut_at};
+ghost use Rattle.certificate_components.specs.Naming.{Resolves};
 ghost use Rattle.certificate.specs.Outlines.{cuts_meant, has_none_like, is_left_out, varied};
 ghost use Rattle.entry_table.specs.Shown.{shown, shown_all};
 ghost use Rattle.typed_values.specs.Shape.{each};
 
-use crate::component::{cut, read_component};
-use crate::fault::CertFault;
-use crate::key::Key;
-use crate::reads::Row;
-use crate::vocabulary::{Cuts, read_set};
-use crate::written::WrittenEntry;
+use certificate_components::{CertFault, Cuts, Key, cut, read_component, read_set};
+use certificate_document::{Row, WrittenEntry};
 use entry_table::Component;
 use mg_model::commands::Termination;
 use script_table::Script;

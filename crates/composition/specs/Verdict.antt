@@ -9,12 +9,12 @@ use Rattle.mg_model.specs.Script.{Script}
 use Rattle.mg_model.specs.Entries.{Entry, HavePoints}
 use Rattle.mg_model.specs.Obligations.{NoneBroken}
 use Rattle.mg_safety.specs.Headline.{RunsAreGood}
-use Rattle.scriptreader.specs.declared.fault.ScriptFault.{ScriptFault}
-use Rattle.scriptreader.specs.declared.fault.ScriptFault.TheVariants as scripts
+use Rattle.script_faults.specs.declared.fault.ScriptFault.{ScriptFault}
+use Rattle.script_faults.specs.declared.fault.ScriptFault.TheVariants as scripts
 use Rattle.scriptreader.specs.Laws.{HasFewCommands}
 use Rattle.scriptreader.specs.Reading.{ReadsScript}
-use Rattle.certificate.specs.declared.fault.CertFault.{CertFault}
-use Rattle.certificate.specs.declared.fault.CertFault.TheVariants as certificates
+use Rattle.certificate_components.specs.declared.fault.CertFault.{CertFault}
+use Rattle.certificate_components.specs.declared.fault.CertFault.TheVariants as certificates
 use Rattle.certificate.specs.Certificate.{ReadsCertificate}
 
 -- the bytes are a script that has this fault

@@ -1,27 +1,22 @@
 -- What the program does with its words and its input: what it writes, with which status. A
 -- reader should check that each outcome has one output, in this order: the words, reading the input,
 -- its sections, the verdict on the script and the certificate, and for `run` the plan and its run.
-use Rattle.std.specs.Prelude.{◌≡◌, ◌⊎◌, ℕ, ◌+◌, List, [], length, take, nat_lt, Option, None, Some}
+use Rattle.std.specs.Prelude.{◌≡◌, ◌⊎◌, ℕ, ◌+◌, List, [], length, nat_lt, Option, None, Some}
 use Rattle.std.specs.Bool.{MatchBool}
-use Rattle.std.specs.Io.KnownBytes.{Appends, Consumes, IsAtEnd, Keeps}
+use Rattle.std.specs.Io.KnownBytes.{Consumes, IsAtEnd, Keeps}
 use Rattle.program_rim.specs.declared.input.TheConstants.{INPUT_LIMIT}
 use Rattle.program_rim.specs.declared.words.Request.{Request}
 use Rattle.program_rim.specs.declared.words.Request.TheVariants.{Check, Run}
 use Rattle.program_rim.specs.declared.status.Status.{Status}
 use Rattle.program_rim.specs.declared.status.Status.TheVariants.{DeviceFailed}
-use Rattle.engine.specs.Output.{Text, Line, Output, line, report, usage, sections, too_long, no_memory, written, status_of}
+use Rattle.check_lines.specs.Output.{Text, Output, line, report, usage, sections, too_long}
 use Rattle.program_rim.specs.Sections.{pair_of, triple_of, sections_of}
-use Rattle.program_rim.specs.Statuses.{code_of}
 use Rattle.program_rim.specs.Words.{request_of}
-use Rattle.engine.specs.RunAnswers.{AnswersRun}
-use Rattle.engine.specs.VerdictLines.{Judges}
+use Rattle.run_reports.specs.RunAnswers.{AnswersRun}
+use Rattle.check_lines.specs.VerdictLines.{IsLineOfSections}
+use Rattle.check_lines.specs.Writing.{Serves}
 
 -- ---- which output
-
--- the line of `check` on an input's two sections, if it has two
-abbrev pub IsLineOfSections : Option (Text × Text) → Line → Type 0
-IsLineOfSections None l = l ≡ sections
-IsLineOfSections (Some (script, certificate)) l = Judges script certificate l
 
 abbrev pub IsCheckOutput : Option (Text × Text) → Output → Type 0
 IsCheckOutput parts (line l) = IsLineOfSections parts l
@@ -48,26 +43,6 @@ IsOutputOfInput request input left out = MatchBool (nat_lt INPUT_LIMIT (length i
 abbrev pub IsOutputOfRequest : Option Request → Text → Option Text → Output → Type 0
 IsOutputOfRequest None input left out = (input ≡ []) × (out ≡ line usage)
 IsOutputOfRequest (Some request) input left out = IsOutputOfInput request input left out
-
--- ---- what is written
-
--- the output was written whole, with its status; or a write failed after some front of it
-abbrev pub Writes : Output → Option Text → Option Text → Status → Type 0
-Writes out held holds DeviceFailed = (count : ℕ) × Appends held holds (take count (written out))
-Writes out held holds status = Appends held holds (written out) × (code_of status ≡ status_of out)
-
--- bytes were sent for a status
-abbrev pub Sends : Option Text → Option Text → Text → Status → Status → Type 0
-Sends held holds bytes meant DeviceFailed = (count : ℕ) × Appends held holds (take count bytes)
-Sends held holds bytes meant status = Appends held holds bytes × (status ≡ meant)
-
--- a line was written, in whose place running out of memory may be told
-abbrev pub Tells : Line → Option Text → Option Text → Status → Type 0
-Tells l held holds status = (told : Line) × ((told ≡ l) ⊎ (told ≡ no_memory)) × Writes (line told) held holds status
-
--- an output of this kind was written; memory may run out before anything is
-abbrev pub Serves : (Output → Type 0) → Option Text → Option Text → Status → Type 0
-Serves Is held holds status = (out : Output) × ((out ≡ line no_memory) ⊎ Is out) × Writes out held holds status
 
 -- ---- the program
 

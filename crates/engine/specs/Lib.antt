@@ -1,5 +1,1 @@
 pub mod Engine
-pub mod Output
-pub mod Replies
-pub mod RunAnswers
-pub mod VerdictLines

@@ -1,21 +1,23 @@
 //! The program from its words and its input to its output.
 ghost use Rattle.std.specs.Prelude.{◌≡◌, ◌+◌, ◌-◌, ◌^◌, ◌<◌, map, string_bytes};
-ghost use Rattle.engine.specs.Engine.{IsLineOfSections, IsOutputOf, IsRunOutput, Runs, Serves, ServesRequest};
-ghost use Rattle.engine.specs.Replies.{line_of};
+ghost use Rattle.check_lines.specs.VerdictLines.{IsLineOfSections};
+ghost use Rattle.engine.specs.Engine.{IsOutputOf, IsRunOutput, Runs, ServesRequest};
+ghost use Rattle.check_lines.specs.Writing.{Serves};
+ghost use Rattle.check_lines.specs.Replies.{line_of};
 ghost use Rattle.program_rim.specs.Sections.{pair_of, sections_of, triple_of};
 ghost use Rattle.program_rim.specs.Statuses.{failures_of};
 
-use crate::answer::Answer;
-use crate::check::answer;
-use crate::reply::{InputFault, Reply};
-use crate::run::write_run;
-use crate::telling::write_reply;
+use check_lines::answer::Answer;
+use check_lines::check::answer;
+use check_lines::reply::{InputFault, Reply};
+use check_lines::telling::write_reply;
 use program_rim::input::{Input, read_all};
 use program_rim::sections::{three_sections, two_sections};
 use program_rim::sink::Sink;
 use program_rim::source::Source;
 use program_rim::status::Status;
 use program_rim::words::{Request, WordsFault, read_words};
+use run_reports::run::write_run;
 use std::alloc::Global;
 use std::sync::Wait;
 use std::thread::Threads;

@@ -7,10 +7,10 @@
 //! line, standard input and output, its threads, and the exit status.
 #![tactic(auto)]
 
-use engine::answer::Answer;
+use check_lines::answer::Answer;
+use check_lines::reply::Reply;
+use check_lines::telling::write_reply;
 use engine::program::engine;
-use engine::reply::Reply;
-use engine::telling::write_reply;
 use program_rim::host::Host;
 use program_rim::status::Status;
 use std::alloc::Global;

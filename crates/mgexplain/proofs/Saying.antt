@@ -2,7 +2,7 @@
 use Rattle.std.proofs.Common.{Result, Ok, Err, rules}
 use Rattle.std.specs.Prelude.{IfOk}
 use Rattle.std.specs.declared.alloc.AllocError.{AllocError}
-use Rattle.engine.specs.Output.{Line}
+use Rattle.check_lines.specs.Output.{Line}
 use Rattle.mgexplain.specs.Saying.{IsSaid, IsUnder}
 use Rattle.mgexplain.specs.declared.said.Said.{Said}
 use Rattle.mgexplain.specs.declared.words.Form.{Form}

@@ -1,8 +1,8 @@
 -- What is said of an input: under the line of the check, with the status of that line.
 use Rattle.std.specs.Prelude.{◌≡◌, ◌∷◌, ◌++◌, Result, Ok, Err, string_bytes}
 use Rattle.std.specs.declared.alloc.AllocError.{AllocError}
-use Rattle.engine.specs.Engine.{IsLineOfSections}
-use Rattle.engine.specs.Output.{Text, Line, too_long, text_of, line_status}
+use Rattle.check_lines.specs.VerdictLines.{IsLineOfSections}
+use Rattle.check_lines.specs.Output.{Text, Line, too_long, text_of, line_status}
 use Rattle.program_rim.specs.Sections.{pair_of, sections_of}
 use Rattle.program_rim.specs.Statuses.{code_of}
 use Rattle.program_rim.specs.declared.input.Input.{Input}

@@ -1,6 +1,6 @@
 //! The rules: a sentence for each obligation, and for each fault of a script and of a certificate.
 use certificate::CertFault;
-use engine::reply::InputFault;
+use check_lines::reply::InputFault;
 use mg_names::obligations::Obligation;
 use scriptreader::ScriptFault;
 

@@ -1,11 +1,11 @@
 //! A text with its status, under the line of a reply.
 ghost use Rattle.std.specs.Prelude.{◌≡◌, IfOk};
-ghost use Rattle.engine.specs.Output.{line_status};
-ghost use Rattle.engine.specs.Replies.{line_of};
+ghost use Rattle.check_lines.specs.Output.{line_status};
+ghost use Rattle.check_lines.specs.Replies.{line_of};
 ghost use Rattle.program_rim.specs.Statuses.{code_of};
 ghost use Rattle.mgexplain.specs.Saying.{IsHeaded};
 
-use engine::reply::Reply;
+use check_lines::reply::Reply;
 use program_rim::status::Status;
 use std::alloc::{AllocError, Global};
 

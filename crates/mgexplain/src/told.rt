@@ -1,9 +1,9 @@
 //! What the program says of an input: under the line of the check, which is made by the same calls.
 ghost use Rattle.std.specs.Prelude.{IfOk};
-ghost use Rattle.engine.specs.Engine.{IsLineOfSections};
-ghost use Rattle.engine.specs.Output.{too_long};
-ghost use Rattle.engine.specs.Replies.{line_of};
-ghost use Rattle.engine.specs.VerdictLines.{Judges, NamesRefusal};
+ghost use Rattle.check_lines.specs.VerdictLines.{IsLineOfSections};
+ghost use Rattle.check_lines.specs.Output.{too_long};
+ghost use Rattle.check_lines.specs.Replies.{line_of};
+ghost use Rattle.check_lines.specs.VerdictLines.{Judges, NamesRefusal};
 ghost use Rattle.program_rim.specs.Sections.{pair_of, sections_of};
 ghost use Rattle.mgexplain.specs.declared.words.Form.TheVariants as Form;
 ghost use Rattle.mgexplain.specs.Saying.{IsOutcome, IsOutcomeOf, IsSaid, IsUnder};
@@ -16,11 +16,11 @@ use crate::rules::{YES_RULE, certificate_rule, input_rule, script_rule};
 use crate::said::{Said, headed, with_status};
 use crate::words::Form;
 use certificate::read_cert;
+use check_lines::answer::Answer;
+use check_lines::check::{broken, refused};
+use check_lines::reply::{InputFault, Reply};
 use closure::steps::{opening, reset};
 use composition::{CheckFault, Checked, Verdict, check};
-use engine::answer::Answer;
-use engine::check::{broken, refused};
-use engine::reply::{InputFault, Reply};
 use entry_table::Cert;
 use explanation::locate;
 use mg_model::faults::Fault;

@@ -3,16 +3,18 @@
 use Rattle.std.proofs.Common.{◌≡◌, ◌≤◌, ℕ, suc, List, [], ◌∷◌, length, false, nat_lt, refl, sym, ap, subst, Option, Some, None}
 use Rattle.std.specs.Prelude.{Ok}
 use Rattle.mg_model.specs.Script.{Script, State}
-use Rattle.scriptreader.specs.Faults.{Scope, scope_of, fault_of}
+use Rattle.script_names.specs.DeclaredNames.{Scope, scope_of}
+use Rattle.script_faults.specs.Faults.{fault_of}
 use Rattle.scriptreader.specs.Laws.{HasFewCommands}
-use Rattle.scriptreader.specs.Meaning.{number_for, command_for, pair_for, transition_for, state_for, events_list_for, named_map_for, state_at, script_in, script_meant}
+use Rattle.script_meaning.specs.Meaning.{number_for, command_for, pair_for, transition_for, state_for, events_list_for, named_map_for, state_at, script_in, script_meant}
 use Rattle.scriptreader.specs.Reading.{ReadsScript}
-use Rattle.scriptreader.specs.Written as document
+use Rattle.script_document.specs.Written as document
 use Rattle.typed_values.specs.Shape.{each, optional_at}
 use Rattle.scriptreader.proofs.Accepted.{each_has, read_has}
-use Rattle.scriptreader.proofs.Declared.{carried}
-use Rattle.scriptreader.proofs.Faultless.{faultless, at_most, small}
-use Rattle.scriptreader.proofs.Slots.{bound, kept}
+use Rattle.script_meaning.proofs.Declared.{carried}
+use Rattle.script_document.proofs.SmallDocuments.{at_most, small}
+use Rattle.script_faults.proofs.Faultless.{faultless}
+use Rattle.script_meaning.proofs.Slots.{bound, kept}
 
 -- there are as many meanings as elements
 each_length : {A B : Type 0} (f : A → Option B) (xs : List A) (ys : List B) → each f xs ≡ Some ys → length ys ≡ length xs

@@ -1,12 +1,7 @@
-pub mod Signs
-pub mod Repeats
-pub mod BooleanTests
+pub mod Scopes
 pub mod FoundNames
-pub mod Faultless
 pub mod Meanings
 pub mod Readings
-pub mod Slots
-pub mod Declared
 pub mod Created
 pub mod Accepted
 pub mod FewCommands

@@ -2,13 +2,14 @@
 ghost use Rattle.std.specs.Prelude.{◌≡◌, Some, None, is_some, true};
 ghost use Rattle.toml.specs.Data.{Members};
 ghost use Rattle.toml.specs.View.{table_view};
-ghost use Rattle.scriptreader.specs.Faults.{name_fault_of, scope_of};
+ghost use Rattle.script_names.specs.DeclaredNames.{scope_of};
+ghost use Rattle.script_faults.specs.Faults.{name_fault_of};
 ghost use Rattle.scriptreader.specs.Reading.{Answers, ReadsScript, document_read, tree_read};
 
-use crate::fault::ScriptFault;
-use crate::scope::Scope;
-use crate::syntax::Document;
-use crate::{build, faults, tables};
+use crate::faultless;
+use script_document::{Document, read_document};
+use script_faults::{ScriptFault, name_fault, use_fault};
+use script_names::Scope;
 use script_table::Script;
 use std::alloc::Global;
 use toml::Table;
@@ -20,11 +21,11 @@ fn in_scope(alloc: Global, scope: &Scope, document: &Document) -> Result<Script,
     requires names { name_fault_of document.now ≡ None }
     ensures { Answers result (document_read (Some document.now)) }
 {
-    let fault = faults::use_fault(alloc, scope, document)?;
+    let fault = use_fault(alloc, scope, document)?;
     if let Some(fault) = fault {
         return Err(fault);
     }
-    let script = build::script(alloc, scope, document)?;
+    let script = faultless::script(alloc, scope, document)?;
     Ok(script)
 }
 
@@ -32,12 +33,14 @@ fn in_scope(alloc: Global, scope: &Scope, document: &Document) -> Result<Script,
 fn of_document(alloc: Global, document: &Document) -> Result<Script, ScriptFault>
     ensures { Answers result (document_read (Some document.now)) }
 {
-    let fault = faults::name_fault(alloc, document)?;
+    let fault = name_fault(alloc, document)?;
     if let Some(fault) = fault {
         return Err(fault);
     }
-    let scope = Scope::new(alloc, document)?;
-    in_scope(alloc, &scope, document)
+    let scope = faultless::scope(alloc, document)?;
+    let answer = in_scope(alloc, &scope, document);
+    drop(scope);
+    answer
 }
 
 /// The script that a tree is. The tree, which takes several times the memory of its document, is let go once that is read.
@@ -45,7 +48,7 @@ fn of_document(alloc: Global, document: &Document) -> Result<Script, ScriptFault
 fn of_tree(alloc: Global, tree: Table) -> Result<Script, ScriptFault>
     ensures { Answers result (tree_read (table_view tree)) }
 {
-    let read = tables::document(alloc, &tree);
+    let read = read_document(alloc, &tree);
     drop(tree);
     match read {
         Ok(document) => of_document(alloc, &document),

@@ -2,8 +2,8 @@
 use Rattle.std.proofs.Common.{◌∙◌, ap}
 use Rattle.std.specs.Prelude.{is_some}
 use Rattle.std.specs.List.{list_all}
-use Rattle.certificate.specs.Naming.{pair_named}
-use Rattle.certificate.proofs.RowLemmas.{rows_tested}
+use Rattle.certificate_components.specs.Naming.{pair_named}
+use Rattle.certificate_document.proofs.RowLemmas.{rows_tested}
 use Rattle.certificate.proofs.draft.cuts_known.Goals as goal
 
 pub returns : goal.returns

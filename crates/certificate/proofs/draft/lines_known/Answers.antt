@@ -3,7 +3,7 @@ use Rattle.std.proofs.Common.{◌∙◌, ap}
 use Rattle.std.specs.Prelude.{is_some}
 use Rattle.std.specs.List.{list_all}
 use Rattle.script_table.specs.Table.{place_of}
-use Rattle.certificate.proofs.RowLemmas.{rows_tested}
+use Rattle.certificate_document.proofs.RowLemmas.{rows_tested}
 use Rattle.certificate.proofs.draft.lines_known.Goals as goal
 
 pub returns : goal.returns

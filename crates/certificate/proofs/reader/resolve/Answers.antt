@@ -2,7 +2,7 @@
 use Rattle.std.proofs.Common.{◌∙◌, sym, ap, subst, Ok}
 use Rattle.std.proofs.lemmas.Result.{err_from_is_err_and}
 use Rattle.certificate.specs.Certificate.{checked_or, listed_meant}
-use Rattle.certificate.specs.Naming.{Lacks}
+use Rattle.certificate_components.specs.Naming.{Lacks}
 use Rattle.certificate.specs.Outlines.{limit_passed}
 use Rattle.typed_values.specs.Shape.{each}
 use Rattle.certificate.proofs.OutlineLemmas.{each_outlined, refused, unknown, within}

@@ -4,8 +4,8 @@ use Rattle.std.proofs.KnownBytes.{Consumes-nil}
 use Rattle.program_rim.specs.Words.{MatchFault, request_of}
 use Rattle.program_rim.specs.declared.words.Request.{Request}
 use Rattle.engine.specs.Engine.{IsOutputOfRequest}
-use Rattle.engine.specs.Output.{line, usage}
-use Rattle.engine.proofs.Told.{serves, serves_none}
+use Rattle.check_lines.specs.Output.{line, usage}
+use Rattle.check_lines.proofs.Told.{serves, serves_none}
 use Rattle.engine.proofs.program.engine.Goals as goal
 
 pub returns-in-Err-Refused-clause-output : goal.returns-in-Err-Refused-clause-output

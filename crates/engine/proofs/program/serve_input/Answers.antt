@@ -1,10 +1,11 @@
 -- The line of a check is its output.
 use Rattle.std.proofs.Common.{sym, subst}
-use Rattle.engine.specs.Engine.{IsOutputOf, Serves}
-use Rattle.engine.specs.Replies.{line_of}
+use Rattle.engine.specs.Engine.{IsOutputOf}
+use Rattle.check_lines.specs.Writing.{Serves}
+use Rattle.check_lines.specs.Replies.{line_of}
 use Rattle.program_rim.specs.declared.words.Request.{Request}
 use Rattle.program_rim.specs.declared.words.Request.TheVariants.{Check}
-use Rattle.engine.proofs.Told.{serves}
+use Rattle.check_lines.proofs.Told.{serves}
 use Rattle.engine.proofs.program.serve_input.Goals as goal
 
 pub returns-in-Check-clause-output : goal.returns-in-Check-clause-output

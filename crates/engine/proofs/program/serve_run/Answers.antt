@@ -1,9 +1,9 @@
 -- There are no three sections.
 use Rattle.std.proofs.Common.{refl, subst}
 use Rattle.engine.specs.Engine.{IsRunOutput}
-use Rattle.engine.specs.Output.{line, sections}
+use Rattle.check_lines.specs.Output.{line, sections}
 use Rattle.program_rim.specs.Sections.{sections_of, triple_of}
-use Rattle.engine.proofs.Told.{serves}
+use Rattle.check_lines.proofs.Told.{serves}
 use Rattle.engine.proofs.program.serve_run.Goals as goal
 
 pub returns-in-None-clause-output : goal.returns-in-None-clause-output

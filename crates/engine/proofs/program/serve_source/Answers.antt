@@ -3,8 +3,8 @@ use Rattle.std.proofs.Common.{◌≡◌, ◌+◌, Option, length, refl, arith, l
 use Rattle.program_rim.specs.declared.input.TheConstants.{INPUT_LIMIT}
 use Rattle.program_rim.specs.declared.words.Request.{Request}
 use Rattle.engine.specs.Engine.{IsOutputOfInput}
-use Rattle.engine.specs.Output.{Text, line, too_long}
-use Rattle.engine.proofs.Told.{serves, serves_none}
+use Rattle.check_lines.specs.Output.{Text, line, too_long}
+use Rattle.check_lines.proofs.Told.{serves, serves_none}
 use Rattle.engine.proofs.program.serve_source.Goals as goal
 
 past_limit : (request : Request) (input : Text) (left : Option Text) → length input ≡ INPUT_LIMIT + 1 → IsOutputOfInput request input left (line too_long)

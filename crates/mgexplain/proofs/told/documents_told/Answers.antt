@@ -1,9 +1,9 @@
 -- The fault that the checker found is the one that is told.
 use Rattle.std.proofs.Common.{subst, Ok}
 use Rattle.composition.specs.Verdicts.{IsVerdict}
-use Rattle.engine.proofs.VerdictLines.{told}
-use Rattle.engine.specs.Replies.{answer_line}
-use Rattle.engine.specs.VerdictLines.{Judges}
+use Rattle.check_lines.proofs.VerdictLines.{told}
+use Rattle.check_lines.specs.Replies.{answer_line}
+use Rattle.check_lines.specs.VerdictLines.{Judges}
 use Rattle.mgexplain.proofs.Saying.{said_under}
 use Rattle.mgexplain.proofs.told.documents_told.Goals as goal
 

@@ -1,0 +1,4 @@
+pub mod Components
+pub mod FaultNames
+pub mod Naming
+pub mod Ranks

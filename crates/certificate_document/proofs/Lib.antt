@@ -1,0 +1,4 @@
+pub mod Each
+pub mod Passing
+pub mod RowLemmas
+pub mod Trees

@@ -1,0 +1,4 @@
+pub mod Output
+pub mod Replies
+pub mod VerdictLines
+pub mod Writing

@@ -1,4 +1,0 @@
-pub mod ReportLemmas
-pub mod RunLemmas
-pub mod Told
-pub mod VerdictLines

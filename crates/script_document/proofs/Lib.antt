@@ -1,0 +1,3 @@
+pub mod BooleanTests
+mod Signs
+pub mod SmallDocuments

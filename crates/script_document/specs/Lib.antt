@@ -1,0 +1,4 @@
+pub mod Written
+pub mod Texts
+pub mod Documents
+pub mod Limits
