@@ -1,7 +1,7 @@
 //! The layer of certificates: texts that are read as certificates for a script, their entries and points, and the configuration that a call opens in.
 use crate::documents::{self, Document};
 use crate::failure::{Failure, wanted};
-use crate::rows::{number, row_in};
+use crate::rows::{number, parted, row_in};
 use certificate::{CertFault, laws, read_cert};
 use closure::steps::opening;
 use entry_table::{Cert, Entry};
@@ -129,7 +129,7 @@ fn tell_rows(rt: &HostRuntime, script: &Script, rows: &str) -> Result<(), Failur
 
 /// The rows of certificates.
 pub(crate) fn tell(rt: &HostRuntime, rows: &str) -> Result<(), Failure> {
-    let (head, rest) = wanted(rows.split_once("\nscript\n"))?;
+    let (head, rest) = parted(rows, "\nscript")?;
     let script = documents::script(rt, head)?;
     tell_rows(rt, &script, rest)
 }

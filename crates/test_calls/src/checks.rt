@@ -2,7 +2,7 @@
 use crate::certificates;
 use crate::documents::{self, Document};
 use crate::failure::{Failure, wanted};
-use crate::rows::row_in;
+use crate::rows::{parted, row_in};
 use closure::first_fault::{Finding, check, first_fault};
 use closure::steps::{opening, reset, steps};
 use configuration::config::Config;
@@ -208,7 +208,7 @@ pub(crate) fn tell<T: Threads + Sync>(
     threads: &T,
     rows: &str,
 ) -> Result<(), Failure> {
-    let (head, rest) = wanted(rows.split_once("\nscript\n"))?;
+    let (head, rest) = parted(rows, "\nscript")?;
     let script = documents::script(rt, head)?;
     tell_rows(rt, threads, &script, rest)
 }

@@ -1,7 +1,7 @@
 //! The layer of plans: texts that are read as plans for a script.
 use crate::documents::{self, Document};
 use crate::failure::{Failure, wanted};
-use crate::rows::{number, row_in};
+use crate::rows::{number, parted, row_in};
 use crate::told_plans::{Step, steps_of, tell_plan};
 use mg_model::plans::PlanStep;
 use plans::{Plan, PlanFault};
@@ -161,7 +161,7 @@ fn tell_rows(rt: &HostRuntime, script: &Script, rows: &str) -> Result<(), Failur
 
 /// The rows of plans.
 pub(crate) fn tell(rt: &HostRuntime, rows: &str) -> Result<(), Failure> {
-    let (head, rest) = wanted(rows.split_once("\nscript\n"))?;
+    let (head, rest) = parted(rows, "\nscript")?;
     let script = documents::script(rt, head)?;
     tell_rows(rt, &script, rest)
 }

@@ -39,3 +39,12 @@ pub(crate) fn opening(section: &str) -> Result<(&str, &str), Failure> {
     };
     Ok((wanted(row_in(opening))?, rows))
 }
+
+/// The lines before a row that stands behind this end of a line, and those after it.
+pub(crate) fn parted<'t>(rows: &'t str, row: &str) -> Result<(&'t str, &'t str), Failure> {
+    let (before, rest) = wanted(rows.split_once(row))?;
+    match rest.split_once('\n') {
+        Some((_, after)) => Ok((before, after)),
+        None => Ok((before, "")),
+    }
+}

@@ -3,17 +3,18 @@ use crate::documents::{Document, gather};
 use crate::failure::{Failure, once_more, wanted};
 use crate::messages::Delivered;
 use crate::plan_rows::{first_step, read};
-use crate::rows::{association, number, opening, row_in, words};
+use crate::rows::{association, number, opening, parted, row_in};
+use crate::shard_opening::{checked, opened};
 use crate::told_events::{Told, tell_events};
 use crate::typed::{Done, Seen, seen, standing, stepped};
 use agent::{Next, Refusal};
-use composition::{CheckFault, Checked, Verdict, check};
+use composition::{CheckFault, Checked, Verdict};
 use mg_model::events::{CallEvent, Event};
 use mg_model::plans::PlanStep;
-use mg_names::identifiers::{Assoc, CallNo, LineNo};
+use mg_names::identifiers::{Assoc, CallNo};
 use script_table::Script;
-use shards::{OpenFault, OpenedCall, RestartFault, Shard, Stepped};
-use std::alloc::{AllocError, Global};
+use shards::{OpenFault, RestartFault, Shard, Stepped};
+use std::alloc::AllocError;
 
 /// The number of a call that begins is so much higher than that of the one before it.
 const BEGUN: u32 = 100;
@@ -262,48 +263,6 @@ impl<'r> Desk<'r> {
     }
 }
 
-/// A call with which a shard opens: `0 on 1 2`.
-fn opened_call(alloc: Global, text: &str) -> Result<OpenedCall, Failure> {
-    let words = words(alloc, text)?;
-    let [call, _on, rest @ ..] = words.as_slice() else {
-        return Err(Failure::Rows);
-    };
-    let mut lines = Vec::new(alloc);
-    for word in rest {
-        lines.push(LineNo(number(word)?))?;
-    }
-    Ok(OpenedCall {
-        call: CallNo(number(call)?),
-        lines,
-    })
-}
-
-/// The calls with which a shard opens: `0 on 1 2, 1 on 3 4`.
-fn opened_calls(alloc: Global, text: &str) -> Result<Vec<OpenedCall>, Failure> {
-    let mut calls = Vec::new(alloc);
-    for part in text.split(", ") {
-        calls.push(opened_call(alloc, part)?)?;
-    }
-    Ok(calls)
-}
-
-/// What a shard opens as.
-type Opening<'s> = Result<(Shard<'s>, Vec<Next<'s>>), OpenFault>;
-
-/// A shard with these calls.
-fn open<'s>(alloc: Global, checked: &'s Checked, text: &str) -> Result<Opening<'s>, Failure> {
-    let calls = opened_calls(alloc, text)?;
-    Ok(Shard::open(alloc, checked, calls, 0, 1))
-}
-
-/// The same, opened once more where it wanted memory.
-fn opened<'s>(alloc: Global, checked: &'s Checked, text: &str) -> Result<Opening<'s>, Failure> {
-    match open(alloc, checked, text) {
-        Err(Failure::Memory) | Ok(Err(OpenFault::NoMemory)) => open(alloc, checked, text),
-        answer => answer,
-    }
-}
-
 /// The rows of a shard, with the one that opened it.
 fn tell_shard<'s>(
     rt: &HostRuntime,
@@ -364,18 +323,10 @@ fn tell_checked(rt: &HostRuntime, checked: &Checked, rows: &str) -> Result<(), F
     Ok(())
 }
 
-/// A script that is checked with its certificate, once more where that wanted memory.
-fn checked(alloc: Global, script: &Document, cert: &Document) -> Result<Verdict, CheckFault> {
-    match check(alloc, script.bytes(), cert.bytes()) {
-        Err(CheckFault::NoMemory) => check(alloc, script.bytes(), cert.bytes()),
-        answer => answer,
-    }
-}
-
 /// The rows of shards.
 pub(crate) fn tell(rt: &HostRuntime, rows: &str) -> Result<(), Failure> {
     let (head, rest) = wanted(rows.split_once("\nopen "))?;
-    let (lines, others) = wanted(head.split_once("\nscript\n"))?;
+    let (lines, others) = parted(head, "\nscript")?;
     let mut script = Document::new(rt.alloc())?;
     gather(&mut script, lines)?;
     let mut cert = Document::new(rt.alloc())?;
