@@ -145,7 +145,8 @@ impl<'r> Desk<'r> {
         };
         match self.mail.begin(old, new) {
             Ok(()) => {
-                self.party.call = new;
+                let lines = self.party.lines;
+                self.party = Party { call: new, lines };
                 self.begin_ended(call, new)
             }
             Err(fault) => {
