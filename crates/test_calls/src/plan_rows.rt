@@ -1,0 +1,167 @@
+//! The layer of plans: texts that are read as plans for a script.
+use crate::documents::{self, Document};
+use crate::failure::{Failure, wanted};
+use crate::rows::{number, parted, row_in};
+use crate::told_plans::{Step, steps_of, tell_plan};
+use mg_model::plans::PlanStep;
+use plans::{Plan, PlanFault};
+use script_table::Script;
+use std::alloc::Global;
+
+/// A plan that is read, once more where that wanted memory.
+pub(crate) fn read(alloc: Global, bytes: &[u8], script: &Script) -> Result<Plan, PlanFault> {
+    match Plan::read(alloc, bytes, script) {
+        Err(PlanFault::NoMemory) => Plan::read(alloc, bytes, script),
+        answer => answer,
+    }
+}
+
+/// Tells the fault of a text that is no plan.
+fn tell_fault(rt: &HostRuntime, fault: PlanFault) -> Result<(), Failure> {
+    println!(rt; "{} {}", fault.number(), fault.name())?;
+    Ok(())
+}
+
+/// The one step of a plan of one call.
+pub(crate) fn first_step(plan: &Plan) -> Option<PlanStep> {
+    let [call] = plan.calls() else {
+        return None;
+    };
+    let [epoch] = call.epochs() else {
+        return None;
+    };
+    let [step] = epoch.steps() else {
+        return None;
+    };
+    Some(*step)
+}
+
+/// A plan of one call with this one step, which is written in quotes.
+fn write_step(document: &mut Document, step: &str) -> Result<(), Failure> {
+    document.clear();
+    document.push("[[call]]\nlines = [1, 2]\nepochs = [[")?;
+    document.push(step)?;
+    document.push("]]\n")
+}
+
+/// Tells the step that a text is.
+fn tell_step(
+    rt: &HostRuntime,
+    script: &Script,
+    document: &mut Document,
+    step: &str,
+) -> Result<(), Failure> {
+    write_step(document, step)?;
+    match read(rt.alloc(), document.bytes(), script) {
+        Ok(plan) => {
+            let step = wanted(first_step(&plan))?;
+            println!(rt; "{}", Step { script, step })?;
+            Ok(())
+        }
+        Err(fault) => tell_fault(rt, fault),
+    }
+}
+
+/// An array of so many of the same.
+fn write_array(document: &mut Document, item: &str, count: u32) -> Result<(), Failure> {
+    document.push("[")?;
+    for _ in 0..count {
+        document.push(item)?;
+        document.push(", ")?;
+    }
+    document.push("]")
+}
+
+/// The epochs of a call, each of so many steps.
+fn write_epochs(document: &mut Document, epochs: u32, steps: u32) -> Result<(), Failure> {
+    document.push("[[call]]\nlines = [1, 2]\nepochs = [")?;
+    for _ in 0..epochs {
+        write_array(document, "'pass'", steps)?;
+        document.push(", ")?;
+    }
+    document.push("]\n")
+}
+
+/// A plan of a call of so many epochs of so many steps, and of another call with one epoch that a row writes.
+fn write_sizes(document: &mut Document, words: [&str; 2], other: &str) -> Result<(), Failure> {
+    let [epochs, steps] = words;
+    document.clear();
+    write_epochs(document, number(epochs)?, number(steps)?)?;
+    document.push("[[call]]\nlines = [3, 4]\nepochs = [")?;
+    document.push(other)?;
+    document.push("]\n")
+}
+
+/// Tells how many epochs and steps the first call of the plan has that stands there.
+fn tell_sizes(rt: &HostRuntime, script: &Script, document: &Document) -> Result<(), Failure> {
+    match read(rt.alloc(), document.bytes(), script) {
+        Ok(plan) => {
+            let call = wanted(plan.calls().first())?;
+            println!(rt; "epochs {}, steps {}", call.epochs().len(), steps_of(call))?;
+            Ok(())
+        }
+        Err(fault) => tell_fault(rt, fault),
+    }
+}
+
+/// Tells the plan that a text is.
+fn tell_text(rt: &HostRuntime, script: &Script, document: &Document) -> Result<(), Failure> {
+    match read(rt.alloc(), document.bytes(), script) {
+        Ok(plan) => tell_plan(rt, script, &plan),
+        Err(fault) => tell_fault(rt, fault),
+    }
+}
+
+/// The epochs and the steps of a row such as `2 of 501`, and what it gives the other call after `and`.
+fn sizes(row: &str) -> Option<([&str; 2], &str)> {
+    let (sizes, other) = match row.split_once(" and ") {
+        Some(parted) => parted,
+        None => (row, ""),
+    };
+    let (epochs, steps) = sizes.split_once(" of ")?;
+    Some(([epochs, steps], other))
+}
+
+/// A row of a plan.
+fn tell_row(
+    rt: &HostRuntime,
+    script: &Script,
+    document: &mut Document,
+    row: &str,
+) -> Result<(), Failure> {
+    if let Some(step) = row.strip_prefix("step ") {
+        return tell_step(rt, script, document, step);
+    }
+    if let Some(row) = row.strip_prefix("epochs ") {
+        let (words, other) = wanted(sizes(row))?;
+        write_sizes(document, words, other)?;
+        return tell_sizes(rt, script, document);
+    }
+    if let Some(text) = row.strip_prefix("plan ") {
+        document.clear();
+        document.add(text)?;
+    }
+    tell_text(rt, script, document)?;
+    document.clear();
+    Ok(())
+}
+
+/// The rows of plans for a script.
+fn tell_rows(rt: &HostRuntime, script: &Script, rows: &str) -> Result<(), Failure> {
+    let mut document = Document::new(rt.alloc())?;
+    for line in rows.lines() {
+        document.take(line)?;
+        if let Some(row) = row_in(line) {
+            print!(rt; "{row} => ")?;
+            tell_row(rt, script, &mut document, row)?;
+        }
+    }
+    Ok(())
+}
+
+/// The rows of plans.
+pub(crate) fn tell(rt: &HostRuntime, rows: &str) -> Result<(), Failure> {
+    let (head, rest) = parted(rows, "\nscript")?;
+    let script = documents::script(rt, head)?;
+    tell_rows(rt, &script, rest)
+}
