@@ -1,4 +1,6 @@
 //! The layer `digits`: what texts are digit maps, and how what is dialled completes them.
+ghost use Rattle.digits.specs.Progress.{Follows};
+
 use crate::events;
 use crate::failure::Failure;
 use crate::rows::Layer;
@@ -51,28 +53,25 @@ fn symbol(byte: u8) -> Option<Symbol> {
     }
 }
 
-/// The last step of a collector by these symbols, if there is one.
-fn dialled(collector: &mut Collector, map: &DigitMap, text: &str) -> Option<Step> {
+/// The last step of a collector by these symbols, or by the pause behind them; after a completion it is `Closed`. `None` where one is no symbol.
+fn last_step(map: &DigitMap, dialled: &[u8], is_paused: bool) -> Option<Step> {
+    let mut collector = Collector::start(map);
     let mut step = Step::More;
-    for byte in text.as_bytes() {
-        step = collector.digit(map, symbol(*byte)?);
+    for byte in dialled {
+        let symbol = symbol(*byte)?;
+        step = collector.digit(map, symbol);
+    }
+    if is_paused {
+        return Some(collector.pause(map));
     }
     Some(step)
 }
 
-/// The last step of a collector by symbols, then by a word more, if there is one: `pause`, or more symbols.
-fn last_step(map: &DigitMap, words: &mut Words<'_>) -> Option<Step> {
-    let mut collector = Collector::start(map);
-    let first = words.next();
-    let then = words.next();
-    if first == "pause" {
-        return Some(collector.pause(map));
-    }
-    let step = dialled(&mut collector, map, first)?;
-    match then {
-        "" => Some(step),
-        "pause" => Some(collector.pause(map)),
-        _ => dialled(&mut collector, map, then),
+/// What is dialled, and whether a pause follows.
+fn dialled<'a>(words: &mut Words<'a>) -> (&'a str, bool) {
+    match words.next() {
+        "pause" => ("", true),
+        text => (text, words.next() == "pause"),
     }
 }
 
@@ -110,10 +109,13 @@ impl DigitMaps {
     /// Writes what comes of dialling.
     fn dial(&self, rt: &HostRuntime, words: &mut Words<'_>) -> Result<(), Failure> {
         match events::map(self.alloc, words.next()) {
-            Ok(map) => match last_step(&map, words) {
-                Some(step) => write_step(rt, &step),
-                None => Err(Failure::Unreadable),
-            },
+            Ok(map) => {
+                let (text, is_paused) = dialled(words);
+                match last_step(&map, text.as_bytes(), is_paused) {
+                    Some(step) => write_step(rt, &step),
+                    None => Err(Failure::Unreadable),
+                }
+            }
             Err(fault) => write_fault(rt, fault),
         }
     }

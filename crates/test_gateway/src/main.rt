@@ -1,6 +1,7 @@
-//! `test_gateway`: reads rows of a layer on standard input, makes each call, and writes each row with the answer that the call had. The first
-//! line names the layer. `tests/rows` says how rows are written and has them; `tools/rows` compares. It promises nothing. A call that wants
-//! memory is made once more, so what is written is the same where one growth is refused; it ends with status 4 where that was a growth of its own.
+//! `test_gateway`: reads rows on standard input, makes each call, and writes each row with the answer that the call had. A line such as
+//! `layer contexts` says whose calls the rows behind it are. `tests/rows` says how rows are written and has them; `tools/rows` compares. It
+//! promises nothing. A call that wants memory is made once more, so what is written is the same where one growth is refused; it ends with
+//! status 4 where that was a growth of its own.
 #![tactic(auto)]
 
 mod boards;
@@ -80,29 +81,35 @@ fn play_digit_maps(rt: &HostRuntime, text: &str) -> Result<(), Failure> {
     play(rt, &mut maps, text)
 }
 
-/// Writes the rows of a layer with their answers.
+/// Writes the rows of a layer with their answers; nothing where the layer is none of these.
 fn answer(rt: &HostRuntime, layer: &str, text: &str) -> Result<(), Failure> {
-    println!(rt; "{layer}")?;
     match layer {
-        "layer digits" => play_digit_maps(rt, text),
-        "layer line_events" => play_lines(rt, text),
-        "layer delivery" => play_links(rt, text),
-        "layer identifiers" => play_numbers(rt, text),
-        "layer terminations" => play_tables(rt, text),
-        "layer contexts" => play_boards(rt, text),
-        "layer requests" => play_runs(rt, text),
-        "layer gateway" => play_gateways(rt, text),
-        _ => Err(Failure::Device),
+        "digits" => play_digit_maps(rt, text),
+        "line_events" => play_lines(rt, text),
+        "delivery" => play_links(rt, text),
+        "identifiers" => play_numbers(rt, text),
+        "terminations" => play_tables(rt, text),
+        "contexts" => play_boards(rt, text),
+        "requests" => play_runs(rt, text),
+        "gateway" => play_gateways(rt, text),
+        _ => Ok(()),
     }
+}
+
+/// The same of each part of a text, which begins with the name of its layer.
+fn answer_parts(rt: &HostRuntime, text: &str) -> Result<(), Failure> {
+    for part in text.split("\nlayer ") {
+        if let Some((layer, rows)) = part.split_once('\n') {
+            answer(rt, layer.strip_prefix("layer ").unwrap_or(layer), rows)?;
+        }
+    }
+    Ok(())
 }
 
 fn run(rt: &HostRuntime) -> Result<(), Failure> {
     let mut text = String::with_capacity(rt.alloc(), ROOM)?;
     let _read = rt.stdin().read_to_string(&mut text)?;
-    match text.as_str().split_once('\n') {
-        Some((layer, text)) => answer(rt, layer, text),
-        None => Err(Failure::Device),
-    }
+    answer_parts(rt, text.as_str())
 }
 
 fn main(rt: HostRuntime) -> ExitCode {
