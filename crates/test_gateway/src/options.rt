@@ -46,18 +46,43 @@ fn remote(names: &Names, word: &str) -> Option<RemoteRef> {
     }
 }
 
+/// Settings with what a key with its value sets on the connection model.
+fn with_setting(
+    names: &Names,
+    settings: SettingsRef,
+    key: &str,
+    value: &str,
+) -> Option<SettingsRef> {
+    match key {
+        "mode" => Some(SettingsRef {
+            mode: Some(Mode::read(value)?),
+            ..settings
+        }),
+        "remote" => Some(SettingsRef {
+            remote: Some(remote(names, value)?),
+            ..settings
+        }),
+        _ => None,
+    }
+}
+
 /// Options with what a word such as `mode=SendOnly` sets.
 fn with<'a>(names: &Names, options: Options<'a>, word: &'a str) -> Option<Options<'a>> {
-    let mut options = options;
     let (key, value) = word.split_once('=')?;
     match key {
-        "mode" => options.settings.mode = Some(Mode::read(value)?),
-        "remote" => options.settings.remote = Some(remote(names, value)?),
-        "events" => options.events = Some(value),
-        "signals" => options.signals = Some(signals::read(value)?),
-        _ => return None,
+        "events" => Some(Options {
+            events: Some(value),
+            ..options
+        }),
+        "signals" => Some(Options {
+            signals: Some(signals::read(value)?),
+            ..options
+        }),
+        _ => Some(Options {
+            settings: with_setting(names, options.settings, key, value)?,
+            ..options
+        }),
     }
-    Some(options)
 }
 
 /// What the words of a text set.
