@@ -1,0 +1,104 @@
+//! How rows name contexts and terminations: `$`, `-` and `*` as H.248.1 writes them, `c1` and `e1` for the first context and the first
+//! ephemeral that was given, `l/1` for line 1, `5` and `e/5` for the context and the ephemeral of that very number.
+use crate::failure::Failure;
+use crate::given::{Given, NOTHING_GIVEN};
+use crate::words::number;
+use mg_names::identifiers::{ContextId, LineNo, TermId};
+
+/// The contexts and ephemerals that were given.
+#[derive(Clone, Copy)]
+pub(crate) struct Names {
+    contexts: Given,
+    ephemerals: Given,
+}
+
+/// Nothing was given.
+pub(crate) const NO_NAMES: Names = Names {
+    contexts: NOTHING_GIVEN,
+    ephemerals: NOTHING_GIVEN,
+};
+
+/// The line that a word names.
+pub(crate) fn line(word: &str) -> Option<LineNo> {
+    Some(LineNo(number(word.strip_prefix("l/")?)?))
+}
+
+/// The number that a word such as `c2` names: that at a place of what was given.
+fn given(given: &Given, word: &str, sign: char) -> Option<u32> {
+    given.number(number(word.strip_prefix(sign)?)?)
+}
+
+impl Names {
+    /// A context is given.
+    pub(crate) fn give_context(&mut self, context: ContextId) {
+        self.contexts.give(context.0);
+    }
+
+    /// An ephemeral is given.
+    pub(crate) fn give_ephemeral(&mut self, ephemeral: u32) {
+        self.ephemerals.give(ephemeral);
+    }
+
+    /// The context that a word names.
+    pub(crate) fn context(&self, word: &str) -> Option<ContextId> {
+        match word {
+            "$" => Some(ContextId::CHOOSE),
+            "-" => Some(ContextId::NULL),
+            "*" => Some(ContextId::ALL),
+            _ => match given(&self.contexts, word, 'c') {
+                Some(context) => Some(ContextId(context)),
+                None => Some(ContextId(number(word)?)),
+            },
+        }
+    }
+
+    /// The ephemeral that a word names.
+    pub(crate) fn ephemeral(&self, word: &str) -> Option<u32> {
+        match word.strip_prefix("e/") {
+            Some(text) => number(text),
+            None => given(&self.ephemerals, word, 'e'),
+        }
+    }
+
+    /// The termination that a word names.
+    pub(crate) fn termination(&self, word: &str) -> Option<TermId> {
+        match line(word) {
+            Some(line) => Some(TermId::Line(line)),
+            None => Some(TermId::Eph(self.ephemeral(word)?)),
+        }
+    }
+
+    /// Writes the name of a context.
+    pub(crate) fn write_context(
+        &self,
+        rt: &HostRuntime,
+        context: ContextId,
+    ) -> Result<(), Failure> {
+        match self.contexts.place(context.0) {
+            0 if context == ContextId::NULL => print!(rt; "-")?,
+            0 => print!(rt; "{}", context.0)?,
+            place => print!(rt; "c{place}")?,
+        }
+        Ok(())
+    }
+
+    /// Writes the name of an ephemeral.
+    pub(crate) fn write_ephemeral(&self, rt: &HostRuntime, ephemeral: u32) -> Result<(), Failure> {
+        match self.ephemerals.place(ephemeral) {
+            0 => print!(rt; "e/{ephemeral}")?,
+            place => print!(rt; "e{place}")?,
+        }
+        Ok(())
+    }
+}
+
+/// Reads the lines that the words of a text name.
+pub(crate) fn read_lines(lines: &mut Vec<LineNo>, text: &str) -> Result<(), Failure> {
+    lines.clear();
+    for word in text.split(' ') {
+        if let Some(line) = line(word) {
+            lines.push(line)?;
+        }
+    }
+    Ok(())
+}

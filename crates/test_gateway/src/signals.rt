@@ -1,0 +1,46 @@
+//! Signals descriptors, as words such as `cg/dt+al/ri` (H.248.1 section 7.1.11).
+use crate::failure::Failure;
+use mg_model::line_events::SignalSet;
+use mg_names::signals::Signal;
+
+/// A set with one more signal.
+fn with(set: SignalSet, signal: Signal) -> SignalSet {
+    let mut set = set;
+    match signal {
+        Signal::Ring => set.ring = true,
+        Signal::DialTone => set.dial_tone = true,
+        Signal::RingingTone => set.ringing_tone = true,
+        Signal::BusyTone => set.busy_tone = true,
+        Signal::CongestionTone => set.congestion_tone = true,
+    }
+    set
+}
+
+/// The signals that a text names; `none` for an empty descriptor.
+pub(crate) fn read(text: &str) -> Option<SignalSet> {
+    let mut set = SignalSet::SILENT;
+    if text == "none" {
+        return Some(set);
+    }
+    for word in text.split('+') {
+        set = with(set, Signal::read(word)?);
+    }
+    Some(set)
+}
+
+/// Writes the signals that play.
+pub(crate) fn write(rt: &HostRuntime, playing: SignalSet) -> Result<(), Failure> {
+    let all = [
+        (playing.ring, Signal::Ring),
+        (playing.dial_tone, Signal::DialTone),
+        (playing.ringing_tone, Signal::RingingTone),
+        (playing.busy_tone, Signal::BusyTone),
+        (playing.congestion_tone, Signal::CongestionTone),
+    ];
+    for (plays, signal) in all {
+        if plays {
+            print!(rt; ", plays {}", signal.text())?;
+        }
+    }
+    Ok(())
+}
