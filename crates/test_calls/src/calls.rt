@@ -136,16 +136,17 @@ impl<'r> Desk<'r> {
         Ok(next)
     }
 
-    /// Another call begins on the lines of this one, in the gateway and for itself.
-    fn begin(&mut self, next: Next<'r>, new: CallNo) -> Result<Next<'r>, Failure> {
-        let old = self.party.call;
-        let Next::Ended(call) = next else {
-            println!(self.rt; "no such step, {}", standing(self.script, &next))?;
-            return Ok(next);
-        };
+    /// A call in this phase has no such step.
+    fn refuse(&self, next: Next<'r>) -> Result<Next<'r>, Failure> {
+        println!(self.rt; "no such step, {}", standing(self.script, &next))?;
+        Ok(next)
+    }
+
+    /// Another call begins on the lines of one that has ended, in the gateway and for itself.
+    fn begin_after(&mut self, call: Call<'r, Ended>, new: CallNo) -> Result<Next<'r>, Failure> {
+        let Party { call: old, lines } = self.party;
         match self.mail.begin(old, new) {
             Ok(()) => {
-                let lines = self.party.lines;
                 self.party = Party { call: new, lines };
                 self.begin_ended(call, new)
             }
@@ -153,6 +154,15 @@ impl<'r> Desk<'r> {
                 println!(self.rt; "{} {}", fault.number(), fault.name())?;
                 Ok(Next::Ended(call))
             }
+        }
+    }
+
+    /// Another call begins on the lines of this one, where it has ended.
+    fn begin(&mut self, next: Next<'r>, new: CallNo) -> Result<Next<'r>, Failure> {
+        match next {
+            Next::Resting(call) => self.refuse(Next::Resting(call)),
+            Next::Waiting(call) => self.refuse(Next::Waiting(call)),
+            Next::Ended(call) => self.begin_after(call, new),
         }
     }
 

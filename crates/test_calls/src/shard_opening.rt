@@ -33,13 +33,40 @@ fn opened_calls(alloc: Global, text: &str) -> Result<Vec<OpenedCall>, Failure> {
     Ok(calls)
 }
 
-/// What a shard opens as.
-pub(crate) type Opening<'s> = Result<(Shard<'s>, Vec<Next<'s>>), OpenFault>;
+/// Why a row opens no shard.
+#[derive(Clone, Copy, Debug, PartialEq, Eq)]
+pub(crate) enum Unopened {
+    /// Memory ran out.
+    Memory,
+    /// The row is none.
+    Rows,
+    /// A call has another number of lines than the script.
+    WrongLines,
+    /// A number or a line is of two calls, or a line twice of one.
+    Taken,
+}
 
-/// A shard with these calls.
-fn open<'s>(alloc: Global, checked: &'s Checked, text: &str) -> Result<Opening<'s>, Failure> {
-    let calls = opened_calls(alloc, text)?;
-    Ok(Shard::open(alloc, checked, calls, 0, 1))
+/// A shard that a row opens, with its calls.
+type Opened<'s> = Result<(Shard<'s>, Vec<Next<'s>>), Unopened>;
+
+/// A shard with the calls that a row writes.
+fn open<'s>(alloc: Global, checked: &'s Checked, text: &str) -> Opened<'s> {
+    let calls = match opened_calls(alloc, text) {
+        Ok(calls) => calls,
+        Err(Failure::Memory) => return Err(Unopened::Memory),
+        Err(_) => return Err(Unopened::Rows),
+    };
+    match Shard::open(alloc, checked, calls, 0, 1) {
+        Ok(opened) => Ok(opened),
+        Err(OpenFault::NoMemory) => Err(Unopened::Memory),
+        Err(OpenFault::WrongLines) => Err(Unopened::WrongLines),
+        Err(OpenFault::Taken) => Err(Unopened::Taken),
+    }
+}
+
+/// Whether a shard wanted memory.
+fn wants_memory(opened: &Opened<'_>) -> bool {
+    matches!(opened, Err(Unopened::Memory))
 }
 
 /// The same, opened once more where it wanted memory.
@@ -47,11 +74,12 @@ pub(crate) fn opened<'s>(
     alloc: Global,
     checked: &'s Checked,
     text: &str,
-) -> Result<Opening<'s>, Failure> {
-    match open(alloc, checked, text) {
-        Err(Failure::Memory) | Ok(Err(OpenFault::NoMemory)) => open(alloc, checked, text),
-        answer => answer,
+) -> Result<(Shard<'s>, Vec<Next<'s>>), Unopened> {
+    let opened = open(alloc, checked, text);
+    if wants_memory(&opened) {
+        return open(alloc, checked, text);
     }
+    opened
 }
 
 /// A script that is checked with its certificate, once more where that wanted memory.

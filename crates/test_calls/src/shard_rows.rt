@@ -4,7 +4,7 @@ use crate::failure::{Failure, once_more, wanted};
 use crate::messages::Delivered;
 use crate::plan_rows::{first_step, read};
 use crate::rows::{association, number, opening, parted, row_in};
-use crate::shard_opening::{checked, opened};
+use crate::shard_opening::{Unopened, checked, opened};
 use crate::told_events::{Told, tell_events};
 use crate::typed::{Done, Seen, seen, standing, stepped};
 use agent::{Next, Refusal};
@@ -13,7 +13,7 @@ use mg_model::events::{CallEvent, Event};
 use mg_model::plans::PlanStep;
 use mg_names::identifiers::{Assoc, CallNo};
 use script_table::Script;
-use shards::{OpenFault, RestartFault, Shard, Stepped};
+use shards::{RestartFault, Shard, Stepped};
 use std::alloc::AllocError;
 
 /// The number of a call that begins is so much higher than that of the one before it.
@@ -73,13 +73,12 @@ fn seen_both(shard: &Shard<'_>, next: &Next<'_>) -> (usize, Assoc, Seen) {
 /// A step of a shard, taken once more where it wanted memory.
 fn step<'s>(shard: &mut Shard<'s>, next: Next<'s>, event: Event) -> Result<Answer<'s>, Failure> {
     let before = seen_both(shard, &next);
-    match shard.step(next, event) {
-        (next, Err(Refusal::NoMemory)) => {
-            let is_same = seen_both(shard, &next) == before;
-            once_more(is_same, shard.step(next, event))
-        }
-        answer => Ok(answer),
+    let (next, done) = shard.step(next, event);
+    if !matches!(done, Err(Refusal::NoMemory)) {
+        return Ok((next, done));
     }
+    let is_same = seen_both(shard, &next) == before;
+    once_more(is_same, shard.step(next, event))
 }
 
 /// A restart of a shard, once more where it wanted memory.
@@ -275,12 +274,13 @@ fn tell_shard<'s>(
     println!(rt; "{} calls", nexts.len())?;
     let second = nexts.pop();
     let first = nexts.pop();
+    let document = Document::new(rt.alloc())?;
     let mut desk = Desk {
         rt,
         script: checked.script(),
         shard,
         calls: Calls { first, second },
-        document: Document::new(rt.alloc())?,
+        document,
     };
     desk.rows(rows)
 }
@@ -289,14 +289,15 @@ fn tell_shard<'s>(
 fn tell_opened(rt: &HostRuntime, checked: &Checked, section: &str) -> Result<(), Failure> {
     let (opening, rows) = opening(section)?;
     print!(rt; "open {opening} => ")?;
-    match opened(rt.alloc(), checked, opening)? {
+    match opened(rt.alloc(), checked, opening) {
         Ok((shard, nexts)) => tell_shard(rt, checked, shard, nexts, rows),
-        Err(OpenFault::NoMemory) => Err(Failure::Memory),
-        Err(OpenFault::WrongLines) => {
+        Err(Unopened::Memory) => Err(Failure::Memory),
+        Err(Unopened::Rows) => Err(Failure::Rows),
+        Err(Unopened::WrongLines) => {
             println!(rt; "WrongLines")?;
             Ok(())
         }
-        Err(OpenFault::Taken) => {
+        Err(Unopened::Taken) => {
             println!(rt; "Taken")?;
             Ok(())
         }
