@@ -28,11 +28,11 @@ struct Calls<'s> {
 
 /// A shard, its calls, and room for the text of a step.
 #[derive(Drop)]
-struct Desk<'r> {
+struct Desk<'r, 's> {
     rt: &'r HostRuntime,
-    script: &'r Script,
-    shard: Shard<'r>,
-    calls: Calls<'r>,
+    script: &'s Script,
+    shard: Shard<'s>,
+    calls: Calls<'s>,
     document: Document,
 }
 
@@ -101,7 +101,7 @@ fn part(shard: &Shard<'_>, call: CallNo) -> Result<Vec<Event>, AllocError> {
     }
 }
 
-impl<'r> Desk<'r> {
+impl<'s> Desk<'_, 's> {
     /// Tells what a step came to, and where the call stands then.
     fn tell_done(
         &self,
@@ -129,7 +129,7 @@ impl<'r> Desk<'r> {
     }
 
     /// An event happens to a call.
-    fn give(&mut self, next: Next<'r>, event: Event) -> Result<Next<'r>, Failure> {
+    fn give(&mut self, next: Next<'s>, event: Event) -> Result<Next<'s>, Failure> {
         let (next, done) = step(&mut self.shard, next, event)?;
         self.tell_done(&next, &event, &done)?;
         Ok(next)
@@ -149,7 +149,7 @@ impl<'r> Desk<'r> {
     }
 
     /// A step of a plan happens to a call, where it means an event.
-    fn go(&mut self, next: Next<'r>, text: &str) -> Result<Next<'r>, Failure> {
+    fn go(&mut self, next: Next<'s>, text: &str) -> Result<Next<'s>, Failure> {
         let step = self.plan_step(text)?;
         let call = call_of(&next);
         let new = CallNo(call.0.saturating_add(BEGUN));
@@ -163,7 +163,7 @@ impl<'r> Desk<'r> {
     }
 
     /// A call hears of an association without its shard.
-    fn hear_apart(&self, next: Next<'r>, of: &str) -> Result<Next<'r>, Failure> {
+    fn hear_apart(&self, next: Next<'s>, of: &str) -> Result<Next<'s>, Failure> {
         let told = Delivered::Hear(Assoc(association(of)?));
         let (next, done) = stepped(next, &told)?;
         let word = if done == Done::Taken {
@@ -176,7 +176,7 @@ impl<'r> Desk<'r> {
     }
 
     /// A row of a call that was taken out of its place.
-    fn row_of_call(&mut self, next: Next<'r>, verb: &str, rest: &str) -> Result<Next<'r>, Failure> {
+    fn row_of_call(&mut self, next: Next<'s>, verb: &str, rest: &str) -> Result<Next<'s>, Failure> {
         if verb == "call" {
             return self.go(next, rest);
         }
