@@ -1,5 +1,5 @@
 -- Add, from its step on the board to the command as it is defined.
-use Rattle.std.proofs.Common.{◌≡◌, ◌≢◌, ℕ, ◌==◌, Bool, true, false, IsTrue, if◌then◌else◌, refl, ap, sym, ◌∙◌, arith, rules, Option, Some, None, inr}
+use Rattle.std.proofs.Common.{◌≡◌, ◌≢◌, ℕ, ◌==◌, Bool, true, false, IsTrue, if◌then◌else◌, refl, sym, ◌∙◌, arith, rules, Option, Some, None, inr}
 use Rattle.std.proofs.lemmas.Grind.{common_steps}
 use Rattle.mg_names.specs.declared.codes.Code.TheVariants.{UnknownContext, UnknownTermination, AlreadyInContext, InsufficientResources}
 use Rattle.mg_names.specs.declared.identifiers.ContextId.{ContextId}

@@ -9,12 +9,12 @@ use Rattle.mg_model.specs.Board.{same_term, place_in}
 use Rattle.mg_model.specs.Items.{without_cuts, subtracted}
 use Rattle.terminations.specs.Table.{cleared}
 use Rattle.mg_model.specs.Board.{row_with}
-use Rattle.contexts.specs.declared.cuts.Cut.{Cut}
-use Rattle.contexts.specs.Groups.{listed, has_cut}
+use Rattle.context_tables.specs.declared.cuts.Cut.{Cut}
+use Rattle.context_tables.specs.Groups.{listed, has_cut}
 use Rattle.contexts.specs.BoardValue.{cut_of, stands_in, IsTied}
-use Rattle.contexts.proofs.TermLemmas.{same_is, by_value, not_both}
-use Rattle.contexts.proofs.OnceLemmas.{once_none}
-use Rattle.contexts.proofs.TieLemmas.{not_cut, stands_splits}
+use Rattle.context_tables.proofs.TermLemmas.{same_is, by_value, not_both}
+use Rattle.context_tables.proofs.OnceLemmas.{once_none}
+use Rattle.context_tables.proofs.TieLemmas.{not_cut, stands_splits}
 use Rattle.contexts.proofs.RowLemmas.{cleared_place}
 use Rattle.contexts.proofs.MoveLemmas.{is_number, is_not}
 

@@ -1,15 +1,6 @@
-pub mod TermLemmas
-pub mod OnceLemmas
-pub mod TieLemmas
-pub mod StockLemmas
-pub mod PathLemmas
-pub mod FoundLemmas
-pub mod CountLemmas
 pub mod RowLemmas
-pub mod CutLemmas
 pub mod MoveLemmas
 pub mod ClearLemmas
 pub mod ExecLemmas
 pub mod AddLemmas
 pub mod ListsLemmas
-pub mod CopyLemmas

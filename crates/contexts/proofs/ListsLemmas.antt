@@ -9,7 +9,7 @@ use Rattle.mg_model.specs.declared.rows.Row.{Row}
 use Rattle.mg_model.specs.Board.{Board, same_term, exists, place_of, place_in}
 use Rattle.mg_model.specs.Items.{Lists}
 use Rattle.contexts.specs.BoardValue.{stands_in}
-use Rattle.contexts.proofs.TermLemmas.{same_is, by_value}
+use Rattle.context_tables.proofs.TermLemmas.{same_is, by_value}
 use Rattle.contexts.proofs.MoveLemmas.{is_number, is_not}
 use Rattle.rising_keys.proofs.KeyLemmas.{rising}
 

@@ -1,7 +1,6 @@
 -- A termination leaves one context and enters another.
-use Rattle.std.proofs.Common.{◌≡◌, ◌≢◌, ℕ, ◌==◌, Bool, true, false, not, IsTrue, is_some, if◌then◌else◌, refl, ap, sym, ◌∙◌, arith, rules, List, [], ◌∷◌, ◌++◌, Option, Some, None, filter, ◌||◌, option_map}
+use Rattle.std.proofs.Common.{◌≡◌, ◌≢◌, ℕ, ◌==◌, Bool, true, false, IsTrue, is_some, if◌then◌else◌, refl, ap, sym, ◌∙◌, arith, rules, List, Option, Some, None}
 use Rattle.std.proofs.lemmas.Grind.{common_steps}
-use Rattle.std.specs.List.{list_any}
 use Rattle.mg_names.specs.declared.identifiers.TermId.{TermId}
 use Rattle.mg_names.specs.declared.identifiers.TermId.TheVariants.{Eph}
 use Rattle.mg_model.specs.declared.items.Settings.{Settings}
@@ -10,12 +9,12 @@ use Rattle.mg_model.specs.Board.{same_term, place_in}
 use Rattle.mg_model.specs.Items.{without_cuts, is_ephemeral_number, given}
 use Rattle.terminations.specs.Table.{Table, row_of, used_of, class_of, left, IsCreated}
 use Rattle.mg_model.specs.Board.{row_with, null_row}
-use Rattle.contexts.specs.declared.cuts.Cut.{Cut}
-use Rattle.contexts.specs.Groups.{kept, has_member, with_member, without_member, without_cuts_of}
+use Rattle.context_tables.specs.declared.cuts.Cut.{Cut}
+use Rattle.context_tables.specs.Groups.{with_member, without_member, without_cuts_of}
 use Rattle.contexts.specs.Rows.{row_in}
 use Rattle.contexts.specs.BoardValue.{cut_of, IsTied}
-use Rattle.contexts.proofs.TermLemmas.{same_itself, same_back, same_is, by_value}
-use Rattle.contexts.proofs.TieLemmas.{Leaves, tied_left, cut_left, Enters, tied_entered, cut_entered}
+use Rattle.context_tables.proofs.TermLemmas.{same_back, same_is, by_value}
+use Rattle.context_tables.proofs.TieLemmas.{Leaves, tied_left, cut_left, Enters, tied_entered, cut_entered}
 use Rattle.contexts.proofs.RowLemmas.{row_with_here, changes_twice}
 
 pub left_exists : (row : Option Row) → IsTrue (is_some row) → IsTrue (is_some (left row))

@@ -12,7 +12,7 @@ use Rattle.mg_model.specs.Items.{subtracted}
 use Rattle.terminations.specs.Table.{cleared}
 use Rattle.mg_model.specs.Board.{row_with}
 use Rattle.contexts.specs.Rows.{mode_applied, remote_applied, fits, row_in}
-use Rattle.contexts.proofs.TermLemmas.{same_itself, same_is, by_value}
+use Rattle.context_tables.proofs.TermLemmas.{same_itself, same_is, by_value}
 
 pub row_with_same : (rows : TermId → Option Row) (t : TermId) → rows ≡ row_with rows t (rows t)
 row_with_same rows t = λ i u. at u i

@@ -2,8 +2,8 @@
 ghost use Rattle.std.specs.Prelude.{◌≡◌, ℕ, Bool, true, false, Some, None, IsTrue, ◌↔◌, IfOk, OnErr, Contains, map};
 ghost use Rattle.contexts.specs.BoardValue.{opened, started};
 
-use crate::cuts::{self, Cuts};
-use crate::members::{self, Members};
+use context_tables::cuts::Cuts;
+use context_tables::members::{self, Members};
 use mg_model::rows::Row;
 use mg_names::identifiers::{ContextId, LineNo, TermId};
 use std::alloc::{AllocError, Global};
@@ -22,7 +22,7 @@ pub struct Board {
 impl Model for Board {
     ghost use Rattle.std.specs.Prelude.{map};
     ghost use Rattle.terminations.specs.Table.{row_of};
-    ghost use Rattle.contexts.specs.Groups.{group_at, members_at, items_of};
+    ghost use Rattle.context_tables.specs.Groups.{group_at, members_at, items_of};
     ghost use Rattle.contexts.specs.BoardValue.{BoardValue, IsTied, IsOneClass};
 
     ghost Value = { BoardValue };
@@ -63,13 +63,6 @@ impl Board {
         ensures once { IsDistinct same_term result.now }
     {
         members::of_context(&self.members, context.0)
-    }
-
-    /// Whether media from the one termination to the other is cut.
-    pub fn is_cut(&self, from: TermId, to: TermId) -> bool
-        ensures { result ≡ (board_of self.now).cut from to }
-    {
-        cuts::is_cut(&self.cuts, self.place_of(from), &from, &to)
     }
 
     /// How many contexts exist.

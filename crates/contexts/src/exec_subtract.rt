@@ -12,7 +12,7 @@ ghost use Rattle.contexts.specs.Steps.{IsTakenOut, IsEmptied};
 
 use crate::board::Board;
 use crate::done::Done;
-use crate::members;
+use context_tables::members;
 use mg_names::identifiers::{ContextId, LineNo, TermId};
 use std::alloc::{AllocError, Global};
 use std::collections::BTreeSet;

@@ -6,7 +6,8 @@ ghost use Rattle.contexts.specs.Rows.{fits};
 ghost use Rattle.contexts.specs.BoardValue.{board_of};
 
 use crate::board::Board;
-use crate::{cuts, members, rows};
+use crate::rows;
+use context_tables::{cuts, members};
 use mg_model::items::Settings;
 use mg_names::identifiers::{ContextId, TermId};
 use std::alloc::AllocError;

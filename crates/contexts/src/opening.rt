@@ -8,7 +8,7 @@ ghost use Rattle.mg_model.specs.Board.{row_with};
 ghost use Rattle.contexts.specs.BoardValue.{board_of, opened, started, or_idle, filled};
 
 use crate::board::Board;
-use crate::{cuts, members};
+use context_tables::{cuts, members};
 use identifiers::Identifiers;
 use mg_names::identifiers::{ContextId, LineNo, TermId};
 use std::alloc::{AllocError, Global};

@@ -5,7 +5,8 @@ ghost use Rattle.mg_model.specs.Items.{without};
 ghost use Rattle.contexts.specs.BoardValue.{board_of};
 
 use crate::board::Board;
-use crate::{cuts, members, rows};
+use crate::rows;
+use context_tables::{cuts, members};
 use mg_names::identifiers::TermId;
 
 impl Board {

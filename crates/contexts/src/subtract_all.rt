@@ -8,7 +8,8 @@ ghost use Rattle.terminations.specs.Table.{row_of, SameNumbers, cleared};
 ghost use Rattle.contexts.specs.BoardValue.{board_of};
 
 use crate::board::Board;
-use crate::{cuts, members, rows};
+use crate::rows;
+use context_tables::{cuts, members};
 use mg_names::identifiers::TermId;
 use terminations::Terms;
 

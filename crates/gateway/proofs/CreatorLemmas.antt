@@ -19,7 +19,7 @@ use Rattle.mg_model.specs.Items.{Chosen, Done, IsLegal, IsExecuted, effect, crea
 use Rattle.mg_model.specs.Messages.{RequestCommand}
 use Rattle.mg_model.specs.RequestRun.{Running, RunsFrom, Succeeds, item_at}
 use Rattle.contexts.proofs.ExecLemmas.{both_known}
-use Rattle.contexts.proofs.TermLemmas.{same_is, by_value}
+use Rattle.context_tables.proofs.TermLemmas.{same_is, by_value}
 use Rattle.gateway.specs.Creators.{creator_at, creator_on, is_that, is_created, any_created, IsKeptOrNoted}
 
 either : (a b : Bool) → (a || b) ≡ true → (a ≡ true) ⊎ (b ≡ true)

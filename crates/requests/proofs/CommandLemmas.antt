@@ -17,7 +17,7 @@ use Rattle.mg_model.specs.declared.references.TerminationRef.TheVariants as on
 use Rattle.mg_model.specs.Messages.{RequestCommand, add_line, add_ephemeral, modify, move, subtract, subtract_all, set_topology}
 use Rattle.mg_model.specs.RequestRun.{LineDescriptors, RaisedNote, Running, item_at, described, described_row, rearms, raised, line_after, after_command}
 use Rattle.contexts.proofs.ExecLemmas.{both_known, is_true_from, not_null}
-use Rattle.contexts.proofs.TermLemmas.{same_is, split_and}
+use Rattle.context_tables.proofs.TermLemmas.{same_is, split_and}
 use Rattle.requests.specs.Commands.{IsThere, raised_on, row_in, finished, without_settings, described_line}
 use Rattle.mg_model.specs.Members.{is_among}
 use Rattle.requests.specs.Connected.{has_line}

@@ -17,7 +17,7 @@ use Rattle.contexts.specs.Faults.{IsFault}
 use Rattle.contexts.specs.declared.fault.ExecFault.{ExecFault}
 use Rattle.contexts.specs.declared.fault.ExecFault.TheVariants.{Code as Refused, NoMemory}
 use Rattle.contexts.proofs.ExecLemmas.{both_known, is_place}
-use Rattle.contexts.proofs.TermLemmas.{same_is}
+use Rattle.context_tables.proofs.TermLemmas.{same_is}
 use Rattle.requests.specs.Idle.{idle_row, deactivated}
 
 abbrev line : ℕ → TermId

@@ -1,8 +1,8 @@
 use Rattle.std.proofs.Common.{◌∙◌, sym, map}
 use Rattle.terminations.specs.Table.{row_of}
 use Rattle.contexts.specs.BoardValue.{board_of, cuts_at, cut_of}
-use Rattle.contexts.proofs.StockLemmas.{class_still, same_used}
-use Rattle.contexts.proofs.TieLemmas.{same_boards, cut_of_same, cuts_viewed}
+use Rattle.context_tables.proofs.StockLemmas.{class_still, same_used}
+use Rattle.context_tables.proofs.TieLemmas.{same_boards, cut_of_same, cuts_viewed}
 use Rattle.contexts.proofs.board.Board.copy.Goals as goal
 
 pub returns : goal.returns

@@ -1,8 +1,5 @@
-use Rattle.std.proofs.Common.{◌≡◌, ℕ, sym, subst, ap, IsTrue, ◌↔◌}
-use Rattle.mg_model.specs.Items.{is_context_number}
-use Rattle.identifiers.specs.Class.{is_of_class}
 use Rattle.contexts.specs.BoardValue.{board_of}
-use Rattle.contexts.proofs.StockLemmas.{none_left_iff, used_at}
+use Rattle.context_tables.proofs.StockLemmas.{none_left_iff, used_at}
 use Rattle.contexts.proofs.board.Board.has_no_context_left.Goals as goal
 
 pub returns : goal.returns
