@@ -30,29 +30,29 @@ times_one n x = by_test (n == x) refl
 
 -- ---- totals
 
-pub total_set : (f : Hand → ℕ) (views : List Hand) (ticket : ℕ) (v w : Hand) → get_elem? views ticket ≡ some v
-    → total f (slice_set views ticket w) + f v ≡ total f views + f w
-total_set f [] ticket v w at = absurd (some-ne-none v (sym at))
+pub total_set : (f : Hand → ℕ) (views : List Hand) (share : ℕ) (v w : Hand) → get_elem? views share ≡ some v
+    → total f (slice_set views share w) + f v ≡ total f views + f w
+total_set f [] share v w at = absurd (some-ne-none v (sym at))
 total_set f (u ∷ views) zero v w at = omega (arith, ap f (some-injective u v at))
-total_set f (u ∷ views) (suc ticket) v w at = omega (arith, total_set f views ticket v w at)
+total_set f (u ∷ views) (suc share) v w at = omega (arith, total_set f views share v w at)
 
 pub total_more : (f : Hand → ℕ) (views : List Hand) (w : Hand) → total f (views ++ w ∷ []) ≡ total f views + f w
 total_more f [] w = omega arith
 total_more f (u ∷ views) w = omega (arith, total_more f views w)
 
 -- one view has no more than the total
-within_total : (f : Hand → ℕ) (views : List Hand) (ticket : ℕ) (v : Hand) → get_elem? views ticket ≡ some v → f v ≤ total f views
-within_total f [] ticket v at = absurd (some-ne-none v (sym at))
+within_total : (f : Hand → ℕ) (views : List Hand) (share : ℕ) (v : Hand) → get_elem? views share ≡ some v → f v ≤ total f views
+within_total f [] share v at = absurd (some-ne-none v (sym at))
 within_total f (u ∷ views) zero v at = omega (arith, ap f (some-injective u v at))
-within_total f (u ∷ views) (suc ticket) v at = omega (arith, within_total f views ticket v at)
+within_total f (u ∷ views) (suc share) v at = omega (arith, within_total f views share v at)
 
 -- ---- each view
 
 abbrev pub AreHands : List Hand → Type 0
-AreHands views = (ticket : ℕ) (v : Hand) → get_elem? views ticket ≡ some v → IsHand v
+AreHands views = (share : ℕ) (v : Hand) → get_elem? views share ≡ some v → IsHand v
 
-pub hands_set : (views : List Hand) (ticket : ℕ) (w : Hand) → AreHands views → IsHand w → AreHands (slice_set views ticket w)
-hands_set views ticket w each is other u at = ⊎_elim (λ x. subst IsHand x.1 is) (λ x. each other u x.1) (at_set views ticket other w u at)
+pub hands_set : (views : List Hand) (share : ℕ) (w : Hand) → AreHands views → IsHand w → AreHands (slice_set views share w)
+hands_set views share w each is other u at = ⊎_elim (λ x. subst IsHand x.1 is) (λ x. each other u x.1) (at_set views share other w u at)
 
 pub hands_more : (views : List Hand) (w : Hand) → AreHands views → IsHand w → AreHands (views ++ w ∷ [])
 hands_more views w each is other u at = ⊎_elim (λ old. each other u old) (λ new. subst IsHand new is) (at_snoc views w u other at)
@@ -64,17 +64,17 @@ module _ (f : Hand → ℕ) (nothing : f (hand 0 [] [] []) ≡ 0) where
   none_at_all [] each no_parts = refl
   none_at_all (u ∷ views) each no_parts =
       let idle : u ≡ hand 0 [] [] [] = (each zero u refl).idle (omega arith) in
-      omega (arith, nothing, ap f idle, none_at_all views (λ ticket. each (suc ticket)) (omega arith))
+      omega (arith, nothing, ap f idle, none_at_all views (λ share. each (suc share)) (omega arith))
 
-  pub total_whole : (views : List Hand) (ticket : ℕ) (v : Hand) → AreHands views → get_elem? views ticket ≡ some v → total (λ u. u.parts) views ≡ v.parts
+  pub total_whole : (views : List Hand) (share : ℕ) (v : Hand) → AreHands views → get_elem? views share ≡ some v → total (λ u. u.parts) views ≡ v.parts
       → total f views ≡ f v
-  total_whole [] ticket v each at whole = absurd (some-ne-none v (sym at))
+  total_whole [] share v each at whole = absurd (some-ne-none v (sym at))
   total_whole (u ∷ views) zero v each at whole =
       let same : u ≡ v = some-injective u v at in
       let parts : u.parts ≡ v.parts = ap (λ (h : Hand). h.parts) same in
-      omega (arith, ap f same, none_at_all views (λ ticket. each (suc ticket)) (omega (arith, parts, whole)))
-  total_whole (u ∷ views) (suc ticket) v each at whole =
-      let some_parts : v.parts ≤ total (λ h. h.parts) views = within_total (λ h. h.parts) views ticket v at in
+      omega (arith, ap f same, none_at_all views (λ share. each (suc share)) (omega (arith, parts, whole)))
+  total_whole (u ∷ views) (suc share) v each at whole =
+      let some_parts : v.parts ≤ total (λ h. h.parts) views = within_total (λ h. h.parts) views share v at in
       let no_parts : u.parts ≡ 0 = omega (arith, some_parts, whole) in
       let idle : u ≡ hand 0 [] [] [] = (each zero u refl).idle no_parts in
-      omega (arith, nothing, ap f idle, total_whole views ticket v (λ other. each (suc other)) at (omega (arith, no_parts, whole)))
+      omega (arith, nothing, ap f idle, total_whole views share v (λ other. each (suc other)) at (omega (arith, no_parts, whole)))

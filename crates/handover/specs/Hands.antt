@@ -3,7 +3,7 @@
 use Rattle.std.specs.Prelude.{◌≡◌, ℕ, ◌+◌, ◌<◌, ◌≤◌, ◌==◌, if◌then◌else◌, List, [], ◌∷◌, length, map}
 use mathlib.Core.Option.{some}
 use lib.ListN.{get_elem?}
-use Rattle.handover.specs.declared.hand.Carried.{Carried}
+use Rattle.handover.specs.declared.hand.NumberedItem.{NumberedItem}
 use Rattle.handover.specs.declared.hand.Hand.{Hand}
 
 -- ---- counting
@@ -13,7 +13,7 @@ unfoldable pub times : ℕ → List ℕ → ℕ
 times n [] = 0
 times n (x ∷ xs) = (if n == x then 1 else 0) + times n xs
 
-abbrev pub numbers_of : {T : Type 0} → List (Carried T) → List ℕ
+abbrev pub numbers_of : {T : Type 0} → List (NumberedItem T) → List ℕ
 numbers_of items = map (λ item. item.number) items
 
 -- the sum of a number of each
@@ -21,14 +21,14 @@ abbrev pub total : (Hand → ℕ) → List Hand → ℕ
 total f [] = 0
 total f (v ∷ views) = f v + total f views
 
--- ---- what each ticket knows
+-- ---- what each share knows
 
 -- the parts of the right to know the whole; the numbers of the things that it put into the queue for the first time, of all that it put into it, and of
 -- all that it took out
 abbrev pub hand : (parts : ℕ) (begun put taken : List ℕ) → Hand
 hand parts begun put taken = record { parts = parts; begun = begun; put = put; taken = taken }
 
--- a new queue has one ticket, which has all of them
+-- a new queue has one share, which has all of them
 abbrev pub all_parts : ℕ
 all_parts = 1024
 
@@ -51,9 +51,9 @@ pub record IsFair (items : List ℕ) (views : List Hand) : Type 0 where
   pub counted : total (λ v. length v.put) views ≡ total (λ v. length v.taken) views + length items
   -- no number is begun twice
   pub once : (n : ℕ) → total (λ v. times n v.begun) views ≤ 1
-  pub each : (ticket : ℕ) (v : Hand) → get_elem? views ticket ≡ some v → IsHand v
+  pub each : (share : ℕ) (v : Hand) → get_elem? views share ≡ some v → IsHand v
 
--- ---- what a ticket with all parts learns
+-- ---- what a share with all parts learns
 
 -- for each number, it put in as many as it took out, and one more exactly where one stands in the queue
 pub record Stand (v : Hand) (items : List ℕ) : Type 0 where

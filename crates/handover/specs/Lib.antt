@@ -1,2 +1,2 @@
 pub mod Hands
-pub mod Lines
+pub mod Queues

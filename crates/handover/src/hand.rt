@@ -1,17 +1,17 @@
-//! What is handed on, what a ticket knows of it, and the rule of the queue.
+//! What is handed on, what a share knows of it, and the rule of the queue.
 use crossbeam_queue::protocol::{Join, Lesson, Outcome, Protocol, Split};
 use std::collections::LinkedList;
 
 /// A thing with the number by which it is counted.
 #[derive(Debug, Drop)]
-pub struct Carried<T> {
+pub struct NumberedItem<T> {
     /// Its number. No two things of one queue have the same.
     pub number: u32,
     /// The thing.
     pub load: T,
 }
 
-/// What a ticket knows: its parts of the right to know the whole, and the numbers of what it put into the queue for the first time, of all that it put into
+/// What a share knows: its parts of the right to know the whole, and the numbers of what it put into the queue for the first time, of all that it put into
 /// it, and of all that it took out. No value of it is made.
 pub struct Hand {
     /// The parts.
@@ -27,7 +27,7 @@ pub struct Hand {
 /// The rule of the queue.
 pub(crate) struct Fair;
 
-impl<T> Protocol<Carried<T>, Hand> for Fair {
+impl<T> Protocol<NumberedItem<T>, Hand> for Fair {
     ghost use Rattle.std.specs.Prelude.{[]};
     ghost use Rattle.handover.specs.Hands.{IsFair, all_parts, hand, numbers_of};
 
@@ -36,7 +36,7 @@ impl<T> Protocol<Carried<T>, Hand> for Fair {
     ghost first = { hand all_parts [] [] [] };
 }
 
-/// A part goes to another ticket, which did nothing yet; and all that a ticket did comes back with its parts.
+/// A part goes to another share, which did nothing yet; and all that a share did comes back with its parts.
 pub(crate) struct Cut;
 
 impl Split<Hand> for Cut {
@@ -60,14 +60,14 @@ impl Join<Hand> for Cut {
 /// A thing goes in for the first time.
 pub(crate) struct Begins;
 
-impl<T> Outcome<Carried<T>, Hand> for Begins {
+impl<T> Outcome<NumberedItem<T>, Hand> for Begins {
     ghost use Rattle.std.specs.Prelude.{◌≡◌, [], ◌∷◌, ◌++◌};
     ghost use Rattle.handover.specs.Hands.{hand};
 
     ghost then = { λ v x w. w ≡ hand v.parts (v.begun ++ x.number ∷ []) (v.put ++ x.number ∷ []) v.taken };
 }
 
-impl<T> Lesson<Carried<T>, Hand> for Begins {
+impl<T> Lesson<NumberedItem<T>, Hand> for Begins {
     ghost use Rattle.handover.specs.Hands.{LearnsAll, numbers_of};
 
     ghost fact = { λ v items. LearnsAll v (numbers_of items) };
@@ -76,14 +76,14 @@ impl<T> Lesson<Carried<T>, Hand> for Begins {
 /// A thing goes in again.
 pub(crate) struct Puts;
 
-impl<T> Outcome<Carried<T>, Hand> for Puts {
+impl<T> Outcome<NumberedItem<T>, Hand> for Puts {
     ghost use Rattle.std.specs.Prelude.{◌≡◌, [], ◌∷◌, ◌++◌};
     ghost use Rattle.handover.specs.Hands.{hand};
 
     ghost then = { λ v x w. w ≡ hand v.parts v.begun (v.put ++ x.number ∷ []) v.taken };
 }
 
-impl<T> Lesson<Carried<T>, Hand> for Puts {
+impl<T> Lesson<NumberedItem<T>, Hand> for Puts {
     ghost use Rattle.std.specs.Prelude.{⊤};
 
     ghost fact = { λ v items. ⊤ };
@@ -92,23 +92,23 @@ impl<T> Lesson<Carried<T>, Hand> for Puts {
 /// A thing comes out.
 pub(crate) struct Takes;
 
-impl<T> Outcome<Carried<T>, Hand> for Takes {
+impl<T> Outcome<NumberedItem<T>, Hand> for Takes {
     ghost use Rattle.std.specs.Prelude.{◌≡◌, [], ◌∷◌, ◌++◌};
     ghost use Rattle.handover.specs.Hands.{hand};
 
     ghost then = { λ v x w. w ≡ hand v.parts v.begun v.put (v.taken ++ x.number ∷ []) };
 }
 
-impl<T> Lesson<Carried<T>, Hand> for Takes {
+impl<T> Lesson<NumberedItem<T>, Hand> for Takes {
     ghost use Rattle.handover.specs.Hands.{LearnsAll, numbers_of};
 
     ghost fact = { λ v items. LearnsAll v (numbers_of items) };
 }
 
-/// What stands in the queue, for a ticket with all parts.
+/// What stands in the queue, for a share with all parts.
 pub(crate) struct All;
 
-impl<T> Lesson<Carried<T>, Hand> for All {
+impl<T> Lesson<NumberedItem<T>, Hand> for All {
     ghost use Rattle.handover.specs.Hands.{LearnsAll, numbers_of};
 
     ghost fact = { λ v items. LearnsAll v (numbers_of items) };

@@ -3,7 +3,7 @@
 #![tactic(auto)]
 
 mod hand;
-mod line;
+mod queue;
 
-pub use hand::{Carried, Hand};
-pub use line::{Line, Ticket};
+pub use hand::{Hand, NumberedItem};
+pub use queue::{Queue, Share};

@@ -13,10 +13,10 @@ use Rattle.plans.specs.FaultNames as plan_names
 use Rattle.plans.specs.Reading.{ReadsPlan}
 use Rattle.plans.specs.declared.fault.PlanFault.{PlanFault}
 use Rattle.plans.specs.declared.fault.PlanFault.TheVariants as plans
-use Rattle.runner.specs.FaultNames as run_names
-use Rattle.runner.specs.Runs.{HasRun}
-use Rattle.runner.specs.declared.fault.RunFault.{RunFault}
-use Rattle.runner.specs.declared.fault.RunFault.TheVariants as runs
+use Rattle.planned_calls.specs.FaultNames as run_names
+use Rattle.run_account.specs.Runs.{HasRun}
+use Rattle.planned_calls.specs.declared.fault.RunFault.{RunFault}
+use Rattle.planned_calls.specs.declared.fault.RunFault.TheVariants as runs
 use Rattle.check_lines.specs.Output.{Text, Line, line, usage, sections, too_long, script_fault, certificate_fault, plan_fault, run_fault, yes, no, no_memory}
 use Rattle.run_reports.specs.RunAnswers.{AnswersPlan, AnswersRun, Refuses, TellsPlanFault, TellsRunFault}
 use Rattle.check_lines.specs.VerdictLines.{Judges, NamesFault, NamesRefusal}

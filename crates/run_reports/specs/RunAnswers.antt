@@ -9,12 +9,12 @@ use Rattle.plans.specs.FaultNames as plan_names
 use Rattle.plans.specs.Reading.{ReadsPlan}
 use Rattle.plans.specs.declared.fault.PlanFault.{PlanFault}
 use Rattle.plans.specs.declared.fault.PlanFault.TheVariants as plans
-use Rattle.runner.specs.FaultNames as run_names
-use Rattle.runner.specs.ReportLines.{line_of}
-use Rattle.runner.specs.Runs.{HasRun, OutcomeValue}
-use Rattle.runner.specs.declared.fault.RunFault.{RunFault}
-use Rattle.runner.specs.declared.fault.RunFault.TheVariants as runs
-use Rattle.runner.specs.declared.report.Line.{Line as RunLine}
+use Rattle.planned_calls.specs.FaultNames as run_names
+use Rattle.planned_calls.specs.ReportLines.{line_of}
+use Rattle.run_account.specs.Runs.{HasRun, OutcomeValue}
+use Rattle.planned_calls.specs.declared.fault.RunFault.{RunFault}
+use Rattle.planned_calls.specs.declared.fault.RunFault.TheVariants as runs
+use Rattle.planned_calls.specs.declared.lines.Line.{Line as RunLine}
 use Rattle.check_lines.specs.Output.{Text, Line, Output, CallLine, line, report, plan_fault, run_fault, yes, no_memory}
 use Rattle.check_lines.specs.VerdictLines.{Judges}
 

@@ -14,7 +14,7 @@ use composition::{Checked, Verdict, check};
 use plans::{Plan, PlanFault};
 use program_rim::sink::Sink;
 use program_rim::status::Status;
-use runner::{Open, RunFault, run};
+use runner::{NoGate, RunFault, run};
 use std::alloc::Global;
 use std::sync::Wait;
 use std::thread::Threads;
@@ -62,7 +62,7 @@ fn write_plan<W: Sink, T: Threads + Wait + Sync>(
         Ok(steps) => steps,
         Err(fault) => return write_reply(alloc, &plan_reply(fault), sink),
     };
-    match run(rt, alloc, checked, &steps, usize::from(workers), &Open) {
+    match run(rt, alloc, checked, &steps, usize::from(workers), &NoGate) {
         Ok(outcome) => write_report(sink, checked.script(), outcome.lines()),
         Err(fault) => write_reply(alloc, &run_reply(fault), sink),
     }

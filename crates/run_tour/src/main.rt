@@ -14,7 +14,7 @@ use crate::stopping::Stopping;
 use composition::{CheckFault, Checked, Verdict, check};
 use mg_names::identifiers::CallNo;
 use plans::{Plan, PlanFault};
-use runner::{Gate, Line, Open, Outcome, RunFault, run};
+use runner::{Gate, Line, NoGate, Outcome, RunFault, run};
 use script_table::Script;
 use std::alloc::{AllocError, AllocFailed, Global};
 use std::env;
@@ -210,7 +210,7 @@ fn tour<T: Threads + Wait + Sync>(
     match kind {
         Kind::Meet => meet(rt, threads, checked, &plan, workers),
         Kind::Stop { seed } => stop(rt, threads, checked, &plan, workers, seed),
-        _ => go(rt, threads, checked, &plan, workers, &Open, kind),
+        _ => go(rt, threads, checked, &plan, workers, &NoGate, kind),
     }
 }
 

@@ -1,7 +1,7 @@
 -- The report, or why there is none.
 use Rattle.std.proofs.Common.{◌≡◌, Ok, Err, ap₂, subst, inr}
 use Rattle.mg_model.specs.Script.{Script}
-use Rattle.runner.specs.Runs.{HasRun}
+use Rattle.run_account.specs.Runs.{HasRun}
 use Rattle.plans.specs.Reading.{ReadsPlan}
 use Rattle.check_lines.specs.Output.{report}
 use Rattle.check_lines.specs.Replies.{line_of}

@@ -1,7 +1,0 @@
--- A thing that comes out leaves the line fair, and a ticket with all parts learns of an empty one that all that was put was taken.
-use Rattle.handover.proofs.FairLessons.{learns}
-use Rattle.handover.proofs.FairSteps.{takes}
-use Rattle.handover.proofs.line.Line.take.Goals as goal
-
-pub pop_as-requires-clause-rule : goal.pop_as-requires-clause-rule
-pop_as-requires-clause-rule g c = (takes _ _ c.requires.part, learns _ _)

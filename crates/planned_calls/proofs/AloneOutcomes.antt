@@ -1,0 +1,79 @@
+-- What a step of a call alone comes to, by what its shard answers.
+use Rattle.std.proofs.Common.{◌≡◌, ◌+◌, [], ◌∷◌, Some, None, Result, Ok, Err, refl, sym, subst}
+use Rattle.std.specs.Prelude.{IfOk}
+use Rattle.mg_names.specs.declared.identifiers.CallNo.{CallNo}
+use Rattle.mg_model.specs.declared.events.Event.{Event}
+use Rattle.mg_model.specs.declared.plans.PlanStep.{PlanStep}
+use Rattle.mg_model.specs.declared.plans.PlanStep.TheVariants.{Restarts}
+use Rattle.mg_model.specs.Numbers.{plan_calls}
+use Rattle.mg_model.specs.Plans.{number_begun}
+use Rattle.mg_model.specs.Reports.{Means}
+use Rattle.mg_model.specs.Script.{Script}
+use Rattle.mg_model.specs.World.{Occurs, World}
+use Rattle.agent.specs.AgentValue.{agent_of}
+use Rattle.agent.specs.Calls.{IsRetired, value_of}
+use Rattle.agent.specs.declared.call.Next.{Next}
+use Rattle.agent.specs.declared.call.Retired.{Retired}
+use Rattle.shards.specs.Meaning.{IsMeant}
+use Rattle.shards.specs.Shards.{IsUnchanged, ShardValue}
+use Rattle.shards.specs.Stepping.{HasBegun, HasStepped, IsNotEnabled, IsSameNext}
+use Rattle.mg_reports.proofs.Placings.{one_event}
+use Rattle.planned_calls.specs.Replays.{EndsWithoutTimer, GoesBy, IsIdler, IsRenewed}
+use Rattle.planned_calls.specs.declared.replay.Replay.{Replay}
+use Rattle.planned_calls.proofs.StepMeanings.{own_of, sorted}
+use Rattle.planned_calls.proofs.AloneSteps.{begun_after, happens_after, idle_after, meant, means_none, not_enabled}
+
+pub if_ok : {A E : Type 0} (r : Result A E) (P Q : A → Type 0) → ((x : A) → P x → Q x) → IfOk r P → IfOk r Q
+if_ok (Ok x) P Q on is = on x is
+if_ok (Err e) P Q on is = tt
+
+same_next : (n : Next) → IsSameNext n n
+same_next n = record { kind = refl; call = record { script = refl; agent = refl; transcript = refl } }
+
+module _ (script : Script) (v0 v : ShardValue) (a : Replay) (step : PlanStep) (next : CallNo) (other : step ≡ Restarts → ⊥) (number : next.0 ≡ a.standing.0 + plan_calls)
+    (same_v : IsUnchanged v0 v) where
+  -- it means nothing
+  pub none_meant : (b : Replay) → IsMeant v0 a.standing.0 next.0 step None → IsIdler a b → GoesBy script (step ∷ []) v0 a v b
+  none_meant b told idler one steps is =
+      idle_after script one steps v0 v a is same_v v b step other (unchanged_still v) (subst (IsSameNext a.next) (sym idler.next) (same_next a.next))
+      (λ event after means occurs. means_none script one steps v0 v a is same_v next.0 step event number told means) idler.standing idler.gone idler.others
+      idler.idle
+    where
+      unchanged_still : (u : ShardValue) → IsUnchanged u u
+      unchanged_still u = record {
+        same = record { script = refl; first = refl; stride = refl; calls = refl };
+        history = refl;
+        worlds = λ w is. is;
+      }
+
+  module _ (w : ShardValue) (event : Event) (after : Next) (told : IsMeant v0 a.standing.0 next.0 step (Some event)) where
+    -- what it means can't happen
+    pub not_happened : (b : Replay) → EndsWithoutTimer script a.next → IsNotEnabled v a.next event → IsUnchanged v w → IsSameNext a.next after
+        → IsIdler (record a { next = after }) b → GoesBy script (step ∷ []) v0 a w b
+    not_happened b ends never unchanged same idler one steps is =
+        idle_after script one steps v0 v a is same_v w b step other unchanged (subst (IsSameNext a.next) (sym idler.next) same)
+        (λ meant_event world means occurs. refused meant_event world means occurs) idler.standing idler.gone idler.others idler.idle
+      where
+        refused : (meant_event : Event) (world : World) → Means is.at.world (agent_of (value_of a.next).agent) (number_begun one.call (is.at.begun + 1)) step meant_event
+            → Occurs script is.at.world meant_event world → ⊥
+        refused meant_event world means occurs =
+            let own = meant script one steps v0 v a is same_v next.0 step event number told in
+            let same_event : meant_event ≡ event =
+            one_event is.at.world (agent_of (value_of a.next).agent) (number_begun one.call (is.at.begun + 1)) step meant_event event means own in
+            not_enabled script one steps v0 v a is same_v event world ends
+            (own_of (agent_of (value_of a.next).agent) (number_begun one.call (is.at.begun + 1)) step event
+            (sorted is.at.world (agent_of (value_of a.next).agent) (number_begun one.call (is.at.begun + 1)) step event other own)) never
+            (subst (λ (e : Event). Occurs script is.at.world e world) same_event occurs)
+
+    -- it happens
+    pub happened_so : HasStepped v w a.next after event → GoesBy script (step ∷ []) v0 a w (record a { next = after })
+    happened_so stepped one steps is =
+        happens_after script one steps v0 v a is same_v w (record a { next = after }) step next.0 event other number told stepped refl refl refl refl
+
+    -- a call begins
+    pub begun_so : (b : Replay) (retired : Retired) → HasBegun v w a.next after event → IsRetired (value_of a.next) retired
+        → IsRenewed (record a { next = after }) retired next b → GoesBy script (step ∷ []) v0 a w b
+    begun_so b retired begun left renewed one steps is =
+        begun_after script one steps v0 v a is same_v w b step next event renewed.last retired other number told
+        (subst (λ (n : Next). HasBegun v w a.next n event) (sym renewed.next) begun) left renewed.standing renewed.gone renewed.state renewed.events
+        renewed.was_idle renewed.others renewed.idle

@@ -1,0 +1,11 @@
+pub mod AgentEvents
+pub mod AloneOutcomes
+pub mod AloneRestarts
+pub mod AloneSteps
+pub mod OpenedAlone
+pub mod PartCalls
+pub mod Replayed
+pub mod ReportedAlone
+pub mod RunShardsLemmas
+pub mod StepMeanings
+pub mod TurnLemmas

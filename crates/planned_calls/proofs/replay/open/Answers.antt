@@ -1,0 +1,23 @@
+-- The one call that was handed out is that of the plan.
+use Rattle.std.proofs.Common.{◌≡◌, ◌∙◌, ◌++◌, List, [], ◌∷◌, ap, subst, refl}
+use Rattle.agent.specs.declared.call.Next.{Next}
+use Rattle.shards.specs.Opening.{AreEntered, IsNewShard}
+use Rattle.shards.specs.declared.opened.OpenedCall.{OpenedCall}
+use Rattle.mg_model.specs.Plans as plans
+use Rattle.planned_calls.proofs.OpenedAlone.{entered_alone, opened_alone}
+use Rattle.planned_calls.proofs.replay.open.Goals as goal
+
+pub returns : goal.returns
+returns c =
+    let script = c.args.checked.now.table in
+    let one = c.in_ok-one.one in
+    let calls : c.push.new.self.items ≡ one ∷ [] = c.in_ok-push.ensures.items ∙ ap (λ (calls : List OpenedCall). calls ++ one ∷ []) c.new-calls.ensures.items in
+    let opened = c.in-Ok.ensures in
+    let new : IsNewShard script (one ∷ []) 0 1 c.in-Ok.opened.0 =
+    subst (λ (cs : List OpenedCall). IsNewShard script cs 0 1 c.in-Ok.opened.0) calls opened.0 in
+    let entered : AreEntered script (one ∷ []) c.in-Ok.opened.1.items =
+    subst (λ (cs : List OpenedCall). AreEntered script cs c.in-Ok.opened.1.items) calls opened.1 in
+    opened_alone script (plans.opened_as c.args.number c.args.call.now) one c.in-Ok.opened.0 c.in-Some.next (record { 0 = c.args.number }) c.new.result
+    c.keeps_its_run.ensures new
+    (entered_alone script one c.pop.new.self.items c.in-Some.next (subst (λ (ns : List Next). AreEntered script (one ∷ []) ns) c.in-Some.ensures.items entered))
+    c.in_ok-one.ensures refl c.new.ensures.items

@@ -1,0 +1,6 @@
+pub mod FaultNames
+pub mod Parts
+pub mod Replays
+pub mod ReportLines
+pub mod RunShards
+pub mod Turns

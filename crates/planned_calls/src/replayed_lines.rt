@@ -1,0 +1,118 @@
+//! The line of a call of the plan, by a run of it alone: its steps on a gateway of its own, with the restarts where the call was marked in the run.
+ghost use Rattle.std.specs.Prelude.{◌≡◌, ◌∷◌, [], true, false, IfOk, map};
+ghost use Rattle.mg_model.specs.Plans as plans;
+ghost use Rattle.mg_model.specs.declared.plans.PlanStep.TheVariants as steps;
+ghost use Rattle.mg_model.specs.Reports.{IsReported};
+ghost use Rattle.planned_calls.specs.Replays.{GoesBy, TellsOf};
+ghost use Rattle.planned_calls.specs.ReportLines.{AreNumbered, line_of};
+ghost use Rattle.planned_calls.specs.Turns.{steps_of};
+
+use crate::fault::RunFault;
+use crate::lines::Line;
+use crate::plan_totals::PlanTotals;
+use crate::replay::{self, Replay};
+use crate::turns::{self, Turn};
+use composition::Checked;
+use mg_model::plans::PlanStep;
+use mg_names::identifiers::Assoc;
+use plans::PlanCall;
+use script_table::Script;
+use shards::Shard;
+use std::alloc::Global;
+
+/// Whether a step is a restart.
+fn is_restart(step: &PlanStep) -> bool
+    ensures yes { result ≡ true → step.now ≡ steps.Restarts }
+    ensures no { result ≡ false → step.now ≡ steps.Restarts → ⊥ }
+{
+    matches!(step, PlanStep::Restarts)
+}
+
+/// A step in turn: the restarts of other calls before it, and the step itself.
+fn take<'s>(
+    script: &Script,
+    shard: &mut Shard<'s>,
+    alone: Replay<'s>,
+    turn: &Turn,
+) -> Result<Replay<'s>, RunFault>
+    ensures { IfOk result (λ after. GoesBy script.now (turn.now.step ∷ []) shard.old alone.entry shard.new after) }
+{
+    let mut alone = alone;
+    if is_restart(&turn.step) {
+        alone.waits_before(shard, turn.mark)?;
+        replay::restart(shard)?;
+        return Ok(alone);
+    }
+    let Some(mark) = turn.mark else {
+        return Err(RunFault::Disagree);
+    };
+    alone.waits_for(shard, mark)?;
+    alone.step(script, shard, &turn.step)
+}
+
+/// All steps in turn.
+fn take_all<'s>(
+    script: &Script,
+    shard: &mut Shard<'s>,
+    alone: Replay<'s>,
+    turns: &[Turn],
+) -> Result<Replay<'s>, RunFault>
+    ensures { IfOk result (λ after. GoesBy script.now (steps_of turns.now) shard.old alone.entry shard.new after) }
+{
+    let mut alone = alone;
+    for turn in turns {
+        alone = take(script, shard, alone, turn)?;
+    }
+    Ok(alone)
+}
+
+/// The lines of a call alone that goes by these steps, where its gateway ends in this association and other calls restart so often. `Disagree` where they don't.
+fn go<'s>(
+    alloc: Global,
+    script: &Script,
+    shard: &mut Shard<'s>,
+    alone: Replay<'s>,
+    number: u32,
+    turns: &[Turn],
+    others: usize,
+    last: Assoc,
+) -> Result<Vec<Line>, RunFault>
+    ensures { IfOk result (λ lines. TellsOf script.now (steps_of turns.now) others shard.old alone.entry (map (line_of script.now) lines.items) × AreNumbered number lines.items) }
+{
+    let mut alone = take_all(script, shard, alone, turns)?;
+    alone.waits_for(shard, last)?;
+    if alone.others != others {
+        return Err(RunFault::Disagree);
+    }
+    alone.lines(alloc, number, shard.association())
+}
+
+/// The lines of a call of the plan and of those that began within it, by a run of it alone, where it was marked with these associations, step after step,
+/// and the run ended in this one; other calls restart so often. `Disagree` where the marks don't follow the steps and the restarts, and `NoMemory` where
+/// memory ran out.
+pub fn lines_alone(
+    alloc: Global,
+    checked: &Checked,
+    totals: &PlanTotals<'_>,
+    number: u32,
+    call: &PlanCall,
+    marks: &[Assoc],
+    others: usize,
+    last: Assoc,
+) -> Result<Vec<Line>, RunFault>
+    ensures { IfOk result (λ lines. IsReported checked.now.table (plans.opened_as number call.now) (plans.steps_in (plans.epochs_of totals.now.calls) call.now.epochs) others (map (line_of checked.now.table) lines.items) × AreNumbered number lines.items) }
+{
+    let turns = turns::of(alloc, totals.epochs(), call, marks)?;
+    let (mut shard, alone) = replay::open(alloc, checked, number, call)?;
+    let turns = turns.as_slice();
+    go(
+        alloc,
+        checked.script(),
+        &mut shard,
+        alone,
+        number,
+        turns,
+        others,
+        last,
+    )
+}

@@ -1,0 +1,95 @@
+-- What is told of each call of a plan is the plan's report.
+use Rattle.std.proofs.Common.{◌≡◌, ◌∙◌, ◌+◌, ◌++◌, ℕ, suc, zero, List, [], ◌∷◌, length, map, inl, inr, refl, sym, ap, subst, arith}
+use Rattle.std.specs.List.{AllZip, flat_map, range_with_len}
+use Rattle.std.specs.Prelude.{Contains, IfOk, MatchResult, Result, Ok, Err, slice_get}
+use Rattle.std.specs.declared.alloc.Global.{Global}
+use Rattle.std.specs.declared.vec.Vec.{Vec}
+use Rattle.std.proofs.lemmas.List.Elements.{Contains-append_cases}
+use Rattle.std.proofs.lemmas.Option.{same_Some}
+use Rattle.mg_model.proofs.Single.{none_in}
+use Rattle.mg_model.specs.declared.events.Event.{Event}
+use Rattle.mg_model.specs.Plans.{Plan, PlanCall, epochs_of, opened_as, restarts_of_others, steps_in}
+use Rattle.mg_model.specs.Reports.{AreReported, IsReported}
+use Rattle.mg_model.specs.Script.{Script}
+use Rattle.shards.specs.Shards.{ShardValue}
+use Rattle.run_account.specs.FinalState.{IsLeftAmong}
+use Rattle.planned_calls.specs.ReportLines.{AreAllNumbered, line_of}
+use Rattle.run_account.specs.CallReport.{IsTold}
+use Rattle.planned_calls.specs.declared.lines.Line.{Line}
+
+-- ---- two lists, item by item
+
+module _ {X Y Z : Type 0} (R : X → Z → Type 0) (f : Y → Z) where
+  pub through : (xs : List X) (ys : List Y) → AllZip (λ x y. R x (f y)) xs ys → AllZip R xs (map f ys)
+  through [] [] all = tt
+  through [] (y ∷ ys) all = absurd all
+  through (x ∷ xs) [] all = absurd all
+  through (x ∷ xs) (y ∷ ys) (one, all) = (one, through xs ys all)
+
+  pub back : (xs : List X) (ys : List Y) → AllZip R xs (map f ys) → AllZip (λ x y. R x (f y)) xs ys
+  back [] [] all = tt
+  back [] (y ∷ ys) all = absurd all
+  back (x ∷ xs) [] all = absurd all
+  back (x ∷ xs) (y ∷ ys) (one, all) = (one, back xs ys all)
+
+-- where all are Ok, each of what was collected is as its place asks
+pub if_all : {X Y E : Type 0} (R : X → Y → Type 0) (xs : List X) (rs : List (Result Y E)) (r : Result (Vec Y Global) E)
+    → AllZip (λ x one. IfOk one (R x)) xs rs
+    → MatchResult r (λ v. (ys : List Y) × (rs ≡ map Ok ys) × (v.items ≡ ys)) (λ e. Contains rs (Err e)) → IfOk r (λ v. AllZip R xs v.items)
+if_all R xs rs (Ok v) all (ys, same, items) =
+    subst (AllZip R xs) (sym items) (back (λ x one. IfOk one (R x)) Ok xs ys (subst (AllZip (λ x one. IfOk one (R x)) xs) same all))
+if_all R xs rs (Err e) all is = tt
+
+-- ---- all calls of a plan
+
+module _ (script : Script) (plan : Plan) (shards : List ShardValue) (trails : List (List Event)) where
+  abbrev Told : ℕ → List Line → Type 0
+  Told = IsTold script plan shards trails
+
+  -- these calls are those of the plan from a number on
+  abbrev pub AreFrom : ℕ → List PlanCall → Type 0
+  AreFrom number calls = (i : ℕ) → slice_get calls i ≡ slice_get plan.calls (number + i)
+
+  more_from : (number : ℕ) (call : PlanCall) (calls : List PlanCall) → AreFrom number (call ∷ calls) → AreFrom (number + 1) calls
+  more_from number call calls from i =
+      from (suc i) ∙ ap (slice_get plan.calls) (let same : number + suc i ≡ number + 1 + i = omega arith in same)
+
+  own_call : (number : ℕ) (call : PlanCall) (calls : List PlanCall) (own : List Line) → AreFrom number (call ∷ calls) → (told : Told number own) → told.call ≡ call
+  own_call number call calls own from told =
+      same_Some told.call call
+      (sym told.is ∙ ap (slice_get plan.calls) (let same : number ≡ number + 0 = omega arith in same) ∙ sym (from 0))
+
+  pub are_reported : (number : ℕ) (calls : List PlanCall) (all : List (List Line)) → AreFrom number calls
+      → AllZip Told (range_with_len number (length calls)) all
+      → AreReported script plan number calls (map (λ (own : List Line). map (line_of script) own) all)
+  unfolding AreReported
+  are_reported number [] [] from told = tt
+  are_reported number [] (own ∷ all) from told = absurd told
+  are_reported number (call ∷ calls) [] from told = absurd told
+  are_reported number (call ∷ calls) (own ∷ all) from (one, told) = (
+    subst (λ (c : PlanCall). IsReported script (opened_as number c) (steps_in (epochs_of plan.calls) c.epochs) (restarts_of_others plan c) (map (line_of script) own))
+        (own_call number call calls own from one) one.reported,
+    are_reported (number + 1) calls all (more_from number call calls from) told,
+  )
+
+  pub are_numbered : (number count : ℕ) (all : List (List Line)) → AllZip Told (range_with_len number count) all → AreAllNumbered number all
+  are_numbered number zero [] told = tt
+  are_numbered number zero (own ∷ all) told = absurd told
+  are_numbered number (suc count) [] told = absurd told
+  are_numbered number (suc count) (own ∷ all) (one, told) = (one.numbered, are_numbered (number + 1) count all told)
+
+  pub are_left : (number count : ℕ) (all : List (List Line)) → AllZip Told (range_with_len number count) all
+      → (l : Line) → Contains (flat_map (λ (own : List Line). own) all) l → IsLeftAmong script plan.shards shards trails l
+  are_left number zero [] told l among = absurd (none_in l among)
+  are_left number zero (own ∷ all) told l among = absurd told
+  are_left number (suc count) [] told l among = absurd told
+  are_left number (suc count) (own ∷ all) (one, told) l among =
+      elim (Contains-append_cases own (flat_map (λ (each : List Line). each) all) l among) [
+        | inl here ↦ one.left l here
+        | inr later ↦ are_left (number + 1) count all told l later
+      ]
+
+-- the lines of all, as they are owned
+pub lines_owned : {X Y : Type 0} (f : X → List Y) (all : List X) → flat_map f all ≡ flat_map (λ (own : List Y). own) (map f all)
+lines_owned f [] = refl
+lines_owned {Y = Y} f (one ∷ all) = ap (λ (rest : List Y). f one ++ rest) (lines_owned f all)

@@ -1,0 +1,13 @@
+pub mod AgreedTrails
+pub mod ApartParts
+pub mod CallReports
+pub mod CountLemmas
+pub mod FinalLines
+pub mod FinalRuns
+pub mod FinishedRuns
+pub mod FinishedShards
+pub mod FollowedTrails
+pub mod MergedAssociations
+pub mod MergedParts
+pub mod MergedPlaces
+pub mod SameEvents

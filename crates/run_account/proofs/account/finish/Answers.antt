@@ -1,0 +1,66 @@
+-- The shards share nothing and finished alike, so their merge is a run of the plan's calls; and they agree with what the calls went through.
+use Rattle.std.proofs.Common.{◌≡◌, ◌∙◌, ◌<◌, ℕ, List, length, map, rules, sym, ap, subst, arith}
+use Rattle.std.specs.Prelude.{Contains}
+use Rattle.std.proofs.lemmas.List.{length-map}
+use Rattle.std.proofs.lemmas.Simd.{map-map}
+use Rattle.mg_model.specs.declared.events.Event.{Event}
+use Rattle.mg_model.specs.Shards.{History, cut_at_restarts, merged}
+use Rattle.run_account.specs.Comparing.{Agree, trail_of, trails_of}
+use Rattle.run_account.specs.Finishing.{AreFinished}
+use Rattle.run_account.specs.FinalState.{IsLeftAmong}
+use Rattle.run_account.specs.Runs.{IsOutcome}
+use Rattle.planned_calls.specs.declared.planned_call.PlannedCall.{PlannedCall}
+use Rattle.planned_calls.specs.declared.lines.Line.{Line}
+use Rattle.run_account.proofs.FinishedRuns.{is_outcome, is_run}
+use Rattle.run_account.proofs.account.finish.Goals as goal
+
+pub invariant_of-result : goal.invariant_of-result
+invariant_of-result g c =
+    let shards = c.args.shards.now in
+    let plan = c.args.plan.now in
+    let restarts = c.restarts_of-restarts.result in
+    let planned_calls = c.args.planned_calls.items in
+    let histories = map (λ v. v.history) shards in
+    let sized : length shards ≡ plan.shards = c.if-shards-from.false ∙ c.from.ensures ∙ c.shards.ensures in
+    let all : AreFinished restarts shards = c.if-not-have_finished.ensures (search rules) in
+    let agreed : Agree c.from-2.result histories (trails_of c.as_slice.result.now) = c.in_ok-agreed.ensures (search rules) in
+    let agree : Agree plan.shards histories (trails_of planned_calls) =
+    subst (λ (n : ℕ). Agree n histories (trails_of planned_calls)) (c.from-2.ensures ∙ c.shards-2.ensures)
+    (subst (λ (cs : List PlannedCall). Agree c.from-2.result histories (trails_of cs)) c.as_slice.ensures.value agreed) in
+    let merges : c.in_ok-history.history.items ≡ merged (map cut_at_restarts histories) restarts =
+    c.in_ok-history.ensures
+    ∙ ap (λ (cut : List History). merged cut restarts) (sym (map-map cut_at_restarts (λ history. history.now) c.as_slice-2.result.now))
+    ∙ ap (λ hs. merged (map cut_at_restarts (map (λ history. history.now) hs)) restarts) c.as_slice-2.ensures.value
+    ∙ ap (λ (hs : List (List Event)). merged (map cut_at_restarts hs) restarts) c.in_ok-histories.ensures in
+    let some : 0 < plan.shards = omega (arith, c.requires.plan.some_shard) in
+    is_outcome plan restarts shards c.in_ok-history.history.items (trails_of planned_calls) some sized all agree merges
+
+pub returns : goal.returns
+returns g c =
+    let shards = c.args.shards.now in
+    let plan = c.args.plan.now in
+    let restarts = c.restarts_of-restarts.result in
+    let planned_calls = c.args.planned_calls.items in
+    let histories = map (λ v. v.history) shards in
+    let sized : length shards ≡ plan.shards = c.if-shards-from.false ∙ c.from.ensures ∙ c.shards.ensures in
+    let all : AreFinished restarts shards = c.if-not-have_finished.ensures (search rules) in
+    let agreed : Agree c.from-2.result histories (trails_of c.as_slice.result.now) = c.in_ok-agreed.ensures (search rules) in
+    let agree : Agree plan.shards histories (trails_of planned_calls) =
+    subst (λ (n : ℕ). Agree n histories (trails_of planned_calls)) (c.from-2.ensures ∙ c.shards-2.ensures)
+    (subst (λ (cs : List PlannedCall). Agree c.from-2.result histories (trails_of cs)) c.as_slice.ensures.value agreed) in
+    let merges : c.in_ok-history.history.items ≡ merged (map cut_at_restarts histories) restarts =
+    c.in_ok-history.ensures
+    ∙ ap (λ (cut : List History). merged cut restarts) (sym (map-map cut_at_restarts (λ history. history.now) c.as_slice-2.result.now))
+    ∙ ap (λ hs. merged (map cut_at_restarts (map (λ history. history.now) hs)) restarts) c.as_slice-2.ensures.value
+    ∙ ap (λ (hs : List (List Event)). merged (map cut_at_restarts hs) restarts) c.in_ok-histories.ensures in
+    let calls : length (trails_of planned_calls) ≡ length plan.calls =
+    length-map planned_calls trail_of ∙ (let same : length planned_calls ≡ length plan.calls = omega (arith, c.requires.all, c.args.planned_calls.ok.0) in same) in
+    let some : 0 < plan.shards = omega (arith, c.requires.plan.some_shard) in
+    let outcome : IsOutcome c.in_ok-history.history.items (trails_of planned_calls) =
+    is_outcome plan restarts shards c.in_ok-history.history.items (trails_of planned_calls) some sized all agree merges in
+    let left : (l : Line) → Contains c.in_ok-report.report.items l → IsLeftAmong c.args.checked.now.table plan.shards shards (trails_of planned_calls) l =
+    λ l among. subst (λ (cs : List PlannedCall). IsLeftAmong c.args.checked.now.table plan.shards shards (trails_of cs) l) c.as_slice-3.ensures.value
+    (c.in_ok-report.ensures.left l among) in
+    is_run c.args.checked.now.table plan restarts c.requires.few c.merges_are_runs.ensures shards
+    (record { history = c.in_ok-history.history.items; trails = trails_of planned_calls; lines = c.in_ok-report.report.items }) c.requires.plan sized c.requires.kept all agree merges calls
+    outcome c.in_ok-report.ensures.report left

@@ -1,0 +1,19 @@
+-- One event more.
+use Rattle.std.proofs.Common.{◌∙◌, refl, ap, arith}
+use Rattle.std.proofs.lemmas.List.{take_all}
+use Rattle.mg_merge.specs.Identifiers.{executes_in}
+use Rattle.run_account.proofs.CountLemmas.{executes_next}
+use Rattle.run_account.proofs.compare.executes_in.Goals as goal
+
+pub loop-event-init : goal.loop-event-init
+unfolding executes_in
+loop-event-init c = (refl, omega arith)
+
+pub loop-event-preserved : goal.loop-event-preserved
+loop-event-preserved c = (
+  executes_next _ _ _ _ _ c.loop-event.invariant.0 c.loop-event-test.true c.executes_of-executes.ensures.value,
+  omega (arith, c.loop-event.invariant.1, c.executes_of-executes.ensures.few),
+)
+
+pub returns : goal.returns
+returns c = c.loop-event.invariant.0 ∙ ap executes_in (take_all c.loop-event.event-index c.args.history.now c.loop-event-test.false)

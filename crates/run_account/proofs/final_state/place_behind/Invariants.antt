@@ -1,0 +1,7 @@
+-- All so far happened to the call.
+use Rattle.run_account.specs.Comparing.{trail_of}
+use Rattle.run_account.specs.FinalStates.{AreAllOf}
+use Rattle.run_account.proofs.final_state.place_behind.Given as goal
+
+abbrev pub invariant-loop : goal.invariant-loop
+invariant-loop l = AreAllOf (trail_of l.planned) l.number.0 l.from l.counter l.place

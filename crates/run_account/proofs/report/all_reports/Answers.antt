@@ -1,0 +1,36 @@
+-- What is told of each place of the plan is collected in the order of the places.
+use Rattle.std.proofs.Common.{◌≡◌, ◌∙◌, ◌-◌, ℕ, List, length, ap, subst, arith}
+use Rattle.std.specs.List.{AllZip, range_with_len}
+use Rattle.std.specs.Prelude.{IfOk, Result}
+use Rattle.std.specs.declared.alloc.Global.{Global}
+use Rattle.std.specs.declared.vec.Vec.{Vec}
+use Rattle.rayon.specs.Lists.{min_len_base, range_end, range_start}
+use Rattle.rayon.specs.Numbers.{nat_range}
+use Rattle.rayon.specs.declared.iter.min_len.MinLen.{MinLen}
+use Rattle.rayon.specs.declared.range.Iter.{Iter}
+use Rattle.mg_model.specs.Plans.{Plan, PlanCall}
+use Rattle.run_account.specs.Comparing.{trails_of}
+use Rattle.run_account.specs.CallReport.{IsTold}
+use Rattle.planned_calls.specs.declared.fault.RunFault.{RunFault}
+use Rattle.planned_calls.specs.declared.lines.Line.{Line}
+use Rattle.run_account.proofs.CallReports.{if_all}
+use Rattle.run_account.proofs.report.all_reports.Goals as goal
+
+pub returns : goal.returns
+returns g c =
+    let told : ℕ → Vec Line Global → Type 0 = λ place lines. IsTold c.args.checked.now.table c.args.totals.now c.args.shards.now (trails_of c.args.planned_calls.now) place lines.items in
+    let n = length c.args.totals.now.calls in
+    let ends = c.into_par_iter.ensures in
+    let collected = c.in_ok-all.ensures in
+    let chain = collected.1 in
+    let base = ap (λ (it : MinLen (Iter ℕ)). min_len_base it) c.map.ensures.base ∙ c.with_min_len.ensures.base in
+    let sized : length c.calls-count.result.now - 0 ≡ n =
+    ap (λ (calls : List PlanCall). length calls - 0) (c.calls-count.ensures ∙ ap (λ (p : Plan). p.calls) c.plan.ensures)
+    ∙ (let same : n - 0 ≡ n = omega arith in same) in
+    let places = chain.1 ∙ ap (λ (it : Iter ℕ). nat_range (range_start it) (range_end it)) base
+    ∙ (λ i. nat_range (ends.0 i) (ends.1 i)) ∙ ap (range_with_len 0) sized in
+    let each = subst (λ f. AllZip (λ (place : ℕ) (one : Result (Vec Line Global) RunFault).
+    IfOk one (λ lines. IsTold f.1.now.table f.2.now f.3.now (trails_of f.4.now) place lines.items)) chain.0 collected.0) c.map.ensures.f chain.2 in
+    if_all told (range_with_len 0 n) collected.0 c.in_ok-all.all
+    (subst (λ (ps : List ℕ). AllZip (λ (place : ℕ) (one : Result (Vec Line Global) RunFault). IfOk one (told place)) ps collected.0) places each)
+    collected.2

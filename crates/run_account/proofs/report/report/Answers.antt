@@ -1,0 +1,49 @@
+-- What is told of each call is the report of all.
+use Rattle.std.proofs.Common.{◌≡◌, ◌∙◌, ◌+◌, ℕ, List, length, map, ap, subst, arith}
+use Rattle.std.specs.List.{AllZip, flat_map, range_with_len}
+use Rattle.std.specs.Prelude.{Contains, slice_get}
+use Rattle.std.specs.declared.alloc.Global.{Global}
+use Rattle.std.specs.declared.vec.Vec.{Vec}
+use Rattle.mg_model.specs.Plans.{Plan}
+use Rattle.mg_model.specs.Reports.{IsReport}
+use Rattle.run_account.specs.Comparing.{trails_of}
+use Rattle.planned_calls.specs.ReportLines.{line_of}
+use Rattle.run_account.specs.CallReport.{IsTold}
+use Rattle.planned_calls.specs.declared.lines.Line.{Line}
+use Rattle.run_account.proofs.CallReports.{are_left, are_numbered, are_reported, lines_owned, through}
+use Rattle.run_account.proofs.report.report.Goals as goal
+
+-- what is told, with the lines as lists
+pub returns-clause-report : goal.returns-clause-report
+returns-clause-report g c =
+    let script = c.args.checked.now.table in
+    let plan = c.args.plan.now in
+    let trails = trails_of c.args.planned_calls.now in
+    let owned = c.in_ok-all.all.items in
+    let items : Vec Line Global → List Line = λ v. v.items in
+    let all = map items owned in
+    let told = through (IsTold script plan c.args.shards.now trails) items (range_with_len 0 (length plan.calls)) owned
+    (subst (λ (p : Plan). AllZip (λ (place : ℕ) (lines : Vec Line Global). IsTold script p c.args.shards.now trails place lines.items) (range_with_len 0 (length p.calls)) owned)
+    c.in-Some.ensures c.in_ok-all.ensures) in
+    let reported : IsReport script plan (map (λ (own : List Line). map (line_of script) own) all) =
+    are_reported script plan c.args.shards.now trails 0 plan.calls all (λ i. ap (λ (k : ℕ). slice_get plan.calls k) (let same : i ≡ 0 + i = omega arith in same)) told in
+    record {
+      of_calls = all;
+      reported = reported;
+      numbered = are_numbered script plan c.args.shards.now trails 0 (length plan.calls) all told;
+      add_up = c.reports_add_up.ensures script plan (map (λ (own : List Line). map (line_of script) own) all) reported;
+      are = c.in_ok-lines.ensures ∙ ap (flat_map items) c.as_slice.ensures.value ∙ lines_owned items owned;
+    }
+
+pub returns-clause-left : goal.returns-clause-left
+returns-clause-left g c l among =
+    let script = c.args.checked.now.table in
+    let plan = c.args.plan.now in
+    let trails = trails_of c.args.planned_calls.now in
+    let owned = c.in_ok-all.all.items in
+    let items : Vec Line Global → List Line = λ v. v.items in
+    let told = through (IsTold script plan c.args.shards.now trails) items (range_with_len 0 (length plan.calls)) owned
+    (subst (λ (p : Plan). AllZip (λ (place : ℕ) (lines : Vec Line Global). IsTold script p c.args.shards.now trails place lines.items) (range_with_len 0 (length p.calls)) owned)
+    c.in-Some.ensures c.in_ok-all.ensures) in
+    are_left script plan c.args.shards.now trails 0 (length plan.calls) (map items owned) told l
+    (subst (λ (lines : List Line). Contains lines l) (c.in_ok-lines.ensures ∙ ap (flat_map items) c.as_slice.ensures.value ∙ lines_owned items owned) among)

@@ -1,0 +1,37 @@
+-- The call has the number, and its lines are those of a run of it alone and as the run leaves them.
+use Rattle.std.proofs.Common.{◌≡◌, ◌∙◌, ℕ, List, length, map, refl, sym, ap, subst, rules}
+use Rattle.std.specs.Prelude.{Contains, Some, slice_get}
+use Rattle.std.proofs.lemmas.Option.{slice_get_read}
+use Rattle.mg_model.specs.Plans.{Plan, PlanCall, epochs_of, opened_as, restarts_of_others, steps_in}
+use Rattle.mg_model.specs.Reports.{IsReported}
+use Rattle.mg_model.specs.Script.{Script}
+use Rattle.run_account.specs.Comparing.{trails_of}
+use Rattle.run_account.specs.FinalState.{IsLeftAmong}
+use Rattle.planned_calls.specs.ReportLines.{AreNumbered, line_of}
+use Rattle.planned_calls.specs.declared.lines.Line.{Line}
+use Rattle.run_account.proofs.report.told.Goals as goal
+
+pub returns : goal.returns
+returns c =
+    let script = c.args.checked.now.table in
+    let plan = c.args.totals.now in
+    let shards = c.args.shards.now in
+    let trails = trails_of c.args.planned_calls.now in
+    let call = c.in-Some.call.now in
+    let calls = c.calls.result.now in
+    let at = c.in-Some.ensures.lookup in
+    let lines = c.in_ok-lines.lines.items in
+    let number : c.in-Ok.number ≡ c.args.place = c.in-Ok.ensures.1 in
+    let count : c.from-count.result ≡ plan.shards = c.from-count.ensures ∙ c.shards.ensures ∙ ap (λ (p : Plan). p.shards) c.plan-plan.ensures in
+    record {
+      call = call;
+      is = subst (λ (cs : List PlanCall). slice_get cs c.args.place ≡ Some call) (c.calls.ensures ∙ ap (λ (p : Plan). p.calls) c.plan-plan.ensures)
+          (slice_get_read calls (length calls) c.args.place call refl at.3.0 (at.3.1 call));
+      reported = subst (λ (n : ℕ). IsReported script (opened_as n call) (steps_in (epochs_of plan.calls) call.epochs) (restarts_of_others plan call) (map (line_of script) lines))
+          number c.in_ok-lines.ensures.0;
+      numbered = subst (λ (n : ℕ). AreNumbered n lines) number c.in_ok-lines.ensures.1;
+      left = λ l among.
+          subst (λ (s : Script). IsLeftAmong s plan.shards shards trails l) c.script.ensures.table
+          (subst (λ (n : ℕ). IsLeftAmong c.script.result.now n shards trails l) count
+          (c.if-not-are_left.ensures (search rules) l (subst (λ (ls : List Line). Contains ls l) (sym c.as_slice.ensures.value) among)));
+    }

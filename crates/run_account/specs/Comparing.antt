@@ -1,0 +1,49 @@
+-- What the shards keep beside what the calls went through. A reader should check that a call's events stand in the history of its own shard alone, each once
+-- and in order, and that nothing else stands there.
+use Rattle.std.specs.Prelude.{◌≡◌, ℕ, ◌%◌, ◌<◌, List, ◌++◌, length, take, map, slice_index_or, []}
+use Rattle.std.specs.List.{flat_map}
+use Rattle.mg_model.specs.declared.events.Event.{Event}
+use Rattle.mg_model.specs.declared.events.Event.TheVariants.{OfCall, Restart}
+use Rattle.agent.specs.Calls.{value_of}
+use Rattle.run_account.specs.Runs.{within}
+use Rattle.planned_calls.specs.declared.planned_call.PlannedCall.{PlannedCall}
+
+-- 1 for a restart, and 0 for an event of a call
+abbrev pub restarts_of : Event → ℕ
+restarts_of (OfCall call happens) = 0
+restarts_of Restart = 1
+
+-- what happened to a call of the plan, with all that began within it
+abbrev pub trail_of : PlannedCall → List Event
+trail_of planned = planned.log.trail.items ++ (value_of planned.next).transcript
+
+abbrev pub trails_of : List PlannedCall → List (List Event)
+trails_of planned_calls = map trail_of planned_calls
+
+abbrev pub trail_at : List (List Event) → ℕ → List Event
+trail_at trails number = slice_index_or trails number []
+
+abbrev pub place_at : List ℕ → ℕ → ℕ
+place_at places number = slice_index_or places number 0
+
+-- the history of a shard goes on along each trail, from one place to another, and has nothing of calls that stand in other shards
+pub record Follows (count shard : ℕ) (history : List Event) (trails : List (List Event)) (old new : List ℕ) : Type 0 where
+  pub all_places : length new ≡ length old
+  pub followed : (number : ℕ) → take (place_at new number) (trail_at trails number) ≡ take (place_at old number) (trail_at trails number) ++ within number history
+  pub own : (number : ℕ) → (number % count ≡ shard → ⊥) → within number history ≡ []
+
+-- the histories of the first shards go on so, one after the other
+pub record FollowAll (count : ℕ) (histories trails : List (List Event)) (old new : List ℕ) : Type 0 where
+  pub all_places : length new ≡ length old
+  pub followed : (number : ℕ) → take (place_at new number) (trail_at trails number)
+      ≡ take (place_at old number) (trail_at trails number) ++ flat_map (within number) histories
+  pub own : (number shard : ℕ) → (number % count ≡ shard → ⊥) → within number (slice_index_or histories shard []) ≡ []
+
+-- each trail is what the histories have of its call, and they have it in one of them
+pub record Agree (count : ℕ) (histories trails : List (List Event)) : Type 0 where
+  pub whole : (number : ℕ) → trail_at trails number ≡ flat_map (within number) histories
+  pub own : (number shard : ℕ) → (number % count ≡ shard → ⊥) → within number (slice_index_or histories shard []) ≡ []
+
+-- each trail ends at its place
+abbrev pub IsAtEnd : List (List Event) → List ℕ → Type 0
+IsAtEnd trails places = (number : ℕ) → number < length trails → place_at places number ≡ length (trail_at trails number)

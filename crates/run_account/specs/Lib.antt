@@ -1,0 +1,7 @@
+pub mod CallReport
+pub mod Comparing
+pub mod FinalState
+pub mod FinalStates
+pub mod Finishing
+pub mod Merging
+pub mod Runs

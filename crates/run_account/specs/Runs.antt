@@ -1,0 +1,77 @@
+-- A run of a plan that ends well: what its outcome shows. A reader should check that one history is a run of the plan's calls, in which every world is good,
+-- that it is the merge of what happened in the shards, and that what happened to each call of the plan stands in it, each event once and in order. This profile's own.
+use Rattle.std.specs.Prelude.{◌≡◌, ℕ, ◌<◌, ◌≤◌, ◌%◌, ◌==◌, Bool, false, List, [], ◌++◌, length, slice_index_or, Contains, Result, Ok, Err}
+use Rattle.std.specs.List.{filter}
+use Rattle.mg_model.specs.declared.events.Event.{Event}
+use Rattle.mg_model.specs.declared.events.Event.TheVariants.{OfCall, Restart}
+use Rattle.mg_model.specs.Numbers.{plan_calls}
+use Rattle.mg_model.specs.Plans.{Plan}
+use Rattle.mg_model.specs.Script.{Script}
+use Rattle.mg_model.specs.Shards.{Shard, IsShardRun, histories, merged, restarts_in}
+use Rattle.mg_model.specs.World.{World, IsGood, IsOpening, Runs}
+use Rattle.run_account.specs.FinalState.{IsLeft}
+use Rattle.planned_calls.specs.Parts.{ArePartsFrom, opened_calls}
+use Rattle.planned_calls.specs.ReportLines.{IsReportOf}
+use Rattle.planned_calls.specs.declared.lines.Line.{Line}
+use Rattle.planned_calls.specs.declared.fault.RunFault.{RunFault}
+use Rattle.planned_calls.specs.declared.fault.RunFault.TheVariants.{BadWorkers, TooManyCalls, Disagree, NoMemory}
+
+-- ---- an outcome
+
+pub record OutcomeValue : Type 0 where
+  -- one history of all shards
+  pub history : List Event
+  -- what happened to each call of the plan, with all that began within it
+  pub trails : List (List Event)
+  -- the report
+  pub lines : List Line
+
+-- an event of a call of the plan with this number, or of one that began within it
+abbrev pub is_within : ℕ → Event → Bool
+is_within number (OfCall call happens) = call.0 % plan_calls == number
+is_within number Restart = false
+
+abbrev pub within : ℕ → List Event → List Event
+within number history = filter (is_within number) history
+
+-- ---- what its type keeps
+
+-- each event of a call stands in one of the trails, in order
+abbrev pub IsOutcome : (history : List Event) → (trails : List (List Event)) → Type 0
+IsOutcome history trails = (number : ℕ) → within number history ≡ slice_index_or trails number []
+
+-- ---- a run
+
+-- each shard is a run from an opening of its part of the calls, on its class of identifiers, and all were restarted equally often. Their merge is the history:
+-- association by association, in each shard after shard, one restart between two. It is a run of the plan's calls, and so is each beginning of it, and
+-- each leads to a good world. Its lines are the plan's report, and each of them is as the history leaves its call
+pub record IsRunOf (script : Script) (plan : Plan) (v : OutcomeValue) : Type 0 where
+  pub all_calls : length v.trails ≡ length plan.calls
+  pub shards : List Shard
+  pub all_shards : length shards ≡ plan.shards
+  pub parts : ArePartsFrom plan plan.shards 0 shards
+  pub restarts : ℕ
+  pub each : (shard : Shard) → Contains shards shard → IsShardRun script shard × (restarts_in shard.history ≡ restarts)
+  pub merges : v.history ≡ merged (histories shards) restarts
+  pub start : World
+  pub end : World
+  pub opens : IsOpening script (opened_calls 0 plan.calls) start
+  pub runs : Runs script v.history start end
+  pub report : IsReportOf script plan v.lines
+  pub left : (line : Line) → Contains v.lines line → IsLeft script v.history end line
+  pub good : (before later : List Event) (w : World) → v.history ≡ before ++ later → Runs script before start w → IsGood script w
+
+-- ---- the answer
+
+abbrev pub most_workers : ℕ
+most_workers = 64
+
+abbrev pub AreWorkers : ℕ → Type 0
+AreWorkers workers = (1 ≤ workers) × (workers ≤ most_workers)
+
+abbrev pub HasRun : Script → Plan → (workers : ℕ) → Result OutcomeValue RunFault → Type 0
+HasRun script plan workers (Ok v) = AreWorkers workers × (length plan.calls ≤ plan_calls) × IsRunOf script plan v
+HasRun script plan workers (Err BadWorkers) = AreWorkers workers → ⊥
+HasRun script plan workers (Err TooManyCalls) = AreWorkers workers × (plan_calls < length plan.calls)
+HasRun script plan workers (Err Disagree) = AreWorkers workers × (length plan.calls ≤ plan_calls)
+HasRun script plan workers (Err NoMemory) = AreWorkers workers × (length plan.calls ≤ plan_calls)

@@ -1,0 +1,128 @@
+//! The end of a run, once its threads are joined: the shards come out of their locks, their histories are compared with what the calls went through, and
+//! merged.
+ghost use Rattle.std.specs.Prelude.{◌≡◌, ◌≤◌, IfOk, IsTrue, length, map, vec_len};
+ghost use Rattle.mg_model.specs.Numbers.{plan_calls};
+ghost use Rattle.mg_model.specs.Script.{Script};
+ghost use Rattle.plans.specs.Accepted.{IsPlanFor};
+ghost use Rattle.run_account.specs.Finishing.{AreFinished, IsFinished};
+ghost use Rattle.planned_calls.specs.RunShards.{AreOfRun};
+ghost use Rattle.run_account.specs.Runs.{IsRunOf};
+
+use crate::compare::{self, agree};
+use crate::merge::merge;
+use crate::outcome::Outcome;
+use crate::report::report;
+use composition::Checked;
+use mg_merge::laws::merges_are_runs;
+use mg_model::events::Event;
+use mg_names::identifiers::Assoc;
+use planned_calls::{PlannedCall, RunFault};
+use plans::Plan;
+use shards::Shard;
+use std::alloc::{AllocError, Global};
+use std::thread::Threads;
+
+/// The most executes of a plan: 10,000 calls of 1,000 steps each.
+const MOST_EXECUTES: usize = 10_000_000;
+
+/// Whether a shard was restarted so often, and executed no more than a plan may.
+fn has_finished(shard: &Shard<'_>, restarts: usize) -> bool
+    ensures { IsTrue result → IsFinished restarts shard.now }
+{
+    shard.keeps_its_run();
+    shard.identifiers_lasted();
+    if compare::restarts_in(shard.history()) != restarts {
+        return false;
+    }
+    compare::executes_in(shard.history()) <= MOST_EXECUTES
+}
+
+/// Whether all shards were restarted so often, and none executed more than a plan may.
+fn have_finished(shards: &[Shard<'_>], restarts: usize) -> bool
+    ensures { IsTrue result → AreFinished restarts shards.now }
+{
+    for shard in shards {
+        if !has_finished(shard, restarts) {
+            return false;
+        }
+    }
+    true
+}
+
+/// How often the first shard was restarted.
+fn restarts_of(shards: &[Shard<'_>]) -> usize {
+    match shards.first() {
+        Some(shard) => compare::restarts_in(shard.history()),
+        None => 0,
+    }
+}
+
+/// The association of gateways that were restarted so often, from 1.
+fn association_after(restarts: usize) -> Assoc {
+    Assoc((restarts as u64).saturating_add(1))
+}
+
+/// The histories of the shards.
+fn histories<'a>(alloc: Global, shards: &'a [Shard<'_>]) -> Result<Vec<&'a [Event]>, AllocError>
+    ensures { IfOk result (λ histories. map (λ history. history.now) histories.items ≡ map (λ v. v.history) shards.now) }
+{
+    let mut histories = Vec::new(alloc);
+    for shard in shards {
+        histories.push(shard.history())?;
+    }
+    Ok(histories)
+}
+
+/// What a run of a plan on so many workers came to: `Disagree` where the shards weren't restarted equally often, or have another history than the calls went through, and
+/// `NoMemory` where memory ran out.
+pub fn finish<'s, R: Threads + Sync>(
+    rt: &R,
+    alloc: Global,
+    checked: &Checked,
+    plan: &Plan,
+    shards: &[Shard<'_>],
+    planned_calls: Vec<PlannedCall<'s>>,
+    workers: usize,
+) -> Result<Outcome<'s>, RunFault>
+    requires plan { IsPlanFor checked.now.table plan.now }
+    requires few { length plan.now.calls ≤ plan_calls }
+    requires kept { AreOfRun checked.now.table plan.now.calls plan.now.shards 0 shards.now }
+    requires all { vec_len planned_calls ≡ length plan.now.calls }
+    ensures { IfOk result (λ outcome. IsRunOf checked.now.table plan.now outcome) }
+{
+    merges_are_runs();
+    if shards.len() != usize::from(plan.shards()) {
+        return Err(RunFault::Disagree);
+    }
+    let restarts = restarts_of(shards);
+    if !have_finished(shards, restarts) {
+        return Err(RunFault::Disagree);
+    }
+    let agreed = agree(
+        alloc,
+        u32::from(plan.shards()),
+        shards,
+        planned_calls.as_slice(),
+    )?;
+    if !agreed {
+        return Err(RunFault::Disagree);
+    }
+    let histories = histories(alloc, shards)?;
+    let history = merge(alloc, histories.as_slice(), restarts)?;
+    let last = association_after(restarts);
+    let report = report(
+        rt,
+        alloc,
+        checked,
+        plan,
+        shards,
+        planned_calls.as_slice(),
+        last,
+        workers,
+    )?;
+    Ok(Outcome {
+        history,
+        report,
+        planned_calls,
+    })
+}

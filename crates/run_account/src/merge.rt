@@ -1,0 +1,57 @@
+//! One history of several, each of which is cut at its restarts.
+ghost use Rattle.std.specs.Prelude.{◌≡◌, drop, length, map, IfOk, OnOk};
+ghost use Rattle.mg_model.specs.Shards.{cut_at_restarts, merged};
+ghost use Rattle.run_account.specs.Merging.{ArePartsPushed, IsPartPushed, left_from};
+
+use mg_model::events::Event;
+use std::alloc::{AllocError, Global};
+
+/// Pushes what a history has from a place up to its next restart, and answers the place past that restart, or the end where there is none.
+fn push_part(events: &mut Vec<Event>, history: &[Event], place: usize) -> Result<usize, AllocError>
+    ensures { IfOk result (λ next. IsPartPushed events.old.items (drop place history.now) events.new.items (drop next history.now)) }
+{
+    let mut next = place;
+    while next < history.len() {
+        let event = history[next];
+        next += 1;
+        if let Event::Restart = event {
+            break;
+        }
+        events.push(event)?;
+    }
+    Ok(next)
+}
+
+/// Pushes one association of each history from its place on, one history after the other, and moves the places past it.
+fn push_association(
+    events: &mut Vec<Event>,
+    histories: &[&[Event]],
+    places: &mut [usize],
+) -> Result<(), AllocError>
+    requires { length places.old ≡ length histories.now }
+    ensures { let whole = map (λ h. h.now) histories.now in OnOk result (ArePartsPushed events.old.items (left_from places.old whole) events.new.items (left_from places.new whole)) }
+{
+    for (index, history) in histories.iter().enumerate() {
+        let history: &[Event] = history;
+        places[index] = push_part(events, history, places[index])?;
+    }
+    Ok(())
+}
+
+/// One history of several: association by association, in each one history after the other, and one restart between two. `AllocError` where memory ran out.
+pub fn merge(
+    alloc: Global,
+    histories: &[&[Event]],
+    restarts: usize,
+) -> Result<Vec<Event>, AllocError>
+    ensures { IfOk result (λ merged_events. merged_events.items ≡ merged (map (λ h. cut_at_restarts h.now) histories.now) restarts) }
+{
+    let mut events = Vec::new(alloc);
+    let mut places = vec![in alloc; 0usize; histories.len()]?;
+    for _ in 0..restarts {
+        push_association(&mut events, histories, places.as_mut_slice())?;
+        events.push(Event::Restart)?;
+    }
+    push_association(&mut events, histories, places.as_mut_slice())?;
+    Ok(events)
+}

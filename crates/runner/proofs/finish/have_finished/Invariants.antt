@@ -1,7 +1,0 @@
--- The shards so far have finished.
-use Rattle.std.proofs.Common.{take}
-use Rattle.runner.specs.Finishing.{AreFinished}
-use Rattle.runner.proofs.finish.have_finished.Given as goal
-
-abbrev pub invariant-loop-shard : goal.invariant-loop-shard
-invariant-loop-shard l = AreFinished l.restarts (take l.shard-index l.shards)

@@ -1,8 +1,0 @@
--- The lines so far tell where the run leaves their calls.
-use Rattle.std.proofs.Common.{take}
-use Rattle.runner.specs.Comparing.{trail_of}
-use Rattle.runner.proofs.LeftLines.{AreLeftSoFar}
-use Rattle.runner.proofs.left.are_left_by.Given as goal
-
-abbrev pub invariant-loop-line : goal.invariant-loop-line
-invariant-loop-line l = AreLeftSoFar l.script l.shard (trail_of l.course) l.call l.place l.least (take l.line-index l.lines)

@@ -1,8 +1,0 @@
--- The steps so far.
-use Rattle.std.proofs.Common.{take}
-use Rattle.runner.specs.Replays.{GoesBy}
-use Rattle.runner.specs.Turns.{steps_of}
-use Rattle.runner.proofs.replay.take_all.Given as goal
-
-abbrev pub invariant-loop-turn : goal.invariant-loop-turn
-invariant-loop-turn l = GoesBy l.script (steps_of (take l.turn-index l.turns)) l.fn.shard l.fn.alone l.shard l.alone

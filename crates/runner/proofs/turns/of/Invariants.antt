@@ -1,8 +1,0 @@
--- The steps of the epochs so far.
-use Rattle.std.proofs.Common.{◌≡◌}
-use Rattle.mg_model.specs.Plans as plans
-use Rattle.runner.specs.Turns.{steps_of}
-use Rattle.runner.proofs.turns.of.Given as goal
-
-abbrev pub invariant-loop-epoch : goal.invariant-loop-epoch
-invariant-loop-epoch l = steps_of l.turns.items ≡ plans.steps_in l.epoch l.call.epochs

@@ -1,5 +1,0 @@
--- The run is of this script and this plan.
-use Rattle.runner.proofs.whole.run.Given as goal
-
-abbrev pub ghosts-go : goal.ghosts-go
-ghosts-go g a = record { script = a.checked.now.table; calls = a.plan.now.calls; count = a.plan.now.shards }

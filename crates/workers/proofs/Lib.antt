@@ -1,0 +1,3 @@
+pub mod AccountLemmas
+pub mod BeginLemmas
+pub mod WorkerQueueLemmas

@@ -1,0 +1,92 @@
+//! The calls of a plan moved on by workers, in all of its epochs.
+ghost use Rattle.std.specs.Prelude.{◌≡◌, ◌≤◌, IfOk, length, vec_len};
+ghost use Rattle.mg_model.specs.Numbers.{plan_calls};
+ghost use Rattle.plans.specs.Accepted.{IsPlanFor};
+ghost use Rattle.planned_calls.specs.RunShards.{AreOfRun};
+
+use crate::epoch::{Places, pass};
+use crate::gate::Gate;
+use crate::joined::{all_planned, unlocked};
+use crate::locked_shard::LockedShard;
+use crate::opening::open_all;
+use crate::running::Running;
+use crate::workplace::{Workplace, restart_all};
+use composition::Checked;
+use planned_calls::{PlannedCall, RunFault, epochs_of};
+use plans::Plan;
+use shards::Shard;
+use std::alloc::Global;
+use std::marker::Brand;
+use std::sync::{Mutex, Wait};
+use std::thread::Threads;
+
+/// All epochs of the plan, with a restart of every shard between two. All workers of an epoch are joined before it.
+fn pass_all<'s, G: Gate, B: Running + Send + Sync, R: Threads + Wait + Sync>(
+    rt: &R,
+    alloc: Global,
+    plan: &Plan,
+    gate: &G,
+    shards: &[Mutex<LockedShard<'s, B>>],
+    workers: usize,
+    places: Places<'s>,
+) -> Result<Places<'s>, RunFault>
+    requires few { vec_len places ≤ plan_calls }
+    ensures { IfOk result (λ back. vec_len back ≡ vec_len places.entry) }
+{
+    let mut places = places;
+    for epoch in 0..epochs_of(plan) {
+        if epoch > 0 {
+            restart_all(rt, shards)?;
+        }
+        let workplace = Workplace {
+            shards,
+            plan,
+            epoch,
+            gate,
+        };
+        places = pass(rt, alloc, &workplace, workers, places)?;
+    }
+    Ok(places)
+}
+
+/// A run in which all shards are of this script, and have their parts of these calls.
+fn go<'s, G: Gate, B: Running + Send + Sync, R: Threads + Wait + Sync>(
+    rt: &R,
+    alloc: Global,
+    checked: &'s Checked,
+    plan: &Plan,
+    workers: usize,
+    gate: &G,
+) -> Result<(Vec<Shard<'s>>, Vec<PlannedCall<'s>>), RunFault>
+    requires plan { IsPlanFor checked.now.table plan.now }
+    requires few { length plan.now.calls ≤ plan_calls }
+    requires script { B.script ≡ checked.now.table }
+    requires calls { B.calls ≡ plan.now.calls }
+    requires count { B.count ≡ plan.now.shards }
+    ensures shards { IfOk result (λ r. AreOfRun checked.now.table plan.now.calls plan.now.shards 0 r.0.items) }
+    ensures all { IfOk result (λ r. vec_len r.1 ≡ length plan.now.calls) }
+{
+    let (shards, places) = open_all::<B>(alloc, checked, plan)?;
+    let places = pass_all(rt, alloc, plan, gate, shards.as_slice(), workers, places)?;
+    let shards = unlocked(alloc, shards)?;
+    let planned_calls = all_planned(alloc, places)?;
+    Ok((shards, planned_calls))
+}
+
+/// The shards of a plan and its calls, once so many workers have gone through all of its epochs. Each shard is of this script and this plan, whatever happened
+/// in it, and each call is back. `Disagree` where a call is lost or a shard stands at another's number, and `NoMemory` where memory ran out.
+pub fn run_calls<'s, G: Gate, R: Threads + Wait + Sync>(
+    rt: &R,
+    alloc: Global,
+    checked: &'s Checked,
+    plan: &Plan,
+    workers: usize,
+    gate: &G,
+) -> Result<(Vec<Shard<'s>>, Vec<PlannedCall<'s>>), RunFault>
+    requires plan { IsPlanFor checked.now.table plan.now }
+    requires few { length plan.now.calls ≤ plan_calls }
+    ensures shards { IfOk result (λ r. AreOfRun checked.now.table plan.now.calls plan.now.shards 0 r.0.items) }
+    ensures all { IfOk result (λ r. vec_len r.1 ≡ length plan.now.calls) }
+{
+    go::<G, Brand, R>(rt, alloc, checked, plan, workers, gate)
+}

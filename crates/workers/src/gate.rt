@@ -1,0 +1,16 @@
+//! What is asked before each step of a call.
+use std::sync::Wait;
+
+/// Who lets each step of a run pass, and may keep the calling thread for as long as it likes. It is called with no lock held. This profile's own.
+pub trait Gate: Sync {
+    /// Before a step of a call of the plan, the calls that begin within it included: steps count from 0, over all epochs.
+    fn pass<R: Wait>(&self, rt: &R, call: u32, step: usize);
+}
+
+/// The gate that lets every step pass at once.
+#[derive(Clone, Copy, Debug, Default)]
+pub struct NoGate;
+
+impl Gate for NoGate {
+    fn pass<R: Wait>(&self, _rt: &R, _call: u32, _step: usize) {}
+}

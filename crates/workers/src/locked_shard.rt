@@ -1,0 +1,66 @@
+//! A shard under its lock: all that is known of it, once the lock is let go, is that it is one of this run.
+ghost use Rattle.planned_calls.specs.RunShards.{IsOfRun};
+
+use crate::running::Running;
+use mg_model::plans::PlanStep;
+use mg_names::identifiers::Assoc;
+use planned_calls::{PlannedCall, RunFault};
+use shards::{RestartFault, Shard};
+use std::marker::{Model, PhantomData};
+
+/// A shard of a run.
+#[derive(Drop)]
+pub(crate) struct LockedShard<'s, B: Running> {
+    shard: Shard<'s>,
+    number: u32,
+    of: PhantomData<B>,
+    /// A cache line, so that what a worker writes of this shard is on none with the next one's lock, which another worker takes.
+    apart: [u64; 8],
+}
+
+impl<'s, B: Running> Model for LockedShard<'s, B> {
+    ghost use Rattle.shards.specs.Shards.{ShardValue};
+    ghost use Rattle.planned_calls.specs.RunShards.{IsOfRun};
+
+    ghost Value = { ShardValue };
+
+    ghost view = { λ k. k.shard };
+
+    ghost invariant = { λ k. IsOfRun B.script B.calls B.count k.number k.shard };
+}
+
+impl<'s, B: Running> LockedShard<'s, B> {
+    /// A shard of this run with its number.
+    pub(crate) fn new(shard: Shard<'s>, number: u32) -> LockedShard<'s, B>
+        requires { IsOfRun B.script B.calls B.count number shard }
+    {
+        LockedShard {
+            shard,
+            number,
+            of: PhantomData,
+            apart: [0; 8],
+        }
+    }
+
+    /// The shard, with its number.
+    pub(crate) fn shard(self) -> (Shard<'s>, u32)
+        ensures { IsOfRun B.script B.calls B.count result.1 result.0 }
+    {
+        let LockedShard { shard, number, .. } = self;
+        (shard, number)
+    }
+
+    /// A step of a call of the plan, other than a restart.
+    pub(crate) fn step(
+        &mut self,
+        planned: PlannedCall<'s>,
+        step: &PlanStep,
+    ) -> (PlannedCall<'s>, Result<(), RunFault>) {
+        planned.step(&mut self.shard, step)
+    }
+
+    /// The gateway restarts.
+    pub(crate) fn restart(&mut self) -> Result<Assoc, RestartFault> {
+        self.shard.restart()
+    }
+}

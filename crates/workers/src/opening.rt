@@ -1,0 +1,131 @@
+//! The shards of a run, each opened with its calls of the plan.
+ghost use Rattle.std.specs.Prelude.{◌≡◌, ◌++◌, ◌<◌, ◌≤◌, IfOk, OnOk, length, map, vec_len};
+ghost use Rattle.mg_model.specs.Numbers.{plan_calls};
+ghost use Rattle.mg_model.specs.Plans as plans;
+ghost use Rattle.shards.specs.Shards.{opened_as};
+ghost use Rattle.planned_calls.specs.Parts.{one_in, opened_in};
+
+use crate::epoch::Places;
+use crate::locked_shard::LockedShard;
+use crate::places;
+use crate::running::Running;
+use agent::Next;
+use composition::Checked;
+use mg_names::identifiers::CallNo;
+use planned_calls::{CallLog, PlannedCall, RunFault, opened_call};
+use plans::{Plan, PlanCall};
+use shards::{OpenFault, OpenedCall, Shard};
+use std::alloc::{AllocError, Global};
+use std::sync::Mutex;
+
+/// Adds a call of the plan to those of a shard, one of so many, where it stands there.
+fn push_call(
+    alloc: Global,
+    opened: &mut Vec<OpenedCall>,
+    shard: u32,
+    count: u32,
+    number: u32,
+    call: &PlanCall,
+) -> Result<(), AllocError>
+    requires { 0 < count }
+    ensures { OnOk result (map opened_as opened.new.items ≡ map opened_as opened.old.items ++ one_in count shard number call.now) }
+{
+    if number % count == shard {
+        opened.push(opened_call(alloc, number, call)?)?;
+    }
+    Ok(())
+}
+
+/// The calls of the plan that stand in a shard, one of so many.
+fn calls_of(
+    alloc: Global,
+    calls: &[PlanCall],
+    shard: u32,
+    count: u32,
+) -> Result<Vec<OpenedCall>, AllocError>
+    requires some { 0 < count }
+    requires few { length calls.now ≤ plan_calls }
+    ensures { IfOk result (λ opened. map opened_as opened.items ≡ opened_in count shard 0 calls.now) }
+{
+    let mut opened = Vec::new(alloc);
+    let mut number: u32 = 0;
+    for call in calls {
+        push_call(alloc, &mut opened, shard, count, number, call)?;
+        number += 1;
+    }
+    Ok(opened)
+}
+
+/// A shard of the run, one of so many, with its calls.
+fn open_shard<'s, B: Running>(
+    alloc: Global,
+    checked: &'s Checked,
+    plan: &Plan,
+    number: u32,
+    count: u32,
+) -> Result<(LockedShard<'s, B>, Vec<Next<'s>>), RunFault>
+    requires within { number < count }
+    requires shards { count ≤ 16 }
+    requires few { length plan.now.calls ≤ plan_calls }
+    requires script { B.script ≡ checked.now.table }
+    requires calls { B.calls ≡ plan.now.calls }
+    requires count { B.count ≡ count }
+{
+    let calls = calls_of(alloc, plan.calls(), number, count)?;
+    match Shard::open(alloc, checked, calls, number, count) {
+        Ok((shard, nexts)) => Ok((LockedShard::new(shard, number), nexts)),
+        Err(OpenFault::NoMemory) => Err(RunFault::NoMemory),
+        Err(_) => Err(RunFault::Disagree),
+    }
+}
+
+/// Puts the calls of a shard, one of so many, at their numbers in the plan.
+fn seat<'s>(
+    alloc: Global,
+    nexts: Vec<Next<'s>>,
+    shard: u32,
+    count: u32,
+    places: &mut Places<'s>,
+) -> Result<(), RunFault>
+    ensures { vec_len places.new ≡ vec_len places.old }
+{
+    let mut number = shard;
+    for next in nexts {
+        let Some(place) = places.get_mut(number as usize) else {
+            return Err(RunFault::Disagree);
+        };
+        *place = Some(PlannedCall {
+            next,
+            log: CallLog::new(alloc, CallNo(number)),
+        });
+        let Some(after) = number.checked_add(count) else {
+            return Err(RunFault::Disagree);
+        };
+        number = after;
+    }
+    Ok(())
+}
+
+/// All shards of a run, each under its lock, and the calls of the plan at their numbers.
+pub(crate) fn open_all<'s, B: Running>(
+    alloc: Global,
+    checked: &'s Checked,
+    plan: &Plan,
+) -> Result<(Vec<Mutex<LockedShard<'s, B>>>, Places<'s>), RunFault>
+    requires shards { plan.now.shards ≤ 16 }
+    requires few { length plan.now.calls ≤ plan_calls }
+    requires script { B.script ≡ checked.now.table }
+    requires calls { B.calls ≡ plan.now.calls }
+    requires count { B.count ≡ plan.now.shards }
+    ensures { IfOk result (λ opened. vec_len opened.1 ≡ length plan.now.calls) }
+{
+    let count = u32::from(plan.shards());
+    let mut shards = Vec::new(alloc);
+    let mut places = places::empty(alloc, plan.calls().len())?;
+    for number in 0..count {
+        let (kept, nexts) = open_shard(alloc, checked, plan, number, count)?;
+        shards.push(Mutex::new(kept))?;
+        seat(alloc, nexts, number, count, &mut places)?;
+    }
+    Ok((shards, places))
+}

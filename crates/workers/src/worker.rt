@@ -1,0 +1,152 @@
+//! A worker: it goes from queue to queue. From each it takes a call, does a few of its steps, and hands it back, until it finds none there.
+ghost use Rattle.std.specs.Prelude.{◌≡◌};
+ghost use Rattle.std.specs.List.{All};
+ghost use Rattle.workers.specs.Passing.{IsWorkers, IsWorkersAt};
+
+use crate::gate::Gate;
+use crate::running::Running;
+use crate::workplace::Workplace;
+use handover::{NumberedItem, Queue, Share};
+use planned_calls::{PlannedCall, RunFault};
+use std::sync::Wait;
+
+/// How many steps of a call a worker does before it hands it back.
+const TURN: usize = 8;
+
+/// Calls, each with its number in the plan.
+pub(crate) type NumberedCalls<'s> = Vec<NumberedItem<PlannedCall<'s>>>;
+
+/// A place at the queue of a shard: a share of that queue, and the calls that were taken out with it and are done with.
+#[derive(Drop)]
+pub(crate) struct WorkerQueue<'s> {
+    /// The number of the shard.
+    pub(crate) shard: usize,
+    pub(crate) share: Share<PlannedCall<'s>>,
+    pub(crate) done: NumberedCalls<'s>,
+}
+
+/// What a worker begins with: the queue of each shard, its places at them in the order in which it goes to them, and where calls are run.
+#[derive(Drop)]
+pub(crate) struct Job<'a, 's, G, B: Running> {
+    pub(crate) queues: &'a [Queue<PlannedCall<'s>>],
+    pub(crate) worker_queues: Vec<WorkerQueue<'s>>,
+    pub(crate) workplace: &'a Workplace<'a, 's, G, B>,
+}
+
+/// What a worker leaves: its places, and why it stopped before it found no call, if it did.
+#[derive(Drop)]
+pub(crate) struct Worked<'s> {
+    pub(crate) worker_queues: Vec<WorkerQueue<'s>>,
+    pub(crate) trouble: Option<RunFault>,
+}
+
+/// A few steps of a call in this epoch. It is done with where it has no step left, or where one met trouble.
+fn turn<'a, 's, G: Gate, B: Running, R: Wait>(
+    rt: &R,
+    workplace: &Workplace<'a, 's, G, B>,
+    item: NumberedItem<PlannedCall<'s>>,
+) -> (NumberedItem<PlannedCall<'s>>, Result<bool, RunFault>)
+    ensures { result.0.number ≡ item.entry.number }
+{
+    let NumberedItem { number, load } = item;
+    let mut planned = load;
+    for _ in 0..TURN {
+        let Some(step) = workplace.step_of(number, &planned) else {
+            return (
+                NumberedItem {
+                    number,
+                    load: planned,
+                },
+                Ok(true),
+            );
+        };
+        let (after, done) = workplace.take(rt, number, planned, &step);
+        planned = after;
+        if let Err(fault) = done {
+            return (
+                NumberedItem {
+                    number,
+                    load: planned,
+                },
+                Err(fault),
+            );
+        }
+    }
+    (
+        NumberedItem {
+            number,
+            load: planned,
+        },
+        Ok(false),
+    )
+}
+
+/// Takes calls from a queue and does their steps, until the queue has none. Each call is handed back or done with; so it is at want of memory, which ends the
+/// work.
+fn serve<'a, 's, G: Gate, B: Running, R: Wait>(
+    rt: &R,
+    queue: &Queue<PlannedCall<'s>>,
+    worker_queue: &mut WorkerQueue<'s>,
+    workplace: &Workplace<'a, 's, G, B>,
+) -> Result<(), RunFault>
+    requires { IsWorkers queue.now worker_queue.old }
+    ensures shard { worker_queue.new.shard ≡ worker_queue.old.shard }
+    ensures workers { IsWorkers queue.now worker_queue.new }
+{
+    for _ in rt.forever() {
+        worker_queue.done.reserve(1)?;
+        let Some(item) = queue.take(rt, &mut worker_queue.share) else {
+            return Ok(());
+        };
+        let (item, is_over) = turn(rt, workplace, item);
+        match is_over {
+            Ok(false) => queue.put(rt, &mut worker_queue.share, item),
+            Ok(true) => worker_queue.done.push_reserved(item),
+            Err(fault) => {
+                worker_queue.done.push_reserved(item);
+                return Err(fault);
+            }
+        }
+    }
+    Ok(())
+}
+
+/// Serves at each place in turn. A worker goes on to the queues of other shards once its own has no call, so no call waits for a worker of its own.
+fn serve_all<'a, 's, G: Gate, B: Running, R: Wait>(
+    rt: &R,
+    queues: &[Queue<PlannedCall<'s>>],
+    worker_queues: &mut [WorkerQueue<'s>],
+    workplace: &Workplace<'a, 's, G, B>,
+) -> Result<(), RunFault>
+    requires { All (λ s. IsWorkersAt queues.now s) worker_queues.old }
+    ensures { All (λ s. IsWorkersAt queues.now s) worker_queues.new }
+{
+    for worker_queue in worker_queues.iter_mut() {
+        let Some(queue) = queues.get(worker_queue.shard) else {
+            unreachable!()
+        };
+        serve(rt, queue, worker_queue, workplace)?;
+    }
+    Ok(())
+}
+
+/// Works at all places.
+pub(crate) fn work<'a, 's, G: Gate, B: Running, R: Wait>(
+    rt: &R,
+    job: Job<'a, 's, G, B>,
+) -> Worked<'s>
+    requires { All (λ s. IsWorkersAt job.queues.now s) job.worker_queues.items }
+    ensures { All (λ s. IsWorkersAt job.entry.queues.now s) result.worker_queues.items }
+{
+    let Job {
+        queues,
+        worker_queues,
+        workplace,
+    } = job;
+    let mut worker_queues = worker_queues;
+    let trouble = serve_all(rt, queues, worker_queues.as_mut_slice(), workplace).err();
+    Worked {
+        worker_queues,
+        trouble,
+    }
+}
