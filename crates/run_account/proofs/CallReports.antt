@@ -1,18 +1,19 @@
 -- What is told of each call of a plan is the plan's report.
-use Rattle.std.proofs.Common.{◌≡◌, ◌∙◌, ◌+◌, ◌++◌, ℕ, suc, zero, List, [], ◌∷◌, length, map, inl, inr, refl, sym, ap, subst, arith}
+use Rattle.std.proofs.Common.{◌≡◌, ◌∙◌, ◌+◌, ◌<◌, ◌++◌, ℕ, suc, zero, List, [], ◌∷◌, length, map, inl, inr, refl, sym, ap, subst, arith}
 use Rattle.std.specs.List.{AllZip, flat_map, range_with_len}
-use Rattle.std.specs.Prelude.{Contains, IfOk, MatchResult, Result, Ok, Err, slice_get}
+use Rattle.std.specs.Prelude.{Contains, IfOk, MatchResult, Result, Ok, Err, slice_get, slice_index_or}
 use Rattle.std.specs.declared.alloc.Global.{Global}
 use Rattle.std.specs.declared.vec.Vec.{Vec}
-use Rattle.std.proofs.lemmas.List.Elements.{Contains-append_cases}
+use Rattle.std.proofs.lemmas.List.Elements.{Contains-append_cases, Contains-append_left, Contains-append_right}
 use Rattle.std.proofs.lemmas.Option.{same_Some}
 use Rattle.mg_model.proofs.Single.{none_in}
 use Rattle.mg_model.specs.declared.events.Event.{Event}
+use Rattle.mg_model.specs.declared.events.Event.TheVariants.{OfCall}
 use Rattle.mg_model.specs.Plans.{Plan, PlanCall, epochs_of, opened_as, restarts_of_others, steps_in}
 use Rattle.mg_model.specs.Reports.{AreReported, IsReported}
 use Rattle.mg_model.specs.Script.{Script}
 use Rattle.shards.specs.Shards.{ShardValue}
-use Rattle.run_account.specs.FinalState.{IsLeftAmong}
+use Rattle.run_account.specs.FinalState.{HaveLines, IsLeftAmong}
 use Rattle.planned_calls.specs.ReportLines.{AreAllNumbered, line_of}
 use Rattle.run_account.specs.CallReport.{IsTold}
 use Rattle.planned_calls.specs.declared.lines.Line.{Line}
@@ -88,6 +89,20 @@ module _ (script : Script) (plan : Plan) (shards : List ShardValue) (trails : Li
         | inl here ↦ one.left l here
         | inr later ↦ are_left (number + 1) count all told l later
       ]
+
+  -- a call within one of these has its line among those of all
+  pub have_lines : (number count : ℕ) (all : List (List Line)) → AllZip Told (range_with_len number count) all → (k : ℕ) → k < count
+      → HaveLines (slice_index_or trails (number + k) []) (flat_map (λ (own : List Line). own) all)
+  have_lines number zero all told k below call happens among = absurd (omega (arith, below))
+  have_lines number (suc count) [] told k below call happens among = absurd told
+  have_lines number (suc count) (own ∷ all) (one, told) zero below call happens among =
+      let found = one.all call happens
+      (subst (λ (n : ℕ). Contains (slice_index_or trails n []) (OfCall call happens)) (let same : number + 0 ≡ number = omega arith in same) among) in
+      (found.0, Contains-append_left own (flat_map (λ (each : List Line). each) all) found.0 found.1, found.2)
+  have_lines number (suc count) (own ∷ all) (one, told) (suc k) below call happens among =
+      let found = have_lines (number + 1) count all told k (omega (arith, below)) call happens
+      (subst (λ (n : ℕ). Contains (slice_index_or trails n []) (OfCall call happens)) (let same : number + suc k ≡ number + 1 + k = omega arith in same) among) in
+      (found.0, Contains-append_right own (flat_map (λ (each : List Line). each) all) found.0 found.1, found.2)
 
 -- the lines of all, as they are owned
 pub lines_owned : {X Y : Type 0} (f : X → List Y) (all : List X) → flat_map f all ≡ flat_map (λ (own : List Y). own) (map f all)

@@ -1,27 +1,29 @@
 -- The lines of a call of the plan, one after the other: each has the events behind those of the lines before it, and tells what its shard shows.
-use Rattle.std.proofs.Common.{◌≡◌, ◌∙◌, ◌+◌, ◌<◌, ◌≤◌, ◌++◌, ◌==◌, inl, inr, ℕ, Bool, Some, List, [], ◌∷◌, length, get_or, take, if◌then◌else◌, refl, sym, ap, subst, arith}
+use Rattle.std.proofs.Common.{◌≡◌, ◌∙◌, ◌+◌, ◌<◌, ◌≤◌, ◌++◌, ◌==◌, ◌⊎◌, inl, inr, ℕ, Bool, Some, List, [], ◌∷◌, length, get_or, take, if◌then◌else◌, refl, sym, ap, subst, arith}
 use Rattle.std.specs.Prelude.{◌%◌, Contains}
-use Rattle.std.proofs.lemmas.Bool.{eq-eqb, ne_eqb}
+use Rattle.std.proofs.lemmas.Bool.{cases_eq, eq-eqb, ne_eqb}
 use Rattle.std.proofs.lemmas.List.{take_all, take_more}
-use Rattle.std.proofs.lemmas.List.Elements.{Contains-append_cases}
+use Rattle.std.proofs.lemmas.List.Elements.{Contains-append_cases, Contains-append_left, Contains-push}
 use Rattle.mg_model.proofs.Single.{none_in, only_one}
 use Rattle.mg_model.specs.declared.events.Event.{Event}
+use Rattle.mg_model.specs.declared.events.Event.TheVariants.{OfCall}
 use Rattle.mg_model.specs.Agent.{is_resting}
 use Rattle.mg_model.specs.Numbers.{plan_calls}
 use Rattle.mg_model.specs.Script.{Script}
 use Rattle.mg_model.specs.Tables.{state_of}
-use Rattle.mg_model.specs.World.{World}
+use Rattle.mg_model.specs.World.{World, is_of_call}
 use Rattle.gateway.specs.GatewayValue.{gateway_of}
 use Rattle.agent.specs.CallValue.{rests, waits, has_ended}
 use Rattle.shards.specs.Shards.{IsWorldOf, ShardValue}
 use Rattle.shards.specs.Standings.{StandsAs}
 use Rattle.shards.specs.declared.standing.Standing.{Standing}
 use Rattle.run_account.specs.FinalStates.{AreAllOf, IsLineOf, Leaves, counted, phase_standing}
-use Rattle.run_account.specs.FinalState.{IsLeftBy, IsOpenAs, call_of}
+use Rattle.run_account.specs.FinalState.{HaveLines, IsLeftBy, IsOpenAs, call_of}
 use Rattle.planned_calls.specs.Parts.{of_call}
 use Rattle.planned_calls.specs.ReportLines.{phase_in, phase_text}
 use Rattle.planned_calls.specs.declared.lines.Line.{Line}
 use Rattle.planned_calls.proofs.ReportedAlone.{word_is}
+use Rattle.run_account.proofs.Passed.{passed_among, some_in}
 
 -- ---- a call that is open
 
@@ -57,14 +59,19 @@ pub record IsCounted (script : Script) (v : ShardValue) (trail : List Event) (ca
   pub events : l.events ≡ counted (call_of l) place trail
   pub leaves : Leaves script v trail l
 
--- up to a place in the transcripts, of calls whose numbers are below this one
+-- one of these lines tells of the call with this number
+abbrev pub HasLine : ℕ → List Line → Type 0
+HasLine number lines = (l : Line) × Contains lines l × (call_of l ≡ number)
+
+-- up to a place in the transcripts, of calls whose numbers are below this one. Each of them to which something happened has its line
 pub record AreLeftSoFar (script : Script) (v : ShardValue) (trail : List Event) (call place least : ℕ) (lines : List Line) : Type 0 where
   pub each : (l : Line) → Contains lines l → IsCounted script v trail call place least l
   pub none : (number : ℕ) → least ≤ number → counted number place trail ≡ 0
+  pub told : (number : ℕ) → 0 < counted number place trail → HasLine number lines
 
 module _ (script : Script) (v : ShardValue) (trail : List Event) (call : ℕ) where
   pub none_left : AreLeftSoFar script v trail call 0 0 []
-  none_left = record { each = λ l among. absurd (none_in l among); none = λ number above. refl }
+  none_left = record { each = λ l among. absurd (none_in l among); none = λ number above. refl; told = λ number some. absurd (omega (arith, some)) }
 
   -- of another call no event is added
   others : (number place events next other : ℕ) → AreAllOf trail number place events next → (number ≡ other → ⊥) → counted other next trail ≡ counted other place trail
@@ -90,8 +97,15 @@ module _ (script : Script) (v : ShardValue) (trail : List Event) (call : ℕ) wh
       | inr here ↦ subst (IsCounted script v trail call next (number + 1)) (only_one l x here) last
     ];
     none = λ other past. others number place l.events next other all (λ same. omega (arith, same, past)) ∙ so_far.none other (omega (arith, above, past));
+    told = λ other some. by_call other some (cases_eq number other);
   }
     where
+      by_call : (other : ℕ) → 0 < counted other next trail → (number ≡ other) ⊎ (number ≡ other → ⊥) → HasLine other (lines ++ l ∷ [])
+      by_call other some (inl is) = (l, Contains-push lines l, sym of ∙ is)
+      by_call other some (inr differ) =
+          let was = so_far.told other (omega (arith, some, others number place l.events next other all differ)) in
+          (was.0, Contains-append_left lines (l ∷ []) was.0 was.1, was.2)
+
       earlier : (x : Line) → IsCounted script v trail call place least x → IsCounted script v trail call next (number + 1) x
       earlier x was = record {
         own = was.own;
@@ -132,3 +146,12 @@ module _ (script : Script) (v : ShardValue) (trail : List Event) (call : ℕ) wh
           left = is.leaves;
         },
       )
+
+  -- so each call in them has its line
+  pub all_have_lines : (place least : ℕ) (lines : List Line) → AreLeftSoFar script v trail call place least lines → length trail ≡ place → HaveLines trail lines
+  all_have_lines place least lines so_far whole number happens among =
+      so_far.told number.0 (omega (
+        arith,
+        some_in (of_call number.0 trail) (OfCall number happens) (passed_among (is_of_call number.0) trail (OfCall number happens) among (eq-eqb number.0 number.0 refl)),
+        ap (λ (events : List Event). length (of_call number.0 events)) (take_all place trail (omega (arith, whole))),
+      ))

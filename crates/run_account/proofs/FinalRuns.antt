@@ -21,6 +21,7 @@ use Rattle.run_account.specs.Runs.{IsOutcome, is_within}
 use Rattle.planned_calls.specs.declared.lines.Line.{Line}
 use Rattle.run_account.proofs.AgreedTrails.{of_call_in_trail}
 use Rattle.run_account.proofs.FinishedShards.{shard_of, shards_from}
+use Rattle.run_account.proofs.Passed.{passed_in}
 
 -- ---- a shard of the run
 
@@ -43,20 +44,6 @@ shard_among count restarts number (first ∷ more) (one, others) (suc k) v there
           (later_in (shard_of count restarts number first one) (shards_from count restarts (number + 1) more others)
           (shard_of count restarts (number + 1 + k) v later.0) later.1),
     )
-
--- ---- an event of a trail
-
-passed_in : (test : Event → Bool) (history : List Event) (event : Event) → Contains (filter test history) event → Contains history event
-passed_in test [] event among = absurd (none_in event among)
-passed_in test (e ∷ more) event among = by_test (test e) (passed_in test more event) among
-  where
-    by_test : (passes : Bool) → (Contains (filter test more) event → Contains more event)
-        → Contains (if passes then e ∷ filter test more else filter test more) event → Contains (e ∷ more) event
-    by_test true on among = elim (first_or_later e (filter test more) event among) [
-      | inl is ↦ subst (Contains (e ∷ more)) is (first_in e more)
-      | inr later ↦ later_in e more event (on later)
-    ]
-    by_test false on among = later_in e more event (on among)
 
 -- ---- the whole
 

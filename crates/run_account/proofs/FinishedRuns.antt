@@ -23,7 +23,7 @@ use Rattle.shards.specs.Shards.{ShardValue, opened_as}
 use Rattle.run_account.specs.Comparing.{Agree}
 use Rattle.run_account.specs.Finishing.{AreFinished, IsFinished}
 use Rattle.planned_calls.specs.RunShards.{AreOfRun, IsOfRun}
-use Rattle.run_account.specs.FinalState.{IsLeftAmong}
+use Rattle.run_account.specs.FinalState.{HaveLines, IsLeftAmong}
 use Rattle.planned_calls.specs.Parts.{ArePartsFrom, IsPart, numbers_in, opened_calls}
 use Rattle.planned_calls.specs.ReportLines.{IsReportOf}
 use Rattle.run_account.specs.Runs.{IsOutcome, IsRunOf, OutcomeValue, is_within, within}
@@ -32,6 +32,7 @@ use Rattle.run_account.proofs.AgreedTrails.{trails_agree}
 use Rattle.run_account.proofs.ApartParts.{part_numbered, shards_apart}
 use Rattle.run_account.proofs.FinishedShards.{all_histories, all_shards, shard_of, shards_from}
 use Rattle.run_account.proofs.FinalRuns.{line_left}
+use Rattle.run_account.proofs.Passed.{not_past, passed_among}
 use Rattle.planned_calls.proofs.PartCalls.{all_in_parts, parts_in_all}
 
 -- ---- one more shard
@@ -42,20 +43,6 @@ finished_more restarts [] v all last = (last, tt)
 finished_more restarts (first ∷ more) v (one, all) last = (one, finished_more restarts more v all last)
 
 -- ---- a history has events of its shard's calls alone
-
-passed_among : (test : Event → Bool) (history : List Event) (event : Event) → Contains history event → test event ≡ true
-    → Contains (filter test history) event
-passed_among test [] event among passes = absurd (none_in event among)
-passed_among test (e ∷ more) event among passes =
-    by_place (first_or_later e more event among) (test e) refl (passed_among test more event)
-  where
-    by_place : (e ≡ event) ⊎ Contains more event → (passing : Bool) → test e ≡ passing
-        → (Contains more event → test event ≡ true → Contains (filter test more) event)
-        → Contains (if passing then e ∷ filter test more else filter test more) event
-    by_place (inl is) true passing on = subst (Contains (e ∷ filter test more)) is (first_in e (filter test more))
-    by_place (inl is) false passing on = absurd (true≢false (sym passes ∙ ap test (sym is) ∙ passing))
-    by_place (inr later) true passing on = later_in e (filter test more) event (on later passes)
-    by_place (inr later) false passing on = on later passes
 
 own_events : (count number : ℕ) (history : List Event) → ((n : ℕ) → (n % count ≡ number → ⊥) → within n history ≡ [])
     → (event : Event) → Contains history event → IsEventOf (numbers_in count number) event
@@ -154,12 +141,23 @@ module _ (script : Script) (plan : Plan) (restarts : ℕ) (few : length plan.cal
   Own : List ShardValue → Type 0
   Own vs = (n place : ℕ) → (n % plan.shards ≡ place → ⊥) → within n (slice_index_or (map (λ v. v.history) vs) place []) ≡ []
 
+  -- each call of the history is within one of the plan, whose lines have one of it
+  all_lines : (v : OutcomeValue) → length v.trails ≡ length plan.calls → IsOutcome v.history v.trails
+      → ((number : ℕ) → number < length plan.calls → HaveLines (slice_index_or v.trails number []) v.lines) → HaveLines v.history v.lines
+  all_lines v calls outcome told call happens among =
+      let number = call.0 % plan_calls in
+      let event = OfCall call happens in
+      let here : Contains (slice_index_or v.trails number []) event = subst (λ (events : List Event). Contains events event) (outcome number)
+      (passed_among (is_within number) v.history event among (eq-eqb number number refl)) in
+      told number (omega (arith, not_past v.trails number event here, calls)) call happens here
+
   pub is_run : MergesAreRuns → (vs : List ShardValue) (v : OutcomeValue) → IsPlanFor script plan → length vs ≡ plan.shards
       → AreOfRun script plan.calls plan.shards 0 vs → (all : AreFinished restarts vs) → Agree plan.shards (map (λ w. w.history) vs) v.trails
       → v.history ≡ merged (map cut_at_restarts (map (λ w. w.history) vs)) restarts → length v.trails ≡ length plan.calls
       → IsOutcome v.history v.trails → IsReportOf script plan v.lines
-      → ((l : Line) → Contains v.lines l → IsLeftAmong script plan.shards vs v.trails l) → IsRunOf script plan v
-  is_run law vs v is sized kept all agree merges calls outcome report left =
+      → ((l : Line) → Contains v.lines l → IsLeftAmong script plan.shards vs v.trails l)
+      → ((number : ℕ) → number < length plan.calls → HaveLines (slice_index_or v.trails number []) v.lines) → IsRunOf script plan v
+  is_run law vs v is sized kept all agree merges calls outcome report left told =
       let shards = shards_from plan.shards restarts 0 vs all in
       let counted : length shards ≡ plan.shards = all_shards plan.shards restarts 0 vs all ∙ sized in
       let some : 0 < plan.shards = omega (arith, is.some_shard) in
@@ -185,6 +183,7 @@ module _ (script : Script) (plan : Plan) (restarts : ℕ) (few : length plan.cal
         opens = opens;
         runs = subst (λ (history : List Event). Runs script history run.start run.end) (sym whole) run.runs;
         report = report;
+        all_lines = all_lines v calls outcome told;
         left = λ l among. line_left script plan.shards restarts vs all run v.history v.trails outcome l (left l among);
         good = λ before later w split runs. of_script.1 (opened_calls 0 plan.calls) before run.start w opens runs;
       }

@@ -10,4 +10,5 @@ pub mod FollowedTrails
 pub mod MergedAssociations
 pub mod MergedParts
 pub mod MergedPlaces
+pub mod Passed
 pub mod SameEvents

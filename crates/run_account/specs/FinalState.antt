@@ -1,8 +1,11 @@
 -- Where a run leaves the call of a line. A reader should check that a line has the state and the phase of the agent that its call has in the world that the
 -- run ends in, that it tells a call as retired only where none is open there any more and the history has the beginning of another on it, and that
--- each has as many events as the history has of its call. This profile's own.
+-- each has as many events as the history has of its call; and that no call of a history is without its line. This profile's own.
 use Rattle.std.specs.Prelude.{◌≡◌, ℕ, ◌==◌, ◌%◌, IsTrue, List, length, Contains, Some, None, ◌⊎◌, slice_get, slice_index_or, []}
+use Rattle.mg_names.specs.declared.identifiers.CallNo.{CallNo}
+use Rattle.mg_model.specs.declared.events.CallEvent.{CallEvent}
 use Rattle.mg_model.specs.declared.events.Event.{Event}
+use Rattle.mg_model.specs.declared.events.Event.TheVariants.{OfCall}
 use Rattle.mg_model.specs.Agent.{Agent}
 use Rattle.mg_model.specs.Numbers.{plan_calls}
 use Rattle.mg_model.specs.Plans.{number_begun}
@@ -42,6 +45,10 @@ IsLeftIn script history end l = IsOpenAs script end l ⊎ (IsGone script history
 pub record IsLeft (script : Script) (history : List Event) (end : World) (l : Line) : Type 0 where
   pub events : l.events ≡ length (of_call (call_of l) history)
   pub left : IsLeftIn script history end l
+
+-- each call to which something happened has its line
+abbrev pub HaveLines : (history : List Event) → List Line → Type 0
+HaveLines history lines = (call : CallNo) (happens : CallEvent) → Contains history (OfCall call happens) → (l : Line) × Contains lines l × (call_of l ≡ call.0)
 
 -- ---- in a shard, and in the transcripts of a call of the plan
 

@@ -9,7 +9,7 @@ use Rattle.mg_model.specs.Plans.{Plan}
 use Rattle.mg_model.specs.Script.{Script}
 use Rattle.mg_model.specs.Shards.{Shard, IsShardRun, histories, merged, restarts_in}
 use Rattle.mg_model.specs.World.{World, IsGood, IsOpening, Runs}
-use Rattle.run_account.specs.FinalState.{IsLeft}
+use Rattle.run_account.specs.FinalState.{HaveLines, IsLeft}
 use Rattle.planned_calls.specs.Parts.{ArePartsFrom, opened_calls}
 use Rattle.planned_calls.specs.ReportLines.{IsReportOf}
 use Rattle.planned_calls.specs.declared.lines.Line.{Line}
@@ -44,7 +44,7 @@ IsOutcome history trails = (number : ℕ) → within number history ≡ slice_in
 
 -- each shard is a run from an opening of its part of the calls, on its class of identifiers, and all were restarted equally often. Their merge is the history:
 -- association by association, in each shard after shard, one restart between two. It is a run of the plan's calls, and so is each beginning of it, and
--- each leads to a good world. Its lines are the plan's report, and each of them is as the history leaves its call
+-- each leads to a good world. Its lines are the plan's report, each of them is as the history leaves its call, and each call of the history has its line
 pub record IsRunOf (script : Script) (plan : Plan) (v : OutcomeValue) : Type 0 where
   pub all_calls : length v.trails ≡ length plan.calls
   pub shards : List Shard
@@ -59,6 +59,7 @@ pub record IsRunOf (script : Script) (plan : Plan) (v : OutcomeValue) : Type 0 w
   pub runs : Runs script v.history start end
   pub report : IsReportOf script plan v.lines
   pub left : (line : Line) → Contains v.lines line → IsLeft script v.history end line
+  pub all_lines : HaveLines v.history v.lines
   pub good : (before later : List Event) (w : World) → v.history ≡ before ++ later → Runs script before start w → IsGood script w
 
 -- ---- the answer

@@ -1,13 +1,13 @@
 //! Whether the lines of a call of the plan tell where the run leaves it, and those that began within it: compared with what their shard shows, and with their
 //! transcripts.
-ghost use Rattle.std.specs.Prelude.{◌≡◌, ℕ, Contains, IfSome, IsTrue, Option, Some, slice_get};
+ghost use Rattle.std.specs.Prelude.{◌≡◌, ℕ, Contains, IfSome, IsTrue, Option, Some, slice_get, slice_index_or, []};
 ghost use Rattle.mg_model.specs.declared.events.Event.TheVariants.{OfCall};
 ghost use Rattle.mg_model.specs.World.{begin};
 ghost use Rattle.mg_model.specs.declared.events.CallEvent.{CallEvent};
 ghost use Rattle.planned_calls.specs.declared.lines.Line.{Line};
 ghost use Rattle.run_account.specs.Comparing.{trail_of, trails_of};
 ghost use Rattle.run_account.specs.FinalStates.{AreAllOf, IsLineOf, Leaves, phase_standing};
-ghost use Rattle.run_account.specs.FinalState.{IsGone, IsLeftAmong, IsLeftBy, call_of};
+ghost use Rattle.run_account.specs.FinalState.{HaveLines, IsGone, IsLeftAmong, IsLeftBy, call_of};
 
 use crate::compare::{ends_at, event_at};
 use mg_model::events::{CallEvent, Event};
@@ -142,7 +142,8 @@ fn are_left_by(
     call: u32,
     lines: &[Line],
 ) -> bool
-    ensures { IsTrue result → (l : Line) → Contains lines.now l → (l.call ≡ call) × IsLeftBy script.now shard.now (trail_of planned.now) l }
+    ensures left { IsTrue result → (l : Line) → Contains lines.now l → (l.call ≡ call) × IsLeftBy script.now shard.now (trail_of planned.now) l }
+    ensures all { IsTrue result → HaveLines (trail_of planned.now) lines.now }
 {
     let mut place = 0;
     let mut least = 0;
@@ -174,7 +175,8 @@ pub(crate) fn are_left(
     call: u32,
     lines: &[Line],
 ) -> bool
-    ensures { IsTrue result → (l : Line) → Contains lines.now l → IsLeftAmong script.now count shards.now (trails_of planned_calls.now) l }
+    ensures left { IsTrue result → (l : Line) → Contains lines.now l → IsLeftAmong script.now count shards.now (trails_of planned_calls.now) l }
+    ensures all { IsTrue result → HaveLines (slice_index_or (trails_of planned_calls.now) call []) lines.now }
 {
     let Some(planned) = planned_calls.get(call as usize) else {
         return false;

@@ -1,11 +1,11 @@
 //! The report of a run: for each call of the plan the lines that a run of it alone tells, which have to be those that the run itself tells, and what its shards
 //! and transcripts leave. The runs alone have nothing to do with each other, so threads tell them.
-ghost use Rattle.std.specs.Prelude.{◌≡◌, Contains, IfOk, length, map};
+ghost use Rattle.std.specs.Prelude.{◌≡◌, ◌<◌, ℕ, [], Contains, IfOk, length, map, slice_index_or};
 ghost use Rattle.std.specs.List.{flat_map, range_with_len, AllZip};
 ghost use Rattle.mg_model.specs.Plans as plans;
 ghost use Rattle.mg_model.specs.Reports.{IsReported};
 ghost use Rattle.run_account.specs.Comparing.{trails_of};
-ghost use Rattle.run_account.specs.FinalState.{IsLeftAmong};
+ghost use Rattle.run_account.specs.FinalState.{HaveLines, IsLeftAmong};
 ghost use Rattle.planned_calls.specs.ReportLines.{AreNumbered, IsReportOf, line_of};
 ghost use Rattle.run_account.specs.CallReport.{IsTold};
 
@@ -56,7 +56,7 @@ fn agreed_lines(
 }
 
 /// The lines of the call of the plan with a number, as a run of it alone tells them and as the run leaves it.
-fn told(
+fn call_report(
     alloc: Global,
     checked: &Checked,
     totals: &PlanTotals<'_>,
@@ -113,7 +113,7 @@ fn all_reports<R: Threads + Sync>(
         .map(
             |place: usize| -> Result<Vec<Line>, RunFault>
                 ensures { IfOk result (λ lines. IsTold checked.entry.now.table totals.entry.now shards.entry.now (trails_of planned_calls.entry.now) place lines.items) }
-            { told(alloc, checked, totals, shards, planned_calls, last, place) },
+            { call_report(alloc, checked, totals, shards, planned_calls, last, place) },
         )
         .collect(rt, alloc)?;
     all
@@ -142,6 +142,7 @@ pub(crate) fn report<R: Threads + Sync>(
     workers: usize,
 ) -> Result<Vec<Line>, RunFault>
     ensures report { IfOk result (λ lines. IsReportOf checked.now.table plan.now lines.items) }
+    ensures all { IfOk result (λ lines. (number : ℕ) → number < length plan.now.calls → HaveLines (slice_index_or (trails_of planned_calls.now) number []) lines.items) }
     ensures left { IfOk result (λ lines. (l : Line) → Contains lines.items l → IsLeftAmong checked.now.table plan.now.shards shards.now (trails_of planned_calls.now) l) }
 {
     reports_add_up();

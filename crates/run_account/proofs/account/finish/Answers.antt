@@ -1,13 +1,13 @@
 -- The shards share nothing and finished alike, so their merge is a run of the plan's calls; and they agree with what the calls went through.
 use Rattle.std.proofs.Common.{◌≡◌, ◌∙◌, ◌<◌, ℕ, List, length, map, rules, sym, ap, subst, arith}
-use Rattle.std.specs.Prelude.{Contains}
+use Rattle.std.specs.Prelude.{[], Contains, slice_index_or}
 use Rattle.std.proofs.lemmas.List.{length-map}
 use Rattle.std.proofs.lemmas.Simd.{map-map}
 use Rattle.mg_model.specs.declared.events.Event.{Event}
 use Rattle.mg_model.specs.Shards.{History, cut_at_restarts, merged}
 use Rattle.run_account.specs.Comparing.{Agree, trail_of, trails_of}
 use Rattle.run_account.specs.Finishing.{AreFinished}
-use Rattle.run_account.specs.FinalState.{IsLeftAmong}
+use Rattle.run_account.specs.FinalState.{HaveLines, IsLeftAmong}
 use Rattle.run_account.specs.Runs.{IsOutcome}
 use Rattle.planned_calls.specs.declared.planned_call.PlannedCall.{PlannedCall}
 use Rattle.planned_calls.specs.declared.lines.Line.{Line}
@@ -58,9 +58,12 @@ returns g c =
     let some : 0 < plan.shards = omega (arith, c.requires.plan.some_shard) in
     let outcome : IsOutcome c.in_ok-history.history.items (trails_of planned_calls) =
     is_outcome plan restarts shards c.in_ok-history.history.items (trails_of planned_calls) some sized all agree merges in
+    let told : (number : ℕ) → number < length plan.calls → HaveLines (slice_index_or (trails_of planned_calls) number []) c.in_ok-report.report.items =
+    λ number below. subst (λ (cs : List PlannedCall). HaveLines (slice_index_or (trails_of cs) number []) c.in_ok-report.report.items) c.as_slice-3.ensures.value
+    (c.in_ok-report.ensures.all number below) in
     let left : (l : Line) → Contains c.in_ok-report.report.items l → IsLeftAmong c.args.checked.now.table plan.shards shards (trails_of planned_calls) l =
     λ l among. subst (λ (cs : List PlannedCall). IsLeftAmong c.args.checked.now.table plan.shards shards (trails_of cs) l) c.as_slice-3.ensures.value
     (c.in_ok-report.ensures.left l among) in
     is_run c.args.checked.now.table plan restarts c.requires.few c.merges_are_runs.ensures shards
     (record { history = c.in_ok-history.history.items; trails = trails_of planned_calls; lines = c.in_ok-report.report.items }) c.requires.plan sized c.requires.kept all agree merges calls
-    outcome c.in_ok-report.ensures.report left
+    outcome c.in_ok-report.ensures.report left told

@@ -1,7 +1,7 @@
 -- What is told of each call is the report of all.
-use Rattle.std.proofs.Common.{◌≡◌, ◌∙◌, ◌+◌, ℕ, List, length, map, ap, subst, arith}
+use Rattle.std.proofs.Common.{◌≡◌, ◌∙◌, ◌+◌, ℕ, List, length, map, sym, ap, subst, arith}
 use Rattle.std.specs.List.{AllZip, flat_map, range_with_len}
-use Rattle.std.specs.Prelude.{Contains, slice_get}
+use Rattle.std.specs.Prelude.{[], Contains, slice_get, slice_index_or}
 use Rattle.std.specs.declared.alloc.Global.{Global}
 use Rattle.std.specs.declared.vec.Vec.{Vec}
 use Rattle.mg_model.specs.Plans.{Plan}
@@ -9,8 +9,9 @@ use Rattle.mg_model.specs.Reports.{IsReport}
 use Rattle.run_account.specs.Comparing.{trails_of}
 use Rattle.planned_calls.specs.ReportLines.{line_of}
 use Rattle.run_account.specs.CallReport.{IsTold}
+use Rattle.run_account.specs.FinalState.{HaveLines}
 use Rattle.planned_calls.specs.declared.lines.Line.{Line}
-use Rattle.run_account.proofs.CallReports.{are_left, are_numbered, are_reported, lines_owned, through}
+use Rattle.run_account.proofs.CallReports.{are_left, are_numbered, are_reported, have_lines, lines_owned, through}
 use Rattle.run_account.proofs.report.report.Goals as goal
 
 -- what is told, with the lines as lists
@@ -47,3 +48,19 @@ returns-clause-left g c l among =
     c.in-Some.ensures c.in_ok-all.ensures) in
     are_left script plan c.args.shards.now trails 0 (length plan.calls) (map items owned) told l
     (subst (λ (lines : List Line). Contains lines l) (c.in_ok-lines.ensures ∙ ap (flat_map items) c.as_slice.ensures.value ∙ lines_owned items owned) among)
+
+pub returns-clause-all : goal.returns-clause-all
+returns-clause-all g c number below =
+    let script = c.args.checked.now.table in
+    let plan = c.args.plan.now in
+    let trails = trails_of c.args.planned_calls.now in
+    let owned = c.in_ok-all.all.items in
+    let items : Vec Line Global → List Line = λ v. v.items in
+    let told = through (IsTold script plan c.args.shards.now trails) items (range_with_len 0 (length plan.calls)) owned
+    (subst (λ (p : Plan). AllZip (λ (place : ℕ) (lines : Vec Line Global). IsTold script p c.args.shards.now trails place lines.items) (range_with_len 0 (length p.calls)) owned)
+    c.in-Some.ensures c.in_ok-all.ensures) in
+    subst (λ (lines : List Line). HaveLines (slice_index_or trails number []) lines)
+    (sym (c.in_ok-lines.ensures ∙ ap (flat_map items) c.as_slice.ensures.value ∙ lines_owned items owned))
+    (subst (λ (n : ℕ). HaveLines (slice_index_or trails n []) (flat_map (λ (own : List Line). own) (map items owned)))
+    (let same : 0 + number ≡ number = omega arith in same)
+    (have_lines script plan c.args.shards.now trails 0 (length plan.calls) (map items owned) told number below))

@@ -1,15 +1,15 @@
 -- The call has the number, and its lines are those of a run of it alone and as the run leaves them.
 use Rattle.std.proofs.Common.{◌≡◌, ◌∙◌, ℕ, List, length, map, refl, sym, ap, subst, rules}
-use Rattle.std.specs.Prelude.{Contains, Some, slice_get}
+use Rattle.std.specs.Prelude.{[], Contains, Some, slice_get, slice_index_or}
 use Rattle.std.proofs.lemmas.Option.{slice_get_read}
 use Rattle.mg_model.specs.Plans.{Plan, PlanCall, epochs_of, opened_as, restarts_of_others, steps_in}
 use Rattle.mg_model.specs.Reports.{IsReported}
 use Rattle.mg_model.specs.Script.{Script}
 use Rattle.run_account.specs.Comparing.{trails_of}
-use Rattle.run_account.specs.FinalState.{IsLeftAmong}
+use Rattle.run_account.specs.FinalState.{HaveLines, IsLeftAmong}
 use Rattle.planned_calls.specs.ReportLines.{AreNumbered, line_of}
 use Rattle.planned_calls.specs.declared.lines.Line.{Line}
-use Rattle.run_account.proofs.report.told.Goals as goal
+use Rattle.run_account.proofs.report.call_report.Goals as goal
 
 pub returns : goal.returns
 returns c =
@@ -33,5 +33,7 @@ returns c =
       left = λ l among.
           subst (λ (s : Script). IsLeftAmong s plan.shards shards trails l) c.script.ensures.table
           (subst (λ (n : ℕ). IsLeftAmong c.script.result.now n shards trails l) count
-          (c.if-not-are_left.ensures (search rules) l (subst (λ (ls : List Line). Contains ls l) (sym c.as_slice.ensures.value) among)));
+          (c.if-not-are_left.ensures.left (search rules) l (subst (λ (ls : List Line). Contains ls l) (sym c.as_slice.ensures.value) among)));
+      all = subst (λ (n : ℕ). HaveLines (slice_index_or trails n []) lines) number
+          (subst (λ (ls : List Line). HaveLines (slice_index_or trails c.in-Ok.number []) ls) c.as_slice.ensures.value (c.if-not-are_left.ensures.all (search rules)));
     }
