@@ -229,7 +229,7 @@ pub record IsOpening (script : Script) (calls : List Opened) (w : World) : Type 
 
 -- ---- what is promised
 
--- two lines are lines of one call whose current state marks the pair as talking
+-- two lines are lines of one call, of the gateway's association, whose current state marks the pair as talking
 pub record IsMarkedPair (script : Script) (w : World) (l m : ℕ) : Type 0 where
   pub call : ℕ
   pub agent : Agent
@@ -239,6 +239,7 @@ pub record IsMarkedPair (script : Script) (w : World) (l m : ℕ) : Type 0 where
   pub first : (i < length script.lines) × (agent.lines i ≡ l)
   pub second : (j < length script.lines) × (agent.lines j ≡ m)
   pub marked : IsTrue (is_marked (state_of script agent.state).talk i j)
+  pub current : agent.association ≡ w.gateway.association
 
 -- of a call that has ended no ephemeral exists that it created, and each of its lines is silent, in the null context, with an events
 -- list that is exactly `al/of` with `strict=exact`

@@ -3,3 +3,4 @@ pub mod GoodPaths
 pub mod Good
 pub mod EveryRun
 pub mod Beginning
+pub mod LeftAlone

@@ -97,6 +97,13 @@ CallsStayApart =
     → w.agent call ≡ Some a → w.agent other ≡ Some b → i < length script.lines → j < length script.lines → (call ≡ other → ⊥)
     → AreJoined w.gateway.board (a.lines i) (b.lines j) → ⊥
 
+-- nothing is joined of a call whose association is past
+abbrev pub LostCallsAreNotJoined : Type 0
+LostCallsAreNotJoined =
+    (script : Script) (w : World) → IsGood script w → LinesAreApart script w → (call : ℕ) (a : Agent) (i m : ℕ)
+    → w.agent call ≡ Some a → a.association < w.gateway.association → i < length script.lines
+    → AreJoined w.gateway.board (a.lines i) m → ⊥
+
 -- ---- the connection model
 
 -- what the gateway's side of the definitions and the checker's each say by themselves is the same: which modes let media into a context

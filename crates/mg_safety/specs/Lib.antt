@@ -2,3 +2,4 @@ pub mod Laws
 pub mod Headline
 pub mod Beginnings
 pub mod MessageNumbers
+pub mod Others

@@ -1,6 +1,6 @@
 //! Small laws of worlds, openings and events.
 ghost use Rattle.mg_safety.specs.MessageNumbers.{MessagesAreNamedByNumber};
-ghost use Rattle.mg_safety.specs.Laws.{OldRequestsDoNothing, RestartsClearLines, EventsKeepOthers, OpeningsAreGood, LinesStayDistinct, CallsStayApart, CommandsKeepOthers, PathsStayInside, SidesAgree};
+ghost use Rattle.mg_safety.specs.Laws.{OldRequestsDoNothing, RestartsClearLines, EventsKeepOthers, OpeningsAreGood, LinesStayDistinct, CallsStayApart, LostCallsAreNotJoined, CommandsKeepOthers, PathsStayInside, SidesAgree};
 
 /// A request whose number is not above the last one executed of its call changes nothing, but that the kept reply may be
 /// sent once more (H.248.1 Annex D.1.1: a transaction is executed at most once).
@@ -38,6 +38,12 @@ pub fn lines_stay_distinct()
 /// In a good world, in which no line is a line of two calls, no line of one call is joined with a line of another.
 pub fn calls_stay_apart()
     ensures { CallsStayApart }
+{}
+
+/// In a good world, in which no line is a line of two calls, nothing of a lost call is joined: no line of a call whose association is past is joined with
+/// any line.
+pub fn lost_calls_are_not_joined()
+    ensures { LostCallsAreNotJoined }
 {}
 
 /// A command leaves the row of every termination, and every cut between two, that it neither names nor creates nor takes out

@@ -1,6 +1,7 @@
 //! The promise over runs. `mg_examples` has runs and certificates that show that it isn't hollow.
 ghost use Rattle.mg_safety.specs.Beginnings.{EndedCallsMayBegin, LostCallsMayNotBegin};
 ghost use Rattle.mg_safety.specs.Headline.{EveryRunIsGood, EveryRunOfOneCallIsGood};
+ghost use Rattle.mg_safety.specs.Others.{OthersAreKept, OthersAreLeftAlone};
 
 /// Where no obligation of a script and its certificate is broken, every world of every run of any number of calls, on lines distinct at each moment, is
 /// good, whatever is lost, repeated, late, refused or restarted: an audio path joins two lines only inside one call whose current
@@ -23,4 +24,15 @@ pub fn ended_calls_may_begin()
 /// On the lines of a call of an older association none may begin, where the script has a line: they report nothing.
 pub fn lost_calls_may_not_begin()
     ensures { LostCallsMayNotBegin }
+{}
+
+/// Where no obligation is broken, an event of one call leaves what another call owns as it was, in every run: the row of each of its lines and of each
+/// ephemeral that it created, and each cut between two of them.
+pub fn others_are_left_alone()
+    ensures { OthersAreLeftAlone }
+{}
+
+/// In every run an event of one call leaves the agent, the link and the messages of every other call as they were, but of the one that it retires.
+pub fn others_are_kept()
+    ensures { OthersAreKept }
 {}

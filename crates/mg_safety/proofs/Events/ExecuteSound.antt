@@ -32,7 +32,7 @@ is_open : (w : World) (call : ℕ) → IsKnown w call → w.gateway.retired call
 is_open w call (inl there) not_retired = there
 is_open w call (inr gone) not_retired = absurd (true≢false (sym gone ∙ not_retired))
 
-has_run : RequestsRun → (script : Script) (entries : List Entry) → IsScript script → IsClosed script entries → (w : World) (request : Request)
+pub has_run : RequestsRun → (script : Script) (entries : List Entry) → IsScript script → IsClosed script entries → (w : World) (request : Request)
     (refusal : Option ChosenRefusal) (g : Gateway) (answer : Reply) (sent : List SentNote) → IsSound script entries w → Contains w.requests request
     → (x : IsExecutedBy w.gateway request refusal g answer sent) → HasRun script entries w request x.end x.failure
 has_run run script entries is_script closed w request refusal g answer sent sound there x =

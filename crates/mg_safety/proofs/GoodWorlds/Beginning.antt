@@ -24,7 +24,7 @@ use Rattle.mg_safety.proofs.GoodWorlds.EveryRun.{runs_sound}
 use Rattle.mg_safety.proofs.GoodWorlds.Good.{sound_good}
 use Rattle.mg_safety.proofs.Invariant.Sound.{IsCurrent, IsLost, IsSound}
 
-reached : (script : Script) (entries : List Entry) → IsScript script → All (IsEntryOf script) entries → NoneBroken script entries
+pub reached : (script : Script) (entries : List Entry) → IsScript script → All (IsEntryOf script) entries → NoneBroken script entries
     → (calls : List Opened) (events : List Event) (opening end : World) → IsOpening script calls opening → Runs script events opening end
     → IsSound script entries end
 reached script entries is_script listed none_broken calls events opening end opens runs =

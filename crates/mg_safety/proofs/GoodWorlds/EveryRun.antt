@@ -34,7 +34,7 @@ use Rattle.mg_safety.proofs.Requests.Run.{CommandsCarry, requests_run}
 use Rattle.mg_safety.proofs.Invariant.Sound.{IsSound}
 use Rattle.mg_safety.proofs.Invariant.Statements.{IsClosed, KeepsSound}
 
-commands_carry : CommandsCarry
+pub commands_carry : CommandsCarry
 commands_carry (AddLine create j i o) = add_line_carried create j i o
 commands_carry (AddEphemeral create j k o) = add_ephemeral_carried create j k o
 commands_carry (ModifyLine place i o) = modify_line_carried place i o

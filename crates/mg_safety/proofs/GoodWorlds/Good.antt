@@ -90,6 +90,7 @@ module _ (script : Script) (entries : List Entry) (closed : IsClosed script entr
     second : (j < length script.lines) × (agent.lines j ≡ m)
     stands : Stands script entries c
     state : c.state ≡ agent.state
+    now : agent.association ≡ w.gateway.association
     path : paths.HasPath c i j
 
   abbrev row_at : ℕ → Option Row
@@ -131,6 +132,7 @@ module _ (script : Script) (entries : List Entry) (closed : IsClosed script entr
             second = (last.within, ap (λ (lines : ℕ → ℕ). lines last.i) (sym same) ∙ last.line_is);
             stands = current.stands;
             state = current.state;
+            now = current.association;
             path = record {
               another = λ e. path.another (sym is ∙ ap a.lines e ∙ ap (λ (lines : ℕ → ℕ). lines last.i) (sym same) ∙ last.line_is);
               crossings = found.crossings;
@@ -158,6 +160,7 @@ module _ (script : Script) (entries : List Entry) (closed : IsClosed script entr
         second = p.second;
         marked = subst (λ state. IsTrue (is_marked (state_of script state).talk p.i p.j)) p.state
             (closed.marked p.c p.stands p.i p.j p.first.0 p.second.0 (inl p.path));
+        current = p.now;
       }
   joined l m (inr path) =
       let p = path_of m l path in
@@ -171,6 +174,7 @@ module _ (script : Script) (entries : List Entry) (closed : IsClosed script entr
         second = p.first;
         marked = subst (λ state. IsTrue (is_marked (state_of script state).talk p.j p.i)) p.state
             (closed.marked p.c p.stands p.j p.i p.second.0 p.first.0 (inr p.path));
+        current = p.now;
       }
 
   -- ---- calls that have ended

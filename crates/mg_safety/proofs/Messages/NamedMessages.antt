@@ -140,7 +140,7 @@ pub event_numbered : (script : Script) (w after : World) (event : Event) → IsN
 event_numbered script w after (OfCall call happens) was occurs = occurs_numbered script w after call.0 happens was occurs
 event_numbered script w after Restart was occurs = subst IsNumbered (sym occurs.1) (restart_numbered w was)
 
-runs_numbered : (script : Script) (events : List Event) (w end : World) → IsNumbered w → Runs script events w end → IsNumbered end
+pub runs_numbered : (script : Script) (events : List Event) (w end : World) → IsNumbered w → Runs script events w end → IsNumbered end
 unfolding Runs
 runs_numbered script [] w end was runs = subst IsNumbered (sym runs) was
 runs_numbered script (event ∷ more) w end was runs = runs_numbered script more runs.0 end (event_numbered script w runs.0 event was runs.1.0) runs.1.1

@@ -13,8 +13,8 @@ use Rattle.mg_model.specs.Media.{hops, crosses, goes_over, AreJoined}
 use Rattle.mg_model.specs.Script.{Script}
 use Rattle.mg_model.specs.World.{World, Opened, IsOpening, IsReleased}
 use Rattle.mg_model.specs.Board.{null_row}
-use Rattle.mg_safety.specs.Laws.{OpeningsAreGood, CallsStayApart}
-use Rattle.mg_model.proofs.Cases.{three_parts}
+use Rattle.mg_safety.specs.Laws.{OpeningsAreGood, CallsStayApart, LostCallsAreNotJoined}
+use Rattle.mg_model.proofs.Cases.{the_some, three_parts}
 
 -- ---- nothing is joined where all stands in the null context
 
@@ -72,3 +72,12 @@ calls_apart script w good apart call other a b i j there where_other first secon
     let mine = apart pair.call call pair.agent a pair.i i pair.open_call there pair.first.0 first pair.first.1 in
     let theirs = apart pair.call other pair.agent b pair.j j pair.open_call where_other pair.second.0 second pair.second.1 in
     differ (sym mine ∙ theirs)
+
+-- the one call that has the line is of the gateway's association
+pub lost_are_not_joined : LostCallsAreNotJoined
+lost_are_not_joined script w good apart call a i m there lost within joined =
+    let pair = good.joined (a.lines i) m joined in
+    let mine : pair.call ≡ call = apart pair.call call pair.agent a pair.i i pair.open_call there pair.first.0 within pair.first.1 in
+    let same : pair.agent ≡ a = the_some pair.agent a (sym pair.open_call ∙ ap w.agent mine ∙ there) in
+    let now : a.association ≡ w.gateway.association = ap (λ (b : Agent). b.association) (sym same) ∙ pair.current in
+    omega (arith, lost, now)
