@@ -67,7 +67,7 @@ create_once (command ∷ more) = list_all (creates_apart command) more && create
 abbrev pub IsStateOf : Script → State → Type 0
 IsStateOf script state = All (IsCommandOf script) state.commands × IsTrue (create_once state.commands)
 
--- at most four lines and four ephemerals; commands name what is declared, and a state creates no name twice
+-- at most four lines, four contexts and four ephemerals; commands name what is declared, and a state creates no name twice
 pub record IsScript (script : Script) : Type 0 where
   pub lines : length script.lines ≤ 4
   pub ephemerals : length script.ephemerals ≤ 4

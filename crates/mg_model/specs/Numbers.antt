@@ -1,6 +1,5 @@
--- The numbers that mean something by themselves: the ContextIDs that are the number of no context (H.248.1 section 6.1.2), and where the
--- numbers of associations, of transactions and notes, and of ephemerals begin and end (this profile's own). Both sides of the
--- definitions go by these names.
+-- The numbers that mean something by themselves: the ContextIDs that are the number of no context (H.248.1 section 8.1.2 and Annex A), and where
+-- the numbers of associations, of transactions and notes, and of ephemerals begin and end (this profile's own).
 use Rattle.std.specs.Prelude.{ℕ}
 
 -- the null context, CHOOSE and ALL

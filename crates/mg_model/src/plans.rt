@@ -26,7 +26,7 @@ pub enum PlanStep {
     TakesReply(Option<u32>),
     /// The call goes on from a state whose request is empty.
     Passes,
-    /// A note reaches the call: the one of this number, or the oldest that it hasn't accepted.
+    /// A note reaches the call: the one of this number, or the oldest of its association that it hasn't accepted.
     TakesNote(Option<u32>),
     /// The timer of the call's state ends.
     TimesOut,

@@ -6,7 +6,7 @@ pub struct LineNo(pub u32);
 #[derive(Clone, Copy, Debug, PartialEq, Eq, PartialOrd, Ord, Hash)]
 pub struct CallNo(pub u32);
 
-/// A ContextID (H.248.1 section 6.1.2).
+/// A ContextID (H.248.1 section 8.1.2 and Annex A).
 #[derive(Clone, Copy, Debug, PartialEq, Eq, PartialOrd, Ord, Hash)]
 pub struct ContextId(pub u32);
 
