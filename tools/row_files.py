@@ -18,12 +18,12 @@ LAYERS = {
     "agents": "test_calls",
     "calls": "test_calls",
     "messages": "test_calls",
-    "plans": "test_calls",
-    "scripts": "test_calls",
-    "certificates": "test_calls",
-    "checks": "test_calls",
     "shards": "test_calls",
-    "tables": "test_calls",
+    "scripts": "test_readers",
+    "certificates": "test_readers",
+    "plans": "test_readers",
+    "checks": "test_readers",
+    "tables": "test_readers",
 }
 
 

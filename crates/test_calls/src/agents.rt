@@ -1,12 +1,12 @@
 //! The layer of agents: what reaches the agent of a call is written out in each row, and no gateway is there.
-use crate::documents;
-use crate::failure::{Failure, once_more, wanted};
 use crate::messages::{Delivered, Party, read_delivered, read_party};
-use crate::rows::{number, opening, row_in, words};
 use crate::told::{Phase, Standing, waiting};
 use agent::{Ahead, Delivery, Plain, PlainFault};
 use mg_names::identifiers::{Assoc, CallNo};
 use script_table::Script;
+use test_documents::scripts::{Sizes, script};
+use test_words::failure::{Failure, once_more, wanted};
+use test_words::rows::{number, opening, row_in, words};
 
 /// What is seen of an agent.
 type Seen = (u8, Assoc, u64, bool, Option<(u32, usize)>, bool);
@@ -240,7 +240,8 @@ fn tell_opened(rt: &HostRuntime, script: &Script, section: &str) -> Result<(), F
 /// The rows of agents.
 pub(crate) fn tell(rt: &HostRuntime, rows: &str) -> Result<(), Failure> {
     let (head, rest) = wanted(rows.split_once("\nopen "))?;
-    let script = documents::script(rt, head)?;
+    let script = script(rt.alloc(), head)?;
+    println!(rt; "{}", Sizes(&script))?;
     for section in rest.split("\nopen ") {
         tell_opened(rt, &script, section)?;
     }

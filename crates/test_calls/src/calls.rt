@@ -1,9 +1,6 @@
 //! The layer of typed calls: a call on a gateway, which takes what reaches it in its phase alone.
-use crate::documents;
-use crate::failure::{Failure, wanted};
 use crate::mail::{Mail, chosen, line_event};
 use crate::messages::{Party, read_party};
-use crate::rows::{number, opening, row_in, words};
 use crate::told_events::tell_events;
 use crate::typed::{Done, events, log, logged, room, standing, stepped};
 use agent::{Call, Ended, Next, Refusal, Retired, Waiting};
@@ -11,6 +8,9 @@ use mg_model::events::{CallEvent, Event};
 use mg_model::failures::ChosenRefusal;
 use mg_names::identifiers::CallNo;
 use script_table::Script;
+use test_documents::scripts::{Sizes, script};
+use test_words::failure::{Failure, wanted};
+use test_words::rows::{number, opening, row_in, words};
 
 /// The gateway of a call, and what its rows are of.
 #[derive(Drop)]
@@ -178,7 +178,7 @@ impl<'r> Desk<'r> {
     /// The event that a row puts into what happened to the call.
     fn event(&self, words: &[&str]) -> Result<Event, Failure> {
         let [call, rest @ ..] = words else {
-            return Err(Failure::Rows);
+            return Err(Failure::Unreadable);
         };
         if *call == "restart" {
             return Ok(Event::Restart);
@@ -307,7 +307,8 @@ fn tell_opened(rt: &HostRuntime, script: &Script, section: &str) -> Result<(), F
 /// The rows of typed calls.
 pub(crate) fn tell(rt: &HostRuntime, rows: &str) -> Result<(), Failure> {
     let (head, rest) = wanted(rows.split_once("\nopen "))?;
-    let script = documents::script(rt, head)?;
+    let script = script(rt.alloc(), head)?;
+    println!(rt; "{}", Sizes(&script))?;
     for section in rest.split("\nopen ") {
         tell_opened(rt, &script, section)?;
     }

@@ -1,5 +1,4 @@
 //! A gateway, and the last note and reply that are on their way from it to a call.
-use crate::failure::{Failure, wanted};
 use crate::messages::{Delivered, Party, read_delivered};
 use gateway::{Answer, BeginFault, Gateway, OpenFault};
 use mg_model::failures::{ChosenRefusal, Refusal};
@@ -10,6 +9,7 @@ use mg_names::symbols::Symbol;
 use requests::{Reply, Request, SentNote};
 use script_table::Script;
 use std::alloc::Global;
+use test_words::failure::{Failure, wanted};
 
 /// A gateway with the last note and the last reply of it.
 #[derive(Drop)]
@@ -51,7 +51,7 @@ pub(crate) fn line_event(
     words: &[&str],
 ) -> Result<(LineNo, LineEvent), Failure> {
     let [verb, name, rest @ ..] = words else {
-        return Err(Failure::Rows);
+        return Err(Failure::Unreadable);
     };
     let line = line_of(script, party, name)?;
     let event = match (*verb, rest) {
@@ -61,7 +61,7 @@ pub(crate) fn line_event(
         ("pause", []) => LineEvent::Pause,
         ("digit", [symbol]) => LineEvent::Digit(wanted(Symbol::read(symbol))?),
         ("end", [signal]) => LineEvent::SignalEnd(wanted(Signal::read(signal))?),
-        _ => return Err(Failure::Rows),
+        _ => return Err(Failure::Unreadable),
     };
     Ok((line, event))
 }
@@ -74,7 +74,7 @@ pub(crate) fn chosen(words: &[&str]) -> Result<Option<ChosenRefusal>, Failure> {
             place: wanted(place.parse::<usize>().ok())?,
             refusal: Refusal::InternalFailure,
         })),
-        _ => Err(Failure::Rows),
+        _ => Err(Failure::Unreadable),
     }
 }
 

@@ -1,6 +1,4 @@
 //! Messages that a row writes out, as they may reach a call.
-use crate::failure::{Failure, wanted};
-use crate::rows::{association, number};
 use contexts::{Board, Done};
 use line_events::{EventList, LineSet, Note};
 use mg_model::failures::Failure as Failed;
@@ -14,6 +12,8 @@ use mg_names::strictness::Strict;
 use requests::{LineNote, MessageId, Reply, SentNote};
 use script_table::Script;
 use std::alloc::Global;
+use test_words::failure::{Failure, wanted};
+use test_words::rows::{association, number};
 
 /// What reaches a call.
 #[derive(Debug, Drop)]
@@ -40,7 +40,7 @@ pub(crate) struct Party {
 /// The lines of a call that opens, as a row writes them: `7 on 11 12`.
 pub(crate) fn read_party(words: &[&str]) -> Result<Party, Failure> {
     let [call, _on, first, second] = words else {
-        return Err(Failure::Rows);
+        return Err(Failure::Unreadable);
     };
     let lines = [LineNo(number(first)?), LineNo(number(second)?)];
     Ok(Party {
@@ -90,7 +90,7 @@ fn raise(
     };
     match raised {
         Ok(Some(note)) => Ok(note),
-        _ => Err(Failure::Rows),
+        _ => Err(Failure::Unreadable),
     }
 }
 
@@ -205,7 +205,7 @@ fn read(
             let results = Vec::from_array(alloc, [added(alloc, party)?])?;
             reply(party, [request, "1"], results, failure)
         }
-        _ => Err(Failure::Rows),
+        _ => Err(Failure::Unreadable),
     }
 }
 

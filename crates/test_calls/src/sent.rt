@@ -2,14 +2,14 @@
 ghost use Rattle.std.specs.Prelude.{◌≡◌, OnOk};
 ghost use Rattle.call_messages.specs.Messages.{HasRoomToSend, HasRoomForNotes};
 
-use crate::failure::{Failure, wanted};
 use crate::messages::raised;
-use crate::rows::row_in;
 use call_messages::Messages;
 use mg_names::identifiers::{Assoc, CallNo, LineNo};
 use mg_names::kinds::Kind;
 use requests::{LineNote, MessageId, Request, SentNote};
 use std::alloc::Global;
+use test_words::failure::{Failure, wanted};
+use test_words::rows::row_in;
 
 const ID: MessageId = MessageId {
     call: CallNo(7),

@@ -1,18 +1,18 @@
 //! A shard as a row opens it, of a script that is checked.
-use crate::documents::Document;
-use crate::failure::Failure;
-use crate::rows::{number, words};
 use agent::Next;
 use composition::{CheckFault, Checked, Verdict, check};
 use mg_names::identifiers::{CallNo, LineNo};
 use shards::{OpenFault, OpenedCall, Shard};
 use std::alloc::Global;
+use test_documents::documents::Document;
+use test_words::failure::Failure;
+use test_words::rows::{number, words};
 
 /// A call with which a shard opens: `0 on 1 2`.
 fn opened_call(alloc: Global, text: &str) -> Result<OpenedCall, Failure> {
     let words = words(alloc, text)?;
     let [call, _on, rest @ ..] = words.as_slice() else {
-        return Err(Failure::Rows);
+        return Err(Failure::Unreadable);
     };
     let mut lines = Vec::new(alloc);
     for word in rest {

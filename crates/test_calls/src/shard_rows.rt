@@ -1,9 +1,5 @@
 //! The layer of shards: a gateway with its calls and their history, which takes a call, an event of it, and hands the call back. Calls are named by their places, 0 and 1.
-use crate::documents::{Document, gather};
-use crate::failure::{Failure, once_more, wanted};
 use crate::messages::Delivered;
-use crate::plan_rows::{first_step, read};
-use crate::rows::{association, number, opening, parted, row_in};
 use crate::shard_opening::{Unopened, checked, opened};
 use crate::told_events::{Told, tell_events};
 use crate::typed::{Done, Seen, seen, standing, stepped};
@@ -15,6 +11,11 @@ use mg_names::identifiers::{Assoc, CallNo};
 use script_table::Script;
 use shards::{RestartFault, Shard, Stepped};
 use std::alloc::AllocError;
+use test_documents::documents::{Document, gather};
+use test_documents::plan_texts::{first_step, read, write_step};
+use test_documents::scripts::Sizes;
+use test_words::failure::{Failure, once_more, wanted};
+use test_words::rows::{association, number, opening, parted, row_in};
 
 /// The number of a call that begins is so much higher than that of the one before it.
 const BEGUN: u32 = 100;
@@ -137,14 +138,10 @@ impl<'s> Desk<'_, 's> {
 
     /// The step that a row writes by the words of a plan.
     fn plan_step(&mut self, text: &str) -> Result<PlanStep, Failure> {
-        self.document.clear();
-        self.document
-            .push("[[call]]\nlines = [1, 2]\nepochs = [['")?;
-        self.document.push(text)?;
-        self.document.push("']]\n")?;
+        write_step(&mut self.document, "'", text)?;
         match read(self.rt.alloc(), self.document.bytes(), self.script) {
             Ok(plan) => wanted(first_step(&plan)),
-            Err(_) => Err(Failure::Rows),
+            Err(_) => Err(Failure::Unreadable),
         }
     }
 
@@ -246,7 +243,7 @@ impl<'s> Desk<'_, 's> {
             Some(("standing", rest)) => self.tell_standing(rest),
             None if row == "restart" => self.restart(),
             None if row == "history" => tell_events(self.rt, self.shard.history()),
-            _ => Err(Failure::Rows),
+            _ => Err(Failure::Unreadable),
         }
     }
 
@@ -292,7 +289,7 @@ fn tell_opened(rt: &HostRuntime, checked: &Checked, section: &str) -> Result<(),
     match opened(rt.alloc(), checked, opening) {
         Ok((shard, nexts)) => tell_shard(rt, checked, shard, nexts, rows),
         Err(Unopened::Memory) => Err(Failure::Memory),
-        Err(Unopened::Rows) => Err(Failure::Rows),
+        Err(Unopened::Rows) => Err(Failure::Unreadable),
         Err(Unopened::WrongLines) => {
             println!(rt; "WrongLines")?;
             Ok(())
@@ -306,12 +303,7 @@ fn tell_opened(rt: &HostRuntime, checked: &Checked, section: &str) -> Result<(),
 
 /// The rows of shards of a checked script.
 fn tell_checked(rt: &HostRuntime, checked: &Checked, rows: &str) -> Result<(), Failure> {
-    let script = checked.script();
-    println!(rt;
-        "script => lines {}, states {}",
-        script.lines(),
-        script.states()
-    )?;
+    println!(rt; "{}", Sizes(checked.script()))?;
     println!(rt;
         "certificate => yes {} {} {}",
         checked.states(),
@@ -335,6 +327,6 @@ pub(crate) fn tell(rt: &HostRuntime, rows: &str) -> Result<(), Failure> {
     match checked(rt.alloc(), &script, &cert) {
         Ok(Verdict::Yes(checked)) => tell_checked(rt, &checked, rest),
         Err(CheckFault::NoMemory) => Err(Failure::Memory),
-        _ => Err(Failure::Rows),
+        _ => Err(Failure::Unreadable),
     }
 }

@@ -1,10 +1,10 @@
 //! How events of calls are written: by the words of a plan, with the numbers that an event has.
-use crate::failure::Failure;
 use mg_model::events::{CallEvent, Event};
 use mg_model::failures::{ChosenRefusal, Refusal};
 use mg_model::line_events::{Hook, LineEvent};
 use mg_names::identifiers::LineNo;
 use std::fmt;
+use test_words::failure::Failure;
 
 /// An event as it is written.
 #[derive(Clone, Copy, Debug)]

@@ -1,11 +1,11 @@
 //! Steps of a typed call, by what it is then; the call always comes back.
-use crate::failure::{Failure, once_more};
 use crate::messages::Delivered;
 use crate::told::{Phase, Standing, waiting};
 use agent::{Call, Ended, Next, Refusal, Refused, Resting, Waiting};
 use mg_model::events::Event;
 use mg_names::identifiers::Assoc;
 use script_table::Script;
+use test_words::failure::{Failure, once_more};
 
 /// What is seen of a call: its state, its association, and how many events happened to it.
 pub(crate) type Seen = (u8, Assoc, usize);

@@ -1,15 +1,15 @@
 //! The layer `contexts`: a board, commands on it, what exists on it, and where media goes.
-use crate::failure::Failure;
 use crate::names::{self, NO_NAMES, Names};
 use crate::rows::{self, Layer};
-use crate::words::Words;
-use crate::{items, results};
+use crate::{items, results, seen};
 use contexts::{Board, Done, ExecFault};
 use mg_model::items::Item;
 use mg_model::rows::Row;
 use mg_names::identifiers::{ContextId, LineNo};
-use std::alloc::Global;
+use std::alloc::{AllocError, Global};
 use std::mem;
+use test_words::failure::Failure;
+use test_words::words::Words;
 
 /// A board, with another one that is kept beside it, and the names of what the first one gave.
 #[derive(Drop)]
@@ -22,110 +22,59 @@ pub(crate) struct Boards {
 }
 
 /// A board with these lines, whose numbers leave `first` where they are divided by `stride`.
-fn made(alloc: Global, lines: &[LineNo], (first, stride): (u32, u32)) -> Result<Board, Failure> {
+fn made(alloc: Global, lines: &[LineNo], (first, stride): (u32, u32)) -> Result<Board, AllocError> {
     if first >= stride {
-        return made_plain(alloc, lines);
+        return Board::new(alloc, lines);
     }
-    match Board::with_ids(alloc, lines, first, stride) {
-        Ok(board) => Ok(board),
-        Err(_) => Ok(Board::with_ids(alloc, lines, first, stride)?),
-    }
+    Board::with_ids(alloc, lines, first, stride)
 }
 
-/// A board with these lines.
-fn made_plain(alloc: Global, lines: &[LineNo]) -> Result<Board, Failure> {
-    match Board::new(alloc, lines) {
-        Ok(board) => Ok(board),
-        Err(_) => Ok(Board::new(alloc, lines)?),
-    }
-}
-
-/// A command is executed.
-fn exec(board: &mut Board, item: &Item) -> Result<Done, ExecFault> {
-    match board.exec(item) {
-        Err(ExecFault::NoMemory) => board.exec(item),
-        answer => answer,
-    }
-}
-
-/// An equal board.
-fn copied(board: &Board) -> Result<Board, Failure> {
-    match board.copy() {
-        Ok(copied) => Ok(copied),
-        Err(_) => Ok(board.copy()?),
-    }
-}
-
-/// The lines that a board tells.
-fn lines_of(board: &Board) -> Result<Vec<LineNo>, Failure> {
-    match board.lines() {
-        Ok(found) => Ok(found),
-        Err(_) => Ok(board.lines()?),
-    }
-}
-
-/// The ephemerals that a board tells.
-fn ephemerals_of(board: &Board) -> Result<Vec<u32>, Failure> {
-    match board.ephemerals() {
-        Ok(found) => Ok(found),
-        Err(_) => Ok(board.ephemerals()?),
-    }
-}
-
-/// The contexts that a board tells.
-fn contexts_of(board: &Board) -> Result<Vec<ContextId>, Failure> {
-    match board.context_numbers() {
-        Ok(found) => Ok(found),
-        Err(_) => Ok(board.context_numbers()?),
-    }
-}
-
-fn write_contexts(rt: &HostRuntime, names: &Names, contexts: &[ContextId]) -> Result<(), Failure> {
+fn write_contexts(told: &mut String, names: &Names, contexts: &[ContextId]) -> Result<(), Failure> {
     for context in contexts {
-        print!(rt; " ")?;
-        names.write_context(rt, *context)?;
+        write!(told, " ")?;
+        names.write_context(told, *context)?;
     }
     Ok(())
 }
 
 /// Writes what the board keeps of a termination.
-pub(crate) fn write_row(rt: &HostRuntime, names: &Names, row: Option<Row>) -> Result<(), Failure> {
+pub(crate) fn write_row(told: &mut String, names: &Names, row: Option<Row>) -> Result<(), Failure> {
     let Some(row) = row else {
-        print!(rt; "unknown")?;
+        write!(told, "unknown")?;
         return Ok(());
     };
-    print!(rt; "in ")?;
-    names.write_context(rt, row.place)?;
-    print!(rt; ", {}", row.mode.text())?;
+    write!(told, "in ")?;
+    names.write_context(told, row.place)?;
+    write!(told, ", {}", row.mode.text())?;
     if let Some(remote) = row.remote {
-        print!(rt; ", remote ")?;
-        names.write_ephemeral(rt, remote)?;
+        write!(told, ", remote ")?;
+        names.write_ephemeral(told, remote)?;
     }
     Ok(())
 }
 
 /// Writes what exists on a board.
 pub(crate) fn write_existing(
-    rt: &HostRuntime,
+    told: &mut String,
     names: &Names,
     board: &Board,
     what: &str,
 ) -> Result<(), Failure> {
     match what {
         "lines" => {
-            let found = lines_of(board)?;
-            print!(rt; "{}:", found.len())?;
-            results::write_lines(rt, found.as_slice())
+            let found = board.lines()?;
+            write!(told, "{}:", found.len())?;
+            results::write_lines(told, found.as_slice())
         }
         "ephemerals" => {
-            let found = ephemerals_of(board)?;
-            print!(rt; "{}:", found.len())?;
-            results::write_ephemerals(rt, names, found.as_slice())
+            let found = board.ephemerals()?;
+            write!(told, "{}:", found.len())?;
+            results::write_ephemerals(told, names, found.as_slice())
         }
         _ => {
-            let found = contexts_of(board)?;
-            print!(rt; "{}:", board.contexts())?;
-            write_contexts(rt, names, found.as_slice())
+            let found = board.context_numbers()?;
+            write!(told, "{}:", board.contexts())?;
+            write_contexts(told, names, found.as_slice())
         }
     }
 }
@@ -157,32 +106,32 @@ fn rest(names: &Names, words: &mut Words<'_>) -> Option<u32> {
 
 /// Writes what a board, or the names, tell.
 pub(crate) fn write_read(
-    rt: &HostRuntime,
+    told: &mut String,
     names: &Names,
     board: &Board,
     verb: &str,
     words: &mut Words<'_>,
 ) -> Result<(), Failure> {
     match verb {
-        "lines" | "ephemerals" | "contexts" => write_existing(rt, names, board, verb),
+        "lines" | "ephemerals" | "contexts" => write_existing(told, names, board, verb),
         "show" => match names.termination(words.next()) {
-            Some(termination) => write_row(rt, names, board.get(termination)),
+            Some(termination) => write_row(told, names, board.get(termination)),
             None => Err(Failure::Unreadable),
         },
         "members" => match names.context(words.next()) {
-            Some(context) => Ok(print!(rt; "{}", board.members(context).len())?),
+            Some(context) => Ok(write!(told, "{}", board.members(context).len())?),
             None => Err(Failure::Unreadable),
         },
         "number" => match number_of(names, words.next()) {
-            Some(number) => Ok(print!(rt; "{number}")?),
+            Some(number) => Ok(write!(told, "{number}")?),
             None => Err(Failure::Unreadable),
         },
         "rest" => match rest(names, words) {
-            Some(rest) => Ok(print!(rt; "{rest}")?),
+            Some(rest) => Ok(write!(told, "{rest}")?),
             None => Err(Failure::Unreadable),
         },
         _ => match asked(names, board, verb, words) {
-            Some(answer) => rows::yes_or_no(rt, answer),
+            Some(answer) => rows::yes_or_no(told, answer),
             None => Err(Failure::Unreadable),
         },
     }
@@ -192,71 +141,77 @@ impl Boards {
     /// A board without lines.
     pub(crate) fn open(alloc: Global) -> Result<Boards, Failure> {
         let lines = Vec::with_capacity(alloc, 24)?;
-        let board = made_plain(alloc, &[])?;
+        let board = Board::new(alloc, &[])?;
         Ok(Boards {
             alloc,
             lines,
             board,
-            kept: made_plain(alloc, &[])?,
+            kept: Board::new(alloc, &[])?,
             names: NO_NAMES,
         })
     }
 
     /// A board with the lines that the words name, and of the class that they begin with, such as `class=3/16`.
-    fn anew(&mut self, rt: &HostRuntime, words: &mut Words<'_>) -> Result<(), Failure> {
+    fn anew(&mut self, told: &mut String, words: &mut Words<'_>) -> Result<(), Failure> {
         let class = words.class();
         names::read_lines(&mut self.lines, words.rest())?;
         self.board = made(self.alloc, self.lines.as_slice(), class)?;
         self.names = NO_NAMES;
-        rows::done(rt)
+        rows::done(told)
     }
 
     /// A command.
     fn command(
         &mut self,
-        rt: &HostRuntime,
+        told: &mut String,
         verb: &str,
         words: &mut Words<'_>,
     ) -> Result<(), Failure> {
         let Some(item) = items::item(&self.names, verb, words) else {
             return Err(Failure::Unreadable);
         };
-        match exec(&mut self.board, &item) {
+        match self.board.exec(&item) {
             Ok(done) => {
                 results::give(&mut self.names, &done);
-                results::write_done(rt, &self.names, &done)
+                results::write_done(told, &self.names, &done)
             }
-            Err(ExecFault::Code(code)) => results::write_code(rt, code),
+            Err(ExecFault::Code(code)) => results::write_code(told, code),
             Err(ExecFault::NoMemory) => Err(Failure::Memory),
         }
     }
 
     /// A copy is kept, or the board and what was kept change places.
-    fn keep(&mut self, rt: &HostRuntime, verb: &str) -> Result<(), Failure> {
+    fn keep(&mut self, told: &mut String, verb: &str) -> Result<(), Failure> {
         match verb {
-            "copy" => self.kept = copied(&self.board)?,
+            "copy" => self.kept = self.board.copy()?,
             _ => mem::swap(&mut self.board, &mut self.kept),
         }
-        rows::done(rt)
+        rows::done(told)
     }
 }
 
 impl Layer for Boards {
-    fn answer(&mut self, rt: &HostRuntime, words: &mut Words<'_>) -> Result<(), Failure> {
+    fn show(&self, told: &mut String) -> Result<(), Failure> {
+        self.names.show(told)?;
+        seen::show_board(told, &self.board)?;
+        seen::show_board(told, &self.kept)
+    }
+
+    fn answer(&mut self, told: &mut String, words: &mut Words<'_>) -> Result<(), Failure> {
         let verb = words.next();
         match verb {
-            "new" => self.anew(rt, words),
-            "add" | "modify" | "move" | "subtract" | "topology" => self.command(rt, verb, words),
-            "copy" | "swap" => self.keep(rt, verb),
+            "new" => self.anew(told, words),
+            "add" | "modify" | "move" | "subtract" | "topology" => self.command(told, verb, words),
+            "copy" | "swap" => self.keep(told, verb),
             "settle" => {
                 self.board.settle();
-                rows::done(rt)
+                rows::done(told)
             }
             "reset" => {
                 self.board.reset();
-                rows::done(rt)
+                rows::done(told)
             }
-            _ => write_read(rt, &self.names, &self.board, verb, words),
+            _ => write_read(told, &self.names, &self.board, verb, words),
         }
     }
 }

@@ -2,12 +2,12 @@
 ghost use Rattle.digits.specs.Progress.{Follows};
 
 use crate::events;
-use crate::failure::Failure;
 use crate::rows::Layer;
-use crate::words::Words;
 use digits::{Collector, DigitMap, MapFault, Step};
 use mg_names::symbols::Symbol;
 use std::alloc::Global;
+use test_words::failure::Failure;
+use test_words::words::Words;
 
 /// Digit maps, of which none is kept.
 #[derive(Drop)]
@@ -15,19 +15,11 @@ pub(crate) struct DigitMaps {
     pub(crate) alloc: Global,
 }
 
-/// An equal map.
-fn copied(alloc: Global, map: &DigitMap) -> Result<DigitMap, Failure> {
-    match map.copy(alloc) {
-        Ok(copied) => Ok(copied),
-        Err(_) => Ok(map.copy(alloc)?),
-    }
-}
-
 /// Writes why a text is no digit map, and at which byte of it, from 0.
-fn write_fault(rt: &HostRuntime, fault: MapFault) -> Result<(), Failure> {
-    print!(rt; "{} {}", fault.number(), fault.name())?;
+fn write_fault(told: &mut String, fault: MapFault) -> Result<(), Failure> {
+    write!(told, "{} {}", fault.number(), fault.name())?;
     match fault {
-        MapFault::BadSymbol { at } | MapFault::BadRange { at } => print!(rt; " at {at}")?,
+        MapFault::BadSymbol { at } | MapFault::BadRange { at } => write!(told, " at {at}")?,
         MapFault::NoMemory => return Err(Failure::Memory),
         MapFault::Empty | MapFault::TooLong => {}
     }
@@ -76,18 +68,18 @@ fn dialled<'a>(words: &mut Words<'a>) -> (&'a str, bool) {
 }
 
 /// Writes a step.
-fn write_step(rt: &HostRuntime, step: &Step) -> Result<(), Failure> {
+fn write_step(told: &mut String, step: &Step) -> Result<(), Failure> {
     match step {
-        Step::More => print!(rt; "more")?,
-        Step::Closed => print!(rt; "closed")?,
+        Step::More => write!(told, "more")?,
+        Step::Closed => write!(told, "closed")?,
         Step::Done {
             method,
             alternative,
             symbols,
         } => {
-            events::write_method(rt, *method, symbols.as_slice())?;
+            events::write_method(told, *method, symbols.as_slice())?;
             if let Some(alternative) = alternative {
-                print!(rt; ", alternative {alternative}")?;
+                write!(told, ", alternative {alternative}")?;
             }
         }
     }
@@ -96,36 +88,40 @@ fn write_step(rt: &HostRuntime, step: &Step) -> Result<(), Failure> {
 
 impl DigitMaps {
     /// Writes whether a text is a digit map.
-    fn map(&self, rt: &HostRuntime, text: &str) -> Result<(), Failure> {
-        match events::map(self.alloc, text) {
+    fn map(&self, told: &mut String, text: &str) -> Result<(), Failure> {
+        match DigitMap::parse(self.alloc, text) {
             Ok(map) => {
-                let copied = copied(self.alloc, &map)?;
-                Ok(print!(rt; "alternatives {}", copied.alternatives().len())?)
+                let copied = map.copy(self.alloc)?;
+                Ok(write!(told, "alternatives {}", copied.alternatives().len())?)
             }
-            Err(fault) => write_fault(rt, fault),
+            Err(fault) => write_fault(told, fault),
         }
     }
 
     /// Writes what comes of dialling.
-    fn dial(&self, rt: &HostRuntime, words: &mut Words<'_>) -> Result<(), Failure> {
-        match events::map(self.alloc, words.next()) {
+    fn dial(&self, told: &mut String, words: &mut Words<'_>) -> Result<(), Failure> {
+        match DigitMap::parse(self.alloc, words.next()) {
             Ok(map) => {
                 let (text, is_paused) = dialled(words);
                 match last_step(&map, text.as_bytes(), is_paused) {
-                    Some(step) => write_step(rt, &step),
+                    Some(step) => write_step(told, &step),
                     None => Err(Failure::Unreadable),
                 }
             }
-            Err(fault) => write_fault(rt, fault),
+            Err(fault) => write_fault(told, fault),
         }
     }
 }
 
 impl Layer for DigitMaps {
-    fn answer(&mut self, rt: &HostRuntime, words: &mut Words<'_>) -> Result<(), Failure> {
+    fn show(&self, _told: &mut String) -> Result<(), Failure> {
+        Ok(())
+    }
+
+    fn answer(&mut self, told: &mut String, words: &mut Words<'_>) -> Result<(), Failure> {
         match words.next() {
-            "map" => self.map(rt, words.rest()),
-            "dial" => self.dial(rt, words),
+            "map" => self.map(told, words.rest()),
+            "dial" => self.dial(told, words),
             _ => Err(Failure::Unreadable),
         }
     }

@@ -1,7 +1,5 @@
 //! Events descriptors, as words such as `al/on:state+dd/ce:12|123` (H.248.1 section 7.1.9), what happens on a line, and the notes of it.
-use crate::failure::Failure;
 use crate::signals;
-use crate::words::Words;
 use digits::{DigitMap, MapFault};
 use line_events::{EventList, LineRow, ListItem, Note};
 use mg_model::line_events::{Hook, LineEvent, Method};
@@ -10,14 +8,8 @@ use mg_names::signals::Signal;
 use mg_names::strictness::Strict;
 use mg_names::symbols::Symbol;
 use std::alloc::Global;
-
-/// A digit map.
-pub(crate) fn map(alloc: Global, text: &str) -> Result<DigitMap, MapFault> {
-    match DigitMap::parse(alloc, text) {
-        Err(MapFault::NoMemory) => DigitMap::parse(alloc, text),
-        answer => answer,
-    }
-}
+use test_words::failure::Failure;
+use test_words::words::Words;
 
 /// The item of package al that a word names; `:state` is `strict=state`, and `strict=exact` where it isn't there.
 fn hook_item(word: &str) -> Option<ListItem> {
@@ -39,7 +31,7 @@ fn item(alloc: Global, word: &str) -> Result<ListItem, Failure> {
     let Some(text) = word.strip_prefix("dd/ce:") else {
         return Err(Failure::Unreadable);
     };
-    match map(alloc, text) {
+    match DigitMap::parse(alloc, text) {
         Ok(map) => Ok(EventItem::Digits(map)),
         Err(MapFault::NoMemory) => Err(Failure::Memory),
         Err(_) => Err(Failure::Unreadable),
@@ -79,57 +71,57 @@ pub(crate) fn event(verb: &str, words: &mut Words<'_>) -> Option<LineEvent> {
 
 /// Writes how a digit map was completed, and by what (Annex E.6).
 pub(crate) fn write_method(
-    rt: &HostRuntime,
+    told: &mut String,
     method: Method,
     symbols: &[Symbol],
 ) -> Result<(), Failure> {
     match method {
-        Method::Unambiguous => print!(rt; "Meth=UM ds=")?,
-        Method::Full => print!(rt; "Meth=FM ds=")?,
-        Method::Partial => print!(rt; "Meth=PM ds=")?,
+        Method::Unambiguous => write!(told, "Meth=UM ds=")?,
+        Method::Full => write!(told, "Meth=FM ds=")?,
+        Method::Partial => write!(told, "Meth=PM ds=")?,
     }
     for symbol in symbols {
-        print!(rt; "{}", symbol.text())?;
+        write!(told, "{}", symbol.text())?;
     }
     Ok(())
 }
 
 /// Writes what a note reports.
-pub(crate) fn write_note(rt: &HostRuntime, note: &Note) -> Result<(), Failure> {
-    print!(rt; "{}, RequestID {}", note.kind().text(), note.request())?;
+pub(crate) fn write_note(told: &mut String, note: &Note) -> Result<(), Failure> {
+    write!(told, "{}, RequestID {}", note.kind().text(), note.request())?;
     if let Some(method) = note.method() {
-        print!(rt; ", ")?;
-        write_method(rt, method, note.symbols().as_slice())?;
+        write!(told, ", ")?;
+        write_method(told, method, note.symbols().as_slice())?;
     }
     Ok(())
 }
 
 /// Writes the items of a list.
-fn write_items(rt: &HostRuntime, items: &[ListItem]) -> Result<(), Failure> {
+fn write_items(told: &mut String, items: &[ListItem]) -> Result<(), Failure> {
     for item in items {
         match item {
-            EventItem::OnHook(strict) => print!(rt; ", al/on {}", strict.text())?,
-            EventItem::OffHook(strict) => print!(rt; ", al/of {}", strict.text())?,
-            EventItem::Flash => print!(rt; ", al/fl")?,
-            EventItem::Digits(map) => print!(rt; ", dd/ce {}", map.alternatives().len())?,
+            EventItem::OnHook(strict) => write!(told, ", al/on {}", strict.text())?,
+            EventItem::OffHook(strict) => write!(told, ", al/of {}", strict.text())?,
+            EventItem::Flash => write!(told, ", al/fl")?,
+            EventItem::Digits(map) => write!(told, ", dd/ce {}", map.alternatives().len())?,
         }
     }
     Ok(())
 }
 
 /// Writes the row of a line: its hook state, its RequestID with its events, and what plays.
-pub(crate) fn write_line(rt: &HostRuntime, row: Option<&LineRow>) -> Result<(), Failure> {
+pub(crate) fn write_line(told: &mut String, row: Option<&LineRow>) -> Result<(), Failure> {
     let Some(row) = row else {
-        print!(rt; "unknown")?;
+        write!(told, "unknown")?;
         return Ok(());
     };
     match row.hook_state() {
-        Hook::On => print!(rt; "on hook")?,
-        Hook::Off => print!(rt; "off hook")?,
+        Hook::On => write!(told, "on hook")?,
+        Hook::Off => write!(told, "off hook")?,
     }
     if let Some(request) = row.request() {
-        print!(rt; ", RequestID {request}")?;
+        write!(told, ", RequestID {request}")?;
     }
-    write_items(rt, row.list().items())?;
-    signals::write(rt, row.playing())
+    write_items(told, row.list().items())?;
+    signals::write(told, row.playing())
 }

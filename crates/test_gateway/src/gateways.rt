@@ -1,14 +1,14 @@
 //! The layer `gateway`: a gateway with its calls, requests and events that reach it, and restarts.
-use crate::failure::Failure;
 use crate::names::{self, NO_NAMES, Names};
 use crate::rows::{self, Layer};
-use crate::words::Words;
-use crate::{boards, commands, events, replies, results};
+use crate::{boards, commands, events, replies, results, seen};
 use gateway::{Answer, BeginFault, Gateway, OpenFault, SentNote};
 use mg_model::failures::ChosenRefusal;
 use mg_names::identifiers::{Assoc, CallNo, LineNo};
 use requests::{MessageId, Request, RequestCommand};
-use std::alloc::Global;
+use std::alloc::{AllocError, Global};
+use test_words::failure::Failure;
+use test_words::words::Words;
 
 /// A gateway, and the names of what it gave.
 #[derive(Drop)]
@@ -19,68 +19,16 @@ pub(crate) struct Gateways {
     names: Names,
 }
 
-/// A gateway with these lines.
-fn made_plain(alloc: Global, lines: &[LineNo]) -> Result<Gateway, Failure> {
-    match Gateway::new(alloc, lines) {
-        Ok(gateway) => Ok(gateway),
-        Err(_) => Ok(Gateway::new(alloc, lines)?),
-    }
-}
-
 /// A gateway with these lines, which gives numbers of a class.
-fn made(alloc: Global, lines: &[LineNo], (first, stride): (u32, u32)) -> Result<Gateway, Failure> {
+fn made(
+    alloc: Global,
+    lines: &[LineNo],
+    (first, stride): (u32, u32),
+) -> Result<Gateway, AllocError> {
     if (first, stride) == (0, 1) || first >= stride {
-        return made_plain(alloc, lines);
+        return Gateway::new(alloc, lines);
     }
-    match Gateway::with_ids(alloc, lines, first, stride) {
-        Ok(gateway) => Ok(gateway),
-        Err(_) => Ok(Gateway::with_ids(alloc, lines, first, stride)?),
-    }
-}
-
-/// A call is opened.
-fn open_call(gateway: &mut Gateway, call: CallNo, lines: &[LineNo]) -> Result<(), OpenFault> {
-    match gateway.open_call(call, lines) {
-        Err(OpenFault::NoMemory) => gateway.open_call(call, lines),
-        answer => answer,
-    }
-}
-
-/// A call begins on the lines of another.
-fn begin(gateway: &mut Gateway, old: CallNo, new: CallNo) -> Result<(), BeginFault> {
-    match gateway.begin(old, new) {
-        Err(BeginFault::NoMemory) => gateway.begin(old, new),
-        answer => answer,
-    }
-}
-
-/// The answer to a request.
-fn execute(
-    gateway: &mut Gateway,
-    call: CallNo,
-    request: &Request,
-    chosen: Option<ChosenRefusal>,
-) -> Answer {
-    match gateway.execute(call, request, chosen) {
-        Answer::NoMemory => gateway.execute(call, request, chosen),
-        answer => answer,
-    }
-}
-
-/// The lines that a gateway tells.
-fn lines_of(gateway: &Gateway) -> Result<Vec<LineNo>, Failure> {
-    match gateway.lines() {
-        Ok(found) => Ok(found),
-        Err(_) => Ok(gateway.lines()?),
-    }
-}
-
-/// The calls that a gateway tells.
-fn calls_of(gateway: &Gateway) -> Result<Vec<CallNo>, Failure> {
-    match gateway.calls() {
-        Ok(found) => Ok(found),
-        Err(_) => Ok(gateway.calls()?),
-    }
+    Gateway::with_ids(alloc, lines, first, stride)
 }
 
 /// The number of a call.
@@ -91,60 +39,60 @@ fn call(words: &mut Words<'_>) -> Result<CallNo, Failure> {
     }
 }
 
-fn write_notes(rt: &HostRuntime, notes: &[SentNote]) -> Result<(), Failure> {
+fn write_notes(told: &mut String, notes: &[SentNote]) -> Result<(), Failure> {
     for note in notes {
-        print!(rt; " ; ")?;
-        replies::write_note(rt, note)?;
+        write!(told, " ; ")?;
+        replies::write_note(told, note)?;
     }
     Ok(())
 }
 
 /// Writes the answer to a request.
 fn write_answer(
-    rt: &HostRuntime,
+    told: &mut String,
     names: &mut Names,
     id: MessageId,
     answer: &Answer,
 ) -> Result<(), Failure> {
     match answer {
         Answer::Executed { reply, notes } => {
-            replies::write_reply(rt, names, id, reply)?;
-            write_notes(rt, notes.as_slice())
+            replies::write_reply(told, names, id, reply)?;
+            write_notes(told, notes.as_slice())
         }
         Answer::Kept(reply) => {
-            print!(rt; "kept ")?;
-            replies::write_reply(rt, names, id, reply)
+            write!(told, "kept ")?;
+            replies::write_reply(told, names, id, reply)
         }
-        Answer::Discarded => Ok(print!(rt; "discarded")?),
-        Answer::CannotHappen => Ok(print!(rt; "cannot happen")?),
+        Answer::Discarded => Ok(write!(told, "discarded")?),
+        Answer::CannotHappen => Ok(write!(told, "cannot happen")?),
         Answer::NoMemory => Err(Failure::Memory),
     }
 }
 
 /// A request is executed, and its answer written.
 fn ask(
-    rt: &HostRuntime,
+    told: &mut String,
     gateway: &mut Gateway,
     names: &mut Names,
     (call, id, chosen): (CallNo, MessageId, Option<ChosenRefusal>),
     commands: Vec<RequestCommand>,
 ) -> Result<(), Failure> {
     let request = Request::new(id, commands);
-    let answer = execute(gateway, call, &request, chosen);
-    write_answer(rt, names, id, &answer)
+    let answer = gateway.execute(call, &request, chosen);
+    write_answer(told, names, id, &answer)
 }
 
-fn write_calls(rt: &HostRuntime, calls: &[CallNo]) -> Result<(), Failure> {
+fn write_calls(told: &mut String, calls: &[CallNo]) -> Result<(), Failure> {
     for call in calls {
-        print!(rt; " {}", call.0)?;
+        write!(told, " {}", call.0)?;
     }
     Ok(())
 }
 
-fn write_call(rt: &HostRuntime, call: Option<CallNo>) -> Result<(), Failure> {
+fn write_call(told: &mut String, call: Option<CallNo>) -> Result<(), Failure> {
     match call {
-        Some(call) => print!(rt; "call {}", call.0)?,
-        None => print!(rt; "no call")?,
+        Some(call) => write!(told, "call {}", call.0)?,
+        None => write!(told, "no call")?,
     }
     Ok(())
 }
@@ -156,7 +104,7 @@ impl Gateways {
         Ok(Gateways {
             alloc,
             lines,
-            gateway: made_plain(alloc, &[])?,
+            gateway: Gateway::new(alloc, &[])?,
             names: NO_NAMES,
         })
     }
@@ -170,22 +118,22 @@ impl Gateways {
         Ok(())
     }
 
-    fn open_call(&mut self, rt: &HostRuntime, words: &mut Words<'_>) -> Result<(), Failure> {
+    fn open_call(&mut self, told: &mut String, words: &mut Words<'_>) -> Result<(), Failure> {
         let call = call(words)?;
         names::read_lines(&mut self.lines, words.rest())?;
-        match open_call(&mut self.gateway, call, self.lines.as_slice()) {
-            Ok(()) => rows::done(rt),
+        match self.gateway.open_call(call, self.lines.as_slice()) {
+            Ok(()) => rows::done(told),
             Err(OpenFault::NoMemory) => Err(Failure::Memory),
-            Err(fault) => Ok(print!(rt; "{} {}", fault.number(), fault.name())?),
+            Err(fault) => Ok(write!(told, "{} {}", fault.number(), fault.name())?),
         }
     }
 
-    fn begin(&mut self, rt: &HostRuntime, words: &mut Words<'_>) -> Result<(), Failure> {
+    fn begin(&mut self, told: &mut String, words: &mut Words<'_>) -> Result<(), Failure> {
         let (old, new) = (call(words)?, call(words)?);
-        match begin(&mut self.gateway, old, new) {
-            Ok(()) => rows::done(rt),
+        match self.gateway.begin(old, new) {
+            Ok(()) => rows::done(told),
             Err(BeginFault::NoMemory) => Err(Failure::Memory),
-            Err(fault) => Ok(print!(rt; "{} {}", fault.number(), fault.name())?),
+            Err(fault) => Ok(write!(told, "{} {}", fault.number(), fault.name())?),
         }
     }
 
@@ -198,7 +146,7 @@ impl Gateways {
     }
 
     /// A request reaches the gateway for a call, and names that or another one: `execute CALL NUMBER of=CALL : COMMANDS`.
-    fn execute(&mut self, rt: &HostRuntime, words: &mut Words<'_>) -> Result<(), Failure> {
+    fn execute(&mut self, told: &mut String, words: &mut Words<'_>) -> Result<(), Failure> {
         let (reached, number) = (call(words)?, words.number());
         let named = words.number_of("of").unwrap_or(reached.0);
         let association = self.said(words);
@@ -215,13 +163,13 @@ impl Gateways {
         let _colon = words.next();
         commands::read(self.alloc, &self.names, &mut asked, words.rest())?;
         let head = (reached, id, chosen);
-        ask(rt, &mut self.gateway, &mut self.names, head, asked)
+        ask(told, &mut self.gateway, &mut self.names, head, asked)
     }
 
     /// Something happens on a line.
     fn happen(
         &mut self,
-        rt: &HostRuntime,
+        told: &mut String,
         verb: &str,
         words: &mut Words<'_>,
     ) -> Result<(), Failure> {
@@ -230,41 +178,74 @@ impl Gateways {
             return Err(Failure::Unreadable);
         };
         match self.gateway.happen(line, event) {
-            Ok(Some(note)) => replies::write_note(rt, &note),
-            Ok(None) => Ok(print!(rt; "no note")?),
-            Err(_) => Ok(print!(rt; "cannot happen")?),
+            Ok(Some(note)) => replies::write_note(told, &note),
+            Ok(None) => Ok(write!(told, "no note")?),
+            Err(_) => Ok(write!(told, "cannot happen")?),
         }
     }
 
-    fn restart(&mut self, rt: &HostRuntime) -> Result<(), Failure> {
+    fn restart(&mut self, told: &mut String) -> Result<(), Failure> {
         match self.gateway.restart() {
-            Ok(association) => Ok(print!(rt; "association {}", association.0)?),
-            Err(_) => Ok(print!(rt; "cannot happen")?),
+            Ok(association) => Ok(write!(told, "association {}", association.0)?),
+            Err(_) => Ok(write!(told, "cannot happen")?),
         }
     }
 
     /// Writes which calls are open, or which lines there are.
-    fn write_all(&self, rt: &HostRuntime, verb: &str) -> Result<(), Failure> {
+    fn write_all(&self, told: &mut String, verb: &str) -> Result<(), Failure> {
         match verb {
             "calls" => {
-                let found = calls_of(&self.gateway)?;
-                print!(rt; "{}:", found.len())?;
-                write_calls(rt, found.as_slice())
+                let found = self.gateway.calls()?;
+                write!(told, "{}:", found.len())?;
+                write_calls(told, found.as_slice())
             }
             _ => {
-                let found = lines_of(&self.gateway)?;
-                print!(rt; "{}:", found.len())?;
-                results::write_lines(rt, found.as_slice())
+                let found = self.gateway.lines()?;
+                write!(told, "{}:", found.len())?;
+                results::write_lines(told, found.as_slice())
             }
         }
     }
 
+    /// Tells the association and the calls that are open.
+    fn show_calls(&self, told: &mut String) -> Result<(), Failure> {
+        write!(
+            told,
+            "; association {}, calls",
+            self.gateway.association().0
+        )?;
+        let found = self.gateway.calls()?;
+        write_calls(told, found.as_slice())
+    }
+
+    /// Tells each line with the call that holds it.
+    fn show_lines(&self, told: &mut String) -> Result<(), Failure> {
+        let found = self.gateway.lines()?;
+        for line in found.as_slice() {
+            write!(told, "; l/{} of ", line.0)?;
+            write_call(told, self.gateway.holder(*line))?;
+            write!(told, ", ")?;
+            events::write_line(told, self.gateway.line(*line))?;
+        }
+        Ok(())
+    }
+
+    /// Tells which call created each ephemeral.
+    fn show_ephemerals(&self, told: &mut String) -> Result<(), Failure> {
+        let found = self.gateway.board().ephemerals()?;
+        for ephemeral in found.as_slice() {
+            write!(told, "; e/{ephemeral} of ")?;
+            write_call(told, self.gateway.creator(*ephemeral))?;
+        }
+        Ok(())
+    }
+
     /// Writes which call holds a line or created an ephemeral, or the row of a line.
-    fn write_of(&self, rt: &HostRuntime, verb: &str, word: &str) -> Result<(), Failure> {
+    fn write_of(&self, told: &mut String, verb: &str, word: &str) -> Result<(), Failure> {
         match (verb, names::line(word), self.names.ephemeral(word)) {
-            ("holder", Some(line), _) => write_call(rt, self.gateway.holder(line)),
-            ("line", Some(line), _) => events::write_line(rt, self.gateway.line(line)),
-            ("creator", _, Some(ephemeral)) => write_call(rt, self.gateway.creator(ephemeral)),
+            ("holder", Some(line), _) => write_call(told, self.gateway.holder(line)),
+            ("line", Some(line), _) => events::write_line(told, self.gateway.line(line)),
+            ("creator", _, Some(ephemeral)) => write_call(told, self.gateway.creator(ephemeral)),
             _ => Err(Failure::Unreadable),
         }
     }
@@ -272,34 +253,42 @@ impl Gateways {
     /// Writes what is read of the gateway.
     fn write_read(
         &self,
-        rt: &HostRuntime,
+        told: &mut String,
         verb: &str,
         words: &mut Words<'_>,
     ) -> Result<(), Failure> {
         match verb {
-            "association" => Ok(print!(rt; "{}", self.gateway.association().0)?),
-            "open?" => rows::yes_or_no(rt, self.gateway.is_open(call(words)?)),
-            "calls" | "lines" => self.write_all(rt, verb),
-            "holder" | "line" | "creator" => self.write_of(rt, verb, words.next()),
-            _ => boards::write_read(rt, &self.names, self.gateway.board(), verb, words),
+            "association" => Ok(write!(told, "{}", self.gateway.association().0)?),
+            "open?" => rows::yes_or_no(told, self.gateway.is_open(call(words)?)),
+            "calls" | "lines" => self.write_all(told, verb),
+            "holder" | "line" | "creator" => self.write_of(told, verb, words.next()),
+            _ => boards::write_read(told, &self.names, self.gateway.board(), verb, words),
         }
     }
 }
 
 impl Layer for Gateways {
-    fn answer(&mut self, rt: &HostRuntime, words: &mut Words<'_>) -> Result<(), Failure> {
+    fn show(&self, told: &mut String) -> Result<(), Failure> {
+        self.names.show(told)?;
+        seen::show_board(told, self.gateway.board())?;
+        self.show_calls(told)?;
+        self.show_lines(told)?;
+        self.show_ephemerals(told)
+    }
+
+    fn answer(&mut self, told: &mut String, words: &mut Words<'_>) -> Result<(), Failure> {
         let verb = words.next();
         match verb {
             "new" => {
                 self.anew(words)?;
-                rows::done(rt)
+                rows::done(told)
             }
-            "open" => self.open_call(rt, words),
-            "begin" => self.begin(rt, words),
-            "execute" => self.execute(rt, words),
-            "off" | "on" | "flash" | "pause" | "digit" | "end" => self.happen(rt, verb, words),
-            "restart" => self.restart(rt),
-            _ => self.write_read(rt, verb, words),
+            "open" => self.open_call(told, words),
+            "begin" => self.begin(told, words),
+            "execute" => self.execute(told, words),
+            "off" | "on" | "flash" | "pause" | "digit" | "end" => self.happen(told, verb, words),
+            "restart" => self.restart(told),
+            _ => self.write_read(told, verb, words),
         }
     }
 }

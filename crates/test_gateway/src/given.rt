@@ -1,6 +1,8 @@
 //! Numbers that were given, in the order in which each was given first. Which number comes next is not said, so a row names a number by its
 //! place in this order, from 1: a number that is given again has the place that it had before.
 
+use test_words::failure::Failure;
+
 /// How many numbers the rows of one `new` can name.
 const MOST: usize = 24;
 
@@ -31,6 +33,16 @@ impl Given {
             Some(place) if matches!(self.0.get(place), Some(Some(_))) => place.saturating_add(1),
             _ => 0,
         }
+    }
+
+    /// Tells the numbers that were given.
+    pub(crate) fn show(&self, told: &mut String) -> Result<(), Failure> {
+        for number in self.0 {
+            if let Some(number) = number {
+                write!(told, " {number}")?;
+            }
+        }
+        Ok(())
     }
 
     /// A number is given.

@@ -1,10 +1,10 @@
 //! A command on the connection model, as the words of a row (H.248.1 section 7.2).
 use crate::names::{self, Names};
 use crate::options;
-use crate::words::Words;
 use mg_model::items::{Added, Item};
 use mg_names::identifiers::ContextId;
 use mg_names::topologies::Topology;
+use test_words::words::Words;
 
 /// What an Add brings: `$` for a new ephemeral, or a line.
 fn added(word: &str) -> Option<Added> {

@@ -1,13 +1,16 @@
 //! The layer `line_events`: lines with their descriptors, and what happens on them.
-use crate::failure::Failure;
 use crate::rows::{self, Layer};
-use crate::words::Words;
 use crate::{events, names, signals};
 use line_events::{EventList, LineFault, LineSet, Note};
 use mg_model::line_events::LineEvent;
 use mg_names::identifiers::LineNo;
 use std::alloc::Global;
 use std::mem;
+use test_words::failure::Failure;
+use test_words::words::Words;
+
+/// Lines of lower numbers than this are told where a call has to leave all as it was; rows name no others.
+const LINES: u32 = 16;
 
 /// Lines, with others that are kept beside them.
 #[derive(Drop)]
@@ -15,43 +18,6 @@ pub(crate) struct Lines {
     alloc: Global,
     lines: LineSet,
     kept: LineSet,
-}
-
-/// A line is added.
-fn add_line(lines: &mut LineSet, line: LineNo) -> Result<(), LineFault> {
-    match lines.add_line(line) {
-        Err(LineFault::NoMemory) => lines.add_line(line),
-        answer => answer,
-    }
-}
-
-/// A line gets an Events descriptor.
-fn arm(
-    lines: &mut LineSet,
-    line: LineNo,
-    list: &EventList,
-    request: u32,
-) -> Result<Option<Note>, LineFault> {
-    match lines.arm(line, list, request) {
-        Err(LineFault::NoMemory) => lines.arm(line, list, request),
-        answer => answer,
-    }
-}
-
-/// An equal list.
-fn copied_list(alloc: Global, list: &EventList) -> Result<EventList, Failure> {
-    match list.copy(alloc) {
-        Ok(copied) => Ok(copied),
-        Err(_) => Ok(list.copy(alloc)?),
-    }
-}
-
-/// An equal set.
-fn copied(lines: &LineSet) -> Result<LineSet, Failure> {
-    match lines.copy() {
-        Ok(copied) => Ok(copied),
-        Err(_) => Ok(lines.copy()?),
-    }
 }
 
 /// Something happens on a line.
@@ -69,34 +35,43 @@ fn happen(lines: &mut LineSet, line: LineNo, event: LineEvent) -> Result<Option<
 }
 
 /// Writes why nothing happened on a line.
-fn write_fault(rt: &HostRuntime, fault: LineFault) -> Result<(), Failure> {
+fn write_fault(told: &mut String, fault: LineFault) -> Result<(), Failure> {
     match fault {
         LineFault::NoMemory => Err(Failure::Memory),
-        fault => Ok(print!(rt; "{} {}", fault.number(), fault.name())?),
+        fault => Ok(write!(told, "{} {}", fault.number(), fault.name())?),
     }
 }
 
 /// Writes the note that was raised, or why nothing happened.
 pub(crate) fn write_noted(
-    rt: &HostRuntime,
+    told: &mut String,
     answer: Result<Option<Note>, LineFault>,
 ) -> Result<(), Failure> {
     match answer {
         Ok(Some(note)) => {
-            print!(rt; "note ")?;
-            events::write_note(rt, &note)
+            write!(told, "note ")?;
+            events::write_note(told, &note)
         }
-        Ok(None) => Ok(print!(rt; "no note")?),
-        Err(fault) => write_fault(rt, fault),
+        Ok(None) => Ok(write!(told, "no note")?),
+        Err(fault) => write_fault(told, fault),
     }
 }
 
 /// Writes that it is done, or why nothing happened.
-fn write_did(rt: &HostRuntime, answer: Result<(), LineFault>) -> Result<(), Failure> {
+fn write_did(told: &mut String, answer: Result<(), LineFault>) -> Result<(), Failure> {
     match answer {
-        Ok(()) => rows::done(rt),
-        Err(fault) => write_fault(rt, fault),
+        Ok(()) => rows::done(told),
+        Err(fault) => write_fault(told, fault),
     }
+}
+
+/// Tells each line.
+fn show_rows(told: &mut String, lines: &LineSet) -> Result<(), Failure> {
+    for number in 0..LINES {
+        write!(told, "; l/{number} ")?;
+        events::write_line(told, lines.row(LineNo(number)))?;
+    }
+    Ok(())
 }
 
 impl Lines {
@@ -112,7 +87,7 @@ impl Lines {
     /// An Events descriptor.
     fn events(
         &mut self,
-        rt: &HostRuntime,
+        told: &mut String,
         line: LineNo,
         words: &mut Words<'_>,
     ) -> Result<(), Failure> {
@@ -120,14 +95,14 @@ impl Lines {
             return Err(Failure::Unreadable);
         };
         let list = events::read(self.alloc, words.rest())?;
-        let copied = copied_list(self.alloc, &list)?;
-        write_noted(rt, arm(&mut self.lines, line, &copied, request))
+        let copied = list.copy(self.alloc)?;
+        write_noted(told, self.lines.arm(line, &copied, request))
     }
 
     /// A Signals descriptor.
-    fn signals(&mut self, rt: &HostRuntime, line: LineNo, text: &str) -> Result<(), Failure> {
+    fn signals(&mut self, told: &mut String, line: LineNo, text: &str) -> Result<(), Failure> {
         match signals::read(text) {
-            Some(set) => write_did(rt, self.lines.signal(line, set)),
+            Some(set) => write_did(told, self.lines.signal(line, set)),
             None => Err(Failure::Unreadable),
         }
     }
@@ -135,19 +110,19 @@ impl Lines {
     /// What is done to a line, or read of it.
     fn of_line(
         &mut self,
-        rt: &HostRuntime,
+        told: &mut String,
         verb: &str,
         line: LineNo,
         words: &mut Words<'_>,
     ) -> Result<(), Failure> {
         match verb {
-            "line" => write_did(rt, add_line(&mut self.lines, line)),
-            "events" => self.events(rt, line, words),
-            "signals" => self.signals(rt, line, words.next()),
-            "clear" => write_did(rt, self.lines.clear(line)),
-            "show" => events::write_line(rt, self.lines.row(line)),
+            "line" => write_did(told, self.lines.add_line(line)),
+            "events" => self.events(told, line, words),
+            "signals" => self.signals(told, line, words.next()),
+            "clear" => write_did(told, self.lines.clear(line)),
+            "show" => events::write_line(told, self.lines.row(line)),
             _ => match events::event(verb, words) {
-                Some(event) => write_noted(rt, happen(&mut self.lines, line, event)),
+                Some(event) => write_noted(told, happen(&mut self.lines, line, event)),
                 None => Err(Failure::Unreadable),
             },
         }
@@ -158,7 +133,7 @@ impl Lines {
         match verb {
             "new" => self.lines = LineSet::new(self.alloc),
             "clear" => self.lines.clear_all(),
-            "copy" => self.kept = copied(&self.lines)?,
+            "copy" => self.kept = self.lines.copy()?,
             "swap" => mem::swap(&mut self.lines, &mut self.kept),
             _ => return Err(Failure::Unreadable),
         }
@@ -167,13 +142,18 @@ impl Lines {
 }
 
 impl Layer for Lines {
-    fn answer(&mut self, rt: &HostRuntime, words: &mut Words<'_>) -> Result<(), Failure> {
+    fn show(&self, told: &mut String) -> Result<(), Failure> {
+        show_rows(told, &self.lines)?;
+        show_rows(told, &self.kept)
+    }
+
+    fn answer(&mut self, told: &mut String, words: &mut Words<'_>) -> Result<(), Failure> {
         let verb = words.next();
         match names::line(words.next()) {
-            Some(line) => self.of_line(rt, verb, line, words),
+            Some(line) => self.of_line(told, verb, line, words),
             None => {
                 self.of_all(verb)?;
-                rows::done(rt)
+                rows::done(told)
             }
         }
     }

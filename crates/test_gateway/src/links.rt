@@ -1,10 +1,13 @@
 //! The layer `delivery`: a link with what it keeps of requests, and an inbox of notes.
-use crate::failure::Failure;
 use crate::rows::{self, Layer};
-use crate::words::Words;
 use delivery::{Arrival, Inbox, Link, Offer, laws};
 use mg_names::identifiers::Assoc;
 use std::alloc::Global;
+use test_words::failure::Failure;
+use test_words::words::Words;
+
+/// Notes of lower numbers than this are told where a call has to leave all as it was; rows name no others that are accepted.
+const NOTES: u32 = 16;
 
 /// A link that keeps numbers for replies, and an inbox, of one association.
 #[derive(Drop)]
@@ -38,28 +41,20 @@ pub(crate) fn number(words: &mut Words<'_>) -> Result<u32, Failure> {
     }
 }
 
-/// A note is accepted.
-fn accept(inbox: &mut Inbox, association: Assoc, note: u32) -> Result<Arrival, Failure> {
-    match inbox.accept(association, note) {
-        Ok(arrival) => Ok(arrival),
-        Err(_) => Ok(inbox.accept(association, note)?),
-    }
-}
-
-fn write_arrival(rt: &HostRuntime, arrival: Arrival) -> Result<(), Failure> {
+fn write_arrival(told: &mut String, arrival: Arrival) -> Result<(), Failure> {
     match arrival {
-        Arrival::New => print!(rt; "new")?,
-        Arrival::Seen => print!(rt; "seen")?,
-        Arrival::Old => print!(rt; "old")?,
+        Arrival::New => write!(told, "new")?,
+        Arrival::Seen => write!(told, "seen")?,
+        Arrival::Old => write!(told, "old")?,
     }
     Ok(())
 }
 
-fn write_offer(rt: &HostRuntime, offer: Offer<'_, u32>) -> Result<(), Failure> {
+fn write_offer(told: &mut String, offer: Offer<'_, u32>) -> Result<(), Failure> {
     match offer {
-        Offer::Fresh => print!(rt; "fresh")?,
-        Offer::Kept(reply) => print!(rt; "kept {reply}")?,
-        Offer::Discard => print!(rt; "discarded")?,
+        Offer::Fresh => write!(told, "fresh")?,
+        Offer::Kept(reply) => write!(told, "kept {reply}")?,
+        Offer::Discard => write!(told, "discarded")?,
     }
     Ok(())
 }
@@ -98,11 +93,31 @@ impl Links {
     }
 
     /// Writes which association and which last request there are.
-    fn write_state(&self, rt: &HostRuntime) -> Result<(), Failure> {
+    fn write_state(&self, told: &mut String) -> Result<(), Failure> {
         let (link, inbox) = (self.link.association().0, self.inbox.association().0);
         match self.link.last() {
-            Some(last) => print!(rt; "associations {link} and {inbox}, last {last}")?,
-            None => print!(rt; "associations {link} and {inbox}, none")?,
+            Some(last) => write!(told, "associations {link} and {inbox}, last {last}")?,
+            None => write!(told, "associations {link} and {inbox}, none")?,
+        }
+        Ok(())
+    }
+
+    /// Tells what was kept of the last request.
+    fn show_last(&self, told: &mut String) -> Result<(), Failure> {
+        match self.link.last() {
+            Some(last) => {
+                write!(told, ", ")?;
+                write_offer(told, self.link.offer(self.link.association(), last))
+            }
+            None => Ok(()),
+        }
+    }
+
+    /// Tells what each of the first notes is where it arrives.
+    fn show_notes(&self, told: &mut String) -> Result<(), Failure> {
+        for note in 0..NOTES {
+            write!(told, "; {note} ")?;
+            write_arrival(told, self.inbox.arrival(self.inbox.association(), note))?;
         }
         Ok(())
     }
@@ -110,15 +125,15 @@ impl Links {
     /// What a request or a note is that arrives in an association.
     fn arrives(
         &mut self,
-        rt: &HostRuntime,
+        told: &mut String,
         verb: &str,
         association: Assoc,
         number: u32,
     ) -> Result<(), Failure> {
         match verb {
-            "request" => write_offer(rt, self.link.offer(association, number)),
-            "note" => write_arrival(rt, accept(&mut self.inbox, association, number)?),
-            "arrival" => write_arrival(rt, self.inbox.arrival(association, number)),
+            "request" => write_offer(told, self.link.offer(association, number)),
+            "note" => write_arrival(told, self.inbox.accept(association, number)?),
+            "arrival" => write_arrival(told, self.inbox.arrival(association, number)),
             _ => Err(Failure::Unreadable),
         }
     }
@@ -137,17 +152,23 @@ impl Links {
 }
 
 impl Layer for Links {
-    fn answer(&mut self, rt: &HostRuntime, words: &mut Words<'_>) -> Result<(), Failure> {
+    fn show(&self, told: &mut String) -> Result<(), Failure> {
+        self.write_state(told)?;
+        self.show_last(told)?;
+        self.show_notes(told)
+    }
+
+    fn answer(&mut self, told: &mut String, words: &mut Words<'_>) -> Result<(), Failure> {
         let verb = words.next();
         match verb {
-            "state" => self.write_state(rt),
+            "state" => self.write_state(told),
             "request" | "note" | "arrival" => {
                 let association = association(words)?;
-                self.arrives(rt, verb, association, number(words)?)
+                self.arrives(told, verb, association, number(words)?)
             }
             _ => {
                 self.of_one(verb, words)?;
-                rows::done(rt)
+                rows::done(told)
             }
         }
     }

@@ -1,9 +1,9 @@
 //! How rows name contexts and terminations: `$`, `-` and `*` as H.248.1 writes them, `c1` and `e1` for the first context and the first
 //! ephemeral that was given, `l/1` for line 1, `5` and `e/5` for the context and the ephemeral of that very number.
-use crate::failure::Failure;
 use crate::given::{Given, NOTHING_GIVEN};
-use crate::words::number;
 use mg_names::identifiers::{ContextId, LineNo, TermId};
+use test_words::failure::Failure;
+use test_words::words::number;
 
 /// The contexts and ephemerals that were given.
 #[derive(Clone, Copy)]
@@ -39,6 +39,14 @@ impl Names {
         self.ephemerals.give(ephemeral);
     }
 
+    /// Tells the numbers of contexts and of ephemerals that were given.
+    pub(crate) fn show(&self, told: &mut String) -> Result<(), Failure> {
+        write!(told, "contexts")?;
+        self.contexts.show(told)?;
+        write!(told, ", ephemerals")?;
+        self.ephemerals.show(told)
+    }
+
     /// The context that a word names.
     pub(crate) fn context(&self, word: &str) -> Option<ContextId> {
         match word {
@@ -71,22 +79,22 @@ impl Names {
     /// Writes the name of a context.
     pub(crate) fn write_context(
         &self,
-        rt: &HostRuntime,
+        told: &mut String,
         context: ContextId,
     ) -> Result<(), Failure> {
         match self.contexts.place(context.0) {
-            0 if context == ContextId::NULL => print!(rt; "-")?,
-            0 => print!(rt; "{}", context.0)?,
-            place => print!(rt; "c{place}")?,
+            0 if context == ContextId::NULL => write!(told, "-")?,
+            0 => write!(told, "{}", context.0)?,
+            place => write!(told, "c{place}")?,
         }
         Ok(())
     }
 
     /// Writes the name of an ephemeral.
-    pub(crate) fn write_ephemeral(&self, rt: &HostRuntime, ephemeral: u32) -> Result<(), Failure> {
+    pub(crate) fn write_ephemeral(&self, told: &mut String, ephemeral: u32) -> Result<(), Failure> {
         match self.ephemerals.place(ephemeral) {
-            0 => print!(rt; "e/{ephemeral}")?,
-            place => print!(rt; "e{place}")?,
+            0 => write!(told, "e/{ephemeral}")?,
+            place => write!(told, "e{place}")?,
         }
         Ok(())
     }

@@ -1,13 +1,13 @@
 //! The layer `identifiers`: values under numbers that are given, freed and given again. A row names a number by its place in the order in
 //! which each was given first, as `n1`; `5` is that very number.
-use crate::failure::Failure;
 use crate::given::{Given, NOTHING_GIVEN};
 use crate::links;
 use crate::rows::{self, Layer};
-use crate::words::{self, Words};
 use identifiers::{CreateFault, Identifiers};
 use std::alloc::Global;
 use std::mem;
+use test_words::failure::Failure;
+use test_words::words::{self, Words};
 
 /// Values under numbers, with others that are kept beside them.
 #[derive(Drop)]
@@ -18,49 +18,25 @@ pub(crate) struct Numbers {
     given: Given,
 }
 
-/// A number for a value.
-fn create(values: &mut Identifiers<u32>, value: u32) -> Result<u32, CreateFault> {
-    match values.create(value) {
-        Err(CreateFault::NoMemory) => values.create(value),
-        answer => answer,
-    }
-}
-
-/// An equal table.
-fn copied(values: &Identifiers<u32>) -> Result<Identifiers<u32>, Failure> {
-    match values.copy() {
-        Ok(copied) => Ok(copied),
-        Err(_) => Ok(values.copy()?),
-    }
-}
-
-/// The numbers that are in use.
-fn in_use(alloc: Global, values: &Identifiers<u32>) -> Result<Vec<u32>, Failure> {
-    match values.numbers(alloc) {
-        Ok(found) => Ok(found),
-        Err(_) => Ok(values.numbers(alloc)?),
-    }
-}
-
 /// Writes why no number is given.
-pub(crate) fn write_fault(rt: &HostRuntime, fault: CreateFault) -> Result<(), Failure> {
+pub(crate) fn write_fault(told: &mut String, fault: CreateFault) -> Result<(), Failure> {
     match fault {
         CreateFault::NoMemory => Err(Failure::Memory),
-        CreateFault::Full => Ok(print!(rt; "{} {}", fault.number(), fault.name())?),
+        CreateFault::Full => Ok(write!(told, "{} {}", fault.number(), fault.name())?),
     }
 }
 
-fn write_value(rt: &HostRuntime, value: Option<u32>) -> Result<(), Failure> {
+fn write_value(told: &mut String, value: Option<u32>) -> Result<(), Failure> {
     match value {
-        Some(value) => print!(rt; "{value}")?,
-        None => print!(rt; "none")?,
+        Some(value) => write!(told, "{value}")?,
+        None => write!(told, "none")?,
     }
     Ok(())
 }
 
-fn write_numbers(rt: &HostRuntime, given: &Given, numbers: &[u32]) -> Result<(), Failure> {
+fn write_numbers(told: &mut String, given: &Given, numbers: &[u32]) -> Result<(), Failure> {
     for number in numbers {
-        print!(rt; " n{}", given.place(*number))?;
+        write!(told, " n{}", given.place(*number))?;
     }
     Ok(())
 }
@@ -79,6 +55,20 @@ fn withdraw(values: &mut Identifiers<u32>, number: u32) -> Result<(), Failure> {
         return Err(Failure::Unreadable);
     }
     values.withdraw(number);
+    Ok(())
+}
+
+/// Tells the number that comes next, and each number in use with its value.
+fn show_values(told: &mut String, alloc: Global, values: &Identifiers<u32>) -> Result<(), Failure> {
+    match values.next() {
+        Ok(number) => write!(told, "; next {number}:")?,
+        Err(_) => write!(told, "; full:")?,
+    }
+    let found = values.numbers(alloc)?;
+    for number in found.as_slice() {
+        write!(told, " {number} ")?;
+        write_value(told, values.get(*number).copied())?;
+    }
     Ok(())
 }
 
@@ -103,46 +93,46 @@ impl Numbers {
         Ok(())
     }
 
-    fn create(&mut self, rt: &HostRuntime, value: u32) -> Result<(), Failure> {
-        match create(&mut self.values, value) {
+    fn create(&mut self, told: &mut String, value: u32) -> Result<(), Failure> {
+        match self.values.create(value) {
             Ok(number) => {
                 self.given.give(number);
-                Ok(print!(rt; "n{}", self.given.place(number))?)
+                Ok(write!(told, "n{}", self.given.place(number))?)
             }
-            Err(fault) => write_fault(rt, fault),
+            Err(fault) => write_fault(told, fault),
         }
     }
 
     /// Writes whether a number is next.
-    fn write_next(&self, rt: &HostRuntime) -> Result<(), Failure> {
+    fn write_next(&self, told: &mut String) -> Result<(), Failure> {
         match self.values.next() {
-            Ok(_) => rows::yes_or_no(rt, true),
-            Err(fault) => write_fault(rt, fault),
+            Ok(_) => rows::yes_or_no(told, true),
+            Err(fault) => write_fault(told, fault),
         }
     }
 
-    fn write_in_use(&self, rt: &HostRuntime) -> Result<(), Failure> {
-        let found = in_use(self.alloc, &self.values)?;
-        print!(rt; "{}:", self.values.len())?;
-        write_numbers(rt, &self.given, found.as_slice())
+    fn write_in_use(&self, told: &mut String) -> Result<(), Failure> {
+        let found = self.values.numbers(self.alloc)?;
+        write!(told, "{}:", self.values.len())?;
+        write_numbers(told, &self.given, found.as_slice())
     }
 
     /// What is done to a value, or read of it.
     fn of_number(
         &mut self,
-        rt: &HostRuntime,
+        told: &mut String,
         verb: &str,
         number: u32,
         words: &mut Words<'_>,
     ) -> Result<(), Failure> {
         match verb {
-            "get" => write_value(rt, self.values.get(number).copied()),
-            "replace" => write_value(rt, self.values.replace(number, links::number(words)?)),
-            "free" => write_value(rt, self.values.free(number)),
-            "number" => Ok(print!(rt; "{number}")?),
+            "get" => write_value(told, self.values.get(number).copied()),
+            "replace" => write_value(told, self.values.replace(number, links::number(words)?)),
+            "free" => write_value(told, self.values.free(number)),
+            "number" => Ok(write!(told, "{number}")?),
             "withdraw" => {
                 withdraw(&mut self.values, number)?;
-                rows::done(rt)
+                rows::done(told)
             }
             _ => Err(Failure::Unreadable),
         }
@@ -157,7 +147,7 @@ impl Numbers {
             }
             "settle" => self.values.settle(),
             "clear" => self.values.clear(),
-            "copy" => self.kept = copied(&self.values)?,
+            "copy" => self.kept = self.values.copy()?,
             "swap" => mem::swap(&mut self.values, &mut self.kept),
             _ => return Err(Failure::Unreadable),
         }
@@ -166,22 +156,28 @@ impl Numbers {
 }
 
 impl Layer for Numbers {
-    fn answer(&mut self, rt: &HostRuntime, words: &mut Words<'_>) -> Result<(), Failure> {
+    fn show(&self, told: &mut String) -> Result<(), Failure> {
+        self.given.show(told)?;
+        show_values(told, self.alloc, &self.values)?;
+        show_values(told, self.alloc, &self.kept)
+    }
+
+    fn answer(&mut self, told: &mut String, words: &mut Words<'_>) -> Result<(), Failure> {
         let verb = words.next();
         match verb {
-            "create" => self.create(rt, links::number(words)?),
-            "next" => self.write_next(rt),
-            "full" => rows::yes_or_no(rt, self.values.is_full()),
-            "numbers" => self.write_in_use(rt),
+            "create" => self.create(told, links::number(words)?),
+            "next" => self.write_next(told),
+            "full" => rows::yes_or_no(told, self.values.is_full()),
+            "numbers" => self.write_in_use(told),
             "get" | "replace" | "free" | "withdraw" | "number" => {
                 let Some(number) = named(&self.given, words.next()) else {
                     return Err(Failure::Unreadable);
                 };
-                self.of_number(rt, verb, number, words)
+                self.of_number(told, verb, number, words)
             }
             _ => {
                 self.of_all(verb, words)?;
-                rows::done(rt)
+                rows::done(told)
             }
         }
     }

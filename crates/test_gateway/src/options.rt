@@ -1,11 +1,11 @@
 //! What a command sets on its termination, as words such as `mode=SendOnly remote=e1 events=al/on:state+dd/ce:12|123 signals=cg/dt`.
 use crate::names::Names;
 use crate::signals;
-use crate::words::number;
 use mg_model::items::{RemoteSetting, Settings};
 use mg_model::line_events::SignalSet;
 use mg_model::references::{EphemeralRef, RemoteRef, SettingsRef};
 use mg_names::modes::Mode;
+use test_words::words::number;
 
 /// What the words of a command set, with its events list as it is written.
 #[derive(Clone, Copy)]

@@ -1,60 +1,60 @@
 //! What is written of what a command did.
-use crate::failure::Failure;
 use crate::names::Names;
 use contexts::Done;
 use mg_names::codes::Code;
 use mg_names::identifiers::LineNo;
+use test_words::failure::Failure;
 
 /// Writes a code with its name.
-pub(crate) fn write_code(rt: &HostRuntime, code: Code) -> Result<(), Failure> {
-    print!(rt; "{} {}", code.number(), code.name())?;
+pub(crate) fn write_code(told: &mut String, code: Code) -> Result<(), Failure> {
+    write!(told, "{} {}", code.number(), code.name())?;
     Ok(())
 }
 
 /// Writes the names of lines, each behind a blank.
-pub(crate) fn write_lines(rt: &HostRuntime, lines: &[LineNo]) -> Result<(), Failure> {
+pub(crate) fn write_lines(told: &mut String, lines: &[LineNo]) -> Result<(), Failure> {
     for line in lines {
-        print!(rt; " l/{}", line.0)?;
+        write!(told, " l/{}", line.0)?;
     }
     Ok(())
 }
 
 /// Writes the names of ephemerals, each behind a blank.
 pub(crate) fn write_ephemerals(
-    rt: &HostRuntime,
+    told: &mut String,
     names: &Names,
     ephemerals: &[u32],
 ) -> Result<(), Failure> {
     for ephemeral in ephemerals {
-        print!(rt; " ")?;
-        names.write_ephemeral(rt, *ephemeral)?;
+        write!(told, " ")?;
+        names.write_ephemeral(told, *ephemeral)?;
     }
     Ok(())
 }
 
 /// Writes what a command created.
-fn write_created(rt: &HostRuntime, names: &Names, done: &Done) -> Result<(), Failure> {
+fn write_created(told: &mut String, names: &Names, done: &Done) -> Result<(), Failure> {
     if let Some(context) = done.context() {
-        print!(rt; ", context ")?;
-        names.write_context(rt, context)?;
+        write!(told, ", context ")?;
+        names.write_context(told, context)?;
     }
     if let Some(ephemeral) = done.ephemeral() {
-        print!(rt; ", ephemeral ")?;
-        names.write_ephemeral(rt, ephemeral)?;
+        write!(told, ", ephemeral ")?;
+        names.write_ephemeral(told, ephemeral)?;
     }
     Ok(())
 }
 
 /// Writes what a command did: what it created, and what it subtracted.
-pub(crate) fn write_done(rt: &HostRuntime, names: &Names, done: &Done) -> Result<(), Failure> {
-    print!(rt; "done")?;
-    write_created(rt, names, done)?;
+pub(crate) fn write_done(told: &mut String, names: &Names, done: &Done) -> Result<(), Failure> {
+    write!(told, "done")?;
+    write_created(told, names, done)?;
     if done.lines().is_empty() && done.ephemerals().is_empty() {
         return Ok(());
     }
-    print!(rt; ", subtracted")?;
-    write_lines(rt, done.lines())?;
-    write_ephemerals(rt, names, done.ephemerals())
+    write!(told, ", subtracted")?;
+    write_lines(told, done.lines())?;
+    write_ephemerals(told, names, done.ephemerals())
 }
 
 /// What a command created is given.

@@ -1,16 +1,15 @@
 //! The layer `requests`: requests that run on a connection model and its lines by themselves, without links and calls.
-use crate::failure::Failure;
 use crate::lines::write_noted;
 use crate::names::{self, NO_NAMES, Names};
 use crate::rows::{self, Layer};
-use crate::words::Words;
-use crate::{boards, commands, events, replies};
-use contexts::Done;
+use crate::{boards, commands, events, replies, seen};
 use mg_model::failures::ChosenRefusal;
 use mg_model::line_events::LineEvent;
 use mg_names::identifiers::{Assoc, CallNo, LineNo};
 use requests::{Connections, LineNote, MessageId, Outcome, Reply, Request, SentNote};
-use std::alloc::Global;
+use std::alloc::{AllocError, Global};
+use test_words::failure::Failure;
+use test_words::words::Words;
 
 /// Connections, and the names of what they gave.
 #[derive(Drop)]
@@ -21,123 +20,36 @@ pub(crate) struct Runs {
     names: Names,
 }
 
-/// Connections with these lines.
-fn made_plain(alloc: Global, lines: &[LineNo]) -> Result<Connections, Failure> {
-    match Connections::new(alloc, lines) {
-        Ok(made) => Ok(made),
-        Err(_) => Ok(Connections::new(alloc, lines)?),
-    }
-}
-
 /// Connections with these lines, which give numbers of a class.
 fn made(
     alloc: Global,
     lines: &[LineNo],
     (first, stride): (u32, u32),
-) -> Result<Connections, Failure> {
+) -> Result<Connections, AllocError> {
     if (first, stride) == (0, 1) || first >= stride {
-        return made_plain(alloc, lines);
+        return Connections::new(alloc, lines);
     }
-    match Connections::with_ids(alloc, lines, first, stride) {
-        Ok(made) => Ok(made),
-        Err(_) => Ok(Connections::with_ids(alloc, lines, first, stride)?),
-    }
+    Connections::with_ids(alloc, lines, first, stride)
 }
 
-/// Equal connections.
-fn copied(connections: &Connections) -> Result<Connections, Failure> {
-    match connections.copy() {
-        Ok(copied) => Ok(copied),
-        Err(_) => Ok(connections.copy()?),
-    }
-}
-
-/// A request runs on a copy; where it wants memory that copy is gone, and it runs on another one.
-fn ran(
-    connections: &Connections,
-    request: &Request,
-    chosen: Option<ChosenRefusal>,
-) -> Result<(Connections, Outcome), Failure> {
-    match copied(connections)?.run(request, chosen) {
-        Ok(ended) => Ok(ended),
-        Err(_) => Ok(copied(connections)?.run(request, chosen)?),
-    }
-}
-
-/// A request runs once more on a copy, as it ran before.
-fn followed(
-    connections: &Connections,
-    request: &Request,
-    chosen: Option<ChosenRefusal>,
-    results: &[Done],
-) -> Result<Connections, Failure> {
-    match copied(connections)?.follow(request, chosen, results) {
-        Some(after) => Ok(after),
-        None => match copied(connections)?.follow(request, chosen, results) {
-            Some(after) => Ok(after),
-            None => Err(Failure::Memory),
-        },
-    }
-}
-
-/// A line is opened.
-fn open_line(connections: &mut Connections, line: LineNo) -> Result<(), Failure> {
-    match connections.open_line(line) {
-        Ok(()) => Ok(()),
-        Err(_) => Ok(connections.open_line(line)?),
-    }
-}
-
-/// A line is set Inactive.
-fn deactivate(connections: &mut Connections, line: LineNo) -> Result<(), Failure> {
-    match connections.deactivate(line) {
-        Ok(()) => Ok(()),
-        Err(_) => Ok(connections.deactivate(line)?),
-    }
-}
-
-/// An equal reply.
-fn copied_reply(reply: &Reply) -> Result<Reply, Failure> {
-    match reply.copy() {
-        Ok(copied) => Ok(copied),
-        Err(_) => Ok(reply.copy()?),
-    }
-}
-
-fn write_notes(rt: &HostRuntime, notes: &[LineNote]) -> Result<(), Failure> {
+fn write_notes(told: &mut String, notes: &[LineNote]) -> Result<(), Failure> {
     for raised in notes {
-        print!(rt; " ; note l/{} ", raised.line.0)?;
-        events::write_note(rt, &raised.note)?;
+        write!(told, " ; note l/{} ", raised.line.0)?;
+        events::write_note(told, &raised.note)?;
     }
     Ok(())
 }
 
-/// Writes a reply with what a request came to.
-fn write_results(
-    rt: &HostRuntime,
-    names: &mut Names,
-    id: MessageId,
-    reply: &Reply,
-) -> Result<(), Failure> {
-    let copied = copied_reply(reply)?;
-    replies::write_reply(rt, names, id, &copied)
-}
-
-/// Writes what a request came to.
-fn write_outcome(
-    rt: &HostRuntime,
-    names: &mut Names,
-    id: MessageId,
-    outcome: Outcome,
-) -> Result<(), Failure> {
+/// A copy of the reply that says what a request came to, and its notes.
+fn replied(id: MessageId, outcome: Outcome) -> Result<(Reply, Vec<LineNote>), AllocError> {
     let Outcome {
         results,
         failure,
         notes,
     } = outcome;
     let reply = Reply::new(id, results, failure);
-    write_results(rt, names, id, &reply)?;
-    write_notes(rt, notes.as_slice())
+    let copied = reply.copy()?;
+    Ok((copied, notes))
 }
 
 impl Runs {
@@ -147,7 +59,7 @@ impl Runs {
         Ok(Runs {
             alloc,
             lines,
-            connections: made_plain(alloc, &[])?,
+            connections: Connections::new(alloc, &[])?,
             names: NO_NAMES,
         })
     }
@@ -173,31 +85,44 @@ impl Runs {
         Ok(Request::new(id, asked))
     }
 
-    /// A request runs, and what it leaves stays; where the verb is `follow`, what following its results leaves.
+    /// What a request leaves on equal connections and what it came to; where the verb is `follow`, what following its results leaves.
+    fn ran(
+        &self,
+        verb: &str,
+        request: &Request,
+        chosen: Option<ChosenRefusal>,
+    ) -> Result<(Connections, Outcome), Failure> {
+        let (after, outcome) = self.connections.copy()?.run(request, chosen)?;
+        if verb != "follow" {
+            return Ok((after, outcome));
+        }
+        drop(after);
+        let results = outcome.results.as_slice();
+        match self.connections.copy()?.follow(request, chosen, results) {
+            Some(after) => Ok((after, outcome)),
+            None => Err(Failure::Memory),
+        }
+    }
+
+    /// A request runs, and what it leaves stays once no more memory is wanted.
     fn run(
         &mut self,
-        rt: &HostRuntime,
+        told: &mut String,
         verb: &str,
         request: &Request,
         chosen: Option<ChosenRefusal>,
     ) -> Result<(), Failure> {
-        let (after, outcome) = ran(&self.connections, request, chosen)?;
-        self.connections = match verb {
-            "follow" => followed(
-                &self.connections,
-                request,
-                chosen,
-                outcome.results.as_slice(),
-            )?,
-            _ => after,
-        };
-        write_outcome(rt, &mut self.names, request.id(), outcome)
+        let (after, outcome) = self.ran(verb, request, chosen)?;
+        let (reply, notes) = replied(request.id(), outcome)?;
+        self.connections = after;
+        replies::write_reply(told, &mut self.names, request.id(), &reply)?;
+        write_notes(told, notes.as_slice())
     }
 
     /// The request of a row runs.
     fn asked(
         &mut self,
-        rt: &HostRuntime,
+        told: &mut String,
         verb: &str,
         words: &mut Words<'_>,
     ) -> Result<(), Failure> {
@@ -208,11 +133,11 @@ impl Runs {
             return Err(Failure::Unreadable);
         };
         let request = self.request(number, words.rest())?;
-        self.run(rt, verb, &request, chosen)
+        self.run(told, verb, &request, chosen)
     }
 
     /// Something happens on a line, and its note is number 1 to call 1.
-    fn happen(&mut self, rt: &HostRuntime, line: LineNo, event: LineEvent) -> Result<(), Failure> {
+    fn happen(&mut self, told: &mut String, line: LineNo, event: LineEvent) -> Result<(), Failure> {
         let id = MessageId {
             call: CallNo(1),
             association: Assoc(1),
@@ -220,62 +145,68 @@ impl Runs {
         };
         match self.connections.happen(line, event) {
             Ok(Some(note)) => {
-                replies::write_note(rt, &SentNote::new(id, LineNote { line, note }))
+                replies::write_note(told, &SentNote::new(id, LineNote { line, note }))
             }
-            answer => write_noted(rt, answer),
+            answer => write_noted(told, answer),
         }
     }
 
     /// What is done to a line, or read of it.
     fn of_line(
         &mut self,
-        rt: &HostRuntime,
+        told: &mut String,
         verb: &str,
         line: LineNo,
         words: &mut Words<'_>,
     ) -> Result<(), Failure> {
         match verb {
-            "open" => open_line(&mut self.connections, line)?,
-            "deactivate" => deactivate(&mut self.connections, line)?,
-            "line" => return events::write_line(rt, self.connections.line(line)),
-            "idle" => return rows::yes_or_no(rt, self.connections.is_idle(line)),
-            "there" => return rows::yes_or_no(rt, self.connections.has_line(line)),
-            "raises" => return self.write_raises(rt, line, words),
+            "open" => self.connections.open_line(line)?,
+            "deactivate" => self.connections.deactivate(line)?,
+            "line" => return events::write_line(told, self.connections.line(line)),
+            "idle" => return rows::yes_or_no(told, self.connections.is_idle(line)),
+            "there" => return rows::yes_or_no(told, self.connections.has_line(line)),
+            "raises" => return self.write_raises(told, line, words),
             _ => match events::event(verb, words) {
-                Some(event) => return self.happen(rt, line, event),
+                Some(event) => return self.happen(told, line, event),
                 None => return Err(Failure::Unreadable),
             },
         }
-        rows::done(rt)
+        rows::done(told)
     }
 
     /// Writes whether an event on a line raises a note.
     fn write_raises(
         &self,
-        rt: &HostRuntime,
+        told: &mut String,
         line: LineNo,
         words: &mut Words<'_>,
     ) -> Result<(), Failure> {
         let verb = words.next();
         match events::event(verb, words) {
-            Some(event) => rows::yes_or_no(rt, self.connections.raises(line, event)),
+            Some(event) => rows::yes_or_no(told, self.connections.raises(line, event)),
             None => Err(Failure::Unreadable),
         }
     }
 }
 
 impl Layer for Runs {
-    fn answer(&mut self, rt: &HostRuntime, words: &mut Words<'_>) -> Result<(), Failure> {
+    fn show(&self, told: &mut String) -> Result<(), Failure> {
+        self.names.show(told)?;
+        seen::show_board(told, self.connections.board())?;
+        seen::show_lines(told, &self.connections)
+    }
+
+    fn answer(&mut self, told: &mut String, words: &mut Words<'_>) -> Result<(), Failure> {
         let verb = words.next();
         match verb {
             "new" => {
                 self.anew(words)?;
-                rows::done(rt)
+                rows::done(told)
             }
-            "run" | "follow" => self.asked(rt, verb, words),
+            "run" | "follow" => self.asked(told, verb, words),
             "restart" => {
                 self.connections.restart();
-                rows::done(rt)
+                rows::done(told)
             }
             "show"
             | "members"
@@ -286,10 +217,10 @@ impl Layer for Runs {
             | "cut"
             | "path"
             | "joined" => {
-                boards::write_read(rt, &self.names, self.connections.board(), verb, words)
+                boards::write_read(told, &self.names, self.connections.board(), verb, words)
             }
             _ => match names::line(words.next()) {
-                Some(line) => self.of_line(rt, verb, line, words),
+                Some(line) => self.of_line(told, verb, line, words),
                 None => Err(Failure::Unreadable),
             },
         }

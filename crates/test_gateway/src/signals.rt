@@ -1,7 +1,7 @@
 //! Signals descriptors, as words such as `cg/dt+al/ri` (H.248.1 section 7.1.11).
-use crate::failure::Failure;
 use mg_model::line_events::SignalSet;
 use mg_names::signals::Signal;
+use test_words::failure::Failure;
 
 /// A set with one more signal.
 fn with(set: SignalSet, signal: Signal) -> SignalSet {
@@ -29,7 +29,7 @@ pub(crate) fn read(text: &str) -> Option<SignalSet> {
 }
 
 /// Writes the signals that play.
-pub(crate) fn write(rt: &HostRuntime, playing: SignalSet) -> Result<(), Failure> {
+pub(crate) fn write(told: &mut String, playing: SignalSet) -> Result<(), Failure> {
     let all = [
         (playing.ring, Signal::Ring),
         (playing.dial_tone, Signal::DialTone),
@@ -39,7 +39,7 @@ pub(crate) fn write(rt: &HostRuntime, playing: SignalSet) -> Result<(), Failure>
     ];
     for (plays, signal) in all {
         if plays {
-            print!(rt; ", plays {}", signal.text())?;
+            write!(told, ", plays {}", signal.text())?;
         }
     }
     Ok(())

@@ -1,9 +1,10 @@
 //! The lines of a file of rows: rows, lines of documents, and what is passed over.
 use crate::failure::{Failure, wanted};
+use crate::words;
 use std::alloc::{AllocError, Global};
 
 /// The row in a line, without the answer that may stand behind it; none in a comment, an empty line or a line of a document.
-pub(crate) fn row_in(line: &str) -> Option<&str> {
+pub fn row_in(line: &str) -> Option<&str> {
     if line.is_empty() || line.starts_with('#') || line.starts_with('|') {
         return None;
     }
@@ -14,7 +15,7 @@ pub(crate) fn row_in(line: &str) -> Option<&str> {
 }
 
 /// The words of a row.
-pub(crate) fn words(alloc: Global, row: &str) -> Result<Vec<&str>, AllocError> {
+pub fn words(alloc: Global, row: &str) -> Result<Vec<&str>, AllocError> {
     match row.split(' ').collect(alloc) {
         Ok(words) => Ok(words),
         Err(_) => row.split(' ').collect(alloc),
@@ -22,17 +23,17 @@ pub(crate) fn words(alloc: Global, row: &str) -> Result<Vec<&str>, AllocError> {
 }
 
 /// A whole number.
-pub(crate) fn number(word: &str) -> Result<u32, Failure> {
-    wanted(word.parse::<u32>().ok())
+pub fn number(word: &str) -> Result<u32, Failure> {
+    wanted(words::number(word))
 }
 
 /// The number of an association.
-pub(crate) fn association(word: &str) -> Result<u64, Failure> {
+pub fn association(word: &str) -> Result<u64, Failure> {
     wanted(word.parse::<u64>().ok())
 }
 
 /// The row that opens what the rows of a section are of, after its verb, and those rows.
-pub(crate) fn opening(section: &str) -> Result<(&str, &str), Failure> {
+pub fn opening(section: &str) -> Result<(&str, &str), Failure> {
     let (opening, rows) = match section.split_once('\n') {
         Some(parts) => parts,
         None => (section, ""),
@@ -41,7 +42,7 @@ pub(crate) fn opening(section: &str) -> Result<(&str, &str), Failure> {
 }
 
 /// The lines before a row that stands behind this end of a line, and those after it.
-pub(crate) fn parted<'t>(rows: &'t str, row: &str) -> Result<(&'t str, &'t str), Failure> {
+pub fn parted<'t>(rows: &'t str, row: &str) -> Result<(&'t str, &'t str), Failure> {
     let (before, rest) = wanted(rows.split_once(row))?;
     match rest.split_once('\n') {
         Some((_, after)) => Ok((before, after)),

@@ -1,12 +1,13 @@
 //! The layer of certificates: texts that are read as certificates for a script, their entries and points, and the configuration that a call opens in.
-use crate::documents::{self, Document};
-use crate::failure::{Failure, wanted};
-use crate::rows::{number, parted, row_in};
 use certificate::{CertFault, laws, read_cert};
 use closure::steps::opening;
 use entry_table::{Cert, Entry};
 use script_table::Script;
 use std::alloc::Global;
+use test_documents::documents::Document;
+use test_documents::scripts::{Sizes, script};
+use test_words::failure::{Failure, wanted};
+use test_words::rows::{number, parted, row_in};
 
 /// A certificate that is read, once more where that wanted memory.
 pub(crate) fn read(alloc: Global, bytes: &[u8], script: &Script) -> Result<Cert, CertFault> {
@@ -88,7 +89,7 @@ fn tell_row(rt: &HostRuntime, script: &Script, cert: &Cert, row: &str) -> Result
             let (point, entry) = wanted(rest.split_once(" of "))?;
             tell_point(rt, entry_at(cert, entry)?, number(point)?)
         }
-        _ => Err(Failure::Rows),
+        _ => Err(Failure::Unreadable),
     }
 }
 
@@ -130,6 +131,7 @@ fn tell_rows(rt: &HostRuntime, script: &Script, rows: &str) -> Result<(), Failur
 /// The rows of certificates.
 pub(crate) fn tell(rt: &HostRuntime, rows: &str) -> Result<(), Failure> {
     let (head, rest) = parted(rows, "\nscript")?;
-    let script = documents::script(rt, head)?;
+    let script = script(rt.alloc(), head)?;
+    println!(rt; "{}", Sizes(&script))?;
     tell_rows(rt, &script, rest)
 }

@@ -1,8 +1,5 @@
 //! The layer of checks: the steps of the configurations in which a call opens and after a restart, and what a certificate comes to, in one piece and in several.
 use crate::certificates;
-use crate::documents::{self, Document};
-use crate::failure::{Failure, wanted};
-use crate::rows::{parted, row_in};
 use closure::first_fault::{Finding, check, first_fault};
 use closure::steps::{opening, reset, steps};
 use configuration::config::Config;
@@ -14,6 +11,10 @@ use parcheck::first_fault::{check_par, first_fault_par};
 use script_table::Script;
 use std::alloc::{AllocError, Global};
 use std::thread::Threads;
+use test_documents::documents::Document;
+use test_documents::scripts::{Sizes, script};
+use test_words::failure::{Failure, wanted};
+use test_words::rows::{parted, row_in};
 
 /// The steps of a configuration, once more where that wanted memory.
 fn steps_of(alloc: Global, script: &Script, config: &Config) -> Result<Vec<Step>, AllocError> {
@@ -145,7 +146,7 @@ fn tell_row<T: Threads + Sync>(
     match row {
         "check" => tell_finding(rt, script, &check(script, cert)),
         "fault" => tell_first(rt, script, first_fault(script, cert)),
-        _ => Err(Failure::Rows),
+        _ => Err(Failure::Unreadable),
     }
 }
 
@@ -209,6 +210,7 @@ pub(crate) fn tell<T: Threads + Sync>(
     rows: &str,
 ) -> Result<(), Failure> {
     let (head, rest) = parted(rows, "\nscript")?;
-    let script = documents::script(rt, head)?;
+    let script = script(rt.alloc(), head)?;
+    println!(rt; "{}", Sizes(&script))?;
     tell_rows(rt, threads, &script, rest)
 }

@@ -2,23 +2,23 @@
 
 /// The words of a row that weren't read yet.
 #[derive(Clone, Copy)]
-pub(crate) struct Words<'a> {
+pub struct Words<'a> {
     rest: &'a str,
 }
 
 impl<'a> Words<'a> {
     /// The words of a text.
-    pub(crate) fn of(text: &'a str) -> Words<'a> {
+    pub fn of(text: &'a str) -> Words<'a> {
         Words { rest: text }
     }
 
     /// What wasn't read yet.
-    pub(crate) fn rest(&self) -> &'a str {
+    pub fn rest(&self) -> &'a str {
         self.rest
     }
 
     /// The next word; an empty one where there is none.
-    pub(crate) fn next(&mut self) -> &'a str {
+    pub fn next(&mut self) -> &'a str {
         let text = self.rest;
         match text.split_once(' ') {
             Some((word, rest)) => {
@@ -33,12 +33,12 @@ impl<'a> Words<'a> {
     }
 
     /// The next word as a number.
-    pub(crate) fn number(&mut self) -> Option<u32> {
+    pub fn number(&mut self) -> Option<u32> {
         number(self.next())
     }
 
     /// The value of the next word, where it is this key with a value, such as `class=3/16`; else no word is read.
-    pub(crate) fn value_of(&mut self, key: &str) -> Option<&'a str> {
+    pub fn value_of(&mut self, key: &str) -> Option<&'a str> {
         let mut ahead = *self;
         let (found, value) = ahead.next().split_once('=')?;
         if found != key {
@@ -49,13 +49,13 @@ impl<'a> Words<'a> {
     }
 
     /// The number of the next word, where it is this key with a number; else no word is read.
-    pub(crate) fn number_of(&mut self, key: &str) -> Option<u32> {
+    pub fn number_of(&mut self, key: &str) -> Option<u32> {
         number(self.value_of(key)?)
     }
 
     /// The class of numbers that comes next, such as `class=3/16`: those that leave 3 where they are divided by 16. Every number where
     /// none comes.
-    pub(crate) fn class(&mut self) -> (u32, u32) {
+    pub fn class(&mut self) -> (u32, u32) {
         match self.value_of("class") {
             Some(value) => two_numbers(value).unwrap_or((0, 1)),
             None => (0, 1),
@@ -64,12 +64,12 @@ impl<'a> Words<'a> {
 }
 
 /// A word as a number.
-pub(crate) fn number(word: &str) -> Option<u32> {
+pub fn number(word: &str) -> Option<u32> {
     word.parse::<u32>().ok()
 }
 
 /// Both numbers of a word such as `3/16`.
-pub(crate) fn two_numbers(word: &str) -> Option<(u32, u32)> {
+pub fn two_numbers(word: &str) -> Option<(u32, u32)> {
     let (first, second) = word.split_once('/')?;
     Some((number(first)?, number(second)?))
 }

@@ -1,15 +1,13 @@
 //! Documents that stand in a file of rows: their lines behind bars, or in one row, where a semicolon and a blank stand for the end of a line.
-use crate::failure::Failure;
-use script_table::Script;
-use scriptreader::{ScriptFault, read_script};
 use std::alloc::Global;
+use test_words::failure::Failure;
 
 /// Room for a document, made at once.
 const ROOM: usize = 16_384;
 
 /// The document that a row is of.
 #[derive(Drop)]
-pub(crate) struct Document {
+pub struct Document {
     /// What each document of one row begins with.
     head: String,
     text: String,
@@ -17,14 +15,14 @@ pub(crate) struct Document {
 
 impl Document {
     /// No document yet, with room for one.
-    pub(crate) fn new(alloc: Global) -> Result<Document, Failure> {
+    pub fn new(alloc: Global) -> Result<Document, Failure> {
         let head = String::with_capacity(alloc, ROOM)?;
         let text = String::with_capacity(alloc, ROOM)?;
         Ok(Document { head, text })
     }
 
     /// A line of a file of rows, which is one of a document where it stands behind a bar.
-    pub(crate) fn take(&mut self, line: &str) -> Result<(), Failure> {
+    pub fn take(&mut self, line: &str) -> Result<(), Failure> {
         if let Some(part) = line.strip_prefix("| ") {
             self.add_line(part)?;
         }
@@ -32,14 +30,14 @@ impl Document {
     }
 
     /// A line of the document.
-    pub(crate) fn add_line(&mut self, line: &str) -> Result<(), Failure> {
+    pub fn add_line(&mut self, line: &str) -> Result<(), Failure> {
         self.text.push_str(line)?;
         self.text.push('\n')?;
         Ok(())
     }
 
     /// The lines that a row writes.
-    pub(crate) fn add(&mut self, row: &str) -> Result<(), Failure> {
+    pub fn add(&mut self, row: &str) -> Result<(), Failure> {
         for line in row.split("; ") {
             self.add_line(line)?;
         }
@@ -47,7 +45,7 @@ impl Document {
     }
 
     /// The document so far, with a text after it.
-    pub(crate) fn push(&mut self, text: &str) -> Result<(), Failure> {
+    pub fn push(&mut self, text: &str) -> Result<(), Failure> {
         self.text.push_str(text)?;
         Ok(())
     }
@@ -65,7 +63,7 @@ impl Document {
     }
 
     /// The lines that a row writes, where each `#` stands for this number.
-    pub(crate) fn add_with(&mut self, row: &str, number: u32) -> Result<(), Failure> {
+    pub fn add_with(&mut self, row: &str, number: u32) -> Result<(), Failure> {
         for line in row.split("; ") {
             self.add_numbered(line, number)?;
         }
@@ -73,7 +71,7 @@ impl Document {
     }
 
     /// What stands there is what each document of one row begins with from now on.
-    pub(crate) fn keep_head(&mut self) -> Result<(), Failure> {
+    pub fn keep_head(&mut self) -> Result<(), Failure> {
         self.head.clear();
         self.head.push_str(self.text.as_str())?;
         self.text.clear();
@@ -81,53 +79,27 @@ impl Document {
     }
 
     /// A document of one row begins.
-    pub(crate) fn begin(&mut self) -> Result<(), Failure> {
+    pub fn begin(&mut self) -> Result<(), Failure> {
         self.text.clear();
         self.text.push_str(self.head.as_str())?;
         Ok(())
     }
 
     /// The document.
-    pub(crate) fn bytes(&self) -> &[u8] {
+    pub fn bytes(&self) -> &[u8] {
         self.text.as_str().as_bytes()
     }
 
     /// The document was read, and the next one stands behind bars.
-    pub(crate) fn clear(&mut self) {
+    pub fn clear(&mut self) {
         self.text.clear();
     }
 }
 
-/// A script that is read, once more where that wanted memory.
-pub(crate) fn read(alloc: Global, bytes: &[u8]) -> Result<Script, ScriptFault> {
-    match read_script(alloc, bytes) {
-        Err(ScriptFault::NoMemory) => read_script(alloc, bytes),
-        answer => answer,
-    }
-}
-
 /// The document that stands in these lines.
-pub(crate) fn gather(document: &mut Document, lines: &str) -> Result<(), Failure> {
+pub fn gather(document: &mut Document, lines: &str) -> Result<(), Failure> {
     for line in lines.lines() {
         document.take(line)?;
     }
     Ok(())
-}
-
-/// The script that stands before the rows of a file, which has to be one; how many lines and states it has is told.
-pub(crate) fn script(rt: &HostRuntime, lines: &str) -> Result<Script, Failure> {
-    let mut document = Document::new(rt.alloc())?;
-    gather(&mut document, lines)?;
-    match read(rt.alloc(), document.bytes()) {
-        Ok(script) => {
-            println!(rt;
-                "script => lines {}, states {}",
-                script.lines(),
-                script.states()
-            )?;
-            Ok(script)
-        }
-        Err(ScriptFault::NoMemory) => Err(Failure::Memory),
-        Err(_) => Err(Failure::Rows),
-    }
 }

@@ -1,14 +1,14 @@
-//! Why the program ends early, and answers of calls that are made once more.
+//! Why a program ends early, and answers of calls that are made once more, since they wanted memory.
 use std::alloc::{AllocError, AllocFailed};
 use std::io;
 
-/// Why the program ends early.
+/// Why a program ends early.
 #[derive(Debug, Drop)]
-pub(crate) enum Failure {
+pub enum Failure {
     /// Memory ran out, and not in a call that is made once more.
     Memory,
-    /// A row is none.
-    Rows,
+    /// A row names no call.
+    Unreadable,
     /// A call wanted memory, and what it was made on isn't as it was.
     Changed,
     /// The input can't be read, or the output can't be written.
@@ -37,15 +37,15 @@ impl From<io::Error> for Failure {
 }
 
 /// What a row lacks, as a failure.
-pub(crate) fn wanted<T: Drop>(found: Option<T>) -> Result<T, Failure> {
+pub fn wanted<T: Drop>(found: Option<T>) -> Result<T, Failure> {
     match found {
         Some(found) => Ok(found),
-        None => Err(Failure::Rows),
+        None => Err(Failure::Unreadable),
     }
 }
 
 /// The answer of a call that was made once more, since memory was wanted, on what has to be as it was.
-pub(crate) fn once_more<A: Drop>(is_same: bool, answer: A) -> Result<A, Failure> {
+pub fn once_more<A: Drop>(is_same: bool, answer: A) -> Result<A, Failure> {
     if is_same {
         Ok(answer)
     } else {

@@ -1,10 +1,10 @@
 //! How plans are written.
-use crate::failure::Failure;
 use mg_model::plans::PlanStep;
 use mg_names::slots::Slot;
 use plans::{Epoch, Plan, PlanCall};
 use script_table::Script;
 use std::fmt;
+use test_words::failure::Failure;
 
 /// A step of a plan, by its words.
 #[derive(Clone, Copy)]

@@ -1,10 +1,11 @@
 //! The layer of scripts: texts that are read as scripts, and what is named in one.
-use crate::documents::{self, Document};
-use crate::failure::{Failure, wanted};
-use crate::rows::{number, row_in};
 use mg_names::slots::Slot;
 use script_table::Script;
 use scriptreader::{ScriptFault, laws};
+use test_documents::documents::Document;
+use test_documents::scripts;
+use test_words::failure::{Failure, wanted};
+use test_words::rows::{number, row_in};
 
 /// The name of a state.
 fn state_name(script: &Script, state: u8) -> &str {
@@ -37,7 +38,7 @@ fn tell_text(
     kept: &mut Option<Script>,
     document: &Document,
 ) -> Result<(), Failure> {
-    match documents::read(rt.alloc(), document.bytes()) {
+    match scripts::read(rt.alloc(), document.bytes()) {
         Ok(script) => {
             tell_script(rt, &script)?;
             *kept = Some(script);
@@ -71,7 +72,7 @@ fn tell_name(rt: &HostRuntime, script: &Script, row: &str) -> Result<(), Failure
             }
             Ok(())
         }
-        _ => Err(Failure::Rows),
+        _ => Err(Failure::Unreadable),
     }
 }
 

@@ -1,6 +1,4 @@
 //! The layer of small tables: words of texts, keys of TOML tables, regions and steps of configurations, and queues.
-use crate::failure::{Failure, once_more, wanted};
-use crate::rows::{number, row_in};
 use configuration::config::Config;
 use configuration::region::Region;
 use configuration::step::{Step, no_steps, push_step};
@@ -13,6 +11,8 @@ use mg_names::modes::Mode;
 use mg_names::phases::LinkPhase;
 use mg_names::slots::Slot;
 use std::alloc::{AllocError, Global};
+use test_words::failure::{Failure, once_more, wanted};
+use test_words::rows::{number, row_in};
 use toml::Table;
 use toml_values::{entries, has_only};
 use typed_values::{Word, words};
@@ -189,7 +189,7 @@ fn tell_row(rt: &HostRuntime, row: &str) -> Result<(), Failure> {
         Some(("steps", count)) => tell_steps(rt, count),
         None if row == "entries" => tell_empty(rt),
         None if row == "queue" => tell_queue(rt),
-        _ => Err(Failure::Rows),
+        _ => Err(Failure::Unreadable),
     }
 }
 

@@ -1,47 +1,17 @@
 //! The layer of plans: texts that are read as plans for a script.
-use crate::documents::{self, Document};
-use crate::failure::{Failure, wanted};
-use crate::rows::{number, parted, row_in};
 use crate::told_plans::{Step, steps_of, tell_plan};
-use mg_model::plans::PlanStep;
-use plans::{Plan, PlanFault};
+use plans::PlanFault;
 use script_table::Script;
-use std::alloc::Global;
-
-/// A plan that is read, once more where that wanted memory.
-pub(crate) fn read(alloc: Global, bytes: &[u8], script: &Script) -> Result<Plan, PlanFault> {
-    match Plan::read(alloc, bytes, script) {
-        Err(PlanFault::NoMemory) => Plan::read(alloc, bytes, script),
-        answer => answer,
-    }
-}
+use test_documents::documents::Document;
+use test_documents::plan_texts::{first_step, read, write_step};
+use test_documents::scripts::{Sizes, script};
+use test_words::failure::{Failure, wanted};
+use test_words::rows::{number, parted, row_in};
 
 /// Tells the fault of a text that is no plan.
 fn tell_fault(rt: &HostRuntime, fault: PlanFault) -> Result<(), Failure> {
     println!(rt; "{} {}", fault.number(), fault.name())?;
     Ok(())
-}
-
-/// The one step of a plan of one call.
-pub(crate) fn first_step(plan: &Plan) -> Option<PlanStep> {
-    let [call] = plan.calls() else {
-        return None;
-    };
-    let [epoch] = call.epochs() else {
-        return None;
-    };
-    let [step] = epoch.steps() else {
-        return None;
-    };
-    Some(*step)
-}
-
-/// A plan of one call with this one step, which is written in quotes.
-fn write_step(document: &mut Document, step: &str) -> Result<(), Failure> {
-    document.clear();
-    document.push("[[call]]\nlines = [1, 2]\nepochs = [[")?;
-    document.push(step)?;
-    document.push("]]\n")
 }
 
 /// Tells the step that a text is.
@@ -51,7 +21,7 @@ fn tell_step(
     document: &mut Document,
     step: &str,
 ) -> Result<(), Failure> {
-    write_step(document, step)?;
+    write_step(document, "", step)?;
     match read(rt.alloc(), document.bytes(), script) {
         Ok(plan) => {
             let step = wanted(first_step(&plan))?;
@@ -162,6 +132,7 @@ fn tell_rows(rt: &HostRuntime, script: &Script, rows: &str) -> Result<(), Failur
 /// The rows of plans.
 pub(crate) fn tell(rt: &HostRuntime, rows: &str) -> Result<(), Failure> {
     let (head, rest) = parted(rows, "\nscript")?;
-    let script = documents::script(rt, head)?;
+    let script = script(rt.alloc(), head)?;
+    println!(rt; "{}", Sizes(&script))?;
     tell_rows(rt, &script, rest)
 }
