@@ -4,7 +4,7 @@ use configuration::region::Region;
 use configuration::step::{Step, no_steps, push_step};
 use configuration::value_set::ValueSet;
 use entry_table::Cert;
-use handover::Line;
+use handover::Queue;
 use mg_model::commands::{EventsName, Termination};
 use mg_model::steps::StepName;
 use mg_names::modes::Mode;
@@ -163,10 +163,10 @@ fn tell_empty(rt: &HostRuntime) -> Result<(), Failure> {
 
 /// A queue is opened, once more where that wanted memory.
 fn open_queue(alloc: Global) -> Result<(), AllocError> {
-    match Line::<u8>::open(alloc, 4) {
+    match Queue::<u8>::open(alloc, 4) {
         Ok(_) => Ok(()),
         Err(_) => {
-            let _queue = Line::<u8>::open(alloc, 4)?;
+            let _queue = Queue::<u8>::open(alloc, 4)?;
             Ok(())
         }
     }
