@@ -7,13 +7,25 @@
      REFUSE_FULL=N        writes to standard output take N bytes, and then none
      REFUSE_SHORT=N       each read of standard input and each write to standard output takes N bytes at most
      REFUSE_ERROR=E       the number with which they fail, EIO where it isn't given
-   A byte on the descriptor REFUSE_TELL says that something was refused, at once: a program with threads may end without its destructors. */
+   A byte on the descriptor REFUSE_TELL says that something was refused, at once: a program with threads may end without its destructors.
+     REFUSE_EACH=FD       each growth of memory is refused in turn, from the first, each in a process of its own that is a copy of this one as it begins, until
+                          there is none of that number. Standard input has to be a file. A line on the descriptor says what each process came to: its
+                          status, or less than 0 the signal that ended it; whether a growth was refused; whether it wrote the bytes of the file
+                          REFUSE_WANTED, a front of them, or the bytes of the file REFUSE_INSTEAD; and how many bytes it wrote to standard error. */
 #define _GNU_SOURCE
 #include <errno.h>
+#include <fcntl.h>
+#include <stdio.h>
 #include <stdlib.h>
+#include <string.h>
 #include <sys/mman.h>
+#include <sys/stat.h>
 #include <sys/syscall.h>
+#include <sys/wait.h>
 #include <unistd.h>
+
+/* How long a process may take, in seconds. */
+enum { SECONDS = 120 };
 
 extern void *__libc_malloc(size_t size);
 extern void *__libc_calloc(size_t count, size_t size);
@@ -22,11 +34,69 @@ extern void *__libc_memalign(size_t alignment, size_t size);
 
 static long call = 0, refused_call = -1, tell = -1, read_left = -1, write_left = -1, full_left = -1;
 static long reads_left = -1, writes_left = -1, most = -1, error = -1;
+/* Whether a growth was refused, where the process that waits for this one sees it. */
+static volatile int *shared = NULL;
 
 static long number(const char *name)
 {
     const char *text = getenv(name);
     return text ? atol(text) : -1;
+}
+
+/* The bytes of a file. */
+static char *bytes_of(int fd, size_t *size)
+{
+    struct stat found;
+    if (fd < 0 || fstat(fd, &found) < 0)
+        _exit(127);
+    *size = found.st_size;
+    char *bytes = __libc_malloc(*size + 1);
+    if (!bytes || pread(fd, bytes, *size, 0) != (ssize_t)*size)
+        _exit(127);
+    return bytes;
+}
+
+static void empty(int fd)
+{
+    if (ftruncate(fd, 0) < 0 || lseek(fd, 0, SEEK_SET) < 0)
+        _exit(127);
+}
+
+/* Begins a process for each growth of memory and says what it came to. It returns in each of these, and never in the one that begins them. */
+static void serve(long report)
+{
+    size_t wanted_size, other_size, size, noise_size;
+    char *wanted = bytes_of(open(getenv("REFUSE_WANTED"), O_RDONLY), &wanted_size);
+    char *other = bytes_of(open(getenv("REFUSE_INSTEAD"), O_RDONLY), &other_size);
+    int output = memfd_create("output", 0), noise = memfd_create("noise", 0);
+    shared = (int *)syscall(SYS_mmap, NULL, sizeof(int), PROT_READ | PROT_WRITE, MAP_SHARED | MAP_ANONYMOUS, -1, 0);
+    for (long growth = 0;; growth++) {
+        empty(output);
+        empty(noise);
+        *shared = 0;
+        if (lseek(STDIN_FILENO, 0, SEEK_SET) < 0)
+            _exit(127);
+        pid_t child = fork();
+        if (child == 0) {
+            dup2(output, STDOUT_FILENO);
+            dup2(noise, STDERR_FILENO);
+            alarm(SECONDS);
+            refused_call = growth;
+            return;
+        }
+        int status;
+        if (child < 0 || waitpid(child, &status, 0) < 0)
+            _exit(127);
+        char *told = bytes_of(output, &size), *said = bytes_of(noise, &noise_size);
+        int is_front = size <= wanted_size && !memcmp(told, wanted, size);
+        int is_other = size == other_size && !memcmp(told, other, size);
+        free(told);
+        free(said);
+        dprintf(report, "%d %d %d %d %d %zu\n", WIFEXITED(status) ? WEXITSTATUS(status) : -WTERMSIG(status), *shared, is_front && size == wanted_size, is_front,
+                is_other, noise_size);
+        if (!*shared)
+            _exit(0);
+    }
 }
 
 __attribute__((constructor)) static void begin(void)
@@ -40,6 +110,9 @@ __attribute__((constructor)) static void begin(void)
     writes_left = number("REFUSE_WRITE_CALL");
     most = number("REFUSE_SHORT");
     error = number("REFUSE_ERROR");
+    long report = number("REFUSE_EACH");
+    if (report >= 0)
+        serve(report);
     call = 0;
 }
 
@@ -47,7 +120,10 @@ static int refuses(void)
 {
     if (refused_call < 0 || __atomic_fetch_add(&call, 1, __ATOMIC_RELAXED) != refused_call)
         return 0;
-    syscall(SYS_write, tell, "r", 1);
+    if (shared)
+        *shared = 1;
+    else
+        syscall(SYS_write, tell, "r", 1);
     errno = ENOMEM;
     return 1;
 }

@@ -4,6 +4,7 @@ import os
 import subprocess
 import sys
 import tempfile
+from collections import namedtuple
 from pathlib import Path
 
 import programs
@@ -37,6 +38,23 @@ class Result:
         return f"{self.status} {self.output[-200:]!r} {self.error[-200:]!r}, {'something' if self.refused else 'nothing'} refused"
 
 
+class Trial(namedtuple("Trial", "status was_refused is_whole is_front is_no_memory noise")):
+    """What a process came to of which one growth was refused: its status, or less than 0 the signal that ended it; whether there was such a growth; whether
+    it wrote what it writes otherwise, or a front of that, or that memory ran out; and how many bytes of standard error."""
+
+    def told(self, status):
+        """Whether it told what it tells otherwise, with that status."""
+        return bool(self.is_whole) and self.status == status
+
+    def ran_out(self):
+        """Whether it said that memory ran out, with that status."""
+        return bool(self.is_no_memory) and self.status == NO_MEMORY[0]
+
+    def silent(self):
+        """Whether no text of a panic was written, and no signal ended it."""
+        return not self.noise and self.status >= 0
+
+
 class Refusing:
     """A program with what is preloaded into it."""
 
@@ -59,6 +77,25 @@ class Refusing:
         refused = os.read(told, 1) == b"r"
         os.close(told)
         return Result(status, output, error, refused)
+
+    def each(self, command, given, wanted):
+        """Runs a command with each growth of memory refused in turn, in a process of its own, until there is none of that number, which is the last trial;
+        otherwise it writes what is wanted."""
+        with tempfile.TemporaryDirectory() as folder:
+            files = {name: Path(folder) / name for name in ("given", "wanted", "instead")}
+            for path, text in zip(files.values(), (given, wanted, NO_MEMORY[1])):
+                path.write_bytes(text)
+            told, tells = os.pipe()
+            environment = {"LD_PRELOAD": str(self.library), "REFUSE_EACH": str(tells)}
+            environment.update({f"REFUSE_{name.upper()}": str(files[name]) for name in ("wanted", "instead")})
+            with open(files["given"], "rb") as source, os.fdopen(told) as lines:
+                words = [str(word) for word in command]
+                with subprocess.Popen(words, stdin=source, stdout=subprocess.DEVNULL, pass_fds=[tells], env=environment) as process:
+                    os.close(tells)
+                    trials = [Trial(*map(int, line.split())) for line in lines]
+        if process.returncode or not trials or trials[-1].was_refused:
+            raise RuntimeError(f"the growths of {command} weren't refused to the last")
+        return trials
 
 
 @contextlib.contextmanager
