@@ -166,6 +166,33 @@ fn reply(
     Ok(Delivered::Reply(Reply::new(id, results, failure)))
 }
 
+/// A reply to a request of a call, by the words behind its number: of which association it is, what its first command created, and what failed.
+fn read_reply(
+    alloc: Global,
+    party: &Party,
+    request: &str,
+    words: &[&str],
+) -> Result<Delivered, Failure> {
+    match words {
+        [] => reply(party, [request, "1"], Vec::new(alloc), None),
+        ["in", of] => reply(party, [request, of], Vec::new(alloc), None),
+        ["with", "a", "context"] => {
+            let results = Vec::from_array(alloc, [added(alloc, party)?])?;
+            reply(party, [request, "1"], results, None)
+        }
+        ["with", code, "at", place] => {
+            let failure = failed(code, place)?;
+            reply(party, [request, "1"], Vec::new(alloc), failure)
+        }
+        ["with", "a", "context", "and", code, "at", place] => {
+            let failure = failed(code, place)?;
+            let results = Vec::from_array(alloc, [added(alloc, party)?])?;
+            reply(party, [request, "1"], results, failure)
+        }
+        _ => Err(Failure::Unreadable),
+    }
+}
+
 /// What a row writes that reaches a call.
 fn read(
     alloc: Global,
@@ -180,31 +207,7 @@ fn read(
         ["note", place, spot, "request", request] => {
             note(alloc, script, party, [place, spot, request, "1"])
         }
-        ["reply", request] => reply(party, [request, "1"], Vec::new(alloc), None),
-        ["reply", request, "in", of] => reply(party, [request, of], Vec::new(alloc), None),
-        ["reply", request, "with", "a", "context"] => {
-            let results = Vec::from_array(alloc, [added(alloc, party)?])?;
-            reply(party, [request, "1"], results, None)
-        }
-        ["reply", request, "with", code, "at", place] => {
-            let failure = failed(code, place)?;
-            reply(party, [request, "1"], Vec::new(alloc), failure)
-        }
-        [
-            "reply",
-            request,
-            "with",
-            "a",
-            "context",
-            "and",
-            code,
-            "at",
-            place,
-        ] => {
-            let failure = failed(code, place)?;
-            let results = Vec::from_array(alloc, [added(alloc, party)?])?;
-            reply(party, [request, "1"], results, failure)
-        }
+        ["reply", request, rest @ ..] => read_reply(alloc, party, request, rest),
         _ => Err(Failure::Unreadable),
     }
 }

@@ -8,19 +8,24 @@ use test_documents::documents::Document;
 use test_words::failure::Failure;
 use test_words::rows::{number, words};
 
+/// Lines by their numbers.
+fn lines(alloc: Global, words: &[&str]) -> Result<Vec<LineNo>, Failure> {
+    let mut lines = Vec::new(alloc);
+    for word in words {
+        lines.push(LineNo(number(word)?))?;
+    }
+    Ok(lines)
+}
+
 /// A call with which a shard opens: `0 on 1 2`.
 fn opened_call(alloc: Global, text: &str) -> Result<OpenedCall, Failure> {
     let words = words(alloc, text)?;
     let [call, _on, rest @ ..] = words.as_slice() else {
         return Err(Failure::Unreadable);
     };
-    let mut lines = Vec::new(alloc);
-    for word in rest {
-        lines.push(LineNo(number(word)?))?;
-    }
     Ok(OpenedCall {
         call: CallNo(number(call)?),
-        lines,
+        lines: lines(alloc, rest)?,
     })
 }
 

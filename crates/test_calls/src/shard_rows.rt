@@ -27,14 +27,14 @@ struct Calls<'s> {
     second: Option<Next<'s>>,
 }
 
-/// A shard, its calls, and room for the text of a step.
+/// A shard, its calls, and room for the text of a step, which another function owns.
 #[derive(Drop)]
 struct Desk<'r, 's> {
     rt: &'r HostRuntime,
     script: &'s Script,
-    shard: Shard<'s>,
-    calls: Calls<'s>,
-    document: Document,
+    shard: &'r mut Shard<'s>,
+    calls: &'r mut Calls<'s>,
+    document: &'r mut Document,
 }
 
 /// What a step of a shard gives back: the call, and what the step came to.
@@ -131,14 +131,14 @@ impl<'s> Desk<'_, 's> {
 
     /// An event happens to a call.
     fn give(&mut self, next: Next<'s>, event: Event) -> Result<Next<'s>, Failure> {
-        let (next, done) = step(&mut self.shard, next, event)?;
+        let (next, done) = step(self.shard, next, event)?;
         self.tell_done(&next, &event, &done)?;
         Ok(next)
     }
 
     /// The step that a row writes by the words of a plan.
     fn plan_step(&mut self, text: &str) -> Result<PlanStep, Failure> {
-        write_step(&mut self.document, "'", text)?;
+        write_step(self.document, "'", text)?;
         match read(self.rt.alloc(), self.document.bytes(), self.script) {
             Ok(plan) => wanted(first_step(&plan)),
             Err(_) => Err(Failure::Unreadable),
@@ -201,7 +201,7 @@ impl<'s> Desk<'_, 's> {
 
     /// The shard restarts.
     fn restart(&mut self) -> Result<(), Failure> {
-        match restart(&mut self.shard)? {
+        match restart(self.shard)? {
             Ok(association) => println!(self.rt; "association {}", association.0)?,
             Err(RestartFault::NoMemory) => return Err(Failure::Memory),
             Err(_) => println!(self.rt; "cannot happen")?,
@@ -211,7 +211,7 @@ impl<'s> Desk<'_, 's> {
 
     /// Tells what the shard has of a call.
     fn tell_part(&self, word: &str) -> Result<(), Failure> {
-        let part = part(&self.shard, CallNo(number(word)?))?;
+        let part = part(self.shard, CallNo(number(word)?))?;
         tell_events(self.rt, part.as_slice())
     }
 
@@ -259,25 +259,29 @@ impl<'s> Desk<'_, 's> {
     }
 }
 
-/// The rows of a shard, with the one that opened it.
+/// The calls of a shard by their places.
+fn placed(nexts: Vec<Next<'_>>) -> Calls<'_> {
+    let mut nexts = nexts;
+    let second = nexts.pop();
+    let first = nexts.pop();
+    Calls { first, second }
+}
+
+/// The rows of a shard, after the one that opened it.
 fn tell_shard<'s>(
     rt: &HostRuntime,
     checked: &'s Checked,
-    shard: Shard<'s>,
-    nexts: Vec<Next<'s>>,
+    shard: &mut Shard<'s>,
+    calls: &mut Calls<'s>,
     rows: &str,
 ) -> Result<(), Failure> {
-    let mut nexts = nexts;
-    println!(rt; "{} calls", nexts.len())?;
-    let second = nexts.pop();
-    let first = nexts.pop();
-    let document = Document::new(rt.alloc())?;
+    let mut document = Document::new(rt.alloc())?;
     let mut desk = Desk {
         rt,
         script: checked.script(),
         shard,
-        calls: Calls { first, second },
-        document,
+        calls,
+        document: &mut document,
     };
     desk.rows(rows)
 }
@@ -287,7 +291,11 @@ fn tell_opened(rt: &HostRuntime, checked: &Checked, section: &str) -> Result<(),
     let (opening, rows) = opening(section)?;
     print!(rt; "open {opening} => ")?;
     match opened(rt.alloc(), checked, opening) {
-        Ok((shard, nexts)) => tell_shard(rt, checked, shard, nexts, rows),
+        Ok((mut shard, nexts)) => {
+            println!(rt; "{} calls", nexts.len())?;
+            let mut calls = placed(nexts);
+            tell_shard(rt, checked, &mut shard, &mut calls, rows)
+        }
         Err(Unopened::Memory) => Err(Failure::Memory),
         Err(Unopened::Rows) => Err(Failure::Unreadable),
         Err(Unopened::WrongLines) => {
