@@ -19,5 +19,5 @@ pub use lines::{CallPhase, Line, lines_of};
 pub use opening::opened_call;
 pub use plan_totals::{PlanTotals, restarts_asked};
 pub use planned_call::{CallLog, PLAN_CALLS, PlannedCall, RetiredCall, transcript};
-pub use replayed_lines::lines_alone;
+pub use replayed_lines::{Marked, lines_alone};
 pub use turns::epochs_of;

@@ -66,25 +66,39 @@ fn take_all<'s>(
     Ok(alone)
 }
 
-/// The lines of a call alone that goes by these steps, where its gateway ends in this association and other calls restart so often. `Disagree` where they don't.
+/// A call of the plan as a run went through it.
+#[derive(Drop)]
+pub struct Marked<'a> {
+    /// Its number in the plan.
+    pub number: u32,
+    /// The call.
+    pub call: &'a PlanCall,
+    /// The association of its shard at each of its steps.
+    pub marks: &'a [Assoc],
+    /// How many restarts the steps of other calls are.
+    pub others: usize,
+    /// The association in which the run ended.
+    pub last: Assoc,
+}
+
+/// The lines of a call alone that goes by these steps, where its gateway ends in the association of the run and other calls restart as often. `Disagree` where
+/// they don't.
 fn go<'s>(
     alloc: Global,
     script: &Script,
     shard: &mut Shard<'s>,
     alone: Replay<'s>,
-    number: u32,
     turns: &[Turn],
-    others: usize,
-    last: Assoc,
+    marked: &Marked<'_>,
 ) -> Result<Vec<Line>, RunFault>
-    ensures { IfOk result (λ lines. TellsOf script.now (steps_of turns.now) others shard.old alone.entry (map (line_of script.now) lines.items) × AreNumbered number lines.items) }
+    ensures { IfOk result (λ lines. TellsOf script.now (steps_of turns.now) marked.now.others shard.old alone.entry (map (line_of script.now) lines.items) × AreNumbered marked.now.number lines.items) }
 {
     let mut alone = take_all(script, shard, alone, turns)?;
-    alone.waits_for(shard, last)?;
-    if alone.others != others {
+    alone.waits_for(shard, marked.last)?;
+    if alone.others != marked.others {
         return Err(RunFault::Disagree);
     }
-    alone.lines(alloc, number, shard.association())
+    alone.lines(alloc, marked.number, shard.association())
 }
 
 /// The lines of a call of the plan and of those that began within it, by a run of it alone, where it was marked with these associations, step after step,
@@ -94,25 +108,12 @@ pub fn lines_alone(
     alloc: Global,
     checked: &Checked,
     totals: &PlanTotals<'_>,
-    number: u32,
-    call: &PlanCall,
-    marks: &[Assoc],
-    others: usize,
-    last: Assoc,
+    marked: &Marked<'_>,
 ) -> Result<Vec<Line>, RunFault>
-    ensures { IfOk result (λ lines. IsReported checked.now.table (plans.opened_as number call.now) (plans.steps_in (plans.epochs_of totals.now.calls) call.now.epochs) others (map (line_of checked.now.table) lines.items) × AreNumbered number lines.items) }
+    ensures { IfOk result (λ lines. IsReported checked.now.table (plans.opened_as marked.now.number marked.now.call.now) (plans.steps_in (plans.epochs_of totals.now.calls) marked.now.call.now.epochs) marked.now.others (map (line_of checked.now.table) lines.items) × AreNumbered marked.now.number lines.items) }
 {
-    let turns = turns::of(alloc, totals.epochs(), call, marks)?;
-    let (mut shard, alone) = replay::open(alloc, checked, number, call)?;
+    let turns = turns::of(alloc, totals.epochs(), marked.call, marked.marks)?;
+    let (mut shard, alone) = replay::open(alloc, checked, marked.number, marked.call)?;
     let turns = turns.as_slice();
-    go(
-        alloc,
-        checked.script(),
-        &mut shard,
-        alone,
-        number,
-        turns,
-        others,
-        last,
-    )
+    go(alloc, checked.script(), &mut shard, alone, turns, marked)
 }

@@ -11,12 +11,12 @@ ghost use Rattle.run_account.specs.Runs.{IsRunOf};
 use crate::compare::{self, agree};
 use crate::merge::merge;
 use crate::outcome::Outcome;
-use crate::report::report;
+use crate::report::{Source, report};
 use composition::Checked;
 use mg_merge::laws::merges_are_runs;
 use mg_model::events::Event;
 use mg_names::identifiers::Assoc;
-use planned_calls::{PlannedCall, RunFault};
+use planned_calls::{PlanTotals, PlannedCall, RunFault};
 use plans::Plan;
 use shards::Shard;
 use std::alloc::{AllocError, Global};
@@ -75,12 +75,12 @@ fn histories<'a>(alloc: Global, shards: &'a [Shard<'_>]) -> Result<Vec<&'a [Even
 
 /// What a run of a plan on so many workers came to: `Disagree` where the shards weren't restarted equally often, or have another history than the calls went through, and
 /// `NoMemory` where memory ran out.
-pub fn finish<'s, R: Threads + Sync>(
+pub fn finish<'a, 's, R: Threads + Sync>(
     rt: &R,
     alloc: Global,
-    checked: &Checked,
-    plan: &Plan,
-    shards: &[Shard<'_>],
+    checked: &'a Checked,
+    plan: &'a Plan,
+    shards: &'a [Shard<'s>],
     planned_calls: Vec<PlannedCall<'s>>,
     workers: usize,
 ) -> Result<Outcome<'s>, RunFault>
@@ -98,28 +98,24 @@ pub fn finish<'s, R: Threads + Sync>(
     if !have_finished(shards, restarts) {
         return Err(RunFault::Disagree);
     }
-    let agreed = agree(
-        alloc,
-        u32::from(plan.shards()),
-        shards,
-        planned_calls.as_slice(),
-    )?;
+    let count = u32::from(plan.shards());
+    let agreed = agree(alloc, count, shards, planned_calls.as_slice())?;
     if !agreed {
         return Err(RunFault::Disagree);
     }
     let histories = histories(alloc, shards)?;
     let history = merge(alloc, histories.as_slice(), restarts)?;
-    let last = association_after(restarts);
-    let report = report(
-        rt,
-        alloc,
+    let Some(totals) = PlanTotals::new(plan) else {
+        return Err(RunFault::Disagree);
+    };
+    let source = Source {
         checked,
-        plan,
+        totals,
         shards,
-        planned_calls.as_slice(),
-        last,
-        workers,
-    )?;
+        planned_calls: planned_calls.as_slice(),
+        last: association_after(restarts),
+    };
+    let report = report(rt, alloc, &source, workers)?;
     Ok(Outcome {
         history,
         report,

@@ -14,41 +14,54 @@ use composition::Checked;
 use mg_names::identifiers::Assoc;
 use mg_reports::laws::reports_add_up;
 use planned_calls::{
-    Line, PlanTotals, PlannedCall, RunFault, lines_alone, lines_of, restarts_asked,
+    Line, Marked, PlanTotals, PlannedCall, RunFault, lines_alone, lines_of, restarts_asked,
 };
-use plans::{Plan, PlanCall};
+use plans::PlanCall;
 use rayon::prelude::*;
 use shards::Shard;
 use std::alloc::{AllocError, Global};
 use std::thread::Threads;
 
+/// What a report is told from.
+#[derive(Drop)]
+pub(crate) struct Source<'a, 's> {
+    /// The script.
+    pub(crate) checked: &'a Checked,
+    /// The plan, with what is counted over it.
+    pub(crate) totals: PlanTotals<'a>,
+    /// The shards, in the order of their numbers.
+    pub(crate) shards: &'a [Shard<'s>],
+    /// The calls of the plan, in their order.
+    pub(crate) planned_calls: &'a [PlannedCall<'s>],
+    /// The association in which the run ended.
+    pub(crate) last: Assoc,
+}
+
 /// The lines of a call of the plan, and of those that began within it, by a run of it alone. `Disagree` where they aren't those that it has in this run.
 fn agreed_lines(
     alloc: Global,
-    checked: &Checked,
-    totals: &PlanTotals<'_>,
+    source: &Source<'_, '_>,
     number: u32,
     call: &PlanCall,
     planned: &PlannedCall<'_>,
-    last: Assoc,
 ) -> Result<Vec<Line>, RunFault>
-    ensures { IfOk result (λ lines. IsReported checked.now.table (plans.opened_as number call.now) (plans.steps_in (plans.epochs_of totals.now.calls) call.now.epochs) (plans.restarts_of_others totals.now call.now) (map (line_of checked.now.table) lines.items) × AreNumbered number lines.items) }
+    ensures { IfOk result (λ lines. IsReported source.now.checked.now.table (plans.opened_as number call.now) (plans.steps_in (plans.epochs_of source.now.totals.calls) call.now.epochs) (plans.restarts_of_others source.now.totals call.now) (map (line_of source.now.checked.now.table) lines.items) × AreNumbered number lines.items) }
 {
     let Some(own) = restarts_asked(call) else {
         return Err(RunFault::Disagree);
     };
-    let others = totals.restarts().saturating_sub(own);
     let log = &planned.log;
-    let marks = log.marks.as_slice();
-    let lines = lines_alone(alloc, checked, totals, number, call, marks, others, last)?;
-    let kept = lines_of(
-        alloc,
+    let last = source.last;
+    let marked = Marked {
         number,
-        log.gone.as_slice(),
-        &planned.next,
-        log.idle,
+        call,
+        marks: log.marks.as_slice(),
+        others: source.totals.restarts().saturating_sub(own),
         last,
-    )?;
+    };
+    let lines = lines_alone(alloc, source.checked, &source.totals, &marked)?;
+    let gone = log.gone.as_slice();
+    let kept = lines_of(alloc, number, gone, &planned.next, log.idle, last)?;
     if lines.as_slice() != kept.as_slice() {
         return Err(RunFault::Disagree);
     }
@@ -56,34 +69,26 @@ fn agreed_lines(
 }
 
 /// The lines of the call of the plan with a number, as a run of it alone tells them and as the run leaves it.
-fn call_report(
-    alloc: Global,
-    checked: &Checked,
-    totals: &PlanTotals<'_>,
-    shards: &[Shard<'_>],
-    planned_calls: &[PlannedCall<'_>],
-    last: Assoc,
-    place: usize,
-) -> Result<Vec<Line>, RunFault>
-    ensures { IfOk result (λ lines. IsTold checked.now.table totals.now shards.now (trails_of planned_calls.now) place lines.items) }
+fn call_report(alloc: Global, source: &Source<'_, '_>, place: usize) -> Result<Vec<Line>, RunFault>
+    ensures { IfOk result (λ lines. IsTold source.now.checked.now.table source.now.totals source.now.shards.now (trails_of source.now.planned_calls.now) place lines.items) }
 {
-    let plan = totals.plan();
+    let plan = source.totals.plan();
     let Some(call) = plan.calls().get(place) else {
         return Err(RunFault::Disagree);
     };
-    let Some(planned) = planned_calls.get(place) else {
+    let Some(planned) = source.planned_calls.get(place) else {
         return Err(RunFault::Disagree);
     };
     let Ok(number) = u32::try_from(place) else {
         return Err(RunFault::Disagree);
     };
-    let lines = agreed_lines(alloc, checked, totals, number, call, planned, last)?;
+    let lines = agreed_lines(alloc, source, number, call, planned)?;
     let count = u32::from(plan.shards());
     if !are_left(
-        checked.script(),
+        source.checked.script(),
         count,
-        shards,
-        planned_calls,
+        source.shards,
+        source.planned_calls,
         number,
         lines.as_slice(),
     ) {
@@ -96,24 +101,20 @@ fn call_report(
 fn all_reports<R: Threads + Sync>(
     rt: &R,
     alloc: Global,
-    checked: &Checked,
-    totals: &PlanTotals<'_>,
-    shards: &[Shard<'_>],
-    planned_calls: &[PlannedCall<'_>],
-    last: Assoc,
+    source: &Source<'_, '_>,
     workers: usize,
 ) -> Result<Vec<Vec<Line>>, RunFault>
-    ensures { IfOk result (λ all. AllZip (λ place lines. IsTold checked.now.table totals.now shards.now (trails_of planned_calls.now) place lines.items) (range_with_len 0 (length totals.now.calls)) all.items) }
+    ensures { IfOk result (λ all. AllZip (λ place lines. IsTold source.now.checked.now.table source.now.totals source.now.shards.now (trails_of source.now.planned_calls.now) place lines.items) (range_with_len 0 (length source.now.totals.calls)) all.items) }
 {
-    let count = totals.plan().calls().len();
+    let count = source.totals.plan().calls().len();
     let least = count.div_ceil(workers.max(1)).max(1);
     let all = (0..count)
         .into_par_iter()
         .with_min_len(least)
         .map(
             |place: usize| -> Result<Vec<Line>, RunFault>
-                ensures { IfOk result (λ lines. IsTold checked.entry.now.table totals.entry.now shards.entry.now (trails_of planned_calls.entry.now) place lines.items) }
-            { call_report(alloc, checked, totals, shards, planned_calls, last, place) },
+                ensures { IfOk result (λ lines. IsTold source.entry.now.checked.now.table source.entry.now.totals source.entry.now.shards.now (trails_of source.entry.now.planned_calls.now) place lines.items) }
+            { call_report(alloc, source, place) },
         )
         .collect(rt, alloc)?;
     all
@@ -134,31 +135,15 @@ fn joined(alloc: Global, all: &[Vec<Line>]) -> Result<Vec<Line>, AllocError>
 pub(crate) fn report<R: Threads + Sync>(
     rt: &R,
     alloc: Global,
-    checked: &Checked,
-    plan: &Plan,
-    shards: &[Shard<'_>],
-    planned_calls: &[PlannedCall<'_>],
-    last: Assoc,
+    source: &Source<'_, '_>,
     workers: usize,
 ) -> Result<Vec<Line>, RunFault>
-    ensures report { IfOk result (λ lines. IsReportOf checked.now.table plan.now lines.items) }
-    ensures all { IfOk result (λ lines. (number : ℕ) → number < length plan.now.calls → HaveLines (slice_index_or (trails_of planned_calls.now) number []) lines.items) }
-    ensures left { IfOk result (λ lines. (l : Line) → Contains lines.items l → IsLeftAmong checked.now.table plan.now.shards shards.now (trails_of planned_calls.now) l) }
+    ensures report { IfOk result (λ lines. IsReportOf source.now.checked.now.table source.now.totals lines.items) }
+    ensures all { IfOk result (λ lines. (number : ℕ) → number < length source.now.totals.calls → HaveLines (slice_index_or (trails_of source.now.planned_calls.now) number []) lines.items) }
+    ensures left { IfOk result (λ lines. (l : Line) → Contains lines.items l → IsLeftAmong source.now.checked.now.table source.now.totals.shards source.now.shards.now (trails_of source.now.planned_calls.now) l) }
 {
     reports_add_up();
-    let Some(totals) = PlanTotals::new(plan) else {
-        return Err(RunFault::Disagree);
-    };
-    let all = all_reports(
-        rt,
-        alloc,
-        checked,
-        &totals,
-        shards,
-        planned_calls,
-        last,
-        workers,
-    )?;
+    let all = all_reports(rt, alloc, source, workers)?;
     let lines = joined(alloc, all.as_slice())?;
     Ok(lines)
 }

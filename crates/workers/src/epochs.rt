@@ -21,12 +21,10 @@ use std::sync::{Mutex, Wait};
 use std::thread::Threads;
 
 /// All epochs of the plan, with a restart of every shard between two. All workers of an epoch are joined before it.
-fn pass_all<'s, G: Gate, B: Running + Send + Sync, R: Threads + Wait + Sync>(
+fn pass_all<'a, 's, G: Gate, B: Running + Send + Sync, R: Threads + Wait + Sync>(
     rt: &R,
     alloc: Global,
-    plan: &Plan,
-    gate: &G,
-    shards: &[Mutex<LockedShard<'s, B>>],
+    first: &Workplace<'a, 's, G, B>,
     workers: usize,
     places: Places<'s>,
 ) -> Result<Places<'s>, RunFault>
@@ -34,15 +32,15 @@ fn pass_all<'s, G: Gate, B: Running + Send + Sync, R: Threads + Wait + Sync>(
     ensures { IfOk result (λ back. vec_len back ≡ vec_len places.entry) }
 {
     let mut places = places;
-    for epoch in 0..epochs_of(plan) {
+    for epoch in 0..epochs_of(first.plan) {
         if epoch > 0 {
-            restart_all(rt, shards)?;
+            restart_all(rt, first.shards)?;
         }
         let workplace = Workplace {
-            shards,
-            plan,
+            shards: first.shards,
+            plan: first.plan,
             epoch,
-            gate,
+            gate: first.gate,
         };
         places = pass(rt, alloc, &workplace, workers, places)?;
     }
@@ -67,7 +65,13 @@ fn go<'s, G: Gate, B: Running + Send + Sync, R: Threads + Wait + Sync>(
     ensures all { IfOk result (λ r. vec_len r.1 ≡ length plan.now.calls) }
 {
     let (shards, places) = open_all::<B>(alloc, checked, plan)?;
-    let places = pass_all(rt, alloc, plan, gate, shards.as_slice(), workers, places)?;
+    let first = Workplace {
+        shards: shards.as_slice(),
+        plan,
+        epoch: 0,
+        gate,
+    };
+    let places = pass_all(rt, alloc, &first, workers, places)?;
     let shards = unlocked(alloc, shards)?;
     let planned_calls = all_planned(alloc, places)?;
     Ok((shards, planned_calls))

@@ -16,7 +16,7 @@ returns c =
       (λ one is.
           let gone = c.in_ok-alone.ensures one [] is in
           let stands = c.in_ok-waits_for.ensures script one steps gone in
-          subst (λ (n : ℕ). IsReported script one steps n (map (line_of script) lines.items)) c.if-alone-others.false
+          subst (λ (n : ℕ). IsReported script one steps n (map (line_of script) lines.items)) c.if-alone-marked.false
           (reported script one steps c.waits_for.new.shard c.waits_for.new.self stands c.association.result.0 c.association.ensures
           (map (line_of script) lines.items) (so.0 script))),
       so.1,

@@ -12,12 +12,12 @@ use Rattle.planned_calls.proofs.replayed_lines.lines_alone.Goals as goal
 
 pub returns : goal.returns
 returns c =
-    let one = opened_as c.args.number c.args.call.now in
+    let one = opened_as c.args.marked.now.number c.args.marked.now.call.now in
     if_ok c.go.result _ _
     (λ lines so. (
-      subst (λ (steps : List PlanStep). IsReported c.args.checked.now.table one steps c.args.others (map (line_of c.args.checked.now.table) lines.items))
-          (ap steps_of c.as_slice-turns.ensures.value ∙ c.in_ok-turns.ensures ∙ ap (λ (n : ℕ). steps_in n c.args.call.now.epochs) c.epochs.ensures)
-          (subst (λ (s : Script). IsReported s one (steps_of c.as_slice-turns.result.now) c.args.others (map (line_of s) lines.items)) c.script.ensures.table
+      subst (λ (steps : List PlanStep). IsReported c.args.checked.now.table one steps c.args.marked.now.others (map (line_of c.args.checked.now.table) lines.items))
+          (ap steps_of c.as_slice-turns.ensures.value ∙ c.in_ok-turns.ensures ∙ ap (λ (n : ℕ). steps_in n c.args.marked.now.call.now.epochs) c.epochs.ensures)
+          (subst (λ (s : Script). IsReported s one (steps_of c.as_slice-turns.result.now) c.args.marked.now.others (map (line_of s) lines.items)) c.script.ensures.table
           (so.0 one (subst (λ (s : Script). IsAlone s one [] c.in_ok-shard.shard c.in_ok-shard.alone) (sym c.script.ensures.table) c.in_ok-shard.ensures))),
       so.1,
     )) c.go.ensures

@@ -4,11 +4,13 @@ use Rattle.std.specs.Prelude.{[], Contains, slice_index_or}
 use Rattle.std.proofs.lemmas.List.{length-map}
 use Rattle.std.proofs.lemmas.Simd.{map-map}
 use Rattle.mg_model.specs.declared.events.Event.{Event}
+use Rattle.mg_model.specs.Plans.{Plan}
 use Rattle.mg_model.specs.Shards.{History, cut_at_restarts, merged}
 use Rattle.run_account.specs.Comparing.{Agree, trail_of, trails_of}
 use Rattle.run_account.specs.Finishing.{AreFinished}
 use Rattle.run_account.specs.FinalState.{HaveLines, IsLeftAmong}
 use Rattle.run_account.specs.Runs.{IsOutcome}
+use Rattle.planned_calls.specs.ReportLines.{IsReportOf}
 use Rattle.planned_calls.specs.declared.planned_call.PlannedCall.{PlannedCall}
 use Rattle.planned_calls.specs.declared.lines.Line.{Line}
 use Rattle.run_account.proofs.FinishedRuns.{is_outcome, is_run}
@@ -23,10 +25,10 @@ invariant_of-result g c =
     let histories = map (λ v. v.history) shards in
     let sized : length shards ≡ plan.shards = c.if-shards-from.false ∙ c.from.ensures ∙ c.shards.ensures in
     let all : AreFinished restarts shards = c.if-not-have_finished.ensures (search rules) in
-    let agreed : Agree c.from-2.result histories (trails_of c.as_slice.result.now) = c.in_ok-agreed.ensures (search rules) in
+    let agreed : Agree c.from-count.result histories (trails_of c.as_slice.result.now) = c.in_ok-agreed.ensures (search rules) in
     let agree : Agree plan.shards histories (trails_of planned_calls) =
-    subst (λ (n : ℕ). Agree n histories (trails_of planned_calls)) (c.from-2.ensures ∙ c.shards-2.ensures)
-    (subst (λ (cs : List PlannedCall). Agree c.from-2.result histories (trails_of cs)) c.as_slice.ensures.value agreed) in
+    subst (λ (n : ℕ). Agree n histories (trails_of planned_calls)) (c.from-count.ensures ∙ c.shards-2.ensures)
+    (subst (λ (cs : List PlannedCall). Agree c.from-count.result histories (trails_of cs)) c.as_slice.ensures.value agreed) in
     let merges : c.in_ok-history.history.items ≡ merged (map cut_at_restarts histories) restarts =
     c.in_ok-history.ensures
     ∙ ap (λ (cut : List History). merged cut restarts) (sym (map-map cut_at_restarts (λ history. history.now) c.as_slice-2.result.now))
@@ -44,10 +46,10 @@ returns g c =
     let histories = map (λ v. v.history) shards in
     let sized : length shards ≡ plan.shards = c.if-shards-from.false ∙ c.from.ensures ∙ c.shards.ensures in
     let all : AreFinished restarts shards = c.if-not-have_finished.ensures (search rules) in
-    let agreed : Agree c.from-2.result histories (trails_of c.as_slice.result.now) = c.in_ok-agreed.ensures (search rules) in
+    let agreed : Agree c.from-count.result histories (trails_of c.as_slice.result.now) = c.in_ok-agreed.ensures (search rules) in
     let agree : Agree plan.shards histories (trails_of planned_calls) =
-    subst (λ (n : ℕ). Agree n histories (trails_of planned_calls)) (c.from-2.ensures ∙ c.shards-2.ensures)
-    (subst (λ (cs : List PlannedCall). Agree c.from-2.result histories (trails_of cs)) c.as_slice.ensures.value agreed) in
+    subst (λ (n : ℕ). Agree n histories (trails_of planned_calls)) (c.from-count.ensures ∙ c.shards-2.ensures)
+    (subst (λ (cs : List PlannedCall). Agree c.from-count.result histories (trails_of cs)) c.as_slice.ensures.value agreed) in
     let merges : c.in_ok-history.history.items ≡ merged (map cut_at_restarts histories) restarts =
     c.in_ok-history.ensures
     ∙ ap (λ (cut : List History). merged cut restarts) (sym (map-map cut_at_restarts (λ history. history.now) c.as_slice-2.result.now))
@@ -58,12 +60,17 @@ returns g c =
     let some : 0 < plan.shards = omega (arith, c.requires.plan.some_shard) in
     let outcome : IsOutcome c.in_ok-history.history.items (trails_of planned_calls) =
     is_outcome plan restarts shards c.in_ok-history.history.items (trails_of planned_calls) some sized all agree merges in
-    let told : (number : ℕ) → number < length plan.calls → HaveLines (slice_index_or (trails_of planned_calls) number []) c.in_ok-report.report.items =
-    λ number below. subst (λ (cs : List PlannedCall). HaveLines (slice_index_or (trails_of cs) number []) c.in_ok-report.report.items) c.as_slice-3.ensures.value
-    (c.in_ok-report.ensures.all number below) in
-    let left : (l : Line) → Contains c.in_ok-report.report.items l → IsLeftAmong c.args.checked.now.table plan.shards shards (trails_of planned_calls) l =
-    λ l among. subst (λ (cs : List PlannedCall). IsLeftAmong c.args.checked.now.table plan.shards shards (trails_of cs) l) c.as_slice-3.ensures.value
-    (c.in_ok-report.ensures.left l among) in
+    let table = c.args.checked.now.table in
+    let lines = c.in_ok-report.report.items in
+    let totals : c.in-Some.totals ≡ plan = c.in-Some.ensures in
+    let reported : IsReportOf table plan lines = subst (λ (p : Plan). IsReportOf table p lines) totals c.in_ok-report.ensures.report in
+    let told : (number : ℕ) → number < length plan.calls → HaveLines (slice_index_or (trails_of planned_calls) number []) lines =
+    λ number below. subst (λ (cs : List PlannedCall). HaveLines (slice_index_or (trails_of cs) number []) lines) c.as_slice-3.ensures.value
+    (c.in_ok-report.ensures.all number (subst (λ (p : Plan). number < length p.calls) (sym totals) below)) in
+    let left : (l : Line) → Contains lines l → IsLeftAmong table plan.shards shards (trails_of planned_calls) l =
+    λ l among. subst (λ (p : Plan). IsLeftAmong table p.shards shards (trails_of planned_calls) l) totals
+    (subst (λ (cs : List PlannedCall). IsLeftAmong table c.in-Some.totals.shards shards (trails_of cs) l) c.as_slice-3.ensures.value
+    (c.in_ok-report.ensures.left l among)) in
     is_run c.args.checked.now.table plan restarts c.requires.few c.merges_are_runs.ensures shards
     (record { history = c.in_ok-history.history.items; trails = trails_of planned_calls; lines = c.in_ok-report.report.items }) c.requires.plan sized c.requires.kept all agree merges calls
-    outcome c.in_ok-report.ensures.report left told
+    outcome reported left told

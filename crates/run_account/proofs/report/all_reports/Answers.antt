@@ -18,8 +18,8 @@ use Rattle.run_account.proofs.report.all_reports.Goals as goal
 
 pub returns : goal.returns
 returns g c =
-    let told : ℕ → Vec Line Global → Type 0 = λ place lines. IsTold c.args.checked.now.table c.args.totals.now c.args.shards.now (trails_of c.args.planned_calls.now) place lines.items in
-    let n = length c.args.totals.now.calls in
+    let told : ℕ → Vec Line Global → Type 0 = λ place lines. IsTold c.args.source.now.checked.now.table c.args.source.now.totals c.args.source.now.shards.now (trails_of c.args.source.now.planned_calls.now) place lines.items in
+    let n = length c.args.source.now.totals.calls in
     let ends = c.into_par_iter.ensures in
     let collected = c.in_ok-all.ensures in
     let chain = collected.1 in
@@ -30,7 +30,7 @@ returns g c =
     let places = chain.1 ∙ ap (λ (it : Iter ℕ). nat_range (range_start it) (range_end it)) base
     ∙ (λ i. nat_range (ends.0 i) (ends.1 i)) ∙ ap (range_with_len 0) sized in
     let each = subst (λ f. AllZip (λ (place : ℕ) (one : Result (Vec Line Global) RunFault).
-    IfOk one (λ lines. IsTold f.1.now.table f.2.now f.3.now (trails_of f.4.now) place lines.items)) chain.0 collected.0) c.map.ensures.f chain.2 in
+    IfOk one (λ lines. IsTold f.1.now.checked.now.table f.1.now.totals f.1.now.shards.now (trails_of f.1.now.planned_calls.now) place lines.items)) chain.0 collected.0) c.map.ensures.f chain.2 in
     if_all told (range_with_len 0 n) collected.0 c.in_ok-all.all
     (subst (λ (ps : List ℕ). AllZip (λ (place : ℕ) (one : Result (Vec Line Global) RunFault). IfOk one (told place)) ps collected.0) places each)
     collected.2

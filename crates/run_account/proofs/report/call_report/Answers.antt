@@ -13,10 +13,10 @@ use Rattle.run_account.proofs.report.call_report.Goals as goal
 
 pub returns : goal.returns
 returns c =
-    let script = c.args.checked.now.table in
-    let plan = c.args.totals.now in
-    let shards = c.args.shards.now in
-    let trails = trails_of c.args.planned_calls.now in
+    let script = c.args.source.now.checked.now.table in
+    let plan = c.args.source.now.totals in
+    let shards = c.args.source.now.shards.now in
+    let trails = trails_of c.args.source.now.planned_calls.now in
     let call = c.in-Some.call.now in
     let calls = c.calls.result.now in
     let at = c.in-Some.ensures.lookup in

@@ -17,50 +17,47 @@ use Rattle.run_account.proofs.report.report.Goals as goal
 -- what is told, with the lines as lists
 pub returns-clause-report : goal.returns-clause-report
 returns-clause-report g c =
-    let script = c.args.checked.now.table in
-    let plan = c.args.plan.now in
-    let trails = trails_of c.args.planned_calls.now in
+    let script = c.args.source.now.checked.now.table in
+    let plan = c.args.source.now.totals in
+    let trails = trails_of c.args.source.now.planned_calls.now in
     let owned = c.in_ok-all.all.items in
     let items : Vec Line Global → List Line = λ v. v.items in
     let all = map items owned in
-    let told = through (IsTold script plan c.args.shards.now trails) items (range_with_len 0 (length plan.calls)) owned
-    (subst (λ (p : Plan). AllZip (λ (place : ℕ) (lines : Vec Line Global). IsTold script p c.args.shards.now trails place lines.items) (range_with_len 0 (length p.calls)) owned)
-    c.in-Some.ensures c.in_ok-all.ensures) in
+    let told = through (IsTold script plan c.args.source.now.shards.now trails) items (range_with_len 0 (length plan.calls)) owned
+    c.in_ok-all.ensures in
     let reported : IsReport script plan (map (λ (own : List Line). map (line_of script) own) all) =
-    are_reported script plan c.args.shards.now trails 0 plan.calls all (λ i. ap (λ (k : ℕ). slice_get plan.calls k) (let same : i ≡ 0 + i = omega arith in same)) told in
+    are_reported script plan c.args.source.now.shards.now trails 0 plan.calls all (λ i. ap (λ (k : ℕ). slice_get plan.calls k) (let same : i ≡ 0 + i = omega arith in same)) told in
     record {
       of_calls = all;
       reported = reported;
-      numbered = are_numbered script plan c.args.shards.now trails 0 (length plan.calls) all told;
+      numbered = are_numbered script plan c.args.source.now.shards.now trails 0 (length plan.calls) all told;
       add_up = c.reports_add_up.ensures script plan (map (λ (own : List Line). map (line_of script) own) all) reported;
       are = c.in_ok-lines.ensures ∙ ap (flat_map items) c.as_slice.ensures.value ∙ lines_owned items owned;
     }
 
 pub returns-clause-left : goal.returns-clause-left
 returns-clause-left g c l among =
-    let script = c.args.checked.now.table in
-    let plan = c.args.plan.now in
-    let trails = trails_of c.args.planned_calls.now in
+    let script = c.args.source.now.checked.now.table in
+    let plan = c.args.source.now.totals in
+    let trails = trails_of c.args.source.now.planned_calls.now in
     let owned = c.in_ok-all.all.items in
     let items : Vec Line Global → List Line = λ v. v.items in
-    let told = through (IsTold script plan c.args.shards.now trails) items (range_with_len 0 (length plan.calls)) owned
-    (subst (λ (p : Plan). AllZip (λ (place : ℕ) (lines : Vec Line Global). IsTold script p c.args.shards.now trails place lines.items) (range_with_len 0 (length p.calls)) owned)
-    c.in-Some.ensures c.in_ok-all.ensures) in
-    are_left script plan c.args.shards.now trails 0 (length plan.calls) (map items owned) told l
+    let told = through (IsTold script plan c.args.source.now.shards.now trails) items (range_with_len 0 (length plan.calls)) owned
+    c.in_ok-all.ensures in
+    are_left script plan c.args.source.now.shards.now trails 0 (length plan.calls) (map items owned) told l
     (subst (λ (lines : List Line). Contains lines l) (c.in_ok-lines.ensures ∙ ap (flat_map items) c.as_slice.ensures.value ∙ lines_owned items owned) among)
 
 pub returns-clause-all : goal.returns-clause-all
 returns-clause-all g c number below =
-    let script = c.args.checked.now.table in
-    let plan = c.args.plan.now in
-    let trails = trails_of c.args.planned_calls.now in
+    let script = c.args.source.now.checked.now.table in
+    let plan = c.args.source.now.totals in
+    let trails = trails_of c.args.source.now.planned_calls.now in
     let owned = c.in_ok-all.all.items in
     let items : Vec Line Global → List Line = λ v. v.items in
-    let told = through (IsTold script plan c.args.shards.now trails) items (range_with_len 0 (length plan.calls)) owned
-    (subst (λ (p : Plan). AllZip (λ (place : ℕ) (lines : Vec Line Global). IsTold script p c.args.shards.now trails place lines.items) (range_with_len 0 (length p.calls)) owned)
-    c.in-Some.ensures c.in_ok-all.ensures) in
+    let told = through (IsTold script plan c.args.source.now.shards.now trails) items (range_with_len 0 (length plan.calls)) owned
+    c.in_ok-all.ensures in
     subst (λ (lines : List Line). HaveLines (slice_index_or trails number []) lines)
     (sym (c.in_ok-lines.ensures ∙ ap (flat_map items) c.as_slice.ensures.value ∙ lines_owned items owned))
     (subst (λ (n : ℕ). HaveLines (slice_index_or trails n []) (flat_map (λ (own : List Line). own) (map items owned)))
     (let same : 0 + number ≡ number = omega arith in same)
-    (have_lines script plan c.args.shards.now trails 0 (length plan.calls) (map items owned) told number below))
+    (have_lines script plan c.args.source.now.shards.now trails 0 (length plan.calls) (map items owned) told number below))
