@@ -35,9 +35,4 @@ soak:
 	tools/load
 
 bench:
-	cd crates/boardbench && rt run boardbench -- 100 20 1000 6
-	cd crates/gatebench && rt run gatebench -- 10 20
-	cd crates/callbench && rt run callbench -- 12 5
-	cd crates/planbench && rt run planbench -- plan < stdin
-	cd crates/run_tour && rt run run_tour < stdin
 	tools/bench
