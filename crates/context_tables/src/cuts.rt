@@ -17,6 +17,19 @@ pub struct Cut {
     pub sink: TermId,
 }
 
+/// Two terminations, and whether media between them is to be cut.
+#[derive(Clone, Copy)]
+pub struct CutPair {
+    /// The first of them.
+    pub first: TermId,
+    /// The second of them.
+    pub second: TermId,
+    /// From the first to the second.
+    pub forward: bool,
+    /// From the second to the first.
+    pub backward: bool,
+}
+
 pub type Cuts = BTreeMap<u32, Vec<Cut>>;
 
 /// Whether media from the one termination to the other is cut in a context.
@@ -74,22 +87,25 @@ fn append_if(
     Ok(())
 }
 
-/// Sets whether media is cut from the one termination to the other, and back.
+/// Sets whether media is cut between two terminations of a context.
 pub fn set(
     cuts: &mut Cuts,
     alloc: Global,
     context: u32,
-    t: TermId,
-    u: TermId,
-    forward: bool,
-    backward: bool,
+    pair: CutPair,
 ) -> Result<(), AllocError>
-    ensures ok { OnOk result ((c : ℕ) → group_at cuts.new.entries c ≡ (if c == context then Some (set_between t u forward backward (listed (group_at cuts.old.entries context))) else group_at cuts.old.entries c)) }
+    ensures ok { OnOk result ((c : ℕ) → group_at cuts.new.entries c ≡ (if c == context then Some (set_between pair.first pair.second pair.forward pair.backward (listed (group_at cuts.old.entries context))) else group_at cuts.old.entries c)) }
     ensures err { OnErr result ((c : ℕ) → group_at cuts.new.entries c ≡ group_at cuts.old.entries c) }
 {
-    let mut group = others(alloc, cuts, context, &t, &u)?;
-    append_if(&mut group, forward, t, u)?;
-    append_if(&mut group, backward, u, t)?;
+    let CutPair {
+        first,
+        second,
+        forward,
+        backward,
+    } = pair;
+    let mut group = others(alloc, cuts, context, &first, &second)?;
+    append_if(&mut group, forward, first, second)?;
+    append_if(&mut group, backward, second, first)?;
     cuts.insert(context, group)?;
     Ok(())
 }

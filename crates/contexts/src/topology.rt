@@ -6,7 +6,7 @@ ghost use Rattle.mg_model.specs.Items.{first_receives, second_receives, with_top
 ghost use Rattle.contexts.specs.BoardValue.{board_of};
 
 use crate::board::Board;
-use context_tables::cuts;
+use context_tables::cuts::{self, CutPair};
 use mg_names::identifiers::TermId;
 use mg_names::topologies::Topology;
 use std::alloc::AllocError;
@@ -49,9 +49,13 @@ impl Board {
         }) }
         ensures err { OnErr result (board_of self.new ≡ board_of self.old) }
     {
-        let forward = cuts_forward(topology);
-        let backward = cuts_backward(topology);
-        let Ok(_) = cuts::set(&mut self.cuts, self.alloc, context, t, u, forward, backward) else {
+        let pair = CutPair {
+            first: t,
+            second: u,
+            forward: cuts_forward(topology),
+            backward: cuts_backward(topology),
+        };
+        let Ok(_) = cuts::set(&mut self.cuts, self.alloc, context, pair) else {
             return Err(AllocError);
         };
         Ok(())

@@ -23,7 +23,7 @@ invariant_of-self-2 c =
       first = rw (← c.self.view_is) at c.requires.first;
       second = rw (← c.self.view_is) at c.requires.second;
       differ = c.requires.differ;
-      cuts = rw (c.in-Ok.is, c.cuts_forward-forward.ensures, c.cuts_backward-backward.ensures) at c.set.ensures.ok;
+      cuts = rw (c.in-Ok.is, c.cuts_forward.ensures, c.cuts_backward.ensures) at c.set.ensures.ok;
     } in
     (tied_set _ _ _ _ _ _ _ _ _ sets c.self.invariant.0, c.self.invariant.1)
 
@@ -35,7 +35,7 @@ returns-clause-ok c =
       first = rw (← c.self.view_is) at c.requires.first;
       second = rw (← c.self.view_is) at c.requires.second;
       differ = c.requires.differ;
-      cuts = rw (c.in-Ok.is, c.cuts_forward-forward.ensures, c.cuts_backward-backward.ensures) at c.set.ensures.ok;
+      cuts = rw (c.in-Ok.is, c.cuts_forward.ensures, c.cuts_backward.ensures) at c.set.ensures.ok;
     } in
     rw (← c.self.view_is) (same_boards _ _ refl
     (cut_of_same (row_of c.self.inside.terms) _ _ (cuts_viewed c.set.new.cuts.entries) ∙ cut_set _ _ _ _ _ _ _ _ sets
