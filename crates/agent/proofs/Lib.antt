@@ -1,3 +1,4 @@
 pub mod Fours
 pub mod AgentLemmas
 pub mod StepLemmas
+pub mod AdvancingLemmas

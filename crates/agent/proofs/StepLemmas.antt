@@ -12,30 +12,30 @@ use Rattle.agent.specs.declared.entering.Entered.{Entered}
 use Rattle.agent.specs.declared.entering.Start.{Start}
 use Rattle.agent.specs.declared.fault.PlainFault.{PlainFault}
 use Rattle.agent.specs.declared.fault.PlainFault.TheVariants.{NotEnabled, NoMemory}
-use Rattle.agent.specs.AheadValue.{AheadValue, in_newer, finished}
+use Rattle.agent.specs.PreparedValue.{PreparedValue, in_newer, finished}
 use Rattle.agent.specs.Entering.{Starts, IsEntered, having, leads_from}
 use Rattle.agent.specs.Parts.{agent_in, bound_as}
-use Rattle.agent.specs.Preparing.{IsAhead, IsNewNote, with_note}
+use Rattle.agent.specs.Preparing.{IsPreparedButForNote, IsNewNote, with_note}
 use Rattle.agent.specs.Steps.{is_passing, is_awaited, accepting}
 
 -- ---- what is put in place
 
 -- what can't be entered is no step
-pub refused : (stepped : Option Agent) (a b : Agent) (fault : PlainFault) → IsEntered stepped b (Err fault) → IsAhead stepped a (Err fault)
+pub refused : (stepped : Option Agent) (a b : Agent) (fault : PlainFault) → IsEntered stepped b (Err fault) → IsPreparedButForNote stepped a (Err fault)
 refused stepped a b NotEnabled none = none
 refused stepped a b NoMemory none = tt
 
 -- what is entered from here, in a newer association or with a note, is put in place
-pub leads : (stepped : Option Agent) (a b : Agent) (start : Start) (entered : Entered) (newer note : Option ℕ) (ahead : AheadValue)
+pub leads : (stepped : Option Agent) (a b : Agent) (start : Start) (entered : Entered) (newer note : Option ℕ) (prepared : PreparedValue)
     → stepped ≡ Some (having b entered) → Starts start b
     → bound_as (in_newer (with_note a note) newer) (agent_in start.bindings) ≡ bound_as b (agent_in start.bindings)
-    → ((x : Agent) → finished x ahead ≡ having (bound_as (in_newer x newer) (agent_in start.bindings)) entered)
-    → ahead.note ≡ note → IsNewNote a note → IsAhead stepped a (Ok ahead)
-leads stepped a b start entered newer note ahead steps starts same puts noted new = (
+    → ((x : Agent) → finished x prepared ≡ having (bound_as (in_newer x newer) (agent_in start.bindings)) entered)
+    → prepared.note ≡ note → IsNewNote a note → IsPreparedButForNote stepped a (Ok prepared)
+leads stepped a b start entered newer note prepared steps starts same puts noted new = (
   steps
       ∙ ap (λ (x : Agent). Some (having x entered)) (sym (same ∙ starts.bound))
       ∙ ap (λ (x : Agent). Some x) (sym (puts (with_note a note)))
-      ∙ ap (λ n. Some (finished (with_note a n) ahead)) (sym noted),
+      ∙ ap (λ n. Some (finished (with_note a n) prepared)) (sym noted),
   subst (IsNewNote a) (sym noted) new,
 )
 

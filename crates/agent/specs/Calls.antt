@@ -12,7 +12,7 @@ use Rattle.agent.specs.CallValue.{CallValue, Kind, rests, waits, has_ended, kind
 use Rattle.agent.specs.declared.call.Next.{Next}
 use Rattle.agent.specs.declared.call.Next.TheVariants as next
 use Rattle.agent.specs.declared.call.Refused.{Refused}
-use Rattle.agent.specs.declared.call.Retired.{Retired}
+use Rattle.agent.specs.declared.retired.Retired.{Retired}
 use Rattle.agent.specs.declared.fault.PlainFault.{PlainFault}
 use Rattle.agent.specs.declared.fault.PlainFault.TheVariants as fault
 use Rattle.agent.specs.declared.refusal.Refusal.{Refusal}

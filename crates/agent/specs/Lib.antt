@@ -1,9 +1,10 @@
 pub mod Faults
 pub mod AgentValue
 pub mod Steps
-pub mod AheadValue
+pub mod PreparedValue
 pub mod Preparing
 pub mod Parts
 pub mod Entering
 pub mod CallValue
 pub mod Calls
+pub mod Advancing

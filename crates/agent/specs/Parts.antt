@@ -5,7 +5,7 @@ use Rattle.mg_model.specs.declared.commands.Command.{Command}
 use Rattle.mg_model.specs.declared.commands.Command.TheVariants.{AddLine, AddEphemeral, ModifyLine, ModifyEphemeral, MoveLine, MoveEphemeral, Subtract, SubtractAll, SetTopology}
 use Rattle.mg_model.specs.Agent.{Agent, Made, is_listed, resting}
 use Rattle.agent.specs.declared.bindings.Bindings.{Bindings}
-use Rattle.agent.specs.declared.made.Made as declared
+use Rattle.agent.specs.declared.created_at.CreatedAt as declared
 
 -- an agent with these bindings, of which nothing else is said
 unfoldable pub agent_in : Bindings → Agent
@@ -23,7 +23,7 @@ agent_in b = record {
 }
 
 -- what was created so far in a request
-unfoldable pub made_of : declared.Made → Made
+unfoldable pub made_of : declared.CreatedAt → Made
 made_of m = record {
   contexts = λ j. slice_index_or m.contexts j None;
   ephemerals = λ k. slice_index_or m.ephemerals k None;

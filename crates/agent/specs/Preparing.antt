@@ -6,7 +6,7 @@ use Rattle.mg_model.specs.Agent.{Agent, replied, passed, noted, timed, heard}
 use Rattle.mg_model.specs.Script.{Script}
 use Rattle.mg_model.specs.Tables.{line_places}
 use Rattle.agent.specs.AgentValue.{AgentValue, agent_of}
-use Rattle.agent.specs.AheadValue.{AheadValue, finished, cancelled}
+use Rattle.agent.specs.PreparedValue.{PreparedValue, finished, cancelled}
 use Rattle.agent.specs.Steps.{accepting}
 use Rattle.agent.specs.declared.delivered.Delivery.{Delivery}
 use Rattle.agent.specs.declared.delivered.Delivery.TheVariants.{Reply, Pass, Note, Timer, Hear}
@@ -22,8 +22,8 @@ stepped_by script a Timer = timed script a
 stepped_by script a (Hear association) = heard script a association.0
 
 -- the step is prepared, or it can't be taken and nothing changes; nor does anything where memory ran out
-abbrev pub IsPrepared : Option Agent → AgentValue → AgentValue → Result AheadValue PlainFault → Type 0
-IsPrepared stepped old new (Ok ahead) = (stepped ≡ Some (finished (agent_of new) ahead)) × (cancelled (agent_of new) ahead ≡ agent_of old)
+abbrev pub IsPrepared : Option Agent → AgentValue → AgentValue → Result PreparedValue PlainFault → Type 0
+IsPrepared stepped old new (Ok prepared) = (stepped ≡ Some (finished (agent_of new) prepared)) × (cancelled (agent_of new) prepared ≡ agent_of old)
 IsPrepared stepped old new (Err NotEnabled) = (stepped ≡ None) × (new ≡ old)
 IsPrepared stepped old new (Err NoMemory) = new ≡ old
 
@@ -40,7 +40,7 @@ IsNewNote a None = Unit {0}
 IsNewNote a (Some number) = a.accepted number ≡ false
 
 -- what is to be put in place once the note is accepted
-abbrev pub IsAhead : Option Agent → Agent → Result AheadValue PlainFault → Type 0
-IsAhead stepped a (Ok ahead) = (stepped ≡ Some (finished (with_note a ahead.note) ahead)) × IsNewNote a ahead.note
-IsAhead stepped a (Err NotEnabled) = stepped ≡ None
-IsAhead stepped a (Err NoMemory) = Unit {0}
+abbrev pub IsPreparedButForNote : Option Agent → Agent → Result PreparedValue PlainFault → Type 0
+IsPreparedButForNote stepped a (Ok prepared) = (stepped ≡ Some (finished (with_note a prepared.note) prepared)) × IsNewNote a prepared.note
+IsPreparedButForNote stepped a (Err NotEnabled) = stepped ≡ None
+IsPreparedButForNote stepped a (Err NoMemory) = Unit {0}

@@ -9,7 +9,7 @@ ghost use Rattle.requests.specs.Views.{add_of, command_of, given_to, termination
 ghost use Rattle.agent.specs.Parts.{agent_in, made_of, IsAdd, IsModify, IsMove, IsEnding};
 
 use crate::bindings::Bindings;
-use crate::made::Made;
+use crate::created_at::CreatedAt;
 use crate::{descriptors, references};
 use built_request::Request;
 use mg_model::commands::{Command, LineOptions};
@@ -54,11 +54,11 @@ fn added(
     alloc: Global,
     script: &Script,
     names: &Bindings,
-    made: &Made,
+    created: &CreatedAt,
     command: &Command,
 ) -> Result<RequestCommand, AllocError>
     requires { IsAdd command.now }
-    ensures { IfOk result (λ c. command_of c ≡ model.command_of script.now (agent_in names.now) (made_of made.now) command.now) }
+    ensures { IfOk result (λ c. command_of c ≡ model.command_of script.now (agent_in names.now) (made_of created.now) command.now) }
 {
     match *command {
         Command::AddLine {
@@ -67,7 +67,7 @@ fn added(
             line,
             options,
         } => Ok(RequestCommand::Add {
-            context: references::added_to(names, made, create, context),
+            context: references::added_to(names, created, create, context),
             added: newcomer(alloc, script, names.line(line), &options)?,
             settings: descriptors::line_settings(&options),
         }),
@@ -77,9 +77,9 @@ fn added(
             options,
             ..
         } => Ok(RequestCommand::Add {
-            context: references::added_to(names, made, create, context),
+            context: references::added_to(names, created, create, context),
             added: Newcomer::NewEphemeral,
-            settings: references::ephemeral_settings(names, made, &options),
+            settings: references::ephemeral_settings(names, created, &options),
         }),
         _ => unreachable!(),
     }
@@ -90,11 +90,11 @@ fn modified(
     alloc: Global,
     script: &Script,
     names: &Bindings,
-    made: &Made,
+    created: &CreatedAt,
     command: &Command,
 ) -> Result<RequestCommand, AllocError>
     requires { IsModify command.now }
-    ensures { IfOk result (λ c. command_of c ≡ model.command_of script.now (agent_in names.now) (made_of made.now) command.now) }
+    ensures { IfOk result (λ c. command_of c ≡ model.command_of script.now (agent_in names.now) (made_of created.now) command.now) }
 {
     match *command {
         Command::ModifyLine {
@@ -102,7 +102,7 @@ fn modified(
             line,
             options,
         } => Ok(RequestCommand::Modify {
-            context: references::place(names, made, &place),
+            context: references::place(names, created, &place),
             target: target(alloc, script, names.line(line), &options)?,
             settings: descriptors::line_settings(&options),
         }),
@@ -111,9 +111,9 @@ fn modified(
             ephemeral,
             options,
         } => Ok(RequestCommand::Modify {
-            context: references::place(names, made, &place),
-            target: Target::Ephemeral(references::ephemeral(names, made, ephemeral)),
-            settings: references::ephemeral_settings(names, made, &options),
+            context: references::place(names, created, &place),
+            target: Target::Ephemeral(references::ephemeral(names, created, ephemeral)),
+            settings: references::ephemeral_settings(names, created, &options),
         }),
         _ => unreachable!(),
     }
@@ -124,11 +124,11 @@ fn moved(
     alloc: Global,
     script: &Script,
     names: &Bindings,
-    made: &Made,
+    created: &CreatedAt,
     command: &Command,
 ) -> Result<RequestCommand, AllocError>
     requires { IsMove command.now }
-    ensures { IfOk result (λ c. command_of c ≡ model.command_of script.now (agent_in names.now) (made_of made.now) command.now) }
+    ensures { IfOk result (λ c. command_of c ≡ model.command_of script.now (agent_in names.now) (made_of created.now) command.now) }
 {
     match *command {
         Command::MoveLine {
@@ -136,7 +136,7 @@ fn moved(
             line,
             options,
         } => Ok(RequestCommand::Move {
-            context: references::context(names, made, context),
+            context: references::context(names, created, context),
             target: target(alloc, script, names.line(line), &options)?,
             settings: descriptors::line_settings(&options),
         }),
@@ -145,29 +145,34 @@ fn moved(
             ephemeral,
             options,
         } => Ok(RequestCommand::Move {
-            context: references::context(names, made, context),
-            target: Target::Ephemeral(references::ephemeral(names, made, ephemeral)),
-            settings: references::ephemeral_settings(names, made, &options),
+            context: references::context(names, created, context),
+            target: Target::Ephemeral(references::ephemeral(names, created, ephemeral)),
+            settings: references::ephemeral_settings(names, created, &options),
         }),
         _ => unreachable!(),
     }
 }
 
 /// A Subtract, of one termination or of all, or a Topology descriptor.
-fn ending(script: &Script, names: &Bindings, made: &Made, command: &Command) -> RequestCommand
+fn ending(
+    script: &Script,
+    names: &Bindings,
+    created: &CreatedAt,
+    command: &Command,
+) -> RequestCommand
     requires { IsEnding command.now }
-    ensures { command_of result ≡ model.command_of script.now (agent_in names.now) (made_of made.now) command.now }
+    ensures { command_of result ≡ model.command_of script.now (agent_in names.now) (made_of created.now) command.now }
 {
     match *command {
         Command::Subtract {
             context,
             termination,
         } => RequestCommand::Subtract {
-            context: references::context(names, made, context),
-            termination: references::termination(names, made, &termination),
+            context: references::context(names, created, context),
+            termination: references::termination(names, created, &termination),
         },
         Command::SubtractAll { context } => RequestCommand::SubtractAll {
-            context: references::context(names, made, context),
+            context: references::context(names, created, context),
         },
         Command::SetTopology {
             context,
@@ -175,9 +180,9 @@ fn ending(script: &Script, names: &Bindings, made: &Made, command: &Command) -> 
             second,
             topology,
         } => RequestCommand::SetTopology {
-            context: references::context(names, made, context),
-            first: references::termination(names, made, &first),
-            second: references::termination(names, made, &second),
+            context: references::context(names, created, context),
+            first: references::termination(names, created, &first),
+            second: references::termination(names, created, &second),
             topology,
         },
         _ => unreachable!(),
@@ -189,21 +194,21 @@ fn command(
     alloc: Global,
     script: &Script,
     names: &Bindings,
-    made: &Made,
+    created: &CreatedAt,
     command: &Command,
 ) -> Result<RequestCommand, AllocError>
-    ensures { IfOk result (λ c. command_of c ≡ model.command_of script.now (agent_in names.now) (made_of made.now) command.now) }
+    ensures { IfOk result (λ c. command_of c ≡ model.command_of script.now (agent_in names.now) (made_of created.now) command.now) }
 {
     match command {
-        Command::AddLine { .. } => added(alloc, script, names, made, command),
-        Command::AddEphemeral { .. } => added(alloc, script, names, made, command),
-        Command::ModifyLine { .. } => modified(alloc, script, names, made, command),
-        Command::ModifyEphemeral { .. } => modified(alloc, script, names, made, command),
-        Command::MoveLine { .. } => moved(alloc, script, names, made, command),
-        Command::MoveEphemeral { .. } => moved(alloc, script, names, made, command),
-        Command::Subtract { .. } => Ok(ending(script, names, made, command)),
-        Command::SubtractAll { .. } => Ok(ending(script, names, made, command)),
-        Command::SetTopology { .. } => Ok(ending(script, names, made, command)),
+        Command::AddLine { .. } => added(alloc, script, names, created, command),
+        Command::AddEphemeral { .. } => added(alloc, script, names, created, command),
+        Command::ModifyLine { .. } => modified(alloc, script, names, created, command),
+        Command::ModifyEphemeral { .. } => modified(alloc, script, names, created, command),
+        Command::MoveLine { .. } => moved(alloc, script, names, created, command),
+        Command::MoveEphemeral { .. } => moved(alloc, script, names, created, command),
+        Command::Subtract { .. } => Ok(ending(script, names, created, command)),
+        Command::SubtractAll { .. } => Ok(ending(script, names, created, command)),
+        Command::SetTopology { .. } => Ok(ending(script, names, created, command)),
     }
 }
 
@@ -217,12 +222,12 @@ pub(crate) fn commands(
     ensures { IfOk result (λ found. map command_of found.items ≡ model.commands_of script.now (agent_in names.now) model.none_made 0 (model.built_by script.now (agent_in names.now) state)) }
 {
     let mut left = Request::new(script, names.names(), state);
-    let mut made = Made::none();
+    let mut created = CreatedAt::none();
     let mut found = Vec::new(alloc);
     let mut place = 0usize;
     while let Some(next) = left.take_first() {
-        found.push(command(alloc, script, names, &made, &next)?)?;
-        made.add(&next, place);
+        found.push(command(alloc, script, names, &created, &next)?)?;
+        created.add(&next, place);
         place += 1;
     }
     Ok(found)

@@ -10,6 +10,7 @@ ghost use Rattle.agent.specs.Steps.{outstanding};
 
 use crate::logged::Logged;
 use crate::refusal::Refusal;
+use crate::retired::Retired;
 use mg_model::events::Event;
 use mg_names::identifiers::{Assoc, CallNo, LineNo};
 use requests::{Reply, Request, SentNote};
@@ -45,7 +46,7 @@ impl<'s, S> Model for Call<'s, S> {
     ghost view = { λ c. c.logged.value };
 }
 
-/// A call after a step, by what it is then.
+/// A call after a step, by what it is then. This profile's own.
 #[derive(Drop)]
 pub enum Next<'s> {
     /// It rests.
@@ -63,17 +64,6 @@ pub struct Refused<'s, S> {
     pub call: Call<'s, S>,
     /// Why it didn't take the step.
     pub why: Refusal,
-}
-
-/// What is left of a call on whose lines another has begun.
-#[derive(Drop)]
-pub struct Retired {
-    /// The call.
-    pub call: CallNo,
-    /// The state of the script that it ended in, by its place from 0.
-    pub state: u8,
-    /// What happened to it, the latest last.
-    pub transcript: Vec<Event>,
 }
 
 impl<'s, S> Call<'s, S> {

@@ -10,11 +10,11 @@ ghost use Rattle.agent.specs.AgentValue.{agent_of};
 ghost use Rattle.agent.specs.Preparing.{stepped_by};
 ghost use Rattle.agent.specs.Calls.{IsDone, IsRefused, IsWritten, IsBegunAnew, with_room, is_loggable};
 
-use crate::call::Retired;
 use crate::delivered::Delivery;
 use crate::fault::PlainFault;
 use crate::plain::Plain;
 use crate::refusal::Refusal;
+use crate::retired::Retired;
 use mg_model::events::{CallEvent, Event};
 use mg_names::identifiers::{Assoc, CallNo, LineNo};
 use requests::{Reply, SentNote};

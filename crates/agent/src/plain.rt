@@ -3,7 +3,7 @@ ghost use Rattle.std.specs.Prelude.{◌≡◌, ◌≤◌, OnOk, OnErr, length, m
 ghost use Rattle.mg_model.specs.Agent as model;
 ghost use Rattle.mg_model.specs.Delivery.{arrival, is_new};
 ghost use Rattle.agent.specs.AgentValue.{agent_of};
-ghost use Rattle.agent.specs.AheadValue.{in_newer, without_note};
+ghost use Rattle.agent.specs.PreparedValue.{in_newer, without_note};
 ghost use Rattle.agent.specs.Entering.{Starts, having};
 ghost use Rattle.agent.specs.Parts.{agent_in, bound_as};
 ghost use Rattle.agent.specs.Steps.{accepting, given_up, is_passing, outstanding};

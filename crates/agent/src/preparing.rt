@@ -4,14 +4,14 @@ ghost use Rattle.std.specs.Prelude.{◌≡◌};
 ghost use Rattle.mg_model.specs.Agent as model;
 ghost use Rattle.mg_model.specs.Tables.{line_places};
 ghost use Rattle.agent.specs.AgentValue.{agent_of};
-ghost use Rattle.agent.specs.AheadValue.{finished, cancelled};
+ghost use Rattle.agent.specs.PreparedValue.{finished, cancelled};
 ghost use Rattle.agent.specs.Preparing.{IsPrepared, stepped_by};
 ghost use Rattle.agent.specs.Steps.{IsStepped, outstanding};
 
-use crate::ahead::Ahead;
 use crate::delivered::Delivery;
 use crate::fault::PlainFault;
 use crate::plain::Plain;
+use crate::prepared_step::PreparedStep;
 use mg_names::identifiers::Assoc;
 use requests::{Reply, Request, SentNote};
 use script_table::Script;
@@ -19,36 +19,40 @@ use script_table::Script;
 impl Plain {
     /// Prepares the step at what reaches the call, which is then to be finished or cancelled before any other: the number of a note is put
     /// into the inbox, and nothing else changes yet. `NotEnabled` where the step can't be taken, as each step says.
-    pub fn prepare(&mut self, script: &Script, delivery: &Delivery<'_>) -> Result<Ahead, PlainFault>
+    pub fn prepare(
+        &mut self,
+        script: &Script,
+        delivery: &Delivery<'_>,
+    ) -> Result<PreparedStep, PlainFault>
         ensures { IsPrepared (stepped_by script.now (agent_of self.old) delivery.now) self.old self.new result }
     {
-        let ahead = self.ahead_of(script, delivery)?;
+        let prepared = self.prepared(script, delivery)?;
         // The note is accepted last, so that no refusal has to take it back.
-        if let Some(number) = ahead.note {
+        if let Some(number) = prepared.note {
             let Ok(()) = self.accept(number) else {
                 return Err(PlainFault::NoMemory);
             };
         }
-        Ok(ahead)
+        Ok(prepared)
     }
 
     /// Puts in place what this agent prepared last, and hands out the request whose reply was awaited before, if one was. It takes no memory.
-    pub fn finish(&mut self, ahead: Ahead) -> Option<Request>
-        ensures finished { agent_of self.new ≡ finished (agent_of self.old) ahead }
+    pub fn finish(&mut self, prepared: PreparedStep) -> Option<Request>
+        ensures finished { agent_of self.new ≡ finished (agent_of self.old) prepared }
         ensures over { result ≡ outstanding (agent_of self.old).phase }
     {
         let over = self.give_up();
-        self.restart_in(ahead.association);
-        self.bind(ahead.bindings);
-        self.put(ahead.entered);
+        self.restart_in(prepared.association);
+        self.bind(prepared.bindings);
+        self.put(prepared.entered);
         over
     }
 
     /// Takes back what this agent prepared last. It takes no memory.
-    pub fn cancel(&mut self, ahead: Ahead)
-        ensures { agent_of self.new ≡ cancelled (agent_of self.old) ahead }
+    pub fn cancel(&mut self, prepared: PreparedStep)
+        ensures { agent_of self.new ≡ cancelled (agent_of self.old) prepared }
     {
-        self.lose(ahead.note);
+        self.lose(prepared.note);
     }
 
     /// Takes the step at what reaches the call.
@@ -59,8 +63,8 @@ impl Plain {
     ) -> Result<(), PlainFault>
         ensures { IsStepped (stepped_by script.now (agent_of self.old) delivery.now) self.old self.new result }
     {
-        let ahead = self.prepare(script, delivery)?;
-        let _ = self.finish(ahead);
+        let prepared = self.prepare(script, delivery)?;
+        let _ = self.finish(prepared);
         Ok(())
     }
 

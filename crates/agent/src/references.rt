@@ -5,17 +5,17 @@ ghost use Rattle.mg_model.specs.Agent as model;
 ghost use Rattle.agent.specs.Parts.{agent_in, made_of};
 
 use crate::bindings::Bindings;
-use crate::made::Made;
+use crate::created_at::CreatedAt;
 use mg_model::commands::{EphemeralOptions, Place, RemoteOption, Termination};
 use mg_model::references::{ContextRef, EphemeralRef, RemoteRef, SettingsRef, TerminationRef};
 use mg_names::identifiers::ContextId;
 use mg_names::slots::Slot;
 
 /// A context. One that is not bound is named as ALL, which is no context.
-pub(crate) fn context(bindings: &Bindings, made: &Made, context: Slot) -> ContextRef
-    ensures { result ≡ model.context_ref (agent_in bindings.now) (made_of made.now) context }
+pub(crate) fn context(bindings: &Bindings, created: &CreatedAt, context: Slot) -> ContextRef
+    ensures { result ≡ model.context_ref (agent_in bindings.now) (made_of created.now) context }
 {
-    match made.context(context) {
+    match created.context(context) {
         Some(place) => ContextRef::MadeAt(place),
         None => match bindings.context(context) {
             Some(number) => ContextRef::Number(ContextId(number)),
@@ -25,71 +25,82 @@ pub(crate) fn context(bindings: &Bindings, made: &Made, context: Slot) -> Contex
 }
 
 /// An ephemeral. One that is not bound is named as 0, which no ephemeral has.
-pub(crate) fn ephemeral(bindings: &Bindings, made: &Made, ephemeral: Slot) -> EphemeralRef
-    ensures { result ≡ model.ephemeral_ref (agent_in bindings.now) (made_of made.now) ephemeral }
+pub(crate) fn ephemeral(bindings: &Bindings, created: &CreatedAt, ephemeral: Slot) -> EphemeralRef
+    ensures { result ≡ model.ephemeral_ref (agent_in bindings.now) (made_of created.now) ephemeral }
 {
-    match made.ephemeral(ephemeral) {
+    match created.ephemeral(ephemeral) {
         Some(place) => EphemeralRef::MadeAt(place),
         None => EphemeralRef::Number(bindings.ephemeral(ephemeral).unwrap_or(0)),
     }
 }
 
 /// The context of an Add: CHOOSE where it is created.
-pub(crate) fn added_to(bindings: &Bindings, made: &Made, create: bool, name: Slot) -> ContextRef
-    ensures { result ≡ model.added_to (agent_in bindings.now) (made_of made.now) create name }
+pub(crate) fn added_to(
+    bindings: &Bindings,
+    created: &CreatedAt,
+    create: bool,
+    name: Slot,
+) -> ContextRef
+    ensures { result ≡ model.added_to (agent_in bindings.now) (made_of created.now) create name }
 {
     if create {
         ContextRef::Number(ContextId::CHOOSE)
     } else {
-        context(bindings, made, name)
+        context(bindings, created, name)
     }
 }
 
 /// The context of a Modify: the null context, or one of the script's.
-pub(crate) fn place(bindings: &Bindings, made: &Made, place: &Place) -> ContextRef
-    ensures { result ≡ model.place_ref (agent_in bindings.now) (made_of made.now) place.now }
+pub(crate) fn place(bindings: &Bindings, created: &CreatedAt, place: &Place) -> ContextRef
+    ensures { result ≡ model.place_ref (agent_in bindings.now) (made_of created.now) place.now }
 {
     match *place {
         Place::NullContext => ContextRef::Number(ContextId::NULL),
-        Place::Context(name) => context(bindings, made, name),
+        Place::Context(name) => context(bindings, created, name),
     }
 }
 
 /// A termination.
 pub(crate) fn termination(
     bindings: &Bindings,
-    made: &Made,
+    created: &CreatedAt,
     termination: &Termination,
 ) -> TerminationRef
-    ensures { result ≡ model.termination_ref (agent_in bindings.now) (made_of made.now) termination.now }
+    ensures { result ≡ model.termination_ref (agent_in bindings.now) (made_of created.now) termination.now }
 {
     match *termination {
         Termination::Line(line) => TerminationRef::Line(bindings.line(line)),
-        Termination::Ephemeral(name) => TerminationRef::Ephemeral(ephemeral(bindings, made, name)),
+        Termination::Ephemeral(name) => TerminationRef::Ephemeral(ephemeral(
+            bindings, created, name,
+        )),
     }
 }
 
 /// The Remote that a command sets, where it sets one.
-fn remote(bindings: &Bindings, made: &Made, option: &Option<RemoteOption>) -> Option<RemoteRef>
-    ensures { result ≡ option_map (model.remote_ref (agent_in bindings.now) (made_of made.now)) option.now }
+fn remote(
+    bindings: &Bindings,
+    created: &CreatedAt,
+    option: &Option<RemoteOption>,
+) -> Option<RemoteRef>
+    ensures { result ≡ option_map (model.remote_ref (agent_in bindings.now) (made_of created.now)) option.now }
 {
     match *option {
         None => None,
         Some(RemoteOption::NoneGiven) => Some(RemoteRef::Nothing),
-        Some(RemoteOption::Peer(name)) => Some(RemoteRef::To(ephemeral(bindings, made, name))),
+        Some(RemoteOption::Peer(name)) => Some(RemoteRef::To(ephemeral(bindings, created, name))),
     }
 }
 
 /// What a command sets on an ephemeral; what it leaves out stays.
 pub(crate) fn ephemeral_settings(
     bindings: &Bindings,
-    made: &Made,
+    created: &CreatedAt,
     options: &EphemeralOptions,
 ) -> SettingsRef
-    ensures { result ≡ record { mode = options.now.mode; remote = option_map (model.remote_ref (agent_in bindings.now) (made_of made.now)) options.now.remote } }
+    ensures { result ≡ record { mode = options.now.mode; remote = option_map (model.remote_ref (agent_in bindings.now) (made_of created.now)) options.now.remote } }
 {
     SettingsRef {
         mode: options.mode,
-        remote: remote(bindings, made, &options.remote),
+        remote: remote(bindings, created, &options.remote),
     }
 }

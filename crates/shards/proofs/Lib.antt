@@ -13,7 +13,6 @@ pub mod ShownExecutes
 pub mod ShownLines
 pub mod ShownRestarts
 pub mod ShownSteps
-pub mod ValueLemmas
 pub mod SettledNotes
 pub mod SlotLemmas
 pub mod Delivered

@@ -24,7 +24,7 @@ use Rattle.shards.proofs.Refusals.{not_found}
 use Rattle.shards.specs.Shows.{Shows, ShowsCall}
 use Rattle.shards.specs.Slots.{CannotStep, IsDelivered}
 use Rattle.shards.specs.Stepping.{IsAtAgent}
-use Rattle.shards.specs.Values.{advancing}
+use Rattle.agent.specs.Advancing.{advancing}
 use Rattle.shards.specs.declared.slot.Slot.{Slot}
 
 -- what was sent is brought, but the call that is handed in can't take it

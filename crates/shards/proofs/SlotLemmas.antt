@@ -9,7 +9,7 @@ use Rattle.mg_model.proofs.Single.{only_here}
 use Rattle.mg_model.specs.Agent.{Agent, Phase, awaits_reply, awaits_pass, resting}
 use Rattle.mg_model.specs.Messages.{Request}
 use Rattle.mg_model.specs.World.{sent_in}
-use Rattle.agent.specs.AheadValue.{AheadValue, cancelled, without_note, finished}
+use Rattle.agent.specs.PreparedValue.{PreparedValue, cancelled, without_note, finished}
 use Rattle.agent.specs.Steps.{outstanding}
 use Rattle.agent.specs.AgentValue.{agent_of}
 use Rattle.call_messages.proofs.NumberLemmas.{request_found}
@@ -25,16 +25,16 @@ next_over m awaits_pass awaited = tt
 next_over m resting awaited = tt
 
 -- taking a note in changes nothing that is awaited
-pub same_phase : (a : Agent) (ahead : AheadValue) → (cancelled a ahead).phase ≡ a.phase
-same_phase a ahead = by_note ahead.note
+pub same_phase : (a : Agent) (prepared : PreparedValue) → (cancelled a prepared).phase ≡ a.phase
+same_phase a prepared = by_note prepared.note
   where
     by_note : (note : Option ℕ) → (without_note a note).phase ≡ a.phase
     by_note None = refl
     by_note (Some number) = refl
 
-pub finished_phase : (a : Agent) (ahead : AheadValue) → (finished a ahead).phase ≡ ahead.phase
+pub finished_phase : (a : Agent) (prepared : PreparedValue) → (finished a prepared).phase ≡ prepared.phase
 unfolding finished
-finished_phase a ahead = refl
+finished_phase a prepared = refl
 
 -- ---- a request that is found
 

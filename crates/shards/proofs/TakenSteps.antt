@@ -25,7 +25,7 @@ use Rattle.shards.specs.Shows.{IsTold}
 use Rattle.shards.specs.SlotTable.{IsReady, CountsNotes, OthersStay, StepsIn, events_bound, slot_in}
 use Rattle.shards.specs.Slots.{IsStepped, Steps}
 use Rattle.shards.specs.Stepping.{CannotOccur, HasStepped, IsAtAgent, IsRefusedStep, IsSameNext, call_in, is_beginning, is_told}
-use Rattle.shards.specs.Values.{event_of}
+use Rattle.agent.specs.Advancing.{event_of}
 use Rattle.shards.specs.declared.slot.Slot.{Slot}
 
 -- ---- what a slot is fit for

@@ -26,7 +26,7 @@ use Rattle.shards.proofs.MessageLemmas.{found_in, own_message}
 use Rattle.shards.specs.Shows.{ShowsCall}
 use Rattle.shards.specs.Slots.{IsDelivered}
 use Rattle.shards.specs.Stepping.{ValueGoes, call_in, is_at_rest, is_waiting}
-use Rattle.shards.specs.Values.{advancing, event_of, takes}
+use Rattle.agent.specs.Advancing.{advancing, event_of, takes}
 use Rattle.shards.specs.declared.slot.Slot.{Slot}
 
 -- ---- which kind takes what

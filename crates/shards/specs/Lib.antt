@@ -1,4 +1,3 @@
-pub mod Values
 pub mod Slots
 pub mod SlotTable
 pub mod Shows

@@ -26,7 +26,7 @@ use Rattle.agent.specs.declared.delivered.Delivery.TheVariants as delivery
 use Rattle.mg_model.specs.declared.events.CallEvent.{CallEvent}
 use Rattle.mg_model.specs.declared.events.CallEvent.TheVariants as to_call
 use Rattle.call_messages.specs.Messages.{AreNumberedFrom, Messages, fits, answering, raising, reply_for, request_numbers, sending}
-use Rattle.shards.specs.Values.{IsAdvanced, advancing}
+use Rattle.agent.specs.Advancing.{IsAdvanced, advancing}
 use Rattle.shards.specs.declared.slot.Slot.{Slot}
 
 -- ---- what was sent

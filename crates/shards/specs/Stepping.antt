@@ -19,7 +19,7 @@ use Rattle.agent.specs.declared.refusal.Refusal.TheVariants.{NotEnabled, Behind,
 use Rattle.shards.specs.Shards.{HasHappened, IsUnchanged, IsWorldOf, ShardValue}
 use Rattle.gateway.specs.GatewayValue.{GatewayValue}
 use Rattle.shards.specs.SlotTable.{ExecutesIn, HappensIn, slot_in}
-use Rattle.shards.specs.Values.{IsSameCall}
+use Rattle.agent.specs.Advancing.{IsSameCall}
 use Rattle.shards.specs.declared.slot.Slot.{Slot}
 use Rattle.shards.specs.declared.stepped.Stepped.{Stepped}
 use Rattle.shards.specs.declared.stepped.Stepped.TheVariants.{Done, Begun}

@@ -4,7 +4,6 @@ ghost use Rattle.agent.specs.Calls.{refusal_of};
 ghost use Rattle.shards.specs.Slots.{IsDelivered, IsStepped, IsTied};
 
 use crate::slot::Slot;
-use crate::value;
 use agent::{Delivery, Next, PlainFault, Refusal};
 use call_messages::Messages;
 use mg_model::events::CallEvent;
@@ -52,17 +51,17 @@ pub(crate) fn step<'s>(
     let Some(delivery) = brought(&slot.messages, &event) else {
         return (next, Err(Refusal::NotEnabled));
     };
-    let ahead = match slot.agent.prepare(script, &delivery) {
-        Ok(ahead) => ahead,
+    let prepared = match slot.agent.prepare(script, &delivery) {
+        Ok(prepared) => prepared,
         Err(fault) => return (next, Err(refusal(fault))),
     };
-    let (next, done) = value::advance(next, &delivery);
+    let (next, done) = next.advance(&delivery);
     if let Err(why) = done {
-        slot.agent.cancel(ahead);
+        slot.agent.cancel(prepared);
         return (next, Err(why));
     }
-    let sends = ahead.request().is_some();
-    let over = slot.agent.finish(ahead);
+    let sends = prepared.request().is_some();
+    let over = slot.agent.finish(prepared);
     slot.messages.send(over, sends);
     slot.events += 1;
     (next, Ok(()))

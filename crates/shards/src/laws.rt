@@ -3,7 +3,7 @@ ghost use Rattle.shards.specs.Lasting.{IdentifiersLasted, WorldsAreGood};
 ghost use Rattle.shards.specs.Shards.{IsShard};
 
 use crate::shard::Shard;
-use mg_merge::laws::identifiers_last;
+use mg_merge::laws;
 
 impl<'s> Shard<'s> {
     /// What the type keeps: the shard's history is a run from an opening of its calls to a world that it shows, on a gateway of its class, each slot counts the
@@ -29,7 +29,7 @@ impl<'s> Shard<'s> {
     pub fn identifiers_lasted(&self)
         ensures { IdentifiersLasted self.now }
     {
-        identifiers_last();
+        laws::identifiers_last();
         // What the type keeps is at hand where a field is read.
         let _script = self.script;
     }

@@ -63,6 +63,13 @@ impl<'s> Shard<'s> {
         self.history.as_slice()
     }
 
+    /// The script of its calls.
+    pub fn script(&self) -> &'s Script
+        ensures { result.now ≡ self.now.script }
+    {
+        self.script
+    }
+
     /// The association, from 1.
     pub fn association(&self) -> Assoc
         ensures { result.0 ≡ self.now.gateway.association }

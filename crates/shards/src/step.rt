@@ -6,9 +6,9 @@ ghost use Rattle.shards.specs.SlotTable.{slot_in, CountsNotes, IsReady, OthersSt
 ghost use Rattle.shards.specs.Stepping.{AtGateway, IsAtAgent, IsHeld, IsStep, IsUpToDate, is_told};
 
 use crate::shard::{self, Shard};
+use crate::slots;
 use crate::slots::Slots;
 use crate::stepped::Stepped;
-use crate::{slots, value};
 use agent::{Next, Refusal};
 use gateway::Gateway;
 use mg_model::events::{CallEvent, Event};
@@ -50,11 +50,11 @@ impl<'s> Shard<'s> {
     fn holds(&self, next: &Next<'s>) -> Result<(), Refusal>
         ensures { IsHeld self.now next.now result }
     {
-        let Some(slot) = slots::slot(&self.slots, value::call(next)) else {
+        let Some(slot) = slots::slot(&self.slots, next.call()) else {
             return Err(Refusal::NotEnabled);
         };
         let slot_count = slot.events;
-        if value::transcript(next).len() != slot_count {
+        if next.transcript().len() != slot_count {
             return Err(Refusal::Behind { slot_count });
         }
         Ok(())
@@ -70,7 +70,7 @@ impl<'s> Shard<'s> {
         requires { IsAtAgent event }
         ensures { IsStep self.old self.new next.entry result.0 (OfCall call event) result.1 }
     {
-        if value::call(&next).0 != call.0 {
+        if next.call().0 != call.0 {
             return (next, Err(Refusal::NotEnabled));
         }
         if !is_told(&self.gateway, &event) {
@@ -97,21 +97,21 @@ impl<'s> Shard<'s> {
         requires { is_of_gateway event ≡ true }
         ensures { IsStep self.old self.new next.entry result.0 (OfCall call event) result.1 }
     {
-        if value::call(&next).0 != call.0 {
+        if next.call().0 != call.0 {
             return (next, Err(Refusal::NotEnabled));
         }
         let Ok(()) = shard::room(&mut self.history) else {
             return (next, Err(Refusal::NoMemory));
         };
         let mut next = next;
-        let Ok(()) = value::room(&mut next) else {
+        let Ok(()) = next.room() else {
             return (next, Err(Refusal::NoMemory));
         };
         if let Err(why) = at_gateway(&mut self.gateway, &mut self.slots, call, event) {
             return (next, Err(why));
         }
         let event = Event::OfCall { call, event };
-        let next = value::log(next, event);
+        let next = next.log_event(event);
         self.history.push_reserved(event);
         (next, Ok(Stepped::Done))
     }

@@ -1,7 +1,7 @@
 //! The layer of agents: what reaches the agent of a call is written out in each row, and no gateway is there.
 use crate::messages::{Delivered, Party, read_delivered, read_party};
 use crate::told::{Phase, Standing, waiting};
-use agent::{Ahead, Delivery, Plain, PlainFault};
+use agent::{PreparedStep, Delivery, Plain, PlainFault};
 use mg_names::identifiers::{Assoc, CallNo};
 use script_table::Script;
 use test_documents::scripts::{Sizes, script};
@@ -72,7 +72,7 @@ fn stepped(
 }
 
 /// A step that is prepared.
-fn prepare(plain: &mut Plain, script: &Script, told: &Delivered) -> Result<Ahead, PlainFault> {
+fn prepare(plain: &mut Plain, script: &Script, told: &Delivered) -> Result<PreparedStep, PlainFault> {
     match told {
         Delivered::Reply(reply) => plain.prepare(script, &Delivery::Reply(reply)),
         Delivered::Pass => plain.prepare(script, &Delivery::Pass),
@@ -87,7 +87,7 @@ fn prepared(
     plain: &mut Plain,
     script: &Script,
     told: &Delivered,
-) -> Result<Result<Ahead, PlainFault>, Failure> {
+) -> Result<Result<PreparedStep, PlainFault>, Failure> {
     let before = seen(plain);
     match prepare(plain, script, told) {
         Err(PlainFault::NoMemory) => once_more(seen(plain) == before, prepare(plain, script, told)),
@@ -114,7 +114,7 @@ fn tell_ahead(
     rt: &HostRuntime,
     script: &Script,
     plain: &Plain,
-    ahead: &Ahead,
+    ahead: &PreparedStep,
 ) -> Result<(), Failure> {
     print!(rt; "{}, ahead ", standing(script, plain))?;
     match ahead.request() {
@@ -129,7 +129,7 @@ fn tell_ahead(
 }
 
 /// Finishes or cancels what was prepared.
-fn settle(plain: &mut Plain, ahead: Ahead, is_finished: bool) {
+fn settle(plain: &mut Plain, ahead: PreparedStep, is_finished: bool) {
     if is_finished {
         let _over = plain.finish(ahead);
     } else {

@@ -8,7 +8,7 @@ use Rattle.agent.proofs.building.commands.Given as goal
 abbrev pub invariant-loop-next : goal.invariant-loop-next
 invariant-loop-next l = record {
   few : l.place + length l.left < 2 ^ 64;
-  all : map command_of l.found.items ++ model.commands_of l.script (agent_in l.names) (made_of l.made) l.place l.left
+  all : map command_of l.found.items ++ model.commands_of l.script (agent_in l.names) (made_of l.created) l.place l.left
       ≡ model.commands_of l.script (agent_in l.names) model.none_made 0 (model.built_by l.script (agent_in l.names) l.state);
 }
 

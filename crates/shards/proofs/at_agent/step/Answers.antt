@@ -6,7 +6,7 @@ use Rattle.agent.specs.AgentValue.{agent_of}
 use Rattle.agent.specs.Steps.{outstanding}
 use Rattle.call_messages.specs.Messages.{IsNextOver, Messages, sending}
 use Rattle.shards.specs.Slots.{IsDelivered}
-use Rattle.shards.specs.Values.{IsAdvanced}
+use Rattle.agent.specs.Advancing.{IsAdvanced}
 use Rattle.shards.proofs.SlotLemmas.{next_over, same_phase, finished_phase}
 use Rattle.shards.proofs.at_agent.step.Goals as goal
 
@@ -17,7 +17,7 @@ send-requires-clause-next c =
     (next_over c.args.slot.now.messages.sent (agent_of c.args.slot.now.agent).phase c.requires.tied.awaited))
   where
     before : (agent_of c.prepare.new.self).phase ≡ (agent_of c.args.slot.now.agent).phase
-    before = sym (same_phase (agent_of c.prepare.new.self) c.in-Ok-prepare.ahead) ∙ ap (λ (a : Agent). a.phase) c.in-Ok-prepare.ensures.1
+    before = sym (same_phase (agent_of c.prepare.new.self) c.in-Ok-prepare.prepared) ∙ ap (λ (a : Agent). a.phase) c.in-Ok-prepare.ensures.1
 
 pub returns : goal.returns
 returns c = record {
@@ -33,14 +33,14 @@ returns c = record {
 }
   where
     before : (agent_of c.prepare.new.self).phase ≡ (agent_of c.args.slot.now.agent).phase
-    before = sym (same_phase (agent_of c.prepare.new.self) c.in-Ok-prepare.ahead) ∙ ap (λ (a : Agent). a.phase) c.in-Ok-prepare.ensures.1
+    before = sym (same_phase (agent_of c.prepare.new.self) c.in-Ok-prepare.prepared) ∙ ap (λ (a : Agent). a.phase) c.in-Ok-prepare.ensures.1
 
     delivered : IsDelivered c.args.slot.now.messages.sent c.args.event c.brought.result
     delivered = subst (λ (m : Messages). IsDelivered m c.args.event c.brought.result) c.room_to_send.ensures.same c.brought.ensures
 
     sends : c.is_some-sends.result ≡ is_some (outstanding (agent_of c.finish-over.new.self).phase)
     sends = c.is_some-sends.ensures ∙ told (λ r. r.now) c.request.result ∙ ap is_some (c.request.ensures
-        ∙ ap outstanding (sym (ap (λ (a : Agent). a.phase) c.finish-over.ensures.finished ∙ finished_phase (agent_of c.prepare.new.self) c.in-Ok-prepare.ahead)))
+        ∙ ap outstanding (sym (ap (λ (a : Agent). a.phase) c.finish-over.ensures.finished ∙ finished_phase (agent_of c.prepare.new.self) c.in-Ok-prepare.prepared)))
       where
         told : {A B : Type 0} (f : A → B) (o : Option A) → is_some o ≡ is_some (option_map f o)
         told f None = refl

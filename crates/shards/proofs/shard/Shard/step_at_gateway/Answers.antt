@@ -27,33 +27,33 @@ at_gateway-requires-clause-notes c = counts_notes _ c.self.invariant c.args.call
 
 pub invariant_of-self-in-Err : goal.invariant_of-self-in-Err
 invariant_of-self-in-Err c =
-    (gateway_back _ _ c.self.view_is c.self.invariant c.args.call.0 c.args.next c.room-2.new.next
+    (gateway_back _ _ c.self.view_is c.self.invariant c.args.call.0 c.args.next c.room-2.new.self
     (sym (call_is (value_of c.args.next)) ∙ sym c.call.ensures ∙ c.if-call.false) c.args.event c.requires c.at_gateway.new.gateway c.at_gateway.new.slots.entries
-    c.at_gateway.ensures.others (with_more_room c.args.next c.room-2.new.next c.room-2.ensures.kind c.in-Ok-room.ensures.made)
+    c.at_gateway.ensures.others (with_more_room c.args.next c.room-2.new.self c.room-2.ensures.kind c.in-Ok-room.ensures.made)
     c.room.new.history.items c.room.ensures.items c.in-Err.why
     (subst (λ told. AtGateway c.self.inside.gateway c.at_gateway.new.gateway c.args.call.0 c.args.event (slot_in c.self.inside.slots.entries c.args.call.0)
     (slot_in c.at_gateway.new.slots.entries c.args.call.0) told) c.in-Err.is c.at_gateway.ensures.happened)).0
 
 pub returns-in-Err : goal.returns-in-Err
 returns-in-Err c =
-    (gateway_back _ _ c.self.view_is c.self.invariant c.args.call.0 c.args.next c.room-2.new.next
+    (gateway_back _ _ c.self.view_is c.self.invariant c.args.call.0 c.args.next c.room-2.new.self
     (sym (call_is (value_of c.args.next)) ∙ sym c.call.ensures ∙ c.if-call.false) c.args.event c.requires c.at_gateway.new.gateway c.at_gateway.new.slots.entries
-    c.at_gateway.ensures.others (with_more_room c.args.next c.room-2.new.next c.room-2.ensures.kind c.in-Ok-room.ensures.made)
+    c.at_gateway.ensures.others (with_more_room c.args.next c.room-2.new.self c.room-2.ensures.kind c.in-Ok-room.ensures.made)
     c.room.new.history.items c.room.ensures.items c.in-Err.why
     (subst (λ told. AtGateway c.self.inside.gateway c.at_gateway.new.gateway c.args.call.0 c.args.event (slot_in c.self.inside.slots.entries c.args.call.0)
     (slot_in c.at_gateway.new.slots.entries c.args.call.0) told) c.in-Err.is c.at_gateway.ensures.happened)).1
 
-pub log-next-requires-clause-loggable : goal.log-next-requires-clause-loggable
-log-next-requires-clause-loggable c =
-    loggable_as c.args.call.0 (value_of c.room-2.new.next).agent.call c.args.event
+pub log_event-next-requires-clause-loggable : goal.log_event-next-requires-clause-loggable
+log_event-next-requires-clause-loggable c =
+    loggable_as c.args.call.0 (value_of c.room-2.new.self).agent.call c.args.event
     (sym (ap (λ (v : CallValue). v.agent.call) c.in-Ok-room.ensures.made ∙ sym (call_is (value_of c.args.next)) ∙ sym c.call.ensures ∙ c.if-call.false)) c.requires
 
 pub invariant_of-self-2 : goal.invariant_of-self-2
 invariant_of-self-2 c =
-    (gateway_forward _ _ c.self.view_is c.self.invariant c.args.call.0 c.args.next c.log-next.result
+    (gateway_forward _ _ c.self.view_is c.self.invariant c.args.call.0 c.args.next c.log_event-next.result
     (sym (call_is (value_of c.args.next)) ∙ sym c.call.ensures ∙ c.if-call.false) c.args.event c.requires c.at_gateway.new.gateway c.at_gateway.new.slots.entries
-    c.at_gateway.ensures.others c.log-next.ensures.kind
-    (subst (λ (v : CallValue). IsWithEvent (OfCall c.args.call c.args.event) v (value_of c.log-next.result)) c.in-Ok-room.ensures.made c.log-next.ensures.logged)
+    c.at_gateway.ensures.others c.log_event-next.ensures.kind
+    (subst (λ (v : CallValue). IsWithEvent (OfCall c.args.call c.args.event) v (value_of c.log_event-next.result)) c.in-Ok-room.ensures.made c.log_event-next.ensures.logged)
     c.push_reserved.new.self.items
     (c.push_reserved.ensures.items ∙ ap (λ (events : List Event). events ++ OfCall c.args.call c.args.event ∷ []) c.room.ensures.items)
     (subst (λ told. AtGateway c.self.inside.gateway c.at_gateway.new.gateway c.args.call.0 c.args.event (slot_in c.self.inside.slots.entries c.args.call.0)
@@ -61,10 +61,10 @@ invariant_of-self-2 c =
 
 pub returns : goal.returns
 returns c =
-    (gateway_forward _ _ c.self.view_is c.self.invariant c.args.call.0 c.args.next c.log-next.result
+    (gateway_forward _ _ c.self.view_is c.self.invariant c.args.call.0 c.args.next c.log_event-next.result
     (sym (call_is (value_of c.args.next)) ∙ sym c.call.ensures ∙ c.if-call.false) c.args.event c.requires c.at_gateway.new.gateway c.at_gateway.new.slots.entries
-    c.at_gateway.ensures.others c.log-next.ensures.kind
-    (subst (λ (v : CallValue). IsWithEvent (OfCall c.args.call c.args.event) v (value_of c.log-next.result)) c.in-Ok-room.ensures.made c.log-next.ensures.logged)
+    c.at_gateway.ensures.others c.log_event-next.ensures.kind
+    (subst (λ (v : CallValue). IsWithEvent (OfCall c.args.call c.args.event) v (value_of c.log_event-next.result)) c.in-Ok-room.ensures.made c.log_event-next.ensures.logged)
     c.push_reserved.new.self.items
     (c.push_reserved.ensures.items ∙ ap (λ (events : List Event). events ++ OfCall c.args.call c.args.event ∷ []) c.room.ensures.items)
     (subst (λ told. AtGateway c.self.inside.gateway c.at_gateway.new.gateway c.args.call.0 c.args.event (slot_in c.self.inside.slots.entries c.args.call.0)

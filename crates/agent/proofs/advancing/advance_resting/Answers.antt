@@ -3,9 +3,9 @@ use Rattle.std.proofs.Common.{refl, sym, subst}
 use Rattle.agent.specs.declared.call.Next.TheVariants as next
 use Rattle.agent.specs.declared.delivered.Delivery.{Delivery}
 use Rattle.agent.specs.declared.delivered.Delivery.TheVariants.{Hear}
-use Rattle.shards.specs.Values.{IsAdvanced}
-use Rattle.shards.proofs.ValueLemmas.{advanced}
-use Rattle.shards.proofs.value.advance_resting.Goals as goal
+use Rattle.agent.specs.Advancing.{IsAdvanced}
+use Rattle.agent.proofs.AdvancingLemmas.{advanced}
+use Rattle.agent.proofs.advancing.advance_resting.Goals as goal
 
 pub returns-in-Hear : goal.returns-in-Hear
 returns-in-Hear c =

@@ -1,7 +1,7 @@
 //! A step of an agent that is prepared.
 ghost use Rattle.std.specs.Prelude.{◌≡◌, option_map};
 ghost use Rattle.mg_model.specs.Agent.{Agent};
-ghost use Rattle.agent.specs.AheadValue.{finished, in_newer};
+ghost use Rattle.agent.specs.PreparedValue.{finished, in_newer};
 ghost use Rattle.agent.specs.Entering.{having};
 ghost use Rattle.agent.specs.Parts.{agent_in, bound_as};
 ghost use Rattle.agent.specs.Steps.{outstanding};
@@ -16,7 +16,7 @@ use std::marker::Model;
 /// A step of an agent that is prepared: all its memory is there, and nothing can refuse it any more. `Plain::finish` puts it in place, and
 /// `Plain::cancel` takes it back. It is of the agent that prepared it, which is to take no other step before. This profile's own.
 #[derive(Debug, Drop)]
-pub struct Ahead {
+pub struct PreparedStep {
     pub(crate) bindings: Bindings,
     pub(crate) entered: Entered,
     /// The newer association that the call heard of.
@@ -25,30 +25,30 @@ pub struct Ahead {
     pub(crate) note: Option<u32>,
 }
 
-impl Model for Ahead {
+impl Model for PreparedStep {
     ghost use Rattle.std.specs.Prelude.{option_map};
     ghost use Rattle.agent.specs.AgentValue.{phase_of};
-    ghost use Rattle.agent.specs.AheadValue.{AheadValue};
+    ghost use Rattle.agent.specs.PreparedValue.{PreparedValue};
 
-    ghost Value = { AheadValue };
+    ghost Value = { PreparedValue };
 
     ghost view = { λ a. record { state = a.entered.state; phase = phase_of a.entered.phase; next = a.entered.next; lines = a.bindings.lines; contexts = a.bindings.contexts; ephemerals = a.bindings.ephemerals; expected = a.bindings.expected; association = option_map (λ n. n.0) a.association; note = a.note } };
 }
 
-impl Ahead {
+impl PreparedStep {
     /// The step that leads to what was entered with these bindings, in a newer association where there is one, and that accepts a note
     /// where there is one.
-    #[tactic(auto, unfolding(crate::specs::AheadValue::finished, crate::specs::Parts::agent_in))]
+    #[tactic(auto, unfolding(crate::specs::PreparedValue::finished, crate::specs::Parts::agent_in))]
     pub(crate) fn new(
         bindings: Bindings,
         entered: Entered,
         association: Option<Assoc>,
         note: Option<u32>,
-    ) -> Ahead
+    ) -> PreparedStep
         ensures finished { (a : Agent) → finished a result ≡ having (bound_as (in_newer a (option_map (λ n. n.0) association)) (agent_in bindings)) entered }
         ensures note { result.note ≡ note }
     {
-        Ahead {
+        PreparedStep {
             bindings,
             entered,
             association,

@@ -6,7 +6,7 @@ use Rattle.mg_model.specs.Agent as model
 use Rattle.agent.specs.AgentValue.{agent_of}
 use Rattle.agent.specs.Entering.{IsEntered}
 use Rattle.agent.proofs.StepLemmas.{refused, leads, hears}
-use Rattle.agent.proofs.plain.Plain.ahead_of_hear.Goals as goal
+use Rattle.agent.proofs.plain.Plain.prepared_hear.Goals as goal
 
 pub returns-in_err-entered : goal.returns-in_err-entered
 returns-in_err-entered c =

@@ -4,7 +4,7 @@ use Rattle.std.specs.Prelude.{ℕ, false, List, Option, Some, None, slice_index_
 use Rattle.mg_model.specs.Agent.{Agent, Phase, inbox_of}
 use Rattle.mg_model.specs.Delivery.{without_accepted}
 
-pub record AheadValue : Type 0 where
+pub record PreparedValue : Type 0 where
   -- the state that is entered, what is waited for there, and the number of the next request
   pub state : ℕ
   pub phase : Phase
@@ -25,15 +25,15 @@ in_newer a None = a
 in_newer a (Some association) = record a { association = association; accepted = λ n. false }
 
 -- the agent once the step is put in place
-unfoldable pub finished : Agent → AheadValue → Agent
-finished a ahead = record (in_newer a ahead.association) {
-  state = ahead.state;
-  phase = ahead.phase;
-  lines = λ i. slice_index_or ahead.lines i 0;
-  contexts = λ j. slice_index_or ahead.contexts j None;
-  ephemerals = λ k. slice_index_or ahead.ephemerals k None;
-  next = ahead.next;
-  expected = λ i. slice_index_or ahead.expected i None;
+unfoldable pub finished : Agent → PreparedValue → Agent
+finished a prepared = record (in_newer a prepared.association) {
+  state = prepared.state;
+  phase = prepared.phase;
+  lines = λ i. slice_index_or prepared.lines i 0;
+  contexts = λ j. slice_index_or prepared.contexts j None;
+  ephemerals = λ k. slice_index_or prepared.ephemerals k None;
+  next = prepared.next;
+  expected = λ i. slice_index_or prepared.expected i None;
 }
 
 -- a note, where there is one, isn't accepted
@@ -42,5 +42,5 @@ without_note a None = a
 without_note a (Some number) = record a { accepted = (without_accepted (inbox_of a) number).accepted }
 
 -- the agent once the step is taken back
-abbrev pub cancelled : Agent → AheadValue → Agent
-cancelled a ahead = without_note a ahead.note
+abbrev pub cancelled : Agent → PreparedValue → Agent
+cancelled a prepared = without_note a prepared.note

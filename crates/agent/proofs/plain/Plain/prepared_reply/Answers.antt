@@ -7,7 +7,7 @@ use Rattle.agent.specs.AgentValue.{agent_of}
 use Rattle.agent.specs.Entering.{IsEntered, leads_from}
 use Rattle.agent.specs.Parts.{agent_in, bound_as}
 use Rattle.agent.proofs.StepLemmas.{refused, leads, replies}
-use Rattle.agent.proofs.plain.Plain.ahead_of_reply.Goals as goal
+use Rattle.agent.proofs.plain.Plain.prepared_reply.Goals as goal
 
 pub returns-in_err-entered : goal.returns-in_err-entered
 returns-in_err-entered c =

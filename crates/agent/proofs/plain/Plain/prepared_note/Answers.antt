@@ -8,7 +8,7 @@ use Rattle.agent.specs.AgentValue.{agent_of}
 use Rattle.agent.specs.Entering.{IsEntered}
 use Rattle.agent.specs.Steps.{accepting}
 use Rattle.agent.proofs.StepLemmas.{refused, leads, notes, is_new_note, starts_accepting}
-use Rattle.agent.proofs.plain.Plain.ahead_of_note.Goals as goal
+use Rattle.agent.proofs.plain.Plain.prepared_note.Goals as goal
 
 pub returns-in_err-entered : goal.returns-in_err-entered
 returns-in_err-entered c =

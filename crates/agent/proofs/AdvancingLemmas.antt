@@ -11,7 +11,7 @@ use Rattle.agent.specs.declared.call.Refused.{Refused}
 use Rattle.agent.specs.declared.delivered.Delivery.{Delivery}
 use Rattle.agent.specs.declared.refusal.Refusal.{Refusal}
 use Rattle.agent.specs.declared.refusal.Refusal.TheVariants.{NotEnabled, Behind, NoMemory}
-use Rattle.shards.specs.Values.{IsAdvanced, IsHanded, advancing, event_of, takes}
+use Rattle.agent.specs.Advancing.{IsAdvanced, IsHanded, advancing, event_of, takes}
 
 module _ (of : CallValue → Next) (old : CallValue) (delivery : Delivery)
     (same : value_of (of old) ≡ old) (may : takes (variant_of (of old)) delivery ≡ true) where

@@ -8,18 +8,18 @@ use mg_names::slots::Slot;
 
 /// The places, from 0, of the commands of a request that created names, so far. This profile's own.
 #[derive(Clone, Copy, Debug)]
-pub(crate) struct Made {
+pub(crate) struct CreatedAt {
     contexts: [Option<usize>; 4],
     ephemerals: [Option<usize>; 4],
 }
 
 #[tactic(auto, unfolding(crate::specs::Parts::made_of))]
-impl Made {
+impl CreatedAt {
     /// Nothing was created.
-    pub(crate) fn none() -> Made
+    pub(crate) fn none() -> CreatedAt
         ensures { made_of result ≡ none_made }
     {
-        Made {
+        CreatedAt {
             contexts: [None; 4],
             ephemerals: [None; 4],
         }
