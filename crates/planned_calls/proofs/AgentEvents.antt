@@ -17,7 +17,7 @@ use Rattle.agent.specs.AgentValue.{agent_of}
 use Rattle.agent.specs.CallValue.{Kind, rests, waits, has_ended, kind_in}
 use Rattle.agent.specs.Calls.{IsNext, value_of, variant_of}
 use Rattle.agent.specs.declared.call.Next.{Next}
-use Rattle.planned_calls.specs.Replays.{EndsWithoutTimer}
+use Rattle.planned_calls.specs.CallChains.{EndsWithoutTimer}
 use Rattle.shards.specs.Stepping.{ValueGoes, call_in, is_at_rest, is_ended, is_waiting}
 
 -- the number of the call that an event is of; none of a restart

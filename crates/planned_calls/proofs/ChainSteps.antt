@@ -19,16 +19,16 @@ use Rattle.agent.specs.AgentValue.{AgentValue, agent_of}
 use Rattle.agent.specs.CallValue.{kind_in}
 use Rattle.agent.specs.Calls.{IsNext, IsRetired, value_of}
 use Rattle.agent.specs.declared.call.Next.{Next}
-use Rattle.agent.specs.declared.call.Retired.{Retired}
+use Rattle.agent.specs.declared.retired.Retired.{Retired}
 use Rattle.shards.specs.Meaning.{IsMeant, MeansIn}
 use Rattle.shards.specs.Shards.{IsUnchanged, IsWorldOf, ShardValue}
 use Rattle.shards.specs.Stepping.{HasBegun, HasStepped, IsNotEnabled, IsSameNext, call_in, is_beginning}
 use Rattle.shards.proofs.ShardLemmas.{world_numbered}
 use Rattle.shards.proofs.ValueSteps.{call_is}
-use Rattle.planned_calls.specs.Replays.{EndsWithoutTimer, IsAlone}
+use Rattle.planned_calls.specs.CallChains.{EndsWithoutTimer, IsAlone}
 use Rattle.planned_calls.specs.ReportLines.{gone_line}
-use Rattle.planned_calls.specs.declared.replay.Replay.{Replay}
-use Rattle.planned_calls.specs.declared.planned_call.RetiredCall.{RetiredCall}
+use Rattle.planned_calls.specs.declared.call_chain.CallChain.{CallChain}
+use Rattle.planned_calls.specs.declared.call_chain.RetiredCall.{RetiredCall}
 use Rattle.planned_calls.proofs.AgentEvents.{IsOwn, agent_goes, call_of, can_go}
 use Rattle.planned_calls.proofs.StepMeanings.{Sorted, call_of_own, sorted}
 use Rattle.planned_calls.proofs.Replayed.{one_step}
@@ -54,7 +54,8 @@ line_same script state other events more idle idler first second third =
 
 -- ---- a call alone
 
-module _ (script : Script) (one : Opened) (steps : List PlanStep) (v0 v : ShardValue) (a : Replay) (is : IsAlone script one steps v0 a) (same_v : IsUnchanged v0 v) where
+module _ (script : Script) (one : Opened) (steps : List PlanStep) (others : ℕ) (v0 v : ShardValue) (a : CallChain) (is : IsAlone script one steps others v0 a)
+    (same_v : IsUnchanged v0 v) where
   abbrev agent : Agent
   agent = agent_of (value_of a.next).agent
 
@@ -98,11 +99,11 @@ module _ (script : Script) (one : Opened) (steps : List PlanStep) (v0 v : ShardV
 
   -- ---- idle
 
-  pub idle_after : (w : ShardValue) (b : Replay) (step : PlanStep) → (step ≡ Restarts → ⊥) → IsUnchanged v w → IsSameNext a.next b.next
+  pub idle_after : (w : ShardValue) (b : CallChain) (step : PlanStep) → (step ≡ Restarts → ⊥) → IsUnchanged v w → IsSameNext a.next b.next
       → ((event : Event) (after : World) → Means is.at.world agent (number_begun one.call (is.at.begun + 1)) step event → Occurs script is.at.world event after → ⊥)
-      → b.standing ≡ a.standing → b.gone.items ≡ a.gone.items → b.others ≡ a.others → b.idle ≡ a.idle + 1 → IsAlone script one (steps ++ step ∷ []) w b
-  idle_after w b step other unchanged same cannot standing gone others idle =
-      one_step script one steps v0 a is w b (record is.at { idle = is.at.idle + 1 }) step others
+      → b.standing ≡ a.standing → b.gone.items ≡ a.gone.items → b.idle ≡ a.idle + 1 → IsAlone script one (steps ++ step ∷ []) others w b
+  idle_after w b step other unchanged same cannot standing gone idle =
+      one_step script one steps others v0 a is w b (record is.at { idle = is.at.idle + 1 }) step
       (inr (record { agent = agent; stands = is.shown.stands; no_restart = other; cannot = cannot; after_is = refl }))
       (record {
         of_script = unchanged.same.script ∙ script_is;
@@ -129,10 +130,10 @@ module _ (script : Script) (one : Opened) (steps : List PlanStep) (v0 v : ShardV
 
   -- ---- an event
 
-  pub happens_after : (w : ShardValue) (b : Replay) (step : PlanStep) (next : ℕ) (event : Event) → (step ≡ Restarts → ⊥) → next ≡ a.standing.0 + plan_calls
+  pub happens_after : (w : ShardValue) (b : CallChain) (step : PlanStep) (next : ℕ) (event : Event) → (step ≡ Restarts → ⊥) → next ≡ a.standing.0 + plan_calls
       → IsMeant v0 a.standing.0 next step (Some event) → HasStepped v w a.next b.next event → b.standing ≡ a.standing → b.gone.items ≡ a.gone.items
-      → b.others ≡ a.others → b.idle ≡ a.idle → IsAlone script one (steps ++ step ∷ []) w b
-  happens_after w b step next event other number told stepped standing gone others idle =
+      → b.idle ≡ a.idle → IsAlone script one (steps ++ step ∷ []) others w b
+  happens_after w b step next event other number told stepped standing gone idle =
       by_sort (sorted is.at.world agent (number_begun one.call (is.at.begun + 1)) step event other means)
     where
       means : Means is.at.world agent (number_begun one.call (is.at.begun + 1)) step event
@@ -144,10 +145,10 @@ module _ (script : Script) (one : Opened) (steps : List PlanStep) (v0 v : ShardV
       occurs : Occurs script is.at.world event led.0
       occurs = subst (λ (s : Script). Occurs s is.at.world event led.0) script_is led.1.0
 
-      by_sort : Sorted agent (number_begun one.call (is.at.begun + 1)) step event → IsAlone script one (steps ++ step ∷ []) w b
+      by_sort : Sorted agent (number_begun one.call (is.at.begun + 1)) step event → IsAlone script one (steps ++ step ∷ []) others w b
       by_sort (inl (begins, e)) = absurd (true≢false (sym (ap is_beginning e) ∙ stepped.goes_on))
       by_sort (inr (plain, (of_call, counts))) =
-          one_step script one steps v0 a is w b (record is.at { world = led.0; events = is.at.events + 1 }) step others
+          one_step script one steps others v0 a is w b (record is.at { world = led.0; events = is.at.events + 1 }) step
           (inl (record {
             agent = agent;
             event = event;
@@ -175,11 +176,11 @@ module _ (script : Script) (one : Opened) (steps : List PlanStep) (v0 v : ShardV
 
   -- ---- a beginning
 
-  pub begun_after : (w : ShardValue) (b : Replay) (step : PlanStep) (call : CallNo) (event : Event) (last : RetiredCall) (retired : Retired) → (step ≡ Restarts → ⊥)
+  pub begun_after : (w : ShardValue) (b : CallChain) (step : PlanStep) (call : CallNo) (event : Event) (last : RetiredCall) (retired : Retired) → (step ≡ Restarts → ⊥)
       → call.0 ≡ a.standing.0 + plan_calls → IsMeant v0 a.standing.0 call.0 step (Some event) → HasBegun v w a.next b.next event
       → IsRetired (value_of a.next) retired → b.standing ≡ call → b.gone.items ≡ a.gone.items ++ last ∷ [] → last.state ≡ retired.state
-      → last.events ≡ length retired.transcript.items → last.idle ≡ a.idle → b.others ≡ a.others → b.idle ≡ 0 → IsAlone script one (steps ++ step ∷ []) w b
-  begun_after w b step call event last retired other number told begun left standing gone state events was_idle others idle =
+      → last.events ≡ length retired.transcript.items → last.idle ≡ a.idle → b.idle ≡ 0 → IsAlone script one (steps ++ step ∷ []) others w b
+  begun_after w b step call event last retired other number told begun left standing gone state events was_idle idle =
       by_sort (sorted is.at.world agent (number_begun one.call (is.at.begun + 1)) step event other means)
     where
       means : Means is.at.world agent (number_begun one.call (is.at.begun + 1)) step event
@@ -199,10 +200,10 @@ module _ (script : Script) (one : Opened) (steps : List PlanStep) (v0 v : ShardV
           (state ∙ left.state ∙ sym (state_is (value_of a.next).agent))
           (events ∙ ap (λ (events : List Event). length events) left.transcript ∙ is.shown.events) (was_idle ∙ is.shown.idle)
 
-      by_sort : Sorted agent (number_begun one.call (is.at.begun + 1)) step event → IsAlone script one (steps ++ step ∷ []) w b
+      by_sort : Sorted agent (number_begun one.call (is.at.begun + 1)) step event → IsAlone script one (steps ++ step ∷ []) others w b
       by_sort (inr (plain, more)) = absurd (true≢false (sym begun.begins ∙ plain))
       by_sort (inl (begins, e)) =
-          one_step script one steps v0 a is w b after step others
+          one_step script one steps others v0 a is w b after step
           (inl (record {
             agent = agent;
             event = event;

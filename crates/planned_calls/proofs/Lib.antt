@@ -1,7 +1,7 @@
 pub mod AgentEvents
-pub mod AloneOutcomes
+pub mod ChainOutcomes
 pub mod AloneRestarts
-pub mod AloneSteps
+pub mod ChainSteps
 pub mod OpenedAlone
 pub mod PartCalls
 pub mod Replayed

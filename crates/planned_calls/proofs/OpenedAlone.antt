@@ -2,10 +2,7 @@
 use Rattle.std.proofs.Common.{◌≡◌, ◌∙◌, ◌+◌, ◌*◌, ◌++◌, ◌%◌, ℕ, Bool, List, [], ◌∷◌, length, map, Some, refl, sym, ap, subst, arith}
 use Rattle.std.proofs.lemmas.Bool.{eq-eqb}
 use Rattle.std.proofs.Math.Nat.{mod-one}
-use Rattle.std.specs.declared.alloc.Global.{Global}
-use Rattle.std.specs.declared.vec.Vec.{Vec}
 use Rattle.identifiers.specs.Class.{is_of_class}
-use Rattle.mg_names.specs.declared.identifiers.CallNo.{CallNo}
 use Rattle.mg_model.specs.declared.events.Event.{Event}
 use Rattle.mg_model.specs.Agent.{Agent, opened}
 use Rattle.mg_model.specs.Reports.{IsPlacing, Progress, StepsRun, start_as}
@@ -17,8 +14,8 @@ use Rattle.shards.specs.Opening.{AreEntered, IsEntered, IsNewShard}
 use Rattle.shards.specs.Shards.{IsShard, IsWorldOf, ShardValue, opened_as}
 use Rattle.shards.specs.declared.opened.OpenedCall.{OpenedCall}
 use Rattle.planned_calls.specs.ReportLines.{gone_line}
-use Rattle.planned_calls.specs.Replays.{IsAlone}
-use Rattle.planned_calls.specs.declared.planned_call.RetiredCall.{RetiredCall}
+use Rattle.planned_calls.specs.CallChains.{IsAlone}
+use Rattle.planned_calls.specs.declared.call_chain.CallChain.{CallChain}
 
 -- the call that was handed out last, of one
 pub entered_alone : (script : Script) (first : OpenedCall) (others : List Next) (next : Next) → AreEntered script (first ∷ []) (others ++ next ∷ [])
@@ -42,10 +39,9 @@ none_ran script start end ran = ran
 no_events : (script : Script) (history : List Event) (start end : World) → history ≡ [] → Runs script history start end → end ≡ start
 no_events script history start end none runs = none_ran script start end (subst (λ (events : List Event). Runs script events start end) none runs)
 
-pub opened_alone : (script : Script) (one : Opened) (first : OpenedCall) (v : ShardValue) (next : Next) (standing : CallNo) (gone : Vec RetiredCall Global) → IsShard v
-    → IsNewShard script (first ∷ []) 0 1 v → IsEntered script first next → opened_as first ≡ one → standing.0 ≡ one.call → gone.items ≡ []
-    → IsAlone script one [] v (record { next = next; standing = standing; gone = gone; idle = 0; others = 0 })
-opened_alone script one first v next standing gone is new entered same own none =
+pub opened_alone : (script : Script) (one : Opened) (first : OpenedCall) (v : ShardValue) (chain : CallChain) → IsShard v → IsNewShard script (first ∷ []) 0 1 v
+    → IsEntered script first chain.next → opened_as first ≡ one → chain.standing.0 ≡ one.call → chain.gone.items ≡ [] → chain.idle ≡ 0 → IsAlone script one [] 0 v chain
+opened_alone script one first v chain is new entered same own none idle =
     record {
       placed = [];
       placing = nothing_placed;
@@ -64,7 +60,7 @@ opened_alone script one first v next standing gone is new entered same own none 
         standing = own;
         number = (let all : one.call ≡ 10000 * 0 + one.call = omega arith in all);
         events = ap (λ (events : List Event). length events) entered.transcript;
-        idle = refl;
+        idle = idle;
         gone = ap (λ gone. map (gone_line script) gone) none;
       };
     }

@@ -1,13 +1,13 @@
 -- A call of the plan alone goes by its steps: lists of steps with restarts among them, and runs, one step longer.
-use Rattle.std.proofs.Common.{◌≡◌, ◌+◌, ◌++◌, ◌⊎◌, inl, inr, ℕ, List, [], ◌∷◌, refl, sym, ap, subst, arith}
+use Rattle.std.proofs.Common.{◌≡◌, ◌+◌, ◌++◌, ◌⊎◌, inl, inr, ℕ, List, [], ◌∷◌, refl, ap, subst, arith}
 use Rattle.mg_model.specs.declared.plans.PlanStep.{PlanStep}
 use Rattle.mg_model.specs.declared.plans.PlanStep.TheVariants.{Restarts}
 use Rattle.mg_model.specs.Reports.{IsPlacing, Progress, StepHappens, StepIsIdle, StepsRun, start_as}
 use Rattle.mg_model.specs.Script.{Script}
 use Rattle.mg_model.specs.World.{Opened}
 use Rattle.shards.specs.Shards.{ShardValue}
-use Rattle.planned_calls.specs.Replays.{IsAlone, IsShownBy}
-use Rattle.planned_calls.specs.declared.replay.Replay.{Replay}
+use Rattle.planned_calls.specs.CallChains.{IsAlone, IsShownBy}
+use Rattle.planned_calls.specs.declared.call_chain.CallChain.{CallChain}
 
 -- ---- steps with restarts among them
 
@@ -44,14 +44,14 @@ run_more script first (one ∷ placed) p q step after (next, taken, runs) steps 
 
 -- ---- a call alone
 
-module _ (script : Script) (one : Opened) (steps : List PlanStep) (v : ShardValue) (a : Replay) (is : IsAlone script one steps v a) (w : ShardValue) (b : Replay)
-    (after : Progress) where
+module _ (script : Script) (one : Opened) (steps : List PlanStep) (others : ℕ) (v : ShardValue) (a : CallChain) (is : IsAlone script one steps others v a)
+    (w : ShardValue) (b : CallChain) (after : Progress) where
   -- by a step more of its own
-  pub one_step : (step : PlanStep) → b.others ≡ a.others → StepsTo script one.call is.at step after → IsShownBy script one w b after
-      → IsAlone script one (steps ++ step ∷ []) w b
-  one_step step others taken shown = record {
+  pub one_step : (step : PlanStep) → StepsTo script one.call is.at step after → IsShownBy script one w b after
+      → IsAlone script one (steps ++ step ∷ []) others w b
+  one_step step taken shown = record {
     placed = is.placed ++ step ∷ [];
-    placing = subst (λ (n : ℕ). IsPlacing (steps ++ step ∷ []) n (is.placed ++ step ∷ [])) (sym others) (placed_more steps a.others is.placed step is.placing);
+    placing = placed_more steps others is.placed step is.placing;
     start = is.start;
     at = after;
     opens = is.opens;
@@ -61,10 +61,10 @@ module _ (script : Script) (one : Opened) (steps : List PlanStep) (v : ShardValu
   }
 
   -- by a restart of another call
-  pub one_restart : b.others ≡ a.others + 1 → StepsTo script one.call is.at Restarts after → IsShownBy script one w b after → IsAlone script one steps w b
-  one_restart others taken shown = record {
+  pub one_restart : StepsTo script one.call is.at Restarts after → IsShownBy script one w b after → IsAlone script one steps (others + 1) w b
+  one_restart taken shown = record {
     placed = is.placed ++ Restarts ∷ [];
-    placing = subst (λ (n : ℕ). IsPlacing steps n (is.placed ++ Restarts ∷ [])) (sym others) (placed_restart steps a.others is.placed is.placing);
+    placing = placed_restart steps others is.placed is.placing;
     start = is.start;
     at = after;
     opens = is.opens;

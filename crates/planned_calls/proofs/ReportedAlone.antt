@@ -13,8 +13,8 @@ use Rattle.agent.specs.Calls.{value_of, variant_of}
 use Rattle.gateway.specs.GatewayValue.{gateway_of}
 use Rattle.shards.specs.Shards.{ShardValue}
 use Rattle.planned_calls.specs.ReportLines.{AreNumbered, lines_told, number_of, numbers_from, phase_in, phase_text, standing_line}
-use Rattle.planned_calls.specs.Replays.{IsAlone}
-use Rattle.planned_calls.specs.declared.replay.Replay.{Replay}
+use Rattle.planned_calls.specs.CallChains.{IsAlone}
+use Rattle.planned_calls.specs.declared.call_chain.CallChain.{CallChain}
 use Rattle.planned_calls.specs.declared.lines.Line.{Line}
 
 pub word_is : (test is_end : Bool) (phase : Phase)
@@ -28,8 +28,8 @@ word_is true false resting = refl
 abbrev line : Script → ℕ → List ℕ → ℕ → ℕ → ReportLine
 line script state phase events idle = record { state = (state_of script state).name; phase = phase; events = events; idle = idle }
 
-module _ (script : Script) (one : Opened) (steps : List PlanStep) (v : ShardValue) (a : Replay) (is : IsAlone script one steps v a) (association : ℕ)
-    (now : association ≡ v.gateway.association) where
+module _ (script : Script) (one : Opened) (steps : List PlanStep) (others : ℕ) (v : ShardValue) (a : CallChain) (is : IsAlone script one steps others v a)
+    (association : ℕ) (now : association ≡ v.gateway.association) where
   abbrev agent : Agent
   agent = agent_of (value_of a.next).agent
 
@@ -53,7 +53,7 @@ module _ (script : Script) (one : Opened) (steps : List PlanStep) (v : ShardValu
       ∙ ap (λ (n : ℕ). line script agent.state
       (phase_word (agent.association == is.at.world.gateway.association) (state_of script agent.state).is_end agent.phase) is.at.events n) is.shown.idle
 
-  pub reported : (lines : List ReportLine) → lines ≡ lines_told script a.gone.items a.next a.idle association → IsReported script one steps a.others lines
+  pub reported : (lines : List ReportLine) → lines ≡ lines_told script a association → IsReported script one steps others lines
   reported lines told = record {
     placed = is.placed;
     placing = is.placing;

@@ -1,3 +1,4 @@
+pub mod CallChains
 pub mod FaultNames
 pub mod Parts
 pub mod Replays

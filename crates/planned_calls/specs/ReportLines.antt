@@ -11,7 +11,8 @@ use Rattle.agent.specs.AgentValue.{agent_of}
 use Rattle.agent.specs.CallValue.{Kind, rests, waits, has_ended}
 use Rattle.agent.specs.Calls.{value_of, variant_of}
 use Rattle.agent.specs.declared.call.Next.{Next}
-use Rattle.planned_calls.specs.declared.planned_call.RetiredCall.{RetiredCall}
+use Rattle.planned_calls.specs.declared.call_chain.CallChain.{CallChain}
+use Rattle.planned_calls.specs.declared.call_chain.RetiredCall.{RetiredCall}
 use Rattle.planned_calls.specs.declared.lines.CallPhase.{CallPhase}
 use Rattle.planned_calls.specs.declared.lines.CallPhase.TheVariants.{Lost, Resting, Waiting, Ended, Retired}
 use Rattle.planned_calls.specs.declared.lines.Line.{Line}
@@ -52,8 +53,8 @@ standing_line script next idle association =
     }
 
 -- those of a call of the plan, with all that began within it
-abbrev pub lines_told : Script → List RetiredCall → Next → (idle association : ℕ) → List ReportLine
-lines_told script gone next idle association = map (gone_line script) gone ++ standing_line script next idle association ∷ []
+abbrev pub lines_told : Script → CallChain → (association : ℕ) → List ReportLine
+lines_told script a association = map (gone_line script) a.gone.items ++ standing_line script a.next a.idle association ∷ []
 
 -- ---- numbers
 

@@ -1,11 +1,10 @@
 //! Where the calls of a run are at its end: a line for each call of the plan, and for each that began within it.
 ghost use Rattle.std.specs.Prelude.{◌≡◌, ◌++◌, ◌∷◌, [], IfOk, OnOk, length, map};
 ghost use Rattle.mg_model.specs.Script.{Script};
-ghost use Rattle.agent.specs.AgentValue.{agent_of};
-ghost use Rattle.agent.specs.Calls.{value_of, variant_of};
+ghost use Rattle.agent.specs.Calls.{variant_of};
 ghost use Rattle.planned_calls.specs.ReportLines.{AreNumbered, gone_line, kind_phase, line_of, lines_told, number_of, numbers_from, phase_text, standing_line};
 
-use crate::planned_call::{RetiredCall, transcript};
+use crate::call_chain::{CallChain, RetiredCall};
 use agent::Next;
 use mg_names::identifiers::Assoc;
 use std::alloc::{AllocError, Global};
@@ -68,36 +67,24 @@ fn phase_of(next: &Next<'_>) -> CallPhase
     }
 }
 
-/// The association and the state of a call that stands.
-fn place_of(next: &Next<'_>) -> (Assoc, u8)
-    ensures association { result.0.0 ≡ (agent_of (value_of next.now).agent).association }
-    ensures state { result.1 ≡ (agent_of (value_of next.now).agent).state }
-{
-    match next {
-        Next::Resting(call) => (call.association(), call.state()),
-        Next::Waiting(call) => (call.association(), call.state()),
-        Next::Ended(call) => (call.association(), call.state()),
-    }
-}
-
 /// The line of the call that stands, the latest that began within a call of the plan, where its gateway is in an association.
-fn standing(call: u32, begun: usize, next: &Next<'_>, idle: usize, association: Assoc) -> Line
-    ensures told { (script : Script) → line_of script result ≡ standing_line script next.now idle association.0 }
-    ensures numbered { number_of result ≡ (call, begun) }
+fn standing(call: u32, chain: &CallChain<'_>, association: Assoc) -> Line
+    ensures told { (script : Script) → line_of script result ≡ standing_line script chain.now.next chain.now.idle association.0 }
+    ensures numbered { number_of result ≡ (call, length chain.now.gone.items) }
 {
-    let (own, state) = place_of(next);
-    let phase = if own == association {
+    let next = &chain.next;
+    let phase = if next.association() == association {
         phase_of(next)
     } else {
         CallPhase::Lost
     };
     Line {
         call,
-        begun,
-        state,
+        begun: chain.gone.len(),
+        state: next.state(),
         phase,
-        events: transcript(next).len(),
-        idle,
+        events: next.transcript().len(),
+        idle: chain.idle,
     }
 }
 
@@ -128,15 +115,13 @@ fn push_gone(lines: &mut Vec<Line>, call: u32, gone: &[RetiredCall]) -> Result<(
 pub fn lines_of(
     alloc: Global,
     call: u32,
-    gone: &[RetiredCall],
-    next: &Next<'_>,
-    idle: usize,
+    chain: &CallChain<'_>,
     association: Assoc,
 ) -> Result<Vec<Line>, AllocError>
-    ensures { IfOk result (λ lines. ((script : Script) → map (line_of script) lines.items ≡ lines_told script gone.now next.now idle association.0) × AreNumbered call lines.items) }
+    ensures { IfOk result (λ lines. ((script : Script) → map (line_of script) lines.items ≡ lines_told script chain.now association.0) × AreNumbered call lines.items) }
 {
     let mut lines = Vec::new(alloc);
-    push_gone(&mut lines, call, gone)?;
-    lines.push(standing(call, gone.len(), next, idle, association))?;
+    push_gone(&mut lines, call, chain.gone.as_slice())?;
+    lines.push(standing(call, chain, association))?;
     Ok(lines)
 }

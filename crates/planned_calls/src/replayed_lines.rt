@@ -1,67 +1,52 @@
 //! The line of a call of the plan, by a run of it alone: its steps on a gateway of its own, with the restarts where the call was marked in the run.
-ghost use Rattle.std.specs.Prelude.{◌≡◌, ◌∷◌, [], true, false, IfOk, map};
+ghost use Rattle.std.specs.Prelude.{◌∷◌, [], IfOk, map};
 ghost use Rattle.mg_model.specs.Plans as plans;
-ghost use Rattle.mg_model.specs.declared.plans.PlanStep.TheVariants as steps;
+ghost use Rattle.mg_model.specs.Script.{Script};
 ghost use Rattle.mg_model.specs.Reports.{IsReported};
-ghost use Rattle.planned_calls.specs.Replays.{GoesBy, TellsOf};
+ghost use Rattle.planned_calls.specs.Replays.{ReplaysBy, TellsOf};
 ghost use Rattle.planned_calls.specs.ReportLines.{AreNumbered, line_of};
 ghost use Rattle.planned_calls.specs.Turns.{steps_of};
 
+use crate::call_chain::is_restart;
 use crate::fault::RunFault;
 use crate::lines::Line;
 use crate::plan_totals::PlanTotals;
 use crate::replay::{self, Replay};
 use crate::turns::{self, Turn};
 use composition::Checked;
-use mg_model::plans::PlanStep;
 use mg_names::identifiers::Assoc;
 use plans::PlanCall;
-use script_table::Script;
 use shards::Shard;
 use std::alloc::Global;
 
-/// Whether a step is a restart.
-fn is_restart(step: &PlanStep) -> bool
-    ensures yes { result ≡ true → step.now ≡ steps.Restarts }
-    ensures no { result ≡ false → step.now ≡ steps.Restarts → ⊥ }
-{
-    matches!(step, PlanStep::Restarts)
-}
-
 /// A step in turn: the restarts of other calls before it, and the step itself.
-fn take<'s>(
-    script: &Script,
-    shard: &mut Shard<'s>,
-    alone: Replay<'s>,
-    turn: &Turn,
-) -> Result<Replay<'s>, RunFault>
-    ensures { IfOk result (λ after. GoesBy script.now (turn.now.step ∷ []) shard.old alone.entry shard.new after) }
+fn take<'s>(shard: &mut Shard<'s>, alone: Replay<'s>, turn: &Turn) -> Result<Replay<'s>, RunFault>
+    ensures { IfOk result (λ after. ReplaysBy (turn.now.step ∷ []) shard.old alone.entry shard.new after) }
 {
     let mut alone = alone;
     if is_restart(&turn.step) {
-        alone.waits_before(shard, turn.mark)?;
+        alone.wait_before(shard, turn.mark)?;
         replay::restart(shard)?;
         return Ok(alone);
     }
     let Some(mark) = turn.mark else {
         return Err(RunFault::Disagree);
     };
-    alone.waits_for(shard, mark)?;
-    alone.step(script, shard, &turn.step)
+    alone.wait_for(shard, mark)?;
+    alone.step(shard, &turn.step)
 }
 
 /// All steps in turn.
 fn take_all<'s>(
-    script: &Script,
     shard: &mut Shard<'s>,
     alone: Replay<'s>,
     turns: &[Turn],
 ) -> Result<Replay<'s>, RunFault>
-    ensures { IfOk result (λ after. GoesBy script.now (steps_of turns.now) shard.old alone.entry shard.new after) }
+    ensures { IfOk result (λ after. ReplaysBy (steps_of turns.now) shard.old alone.entry shard.new after) }
 {
     let mut alone = alone;
     for turn in turns {
-        alone = take(script, shard, alone, turn)?;
+        alone = take(shard, alone, turn)?;
     }
     Ok(alone)
 }
@@ -85,16 +70,15 @@ pub struct Marked<'a> {
 /// they don't.
 fn go<'s>(
     alloc: Global,
-    script: &Script,
     shard: &mut Shard<'s>,
     alone: Replay<'s>,
     turns: &[Turn],
     marked: &Marked<'_>,
 ) -> Result<Vec<Line>, RunFault>
-    ensures { IfOk result (λ lines. TellsOf script.now (steps_of turns.now) marked.now.others shard.old alone.entry (map (line_of script.now) lines.items) × AreNumbered marked.now.number lines.items) }
+    ensures { IfOk result (λ lines. ((script : Script) → TellsOf script (steps_of turns.now) marked.now.others shard.old alone.entry (map (line_of script) lines.items)) × AreNumbered marked.now.number lines.items) }
 {
-    let mut alone = take_all(script, shard, alone, turns)?;
-    alone.waits_for(shard, marked.last)?;
+    let mut alone = take_all(shard, alone, turns)?;
+    alone.wait_for(shard, marked.last)?;
     if alone.others != marked.others {
         return Err(RunFault::Disagree);
     }
@@ -115,5 +99,5 @@ pub fn lines_alone(
     let turns = turns::of(alloc, totals.epochs(), marked.call, marked.marks)?;
     let (mut shard, alone) = replay::open(alloc, checked, marked.number, marked.call)?;
     let turns = turns.as_slice();
-    go(alloc, checked.script(), &mut shard, alone, turns, marked)
+    go(alloc, &mut shard, alone, turns, marked)
 }

@@ -15,7 +15,7 @@ restarts_of Restart = 1
 
 -- what happened to a call of the plan, with all that began within it
 abbrev pub trail_of : PlannedCall → List Event
-trail_of planned = planned.log.trail.items ++ (value_of planned.next).transcript
+trail_of planned = planned.log.trail.items ++ (value_of planned.chain.next).transcript
 
 abbrev pub trails_of : List PlannedCall → List (List Event)
 trails_of planned_calls = map trail_of planned_calls

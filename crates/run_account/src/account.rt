@@ -13,7 +13,7 @@ use crate::merge::merge;
 use crate::outcome::Outcome;
 use crate::report::{Source, report};
 use composition::Checked;
-use mg_merge::laws::merges_are_runs;
+use mg_merge::laws;
 use mg_model::events::Event;
 use mg_names::identifiers::Assoc;
 use planned_calls::{PlanTotals, PlannedCall, RunFault};
@@ -90,7 +90,7 @@ pub fn finish<'a, 's, R: Threads + Sync>(
     requires all { vec_len planned_calls ≡ length plan.now.calls }
     ensures { IfOk result (λ outcome. IsRunOf checked.now.table plan.now outcome) }
 {
-    merges_are_runs();
+    laws::merges_are_runs();
     if shards.len() != usize::from(plan.shards()) {
         return Err(RunFault::Disagree);
     }

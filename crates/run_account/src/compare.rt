@@ -9,7 +9,7 @@ ghost use Rattle.agent.specs.Calls.{value_of};
 use agent::Next;
 use mg_model::events::{CallEvent, Event};
 use mg_names::identifiers::CallNo;
-use planned_calls::{PLAN_CALLS, PlannedCall, transcript};
+use planned_calls::{PLAN_CALLS, PlannedCall};
 use shards::Shard;
 use std::alloc::{AllocError, Global};
 
@@ -86,7 +86,7 @@ pub(crate) fn ends_at(planned: &PlannedCall<'_>, place: usize) -> bool
         .log
         .trail
         .len()
-        .checked_add(transcript(&planned.next).len());
+        .checked_add(planned.chain.next.transcript().len());
     all == Some(place)
 }
 
@@ -98,7 +98,7 @@ pub(crate) fn event_at(planned: &PlannedCall<'_>, place: usize) -> Option<Event>
     if place < before {
         return planned.log.trail.as_slice().get(place).copied();
     }
-    transcript(&planned.next).get(place - before).copied()
+    planned.chain.next.transcript().get(place - before).copied()
 }
 
 /// The place behind an event in the transcripts of a call of the plan. Nothing, where the event isn't the next one there.

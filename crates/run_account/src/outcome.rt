@@ -5,7 +5,7 @@ ghost use Rattle.planned_calls.specs.Parts.{of_call};
 use crate::compare::push_of;
 use mg_model::events::Event;
 use mg_names::identifiers::CallNo;
-use planned_calls::{Line, PLAN_CALLS, PlannedCall, transcript};
+use planned_calls::{Line, PLAN_CALLS, PlannedCall};
 use std::alloc::{AllocError, Global};
 use std::marker::Model;
 
@@ -55,7 +55,7 @@ impl<'s> Outcome<'s> {
         }
         let planned = &self.planned_calls[number];
         push_of(call, planned.log.trail.as_slice(), &mut events)?;
-        push_of(call, transcript(&planned.next), &mut events)?;
+        push_of(call, planned.chain.next.transcript(), &mut events)?;
         Ok(events)
     }
 }

@@ -12,7 +12,7 @@ ghost use Rattle.run_account.specs.CallReport.{IsTold};
 use crate::final_state::are_left;
 use composition::Checked;
 use mg_names::identifiers::Assoc;
-use mg_reports::laws::reports_add_up;
+use mg_reports::laws;
 use planned_calls::{
     Line, Marked, PlanTotals, PlannedCall, RunFault, lines_alone, lines_of, restarts_asked,
 };
@@ -50,18 +50,16 @@ fn agreed_lines(
     let Some(own) = restarts_asked(call) else {
         return Err(RunFault::Disagree);
     };
-    let log = &planned.log;
     let last = source.last;
     let marked = Marked {
         number,
         call,
-        marks: log.marks.as_slice(),
+        marks: planned.log.marks.as_slice(),
         others: source.totals.restarts().saturating_sub(own),
         last,
     };
     let lines = lines_alone(alloc, source.checked, &source.totals, &marked)?;
-    let gone = log.gone.as_slice();
-    let kept = lines_of(alloc, number, gone, &planned.next, log.idle, last)?;
+    let kept = lines_of(alloc, number, &planned.chain, last)?;
     if lines.as_slice() != kept.as_slice() {
         return Err(RunFault::Disagree);
     }
@@ -142,7 +140,7 @@ pub(crate) fn report<R: Threads + Sync>(
     ensures all { IfOk result (λ lines. (number : ℕ) → number < length source.now.totals.calls → HaveLines (slice_index_or (trails_of source.now.planned_calls.now) number []) lines.items) }
     ensures left { IfOk result (λ lines. (l : Line) → Contains lines.items l → IsLeftAmong source.now.checked.now.table source.now.totals.shards source.now.shards.now (trails_of source.now.planned_calls.now) l) }
 {
-    reports_add_up();
+    laws::reports_add_up();
     let all = all_reports(rt, alloc, source, workers)?;
     let lines = joined(alloc, all.as_slice())?;
     Ok(lines)

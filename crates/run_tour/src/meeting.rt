@@ -44,6 +44,8 @@ impl Meeting {
 }
 
 impl Gate for Meeting {
+    ghost was_asked = { λ call step. Unit {0} };
+
     fn pass<R: Wait>(&self, _rt: &R, call: u32, step: usize) {
         match (call, step) {
             (1, 0) => self.wait(&self.first, &self.second),

@@ -36,6 +36,8 @@ impl<'r, C> Stopping<'r, C> {
 }
 
 impl<C: Clock + Sync> Gate for Stopping<'_, C> {
+    ghost was_asked = { λ call step. Unit {0} };
+
     fn pass<R: Wait>(&self, _rt: &R, call: u32, step: usize) {
         let drawn = self.drawn(call, step);
         match drawn % 16 {

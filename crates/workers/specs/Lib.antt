@@ -1,1 +1,2 @@
+pub mod PlanSteps
 pub mod Passing

@@ -5,9 +5,10 @@ ghost use Rattle.mg_model.specs.Numbers.{plan_calls};
 ghost use Rattle.handover.specs.Hands.{all_parts, hand};
 ghost use Rattle.handover.specs.Queues.{IsShareOf, hand_of, room_of};
 ghost use Rattle.workers.specs.Passing.{HoldsNothing, IsOwner, IsWorkersAt};
+ghost use Rattle.workers.specs.PlanSteps.{called_at, left_at, stands_in};
 
 use crate::gate::Gate;
-use crate::places::seat;
+use crate::places::{Places, seat};
 use crate::queue_owner::{QueueOwner, drain};
 use crate::running::Running;
 use crate::worker::{Job, Worked, WorkerQueue, work};
@@ -19,9 +20,6 @@ use std::sync::Wait;
 use std::thread;
 use std::thread::Threads;
 
-/// The calls of a plan by their numbers.
-pub(crate) type Places<'s> = Vec<Option<PlannedCall<'s>>>;
-
 /// The queues of all shards.
 type Queues<'s> = Vec<Queue<PlannedCall<'s>>>;
 
@@ -31,7 +29,10 @@ fn called<'s>(
     number: u32,
     shard: usize,
     shards: usize,
-) -> Option<PlannedCall<'s>> {
+) -> Option<PlannedCall<'s>>
+    ensures called { result ≡ called_at (stands_in shards shard number) place.old }
+    ensures left { place.new ≡ left_at (stands_in shards shard number) place.old }
+{
     if (number as usize).checked_rem(shards) != Some(shard) {
         return None;
     }

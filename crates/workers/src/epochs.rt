@@ -4,11 +4,12 @@ ghost use Rattle.mg_model.specs.Numbers.{plan_calls};
 ghost use Rattle.plans.specs.Accepted.{IsPlanFor};
 ghost use Rattle.planned_calls.specs.RunShards.{AreOfRun};
 
-use crate::epoch::{Places, pass};
+use crate::epoch::pass;
 use crate::gate::Gate;
 use crate::joined::{all_planned, unlocked};
 use crate::locked_shard::LockedShard;
 use crate::opening::open_all;
+use crate::places::Places;
 use crate::running::Running;
 use crate::workplace::{Workplace, restart_all};
 use composition::Checked;

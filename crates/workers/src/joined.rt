@@ -2,8 +2,8 @@
 ghost use Rattle.std.specs.Prelude.{◌≡◌, IfOk, vec_len};
 ghost use Rattle.planned_calls.specs.RunShards.{AreOfRun};
 
-use crate::epoch::Places;
 use crate::locked_shard::LockedShard;
+use crate::places::Places;
 use crate::running::Running;
 use planned_calls::{PlannedCall, RunFault};
 use shards::Shard;

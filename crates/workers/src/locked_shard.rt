@@ -1,4 +1,6 @@
 //! A shard under its lock: all that is known of it, once the lock is let go, is that it is one of this run.
+ghost use Rattle.std.specs.Prelude.{◌≡◌};
+ghost use Rattle.mg_model.specs.declared.plans.PlanStep.TheVariants as steps;
 ghost use Rattle.planned_calls.specs.RunShards.{IsOfRun};
 
 use crate::running::Running;
@@ -55,7 +57,10 @@ impl<'s, B: Running> LockedShard<'s, B> {
         &mut self,
         planned: PlannedCall<'s>,
         step: &PlanStep,
-    ) -> (PlannedCall<'s>, Result<(), RunFault>) {
+    ) -> (PlannedCall<'s>, Result<(), RunFault>)
+        requires { step.now ≡ steps.Restarts → ⊥ }
+        ensures place { result.0.log.place ≡ planned.entry.log.place }
+    {
         planned.step(&mut self.shard, step)
     }
 

@@ -5,14 +5,13 @@ ghost use Rattle.mg_model.specs.Plans as plans;
 ghost use Rattle.shards.specs.Shards.{opened_as};
 ghost use Rattle.planned_calls.specs.Parts.{one_in, opened_in};
 
-use crate::epoch::Places;
 use crate::locked_shard::LockedShard;
-use crate::places;
+use crate::places::{self, Places};
 use crate::running::Running;
 use agent::Next;
 use composition::Checked;
 use mg_names::identifiers::CallNo;
-use planned_calls::{CallLog, PlannedCall, RunFault, opened_call};
+use planned_calls::{PlannedCall, RunFault, opened_call};
 use plans::{Plan, PlanCall};
 use shards::{OpenFault, OpenedCall, Shard};
 use std::alloc::{AllocError, Global};
@@ -94,10 +93,7 @@ fn seat<'s>(
         let Some(place) = places.get_mut(number as usize) else {
             return Err(RunFault::Disagree);
         };
-        *place = Some(PlannedCall {
-            next,
-            log: CallLog::new(alloc, CallNo(number)),
-        });
+        *place = Some(PlannedCall::new(alloc, next, CallNo(number)));
         let Some(after) = number.checked_add(count) else {
             return Err(RunFault::Disagree);
         };

@@ -1,11 +1,13 @@
 //! Calls in the order of the plan.
 ghost use Rattle.std.specs.Prelude.{◌≡◌, IfOk, vec_len};
 
-use crate::epoch::Places;
 use crate::worker::NumberedCalls;
 use handover::NumberedItem;
-use planned_calls::RunFault;
+use planned_calls::{PlannedCall, RunFault};
 use std::alloc::Global;
+
+/// The calls of a plan by their numbers.
+pub(crate) type Places<'s> = Vec<Option<PlannedCall<'s>>>;
 
 /// So many empty places.
 pub(crate) fn empty<'s>(alloc: Global, count: usize) -> Result<Places<'s>, RunFault>

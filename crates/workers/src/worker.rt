@@ -81,8 +81,31 @@ fn turn<'a, 's, G: Gate, B: Running, R: Wait>(
     )
 }
 
-/// Takes calls from a queue and does their steps, until the queue has none. Each call is handed back or done with; so it is at want of memory, which ends the
-/// work.
+/// Takes a call from a queue, does a few of its steps, and hands it back or is done with it; so it is at want of memory too. No, where the queue has none.
+fn serve_one<'a, 's, G: Gate, B: Running, R: Wait>(
+    rt: &R,
+    queue: &Queue<PlannedCall<'s>>,
+    worker_queue: &mut WorkerQueue<'s>,
+    workplace: &Workplace<'a, 's, G, B>,
+) -> Result<bool, RunFault>
+    requires { IsWorkers queue.now worker_queue.old }
+    ensures shard { worker_queue.new.shard ≡ worker_queue.old.shard }
+    ensures workers { IsWorkers queue.now worker_queue.new }
+{
+    worker_queue.done.reserve(1)?;
+    let Some(item) = queue.take(rt, &mut worker_queue.share) else {
+        return Ok(false);
+    };
+    let (item, is_over) = turn(rt, workplace, item);
+    if let Ok(false) = is_over {
+        queue.put(rt, &mut worker_queue.share, item);
+        return Ok(true);
+    }
+    worker_queue.done.push_reserved(item);
+    is_over
+}
+
+/// Takes calls from a queue and does their steps, until the queue has none, or one meets trouble.
 fn serve<'a, 's, G: Gate, B: Running, R: Wait>(
     rt: &R,
     queue: &Queue<PlannedCall<'s>>,
@@ -94,18 +117,8 @@ fn serve<'a, 's, G: Gate, B: Running, R: Wait>(
     ensures workers { IsWorkers queue.now worker_queue.new }
 {
     for _ in rt.forever() {
-        worker_queue.done.reserve(1)?;
-        let Some(item) = queue.take(rt, &mut worker_queue.share) else {
+        if !serve_one(rt, queue, worker_queue, workplace)? {
             return Ok(());
-        };
-        let (item, is_over) = turn(rt, workplace, item);
-        match is_over {
-            Ok(false) => queue.put(rt, &mut worker_queue.share, item),
-            Ok(true) => worker_queue.done.push_reserved(item),
-            Err(fault) => {
-                worker_queue.done.push_reserved(item);
-                return Err(fault);
-            }
         }
     }
     Ok(())

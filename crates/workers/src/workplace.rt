@@ -1,9 +1,13 @@
 //! Where calls are run: the shards, each under its lock, the plan, the epoch, and the gate.
+ghost use Rattle.std.specs.Prelude.{◌≡◌, ◌%◌, IfSome, length};
+ghost use Rattle.mg_model.specs.declared.plans.PlanStep.TheVariants as steps;
+ghost use Rattle.workers.specs.PlanSteps.{step_at};
+
 use crate::gate::Gate;
 use crate::locked_shard::LockedShard;
 use crate::running::Running;
 use mg_model::plans::PlanStep;
-use planned_calls::{PlannedCall, RunFault};
+use planned_calls::{PlannedCall, RunFault, is_restart};
 use plans::Plan;
 use std::sync::{Mutex, Wait};
 
@@ -29,26 +33,32 @@ pub(crate) fn restart_all<'s, B: Running, R: Wait>(
 
 impl<'a, 's, G: Gate, B: Running> Workplace<'a, 's, G, B> {
     /// The next step of a call of the plan in this epoch; nothing where there is none.
-    pub(crate) fn step_of(&self, number: u32, planned: &PlannedCall<'s>) -> Option<PlanStep> {
+    pub(crate) fn step_of(&self, number: u32, planned: &PlannedCall<'s>) -> Option<PlanStep>
+        ensures { result ≡ step_at self.now.plan.now.calls number self.now.epoch planned.now.log.place }
+    {
         let call = self.plan.calls().get(number as usize)?;
         let epoch = call.epochs().get(self.epoch)?;
         Some(*epoch.steps().get(planned.log.place)?)
     }
 
-    /// The shard of a call of the plan.
-    fn shard_of(&self, number: u32) -> Option<&'a Mutex<LockedShard<'s, B>>> {
-        let place = (number as usize).checked_rem(self.shards.len())?;
-        self.shards.get(place)
+    /// The place of a call's shard among all; nothing where there is none.
+    fn own_place(&self, number: u32) -> Option<usize>
+        ensures { IfSome result (λ place. place ≡ number % length self.now.shards.now) }
+    {
+        (number as usize).checked_rem(self.shards.len())
     }
 
-    /// Restarts each shard, in rising order; the restart is marked in the call's own, under the lock in which it was done there.
+    /// A restart that the gate let pass: of each shard, in rising order; it is marked in the call's own, under the lock in which it was done there.
     fn restart<R: Wait>(
         &self,
         rt: &R,
         number: u32,
         planned: &mut PlannedCall<'s>,
-    ) -> Result<(), RunFault> {
-        let own = (number as usize).checked_rem(self.shards.len());
+    ) -> Result<(), RunFault>
+        requires { G.was_asked number (length planned.old.log.marks.items) }
+        ensures { planned.new.log.place ≡ planned.old.log.place }
+    {
+        let own = self.own_place(number);
         for (place, shard) in self.shards.iter().enumerate() {
             let mut locked = shard.lock(rt);
             let association = locked.restart()?;
@@ -59,7 +69,29 @@ impl<'a, 's, G: Gate, B: Running> Workplace<'a, 's, G, B> {
         Ok(())
     }
 
-    /// A step of a call: the gate lets it pass, with no lock held, and it is done in the call's shard.
+    /// A step other than a restart that the gate let pass, in the call's shard under its lock.
+    fn step_in_shard<R: Wait>(
+        &self,
+        rt: &R,
+        number: u32,
+        planned: PlannedCall<'s>,
+        step: &PlanStep,
+    ) -> (PlannedCall<'s>, Result<(), RunFault>)
+        requires asked { G.was_asked number (length planned.log.marks.items) }
+        requires step { step.now ≡ steps.Restarts → ⊥ }
+        ensures { result.0.log.place ≡ planned.entry.log.place }
+    {
+        let Some(place) = self.own_place(number) else {
+            return (planned, Err(RunFault::Disagree));
+        };
+        let Some(shard) = self.shards.get(place) else {
+            return (planned, Err(RunFault::Disagree));
+        };
+        let mut locked = shard.lock(rt);
+        locked.step(planned, step)
+    }
+
+    /// A step of a call: the gate lets it pass, with no lock held, and it is done in the call's shard. It counts as done in its epoch.
     pub(crate) fn take<R: Wait>(
         &self,
         rt: &R,
@@ -70,14 +102,10 @@ impl<'a, 's, G: Gate, B: Running> Workplace<'a, 's, G, B> {
         self.gate.pass(rt, number, planned.log.marks.len());
         let mut planned = planned;
         planned.log.place = planned.log.place.saturating_add(1);
-        if matches!(step, PlanStep::Restarts) {
+        if is_restart(step) {
             let done = self.restart(rt, number, &mut planned);
             return (planned, done);
         }
-        let Some(shard) = self.shard_of(number) else {
-            return (planned, Err(RunFault::Disagree));
-        };
-        let mut locked = shard.lock(rt);
-        locked.step(planned, step)
+        self.step_in_shard(rt, number, planned, step)
     }
 }

@@ -3,21 +3,20 @@ use Rattle.std.proofs.Common.{ℕ, [], map, subst}
 use Rattle.mg_model.specs.Reports.{IsReported}
 use Rattle.planned_calls.specs.ReportLines.{line_of}
 use Rattle.planned_calls.specs.Turns.{steps_of}
-use Rattle.planned_calls.proofs.AloneOutcomes.{if_ok}
+use Rattle.planned_calls.proofs.ChainOutcomes.{if_ok}
 use Rattle.planned_calls.proofs.ReportedAlone.{reported}
 use Rattle.planned_calls.proofs.replayed_lines.go.Goals as goal
 
 pub returns : goal.returns
 returns c =
-    let script = c.args.script.now in
     let steps = steps_of c.args.turns.now in
     if_ok c.lines.result _ _
     (λ lines so. (
-      (λ one is.
-          let gone = c.in_ok-alone.ensures one [] is in
-          let stands = c.in_ok-waits_for.ensures script one steps gone in
+      (λ script one is.
+          let gone = c.in_ok-alone.ensures script one [] is in
+          let stands = c.in_ok-wait_for.ensures script one steps gone in
           subst (λ (n : ℕ). IsReported script one steps n (map (line_of script) lines.items)) c.if-alone-marked.false
-          (reported script one steps c.waits_for.new.shard c.waits_for.new.self stands c.association.result.0 c.association.ensures
+          (reported script one steps c.wait_for.new.self.others c.wait_for.new.shard c.wait_for.new.self.chain stands c.association.result.0 c.association.ensures
           (map (line_of script) lines.items) (so.0 script))),
       so.1,
     )) c.lines.ensures

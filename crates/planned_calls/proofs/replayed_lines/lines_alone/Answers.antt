@@ -1,13 +1,11 @@
 -- The call opens alone, and goes by its steps.
-use Rattle.std.proofs.Common.{◌∙◌, ℕ, List, [], sym, ap, map, subst}
+use Rattle.std.proofs.Common.{◌∙◌, ℕ, List, ap, map, subst}
 use Rattle.mg_model.specs.declared.plans.PlanStep.{PlanStep}
 use Rattle.mg_model.specs.Plans.{opened_as, steps_in}
 use Rattle.mg_model.specs.Reports.{IsReported}
-use Rattle.mg_model.specs.Script.{Script}
 use Rattle.planned_calls.specs.ReportLines.{line_of}
-use Rattle.planned_calls.specs.Replays.{IsAlone}
 use Rattle.planned_calls.specs.Turns.{steps_of}
-use Rattle.planned_calls.proofs.AloneOutcomes.{if_ok}
+use Rattle.planned_calls.proofs.ChainOutcomes.{if_ok}
 use Rattle.planned_calls.proofs.replayed_lines.lines_alone.Goals as goal
 
 pub returns : goal.returns
@@ -17,7 +15,6 @@ returns c =
     (λ lines so. (
       subst (λ (steps : List PlanStep). IsReported c.args.checked.now.table one steps c.args.marked.now.others (map (line_of c.args.checked.now.table) lines.items))
           (ap steps_of c.as_slice-turns.ensures.value ∙ c.in_ok-turns.ensures ∙ ap (λ (n : ℕ). steps_in n c.args.marked.now.call.now.epochs) c.epochs.ensures)
-          (subst (λ (s : Script). IsReported s one (steps_of c.as_slice-turns.result.now) c.args.marked.now.others (map (line_of s) lines.items)) c.script.ensures.table
-          (so.0 one (subst (λ (s : Script). IsAlone s one [] c.in_ok-shard.shard c.in_ok-shard.alone) (sym c.script.ensures.table) c.in_ok-shard.ensures))),
+          (so.0 c.args.checked.now.table one c.in_ok-shard.ensures),
       so.1,
     )) c.go.ensures

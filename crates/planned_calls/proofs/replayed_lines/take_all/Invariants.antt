@@ -1,8 +1,8 @@
 -- The steps so far.
 use Rattle.std.proofs.Common.{take}
-use Rattle.planned_calls.specs.Replays.{GoesBy}
+use Rattle.planned_calls.specs.Replays.{ReplaysBy}
 use Rattle.planned_calls.specs.Turns.{steps_of}
 use Rattle.planned_calls.proofs.replayed_lines.take_all.Given as goal
 
 abbrev pub invariant-loop-turn : goal.invariant-loop-turn
-invariant-loop-turn l = GoesBy l.script (steps_of (take l.turn-index l.turns)) l.fn.shard l.fn.alone l.shard l.alone
+invariant-loop-turn l = ReplaysBy (steps_of (take l.turn-index l.turns)) l.fn.shard l.fn.alone l.shard l.alone

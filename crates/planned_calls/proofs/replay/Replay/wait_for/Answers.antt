@@ -1,10 +1,11 @@
 -- One restart more is one of another call.
-use Rattle.std.proofs.Common.{◌≡◌, ◌+◌, refl, arith}
+use Rattle.std.proofs.Common.{◌≡◌, ◌+◌, ℕ, sym, arith, subst}
+use Rattle.planned_calls.specs.CallChains.{IsAlone}
 use Rattle.planned_calls.proofs.AloneRestarts.{waited_after}
-use Rattle.planned_calls.proofs.replay.Replay.waits_for.Goals as goal
+use Rattle.planned_calls.proofs.replay.Replay.wait_for.Goals as goal
 
 pub loop-preserved : goal.loop-preserved
 loop-preserved c script one steps is =
     let more : c.in-Some.others ≡ c.loop.self.others + 1 = omega (arith, c.in-Some.ensures.1) in
-    waited_after script one steps c.loop.shard c.loop.self (c.loop.invariant script one steps is) c.restart.new.shard c.in_ok-restart.ensures _ refl refl refl refl
-    more
+    subst (λ (n : ℕ). IsAlone script one steps n c.restart.new.shard c.loop.self.chain) (sym more)
+    (waited_after script one steps c.loop.self.others c.loop.shard c.loop.self.chain (c.loop.invariant script one steps is) c.restart.new.shard c.in_ok-restart.ensures)
