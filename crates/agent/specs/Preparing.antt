@@ -27,6 +27,12 @@ IsPrepared stepped old new (Ok prepared) = (stepped ≡ Some (finished (agent_of
 IsPrepared stepped old new (Err NotEnabled) = (stepped ≡ None) × (new ≡ old)
 IsPrepared stepped old new (Err NoMemory) = new ≡ old
 
+-- the step beside the agent, which stays
+abbrev pub IsAfter : Option Agent → Result AgentValue PlainFault → Type 0
+IsAfter stepped (Ok after) = stepped ≡ Some (agent_of after)
+IsAfter stepped (Err NotEnabled) = stepped ≡ None
+IsAfter stepped (Err NoMemory) = Unit {0}
+
 -- ---- before the note is accepted
 
 -- the agent that accepted the note, where there is one

@@ -96,7 +96,7 @@ impl Plain {
         if !self.awaits(reply) {
             return false;
         }
-        let bindings = self.after(script, reply);
+        let bindings = self.bindings_after(script, reply);
         let start = self.start_with(bindings);
         can_lead_on(script, &start, reply.failure())
     }

@@ -1,11 +1,12 @@
 //! The agent of a call.
-ghost use Rattle.std.specs.Prelude.{◌≡◌, ◌≤◌, OnOk, OnErr, length, map, option_map, slice_index_or};
+ghost use Rattle.std.specs.Prelude.{◌≡◌, ◌≤◌, IfOk, OnOk, OnErr, length, map, option_map, slice_index_or};
 ghost use Rattle.mg_model.specs.Agent as model;
 ghost use Rattle.mg_model.specs.Delivery.{arrival, is_new};
 ghost use Rattle.agent.specs.AgentValue.{agent_of};
 ghost use Rattle.agent.specs.PreparedValue.{in_newer, without_note};
 ghost use Rattle.agent.specs.Entering.{Starts, having};
 ghost use Rattle.agent.specs.Parts.{agent_in, bound_as};
+ghost use Rattle.agent.specs.Preparing.{with_note};
 ghost use Rattle.agent.specs.Steps.{accepting, given_up, is_passing, outstanding};
 
 use crate::bindings::Bindings;
@@ -182,7 +183,7 @@ impl Plain {
 
     /// What the names stand for after the results of a reply to the outstanding request.
     #[tactic(auto, unfolding(crate::specs::AgentValue::agent_of, crate::specs::Parts::agent_in))]
-    pub(crate) fn after(&self, script: &Script, reply: &Reply) -> Bindings
+    pub(crate) fn bindings_after(&self, script: &Script, reply: &Reply) -> Bindings
         ensures { bound_as (agent_of self.now) (agent_in result) ≡ model.after_results (agent_of self.now) (model.built_by script.now (agent_of self.now) (agent_of self.now).state) reply.now.results reply.now.number }
     {
         results::after(
@@ -250,6 +251,31 @@ impl Plain {
             Phase::AwaitsPass => None,
             Phase::Resting => None,
         }
+    }
+
+    /// Accepts a note of the association, where there is one.
+    pub(crate) fn accept_if(&mut self, note: Option<u32>) -> Result<(), AllocError>
+        ensures { OnOk result (agent_of self.new ≡ with_note (agent_of self.old) note) }
+    {
+        match note {
+            Some(number) => self.accept(number),
+            None => Ok(()),
+        }
+    }
+
+    /// The same agent once more, but at rest.
+    pub(crate) fn copy_at_rest(&self) -> Result<Plain, AllocError>
+        ensures { IfOk result (λ copied. agent_of copied ≡ given_up (agent_of self.now)) }
+    {
+        Ok(Plain {
+            alloc: self.alloc,
+            call: self.call,
+            state: self.state,
+            phase: Phase::Resting,
+            next: self.next,
+            bindings: self.bindings,
+            notes: self.notes.copy()?,
+        })
     }
 
     /// Puts what was entered in place.

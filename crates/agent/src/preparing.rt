@@ -5,7 +5,7 @@ ghost use Rattle.mg_model.specs.Agent as model;
 ghost use Rattle.mg_model.specs.Tables.{line_places};
 ghost use Rattle.agent.specs.AgentValue.{agent_of};
 ghost use Rattle.agent.specs.PreparedValue.{finished, cancelled};
-ghost use Rattle.agent.specs.Preparing.{IsPrepared, stepped_by};
+ghost use Rattle.agent.specs.Preparing.{IsAfter, IsPrepared, stepped_by};
 ghost use Rattle.agent.specs.Steps.{IsStepped, outstanding};
 
 use crate::delivered::Delivery;
@@ -53,6 +53,22 @@ impl Plain {
         ensures { agent_of self.new ≡ cancelled (agent_of self.old) prepared }
     {
         self.lose(prepared.note);
+    }
+
+    /// The agent after the step at what reaches the call, beside this one, which stays as it is. `NotEnabled` where the step can't be taken, as each step
+    /// says, and `NoMemory` where memory ran out.
+    pub fn after(&self, script: &Script, delivery: &Delivery<'_>) -> Result<Plain, PlainFault>
+        ensures { IsAfter (stepped_by script.now (agent_of self.now) delivery.now) result }
+    {
+        let prepared = self.prepared(script, delivery)?;
+        let Ok(mut after) = self.copy_at_rest() else {
+            return Err(PlainFault::NoMemory);
+        };
+        let Ok(()) = after.accept_if(prepared.note) else {
+            return Err(PlainFault::NoMemory);
+        };
+        let _ = after.finish(prepared);
+        Ok(after)
     }
 
     /// Takes the step at what reaches the call.

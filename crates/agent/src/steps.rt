@@ -104,7 +104,7 @@ impl Plain {
         if !self.awaits(reply) {
             return Err(PlainFault::NotEnabled);
         }
-        let bindings = self.after(script, reply);
+        let bindings = self.bindings_after(script, reply);
         let start = self.start_with(bindings);
         let entered = entering::lead_on(self.alloc, script, &start, reply.failure())?;
         Ok(PreparedStep::new(start.bindings, entered, None, None))

@@ -48,6 +48,16 @@ impl Inbox {
         }
     }
 
+    /// The same inbox once more. `AllocError` where memory ran out.
+    pub fn copy(&self) -> Result<Inbox, AllocError>
+        ensures { IfOk result (λ copied. inbox_of copied ≡ inbox_of self.now) }
+    {
+        Ok(Inbox {
+            association: self.association,
+            accepted: self.accepted.clone()?,
+        })
+    }
+
     /// The association.
     pub fn association(&self) -> Assoc
         ensures { result.0 ≡ (inbox_of self.now).association }

@@ -1,36 +1,40 @@
--- The results change the bindings alone.
-use Rattle.std.proofs.Common.{◌≡◌, ◌∙◌, List, sym, ap, subst}
-use Rattle.delivery.specs.Inboxes.{inbox_of}
-use Rattle.mg_model.specs.Agent.{Agent, after_results, built_by}
-use Rattle.mg_model.specs.Items.{Done}
-use Rattle.agent.specs.AgentValue.{AgentValue, agent_of, phase_of}
-use Rattle.agent.specs.Parts.{agent_in, bound_as}
-use Rattle.agent.proofs.AgentLemmas.{results_bound}
+-- What is prepared overwrites what the call waits for, so a copy that rests is led to the same agent.
+use Rattle.std.proofs.Common.{◌≡◌, ◌∙◌, ℕ, Option, Some, None, refl, sym, ap, slice_index_or}
+use Rattle.mg_model.specs.Agent.{Agent}
+use Rattle.agent.specs.AgentValue.{agent_of}
+use Rattle.agent.specs.PreparedValue.{PreparedValue, finished, in_newer}
+use Rattle.agent.specs.Preparing.{with_note}
+use Rattle.agent.specs.Steps.{given_up}
 use Rattle.agent.proofs.plain.Plain.after.Goals as goal
 
+newer_at_rest : (a : Agent) (newer : Option ℕ) → in_newer (given_up a) newer ≡ given_up (in_newer a newer)
+newer_at_rest a None = refl
+newer_at_rest a (Some association) = refl
+
+note_at_rest : (a : Agent) (note : Option ℕ) → with_note (given_up a) note ≡ given_up (with_note a note)
+note_at_rest a None = refl
+note_at_rest a (Some number) = refl
+
+finished_at_rest : (a : Agent) (p : PreparedValue) → finished (given_up a) p ≡ finished a p
+unfolding finished
+finished_at_rest a p =
+    ap (λ (x : Agent). record x {
+      state = p.state;
+      phase = p.phase;
+      lines = λ i. slice_index_or p.lines i 0;
+      contexts = λ j. slice_index_or p.contexts j None;
+      ephemerals = λ k. slice_index_or p.ephemerals k None;
+      next = p.next;
+      expected = λ i. slice_index_or p.expected i None;
+    }) (newer_at_rest a p.association)
+
 pub returns : goal.returns
-unfolding agent_of agent_in
 returns c =
-    let script = c.args.script.now in
-    let reply = c.args.reply.now in
-    let inside = c.self.inside in
-    let whole : Agent = record {
-      call = inside.call.0;
-      state = inside.state;
-      phase = phase_of inside.phase;
-      association = inside.notes.association;
-      lines = (agent_in inside.bindings).lines;
-      contexts = (agent_in inside.bindings).contexts;
-      ephemerals = (agent_in inside.bindings).ephemerals;
-      next = inside.next;
-      expected = (agent_in inside.bindings).expected;
-      accepted = (inbox_of inside.notes).accepted;
-    } in
-    let b : Agent = agent_in inside.bindings in
-    let commands = built_by script b inside.state in
-    let after : Agent = agent_in c.after.result in
-    subst (λ (v : AgentValue). bound_as (agent_of v) after ≡ after_results (agent_of v) (built_by script (agent_of v) (agent_of v).state) reply.results reply.number) c.self.view_is
-    (ap (bound_as whole) c.after.ensures
-    ∙ sym (results_bound whole b commands c.results.result.now c.number.result)
-    ∙ ap (λ (results : List Done). after_results whole commands results c.number.result) c.results.ensures
-    ∙ ap (after_results whole commands reply.results) c.number.ensures)
+    let a = agent_of c.args.self.now in
+    let p = c.in_ok-prepared.prepared in
+    c.in_ok-prepared.ensures.0
+    ∙ ap (λ (x : Agent). Some x)
+    (sym (finished_at_rest (with_note a p.note) p)
+    ∙ ap (λ (x : Agent). finished x p) (sym (note_at_rest a p.note) ∙ ap (λ (x : Agent). with_note x p.note) (sym c.in-Ok.ensures)
+    ∙ sym (c.in-Ok-accept_if.ensures ∙ ap (λ (v : PreparedValue). with_note (agent_of c.in-Ok.after) v.note) c.prepared-2.view_is))
+    ∙ sym c.finish.ensures.finished)
