@@ -1,19 +1,17 @@
--- The obligation that ended calls are cleared is needed. The script has two lines and two states: a call rests in `idle`, and after a
--- restart it goes to `done`, an end state, without arming its lines. The entries have all that can stand: only that at rest in `done` a
--- line isn't armed is wrong. The run: the gateway restarts, the call hears of it, and ends with lines that report nothing.
+-- The obligation that ended calls are cleared is needed: under the script and the entries of `specs/Unarmed` only that at rest in `done` a line
+-- isn't armed is wrong. The run: the gateway restarts, the call hears of it, and ends with lines that report nothing.
 use Rattle.std.proofs.Common.{◌≡◌, List, [], ◌∷◌, refl, sym, ap, arith, true≢false, None}
 use Rattle.std.proofs.lemmas.List.Elements.{All-from_recursion}
-use Rattle.std.specs.Prelude.{codes, unwrap_or}
+use Rattle.std.specs.Prelude.{unwrap_or}
 use Rattle.std.specs.List.{All}
 use Rattle.mg_names.specs.declared.phases.LinkPhase.TheVariants.{Answered, Resting}
 use Rattle.mg_model.specs.declared.commands.EventsName.TheVariants.{Empty, Armed}
 use Rattle.mg_model.specs.Agent.{Agent, heard, passed}
-use Rattle.mg_model.specs.Entries.{Entry, numbered, IsCovered}
+use Rattle.mg_model.specs.Entries.{numbered, IsCovered}
 use Rattle.mg_model.specs.Gateway.{restarted}
 use Rattle.mg_model.specs.LineEvents.{ListItem}
 use Rattle.mg_names.specs.declared.obligations.Obligation.TheVariants as obligation
 use Rattle.mg_model.specs.Obligations.{Claim, OpeningCovered, ResetCovered, Marked, Cleared, Unbound, Live, StepCovered, Holds, obligation_of, JoinedAreMarked, CreatedAreUnbound, NamesAreLive}
-use Rattle.mg_model.specs.Script.{Script}
 use Rattle.mg_model.specs.Steps.{opening, reset, with_link, steps_of}
 use Rattle.mg_model.specs.Tables.{is_empty}
 use Rattle.mg_model.specs.declared.events.Event.{Event}
@@ -22,26 +20,14 @@ use Rattle.mg_model.specs.World.{World, hear, pass, Runs, IsGood, with_gateway, 
 use Rattle.mg_examples.specs.Needed.{IsNeeded}
 use Rattle.mg_model.specs.Accepted.{IsScript, IsStateOf, IsEntryOf}
 use Rattle.mg_examples.proofs.PointFacts.{Below, EachPoint, at_points, EachCovered, steps_covered, none_joined, none_bound}
-use Rattle.mg_examples.proofs.EntriesOfTwo.{null, entry_of, HasTwoLines, is_entry, none_below, point_formed, point_covered, unused_covered}
-use Rattle.mg_examples.specs.TwoLines.{idle}
-use Rattle.mg_examples.proofs.QuietStates.{done, no_command}
+use Rattle.mg_examples.proofs.EntriesOfTwo.{HasTwoLines, is_entry, none_below, point_formed, point_covered, unused_covered}
+use Rattle.mg_examples.specs.EntriesOfTwo.{null}
+use Rattle.mg_examples.specs.Unarmed.{unarmed, ended, resting_idle, unarmed_entries}
+use Rattle.mg_examples.proofs.QuietStates.{no_command}
 use Rattle.mg_examples.specs.Talk.{call}
 use Rattle.mg_examples.proofs.TwoLinesOpening.{gateway, agent, opened_world, opens, one_call}
 
--- ---- the script
-
-abbrev unarmed : Script
-unarmed = record {
-  lines = codes "a" ∷ codes "b" ∷ [];
-  contexts = [];
-  ephemerals = [];
-  lists = [];
-  signals = [];
-  maps = [];
-  states = idle [] ∷ done ∷ [];
-  start = 0;
-  restart = 1;
-}
+-- ---- the script and the entries are accepted
 
 two : HasTwoLines unarmed
 two = record { lines = refl; ephemerals = refl }
@@ -54,43 +40,32 @@ accepted = record {
   states = All-from_recursion (IsStateOf unarmed) unarmed.states (no_command unarmed, (no_command unarmed, tt));
 }
 
--- ---- the entries
-
-abbrev resting_idle : Entry
-resting_idle = entry_of 0 (Resting ∷ []) Armed null null None
-
-abbrev ended : Entry
-ended = entry_of 1 (Answered ∷ Resting ∷ []) Empty null null None
-
-abbrev entries : List Entry
-entries = resting_idle ∷ ended ∷ []
-
-listed : All (IsEntryOf unarmed) entries
-listed = All-from_recursion (IsEntryOf unarmed) entries (
+listed : All (IsEntryOf unarmed) unarmed_entries
+listed = All-from_recursion (IsEntryOf unarmed) unarmed_entries (
   is_entry unarmed two 0 (Resting ∷ []) Armed null null None (λ j within. absurd (none_below j within)),
   (is_entry unarmed two 1 (Answered ∷ Resting ∷ []) Empty null null None (λ j within. absurd (none_below j within)), tt),
 )
 
 -- ---- what is covered
 
-opening_covered : IsCovered entries (opening unarmed)
-opening_covered = unused_covered entries 0 (Resting ∷ []) Resting Armed None tt (0, omega (arith), refl) (0, omega (arith), refl)
+opening_covered : IsCovered unarmed_entries (opening unarmed)
+opening_covered = unused_covered unarmed_entries 0 (Resting ∷ []) Resting Armed None tt (0, omega (arith), refl) (0, omega (arith), refl)
 
-reset_covered : IsCovered entries (reset unarmed)
-reset_covered = unused_covered entries 1 (Answered ∷ Resting ∷ []) Answered Empty None tt (1, omega (arith), refl) (0, omega (arith), refl)
+reset_covered : IsCovered unarmed_entries (reset unarmed)
+reset_covered = unused_covered unarmed_entries 1 (Answered ∷ Resting ∷ []) Answered Empty None tt (1, omega (arith), refl) (0, omega (arith), refl)
 
 -- the reply is taken in `done`
-rests_covered : IsCovered entries (with_link (numbered ended 0) Resting)
+rests_covered : IsCovered unarmed_entries (with_link (numbered ended 0) Resting)
 rests_covered =
-    point_covered entries 1 (Answered ∷ Resting ∷ []) Resting Empty null null None (1, omega (arith), refl) (1, omega (arith), refl) (λ j. refl)
+    point_covered unarmed_entries 1 (Answered ∷ Resting ∷ []) Resting Empty null null None (1, omega (arith), refl) (1, omega (arith), refl) (λ j. refl)
 
 -- ---- the obligations that hold
 
-all_covered : EachPoint (λ c. EachCovered entries (steps_of unarmed c)) entries
+all_covered : EachPoint (λ c. EachCovered unarmed_entries (steps_of unarmed c)) unarmed_entries
 unfolding Below EachPoint EachCovered
 all_covered = (((λ formed. tt), tt), (((λ formed. tt), ((λ formed. (rests_covered, tt)), tt)), tt))
 
-marked : EachPoint (JoinedAreMarked unarmed) entries
+marked : EachPoint (JoinedAreMarked unarmed) unarmed_entries
 unfolding Below EachPoint
 marked = (
   ((λ formed. none_joined unarmed (numbered resting_idle 0) refl refl), tt),
@@ -104,12 +79,12 @@ marked = (
 )
 
 -- no state has a command
-unbound : EachPoint (CreatedAreUnbound unarmed) entries
+unbound : EachPoint (CreatedAreUnbound unarmed) unarmed_entries
 unfolding Below EachPoint
 unbound = (((λ formed sent. refl), tt), (((λ formed sent. refl), ((λ formed sent. refl), tt)), tt))
 
 -- there is no context
-live : EachPoint NamesAreLive entries
+live : EachPoint NamesAreLive unarmed_entries
 unfolding Below EachPoint
 live = (
   ((λ formed. none_bound (numbered resting_idle 0) (λ j. refl) (λ k. refl)), tt),
@@ -122,18 +97,18 @@ live = (
   ),
 )
 
-others : (other : Claim) → (obligation_of other ≡ obligation.EndedCleared → ⊥) → Holds unarmed entries other
+others : (other : Claim) → (obligation_of other ≡ obligation.EndedCleared → ⊥) → Holds unarmed unarmed_entries other
 others OpeningCovered differs = opening_covered
 others ResetCovered differs = reset_covered
-others (Marked e p) differs = at_points (JoinedAreMarked unarmed) entries marked e p
+others (Marked e p) differs = at_points (JoinedAreMarked unarmed) unarmed_entries marked e p
 others (Cleared e p) differs = absurd (differs refl)
-others (Unbound e p) differs = at_points (CreatedAreUnbound unarmed) entries unbound e p
-others (Live e p) differs = at_points NamesAreLive entries live e p
-others (StepCovered e p s) differs = steps_covered unarmed entries all_covered e p s
+others (Unbound e p) differs = at_points (CreatedAreUnbound unarmed) unarmed_entries unbound e p
+others (Live e p) differs = at_points NamesAreLive unarmed_entries live e p
+others (StepCovered e p s) differs = steps_covered unarmed unarmed_entries all_covered e p s
 
 -- ---- the one that is broken
 
-broken : Holds unarmed entries (Cleared 1 1) → ⊥
+broken : Holds unarmed unarmed_entries (Cleared 1 1) → ⊥
 broken holds =
     let cleared = holds ended refl (numbered ended 1) (omega (arith), refl, point_formed 1 Resting Empty null null None (λ j. refl)) refl refl in
     true≢false (sym (cleared.armed 0 (omega (arith))))
@@ -183,10 +158,8 @@ bad good =
     let cleared = good.ended 7 at_rest refl (record { is_end = refl; at_rest = refl; current = refl }) in
     true≢false (ap (λ (list : List ListItem). is_empty list) (cleared.is_armed 0 (omega (arith))))
 
-pub clear_needed : IsNeeded obligation.EndedCleared
+pub clear_needed : IsNeeded unarmed unarmed_entries obligation.EndedCleared
 clear_needed = record {
-  script = unarmed;
-  entries = entries;
   accepted = accepted;
   listed = listed;
   breaks = record { claim = Cleared 1 1; is_of = refl; broken = broken; others = others };

@@ -1,79 +1,28 @@
--- A script that creates a context twice, and entries that break the obligation on created names alone. The script has two lines and the
--- context c: from `idle` the timer leads to `first`, which creates c with line a in it, and then to `second`, which creates c once more,
--- with line b in it, and ends in `done`. The entries have all that can stand up to the request of `second`: there c is bound already,
--- and no steps are asked for, so nothing else is wrong.
-use Rattle.std.proofs.Common.{◌≡◌, ◌<◌, ℕ, true, false, List, [], ◌∷◌, Some, None, refl, sym, arith, true≢false}
+-- Of the script that creates a context twice and its entries (`specs/CreatedTwice`): both are accepted, and they break the obligation on created
+-- names alone.
+use Rattle.std.proofs.Common.{◌≡◌, ◌<◌, ℕ, true, false, [], ◌∷◌, Some, refl, sym, arith, true≢false}
 use Rattle.std.proofs.lemmas.List.Elements.{All-from_recursion}
-use Rattle.std.specs.Prelude.{◌==◌, Contains, codes}
+use Rattle.std.specs.Prelude.{◌==◌, Contains}
 use Rattle.std.specs.List.{All}
 use Rattle.mg_names.specs.declared.context_values.ContextValue.TheVariants.{Free, Live}
 use Rattle.mg_names.specs.declared.phases.LinkPhase.{LinkPhase}
 use Rattle.mg_names.specs.declared.phases.LinkPhase.TheVariants.{Sent, Answered, Failed, Resting}
-use Rattle.mg_model.specs.declared.commands.Command.{Command}
-use Rattle.mg_model.specs.declared.commands.Command.TheVariants.{AddLine}
 use Rattle.mg_model.specs.declared.commands.EventsName.TheVariants.{Empty, Armed}
 use Rattle.mg_model.specs.Configuration.{Configuration}
 use Rattle.mg_model.specs.Effects as effects
-use Rattle.mg_model.specs.Entries.{Entry, numbered, IsCovered}
+use Rattle.mg_model.specs.Entries.{numbered, IsCovered}
 use Rattle.mg_names.specs.declared.obligations.Obligation.TheVariants as obligation
 use Rattle.mg_model.specs.Obligations.{Claim, OpeningCovered, ResetCovered, Marked, Cleared, Unbound, Live, StepCovered, Holds, obligation_of, JoinedAreMarked, EndedIsCleared, NamesAreLive}
-use Rattle.mg_model.specs.Script.{Script, State}
 use Rattle.mg_model.specs.Steps.{opening, reset, with_link, steps_of}
 use Rattle.mg_examples.specs.Needed.{BreaksOnly}
 use Rattle.mg_model.specs.Accepted.{IsScript, IsStateOf, IsCommandOf, IsEntryOf}
 use Rattle.mg_examples.proofs.PointFacts.{Below, EachPoint, at_points, EachCovered, steps_covered, plain_formed, none_joined, first_stands}
-use Rattle.mg_examples.specs.TwoLines.{idle}
-use Rattle.mg_examples.proofs.QuietStates.{done, no_command}
-use Rattle.mg_examples.proofs.EntriesOfTwo.{null, alone, entry_of, HasTwoLines, is_entry, of_context, is_covered, pairs_uncut, point_of, is_free_live, is_first_live, is_first_settled, point_formed, point_covered, unused_covered}
+use Rattle.mg_examples.specs.CreatedTwice.{created_twice, add, at_idle, before_first, after_first, before_second, at_lost, created_twice_entries}
+use Rattle.mg_examples.proofs.QuietStates.{no_command}
+use Rattle.mg_examples.proofs.EntriesOfTwo.{HasTwoLines, is_entry, of_context, is_covered, pairs_uncut, point_of, is_free_live, is_first_live, is_first_settled, point_formed, point_covered, unused_covered}
+use Rattle.mg_examples.specs.EntriesOfTwo.{null, alone}
 
--- ---- the script
-
-abbrev waiting : State
-waiting = record (idle []) { timer = Some 1 }
-
--- a line is added to a new context c, with nothing set
-abbrev add : ℕ → Command
-add i = AddLine true 0 i record { mode = None; events = None; signals = None }
-
-abbrev first : State
-first = record {
-  name = codes "first";
-  commands = add 0 ∷ [];
-  talk = [];
-  is_end = false;
-  ok = Some 2;
-  fault = Some 0;
-  timer = None;
-  on = [];
-}
-
-abbrev second : State
-second = record {
-  name = codes "second";
-  commands = add 1 ∷ [];
-  talk = [];
-  is_end = false;
-  ok = Some 3;
-  fault = Some 0;
-  timer = None;
-  on = [];
-}
-
-abbrev lost : State
-lost = record (idle []) { name = codes "lost" }
-
-abbrev pub created_twice : Script
-created_twice = record {
-  lines = codes "a" ∷ codes "b" ∷ [];
-  contexts = codes "c" ∷ [];
-  ephemerals = [];
-  lists = [];
-  signals = [];
-  maps = [];
-  states = waiting ∷ first ∷ second ∷ done ∷ lost ∷ [];
-  start = 0;
-  restart = 4;
-}
+-- ---- the script and the entries are accepted
 
 two : HasTwoLines created_twice
 two = record { lines = refl; ephemerals = refl }
@@ -93,28 +42,8 @@ accepted = record {
     one_command : (i : ℕ) → i < 2 → All (IsCommandOf created_twice) (add i ∷ []) × (true ≡ true)
     one_command i within = (All-from_recursion (IsCommandOf created_twice) (add i ∷ []) ((omega (arith), within), tt), refl)
 
--- ---- the entries
-
-abbrev at_idle : Entry
-at_idle = entry_of 0 (Answered ∷ Resting ∷ []) Armed null null (Some Free)
-
-abbrev before_first : Entry
-before_first = entry_of 1 (Sent ∷ Failed ∷ []) Armed null null (Some Free)
-
-abbrev after_first : Entry
-after_first = entry_of 1 (Answered ∷ []) Armed alone null (Some Live)
-
-abbrev before_second : Entry
-before_second = entry_of 2 (Sent ∷ []) Armed alone null (Some Live)
-
-abbrev at_lost : Entry
-at_lost = entry_of 4 (Answered ∷ Resting ∷ []) Empty null null (Some Free)
-
-abbrev pub entries : List Entry
-entries = at_idle ∷ before_first ∷ after_first ∷ before_second ∷ at_lost ∷ []
-
-pub listed : All (IsEntryOf created_twice) entries
-listed = All-from_recursion (IsEntryOf created_twice) entries (
+pub listed : All (IsEntryOf created_twice) created_twice_entries
+listed = All-from_recursion (IsEntryOf created_twice) created_twice_entries (
   is_entry created_twice two 0 (Answered ∷ Resting ∷ []) Armed null null (Some Free) (of_context 0 (Answered ∷ Resting ∷ []) Armed null null Free),
   (
     is_entry created_twice two 1 (Sent ∷ Failed ∷ []) Armed null null (Some Free) (of_context 1 (Sent ∷ Failed ∷ []) Armed null null Free),
@@ -130,47 +59,47 @@ listed = All-from_recursion (IsEntryOf created_twice) entries (
 
 -- ---- what is covered
 
-opening_covered : IsCovered entries (opening created_twice)
+opening_covered : IsCovered created_twice_entries (opening created_twice)
 opening_covered =
-    unused_covered entries 0 (Answered ∷ Resting ∷ []) Resting Armed (Some Free) refl (0, omega (arith), refl) (1, omega (arith), refl)
+    unused_covered created_twice_entries 0 (Answered ∷ Resting ∷ []) Resting Armed (Some Free) refl (0, omega (arith), refl) (1, omega (arith), refl)
 
-reset_covered : IsCovered entries (reset created_twice)
+reset_covered : IsCovered created_twice_entries (reset created_twice)
 reset_covered =
-    unused_covered entries 4 (Answered ∷ Resting ∷ []) Answered Empty (Some Free) refl (4, omega (arith), refl) (0, omega (arith), refl)
+    unused_covered created_twice_entries 4 (Answered ∷ Resting ∷ []) Answered Empty (Some Free) refl (4, omega (arith), refl) (0, omega (arith), refl)
 
 -- after the first request: line a stands in c
 abbrev added : Configuration
 added = with_link (effects.effect created_twice (numbered before_first 0) (add 0)) Answered
 
-added_covered : IsCovered entries added
+added_covered : IsCovered created_twice_entries added
 added_covered =
-    is_covered 1 (Answered ∷ []) Armed alone null (Some Live) added entries (2, omega (arith), refl) refl (0, omega (arith), refl)
+    is_covered 1 (Answered ∷ []) Armed alone null (Some Live) added created_twice_entries (2, omega (arith), refl) refl (0, omega (arith), refl)
     (plain_formed added is_first_settled (record { mode = λ k. refl; remote = λ k. refl; uncut = pairs_uncut }))
     (record { first_line = refl; second_line = refl; context = refl; cut_to = refl; cut_from = refl })
 
 -- where no line stands in the context it is free
-idle_covered : (linked : LinkPhase) → Contains (Answered ∷ Resting ∷ []) linked → IsCovered entries (point_of 0 linked Armed null null (Some Free))
+idle_covered : (linked : LinkPhase) → Contains (Answered ∷ Resting ∷ []) linked → IsCovered created_twice_entries (point_of 0 linked Armed null null (Some Free))
 idle_covered linked among =
-    point_covered entries 0 (Answered ∷ Resting ∷ []) linked Armed null null (Some Free) (0, omega (arith), refl) among (λ j. is_free_live (j == 0))
+    point_covered created_twice_entries 0 (Answered ∷ Resting ∷ []) linked Armed null null (Some Free) (0, omega (arith), refl) among (λ j. is_free_live (j == 0))
 
-first_covered : (linked : LinkPhase) → Contains (Sent ∷ Failed ∷ []) linked → IsCovered entries (point_of 1 linked Armed null null (Some Free))
+first_covered : (linked : LinkPhase) → Contains (Sent ∷ Failed ∷ []) linked → IsCovered created_twice_entries (point_of 1 linked Armed null null (Some Free))
 first_covered linked among =
-    point_covered entries 1 (Sent ∷ Failed ∷ []) linked Armed null null (Some Free) (1, omega (arith), refl) among (λ j. is_free_live (j == 0))
+    point_covered created_twice_entries 1 (Sent ∷ Failed ∷ []) linked Armed null null (Some Free) (1, omega (arith), refl) among (λ j. is_free_live (j == 0))
 
-second_covered : IsCovered entries (point_of 2 Sent Armed alone null (Some Live))
+second_covered : IsCovered created_twice_entries (point_of 2 Sent Armed alone null (Some Live))
 second_covered =
-    point_covered entries 2 (Sent ∷ []) Sent Armed alone null (Some Live) (3, omega (arith), refl) (0, omega (arith), refl) is_first_live
+    point_covered created_twice_entries 2 (Sent ∷ []) Sent Armed alone null (Some Live) (3, omega (arith), refl) (0, omega (arith), refl) is_first_live
 
-lost_covered : IsCovered entries (point_of 4 Resting Empty null null (Some Free))
+lost_covered : IsCovered created_twice_entries (point_of 4 Resting Empty null null (Some Free))
 lost_covered =
-    point_covered entries 4 (Answered ∷ Resting ∷ []) Resting Empty null null (Some Free) (4, omega (arith), refl) (1, omega (arith), refl) (λ j. is_free_live (j == 0))
+    point_covered created_twice_entries 4 (Answered ∷ Resting ∷ []) Resting Empty null null (Some Free) (4, omega (arith), refl) (1, omega (arith), refl) (λ j. is_free_live (j == 0))
 
 -- ---- the obligations that hold
 
 module _ (P : Configuration → Type 0) where
   -- a fact of the eight points, where they are well formed
   each_point : P (numbered at_idle 0) → P (numbered at_idle 1) → P (numbered before_first 0) → P (numbered before_first 1) → P (numbered after_first 0)
-      → P (numbered before_second 0) → P (numbered at_lost 0) → P (numbered at_lost 1) → EachPoint P entries
+      → P (numbered before_second 0) → P (numbered at_lost 0) → P (numbered at_lost 1) → EachPoint P created_twice_entries
   unfolding Below EachPoint
   each_point idle_answered idle_resting first_sent first_failed first_answered second_sent lost_answered lost_resting = (
     ((λ formed. idle_resting), ((λ formed. idle_answered), tt)),
@@ -183,10 +112,10 @@ module _ (P : Configuration → Type 0) where
     ),
   )
 
-all_covered : EachPoint (λ c. EachCovered entries (steps_of created_twice c)) entries
+all_covered : EachPoint (λ c. EachCovered created_twice_entries (steps_of created_twice c)) created_twice_entries
 unfolding EachCovered
 all_covered =
-    each_point (λ c. EachCovered entries (steps_of created_twice c))
+    each_point (λ c. EachCovered created_twice_entries (steps_of created_twice c))
     (idle_covered Resting (1, omega (arith), refl), tt)
     (first_covered Sent (0, omega (arith), refl), tt)
     (first_covered Failed (1, omega (arith), refl), (added_covered, tt))
@@ -196,7 +125,7 @@ all_covered =
     (lost_covered, tt)
     tt
 
-marked : EachPoint (JoinedAreMarked created_twice) entries
+marked : EachPoint (JoinedAreMarked created_twice) created_twice_entries
 marked =
     each_point (JoinedAreMarked created_twice)
     (none_joined created_twice (numbered at_idle 0) refl refl) (none_joined created_twice (numbered at_idle 1) refl refl)
@@ -205,7 +134,7 @@ marked =
     (none_joined created_twice (numbered at_lost 0) refl refl) (none_joined created_twice (numbered at_lost 1) refl refl)
 
 -- no entry is of the end state
-cleared : EachPoint (EndedIsCleared created_twice) entries
+cleared : EachPoint (EndedIsCleared created_twice) created_twice_entries
 cleared =
     each_point (EndedIsCleared created_twice) (λ rests ends. absurd (no_end ends)) (λ rests ends. absurd (no_end ends))
     (λ rests ends. absurd (no_end ends)) (λ rests ends. absurd (no_end ends)) (λ rests ends. absurd (no_end ends))
@@ -214,7 +143,7 @@ cleared =
     no_end : false ≡ true → ⊥
     no_end e = true≢false (sym e)
 
-live : EachPoint NamesAreLive entries
+live : EachPoint NamesAreLive created_twice_entries
 live =
     each_point NamesAreLive
     (first_stands (numbered at_idle 0) Free refl (λ j. refl) (λ k. refl)) (first_stands (numbered at_idle 1) Free refl (λ j. refl) (λ k. refl))
@@ -222,20 +151,20 @@ live =
     (first_stands (numbered after_first 0) Live refl (λ j. refl) (λ k. refl)) (first_stands (numbered before_second 0) Live refl (λ j. refl) (λ k. refl))
     (first_stands (numbered at_lost 0) Free refl (λ j. refl) (λ k. refl)) (first_stands (numbered at_lost 1) Free refl (λ j. refl) (λ k. refl))
 
-others : (other : Claim) → (obligation_of other ≡ obligation.CreatedUnbound → ⊥) → Holds created_twice entries other
+others : (other : Claim) → (obligation_of other ≡ obligation.CreatedUnbound → ⊥) → Holds created_twice created_twice_entries other
 others OpeningCovered differs = opening_covered
 others ResetCovered differs = reset_covered
-others (Marked e p) differs = at_points (JoinedAreMarked created_twice) entries marked e p
-others (Cleared e p) differs = at_points (EndedIsCleared created_twice) entries cleared e p
+others (Marked e p) differs = at_points (JoinedAreMarked created_twice) created_twice_entries marked e p
+others (Cleared e p) differs = at_points (EndedIsCleared created_twice) created_twice_entries cleared e p
 others (Unbound e p) differs = absurd (differs refl)
-others (Live e p) differs = at_points NamesAreLive entries live e p
-others (StepCovered e p s) differs = steps_covered created_twice entries all_covered e p s
+others (Live e p) differs = at_points NamesAreLive created_twice_entries live e p
+others (StepCovered e p s) differs = steps_covered created_twice created_twice_entries all_covered e p s
 
 -- ---- the one that is broken
 
-broken : Holds created_twice entries (Unbound 3 0) → ⊥
+broken : Holds created_twice created_twice_entries (Unbound 3 0) → ⊥
 broken holds =
     true≢false (sym (holds before_second refl (numbered before_second 0) (omega (arith), refl, point_formed 2 Sent Armed alone null (Some Live) is_first_live) refl))
 
-pub breaks : BreaksOnly created_twice entries obligation.CreatedUnbound
+pub breaks : BreaksOnly created_twice created_twice_entries obligation.CreatedUnbound
 breaks = record { claim = Unbound 3 0; is_of = refl; broken = broken; others = others }

@@ -1,72 +1,26 @@
--- Entries for scripts of two lines without ephemerals and with at most one context, in which each component but the link has one value:
--- each line stands at a place, and both are silent and have one events list, but for one whose place has a list of its own. They are entries of such a script; a configuration that
--- reads so is in such an entry, and so is each point of one, where its link is listed.
+-- The entries of `specs/EntriesOfTwo` are entries of a script of two lines without ephemerals and with at most one context; a configuration
+-- that reads so is in such an entry, and so is each point of one, where its link is listed.
 use Rattle.std.proofs.Common.{◌≡◌, ◌<◌, ◌==◌, ◌++◌, ℕ, zero, suc, Bool, true, false, if◌then◌else◌, List, [], ◌∷◌, length, Option, Some, None, refl, sym, ap, subst, arith, true≢false}
 use Rattle.std.proofs.lemmas.List.Elements.{All-append, All-cons, All-nil, All-from_recursion}
-use Rattle.std.specs.Prelude.{◌||◌, Contains, unwrap_or}
+use Rattle.std.specs.Prelude.{◌||◌, Contains}
 use Rattle.std.specs.List.{All}
 use Rattle.mg_names.specs.declared.context_values.ContextValue.{ContextValue}
 use Rattle.mg_names.specs.declared.context_values.ContextValue.TheVariants.{Free, Live}
 use Rattle.mg_names.specs.declared.modes.Mode.{Mode}
-use Rattle.mg_names.specs.declared.modes.Mode.TheVariants.{Inactive, SendReceive}
 use Rattle.mg_names.specs.declared.phases.LinkPhase.{LinkPhase}
 use Rattle.mg_model.specs.declared.commands.EventsName.{EventsName}
-use Rattle.mg_model.specs.declared.commands.EventsName.TheVariants.{Empty}
 use Rattle.mg_model.specs.declared.commands.Termination.{Termination}
 use Rattle.mg_model.specs.declared.commands.Termination.TheVariants.{Line, Ephemeral}
 use Rattle.mg_model.specs.declared.components.Spot.{Spot}
-use Rattle.mg_model.specs.declared.components.Spot.TheVariants.{Null, In}
 use Rattle.mg_model.specs.Configuration.{Configuration, IsWellFormed, is_live, is_same, stands_in, value_of}
 use Rattle.mg_model.specs.Effects.{with_pair}
-use Rattle.mg_model.specs.Entries.{Entry, Component, Allows, IsCovered, numbered, links, spots, modes, events, plays, contexts, cuts}
+use Rattle.mg_model.specs.Entries.{Entry, Allows, IsCovered, numbered, links, spots, modes, events, plays, contexts, cuts}
 use Rattle.mg_model.specs.Script.{Script}
 use Rattle.mg_model.specs.Steps.{unused}
 use Rattle.mg_model.specs.Accepted.{IsEntryOf, HasOne, IsSlot, IsContext, is_spots, is_modes, is_events, is_plays, is_contexts, is_cuts}
 use Rattle.mg_model.proofs.Cases.{same_turned}
+use Rattle.mg_examples.specs.EntriesOfTwo.{Place, null, contexts_of, list_at, line_of, no_cuts, entry_of}
 use Rattle.mg_examples.proofs.PointFacts.{below_one, below_two, plain_formed, pair_uncut}
-
--- where the script has a context, its value
-abbrev pub contexts_of : Option ContextValue → List Component
-contexts_of None = []
-contexts_of (Some value) = contexts 0 (value ∷ []) ∷ []
-
--- where a line stands, its mode, and its events list where that isn't the one of both lines
-pub record Place : Type 0 where
-  pub spot : Spot
-  pub mode : Mode
-  pub own : Option EventsName
-
--- in the null context, and in the first context: with nothing set, and in talk
-abbrev pub null : Place
-null = record { spot = Null; mode = Inactive; own = None }
-
-abbrev pub alone : Place
-alone = record { spot = In 0; mode = Inactive; own = None }
-
-abbrev pub talking : Place
-talking = record { spot = In 0; mode = SendReceive; own = None }
-
--- in the null context after it was subtracted: its list is empty
-abbrev pub subtracted : Place
-subtracted = record { spot = Null; mode = Inactive; own = Some Empty }
-
-abbrev list_at : Place → EventsName → EventsName
-list_at place list = unwrap_or place.own list
-
--- the components of a line, and those of the two cuts
-abbrev pub line_of : ℕ → EventsName → Place → List Component
-line_of i list place =
-    spots (Line i) (place.spot ∷ []) ∷ modes (Line i) (place.mode ∷ []) ∷ events i (list_at place list ∷ []) ∷ plays i (false ∷ []) ∷ []
-
-abbrev pub no_cuts : List Component
-no_cuts = cuts (Line 0) (Line 1) (false ∷ []) ∷ cuts (Line 1) (Line 0) (false ∷ []) ∷ []
-
-abbrev pub entry_of : ℕ → List LinkPhase → EventsName → Place → Place → Option ContextValue → Entry
-entry_of state link list first second value = record {
-  state = state;
-  lines = 2;
-  components = links link ∷ line_of 0 list first ++ line_of 1 list second ++ contexts_of value ++ no_cuts;
-}
 
 -- ---- they are entries
 

@@ -14,17 +14,11 @@ use Rattle.mg_model.specs.Obligations.{JoinedAreMarked, CreatedAreUnbound, Names
 use Rattle.mg_model.specs.Script.{Script}
 use Rattle.mg_model.specs.Steps.{steps_of, opening, reset}
 use Rattle.mg_model.proofs.Single.{only_one}
-use Rattle.mg_examples.proofs.EntriesOfTwo.{null, entry_of, is_free_live, point_formed, point_covered, unused_covered}
+use Rattle.mg_examples.proofs.EntriesOfTwo.{is_free_live, point_formed, point_covered, unused_covered}
+use Rattle.mg_examples.specs.EntriesOfTwo.{null}
 use Rattle.mg_examples.proofs.PointFacts.{Below, EachCovered, none_joined, first_stands}
+use Rattle.mg_examples.specs.TalkEntries.{idle_armed, idle_unarmed}
 use Rattle.mg_examples.specs.TwoLines.{two_lines}
-
--- at rest in `idle`, armed: what a call opens in
-abbrev pub idle_armed : Entry
-idle_armed = entry_of 0 (Resting ∷ []) Armed null null (Some Free)
-
--- in `idle` with empty events lists: what a call is in after a restart, where `idle` is the restart state
-abbrev pub idle_unarmed : Entry
-idle_unarmed = entry_of 0 (Answered ∷ Resting ∷ []) Empty null null (Some Free)
 
 pub opening_covered : (marks : List Pair) (on : List Transition) (again : ℕ) (entries : List Entry) → Contains entries idle_armed
     → IsCovered entries (opening (two_lines marks on again))

@@ -1,4 +1,4 @@
--- The obligation that names stand for what exists is needed. Under the entries of `NamesKept` a call adds its line to a context by a name whose
+-- The obligation that names stand for what exists is needed. Under the entries of `specs/NamesKept` a call adds its line to a context by a name whose
 -- context is gone. The run, with two calls: the first call's line a is put into a new context, the number 1, and subtracted, and the request
 -- to add it to the context 1 is sent. Before that arrives, line a of the other call is put into a new context, which is given the number 1 as
 -- well. Then the request is executed, and joins lines of two calls.
@@ -15,7 +15,8 @@ use Rattle.mg_examples.specs.Needed.{IsNeeded}
 use Rattle.mg_examples.specs.Talk.{call, off_hook}
 use Rattle.mg_examples.specs.TwoTalks.{other_call}
 use Rattle.mg_examples.proofs.Creations.{made}
-use Rattle.mg_examples.proofs.NamesKept.{name_kept, entries, accepted, listed, breaks, none_marked}
+use Rattle.mg_examples.proofs.NamesKept.{accepted, listed, breaks, none_marked}
+use Rattle.mg_examples.specs.NamesKept.{name_kept, name_kept_entries}
 use Rattle.mg_examples.proofs.NumberReused.{puts, takes_out, puts_back, taken_out, put_back, with_one, emptied, freed, with_other, with_both, one_put, one_settled, one_taken_out, one_freed, other_put, other_settled, one_put_back, both_settled}
 use Rattle.mg_examples.proofs.OneCommand.{asks, answer, world_after, executes}
 use Rattle.mg_examples.proofs.TwoLinesJoined.{not_good}
@@ -174,10 +175,8 @@ run = (
 bad : IsGood name_kept w10 → ⊥
 bad = not_good name_kept w10 1 3 none_marked (inl (record { another = λ e. omega (arith, e); crossings = []; goes = refl }))
 
-pub live_needed : IsNeeded obligation.NamesLive
+pub live_needed : IsNeeded name_kept name_kept_entries obligation.NamesLive
 live_needed = record {
-  script = name_kept;
-  entries = entries;
   accepted = accepted;
   listed = listed;
   breaks = breaks;

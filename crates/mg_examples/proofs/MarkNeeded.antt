@@ -10,7 +10,8 @@ use Rattle.mg_examples.specs.Needed.{IsNeeded}
 use Rattle.mg_examples.specs.TwoLines.{to_talk_off_hook, calling}
 use Rattle.mg_examples.proofs.CallingRun.{calling_ends_badly}
 use Rattle.mg_examples.proofs.PointFacts.{at_points, steps_covered, nothing_ends}
-use Rattle.mg_examples.proofs.TalkEntries.{both, both_formed, reachable, all_listed, all_stepped, all_unbound, all_live, all_live}
+use Rattle.mg_examples.proofs.TalkEntries.{both_formed, all_listed, all_stepped, all_unbound, all_live}
+use Rattle.mg_examples.specs.TalkEntries.{both, reachable}
 use Rattle.mg_examples.proofs.IdleEntries.{opening_covered, reset_covered}
 use Rattle.mg_examples.proofs.TwoLines.{is_script, none_ends}
 
@@ -31,10 +32,8 @@ others_hold (Unbound e p) differ = at_points (CreatedAreUnbound (calling [])) re
 others_hold (Live e p) differ = at_points NamesAreLive reachable all_live e p
 others_hold (StepCovered e p s) differ = steps_covered (calling []) reachable (all_stepped []) e p s
 
-pub mark_needed : IsNeeded obligation.JoinedMarked
+pub mark_needed : IsNeeded (calling []) reachable obligation.JoinedMarked
 mark_needed = record {
-  script = calling [];
-  entries = reachable;
   accepted = is_script [] to_talk_off_hook 0;
   listed = all_listed [];
   breaks = record { claim = Marked 4 0; is_of = refl; broken = not_marked; others = others_hold };

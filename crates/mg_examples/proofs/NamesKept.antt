@@ -1,73 +1,35 @@
--- A script that uses a context's name after the context is gone, and entries that break the obligation on names alone. The script has two
--- lines and the context c. In `idle` line a goes off hook; `make` creates c with line a in it, `leave` subtracts line a, and `again` adds line
--- a to c once more. When the request of `again` is sent nobody stands in c and its name is still bound. The entries have all that can stand;
--- for the checker that request can only be refused, and a refusal leads nowhere in this script, so nothing else is wrong.
-use Rattle.std.proofs.Common.{◌≡◌, ℕ, zero, suc, Bool, true, false, if◌then◌else◌, List, [], ◌∷◌, Some, None, refl, ap, arith, true≢false, inl}
+-- Of the script that uses a context's name after the context is gone and its entries (`specs/NamesKept`): both are accepted, and they break the
+-- obligation on names alone.
+use Rattle.std.proofs.Common.{◌≡◌, ℕ, zero, suc, Bool, true, false, if◌then◌else◌, List, [], ◌∷◌, Some, refl, ap, arith, true≢false, inl}
 use Rattle.std.proofs.lemmas.List.Elements.{All-from_recursion}
-use Rattle.std.specs.Prelude.{◌==◌, ◌||◌, Contains, codes}
+use Rattle.std.specs.Prelude.{◌==◌, ◌||◌, Contains}
 use Rattle.std.specs.List.{All}
 use Rattle.mg_names.specs.declared.context_values.ContextValue.{ContextValue}
 use Rattle.mg_names.specs.declared.context_values.ContextValue.TheVariants.{Free, Stale}
 use Rattle.mg_names.specs.declared.context_values.ContextValue.TheVariants as value
-use Rattle.mg_names.specs.declared.kinds.Kind.TheVariants.{Of}
-use Rattle.mg_names.specs.declared.modes.Mode.TheVariants.{SendReceive}
 use Rattle.mg_names.specs.declared.obligations.Obligation.TheVariants as obligation
 use Rattle.mg_names.specs.declared.phases.LinkPhase.{LinkPhase}
 use Rattle.mg_names.specs.declared.phases.LinkPhase.TheVariants.{Sent, Answered, Failed, Resting}
-use Rattle.mg_model.specs.declared.commands.Command.{Command}
-use Rattle.mg_model.specs.declared.commands.Command.TheVariants.{AddLine, Subtract}
+use Rattle.mg_model.specs.declared.commands.Command.TheVariants.{Subtract}
 use Rattle.mg_model.specs.declared.commands.EventsName.{EventsName}
 use Rattle.mg_model.specs.declared.commands.EventsName.TheVariants.{Empty, Armed}
 use Rattle.mg_model.specs.declared.commands.Termination.TheVariants.{Line}
 use Rattle.mg_model.specs.declared.components.Spot.TheVariants.{Null}
-use Rattle.mg_model.specs.declared.transitions.Transition.{Transition}
 use Rattle.mg_model.specs.Accepted.{IsScript, IsStateOf, IsCommandOf, IsEntryOf}
 use Rattle.mg_model.specs.Configuration.{Configuration, IsWellFormed, is_live, is_same, value_of}
 use Rattle.mg_model.specs.Effects as effects
 use Rattle.mg_model.specs.Entries.{Entry, numbered, IsCovered}
 use Rattle.mg_model.specs.Obligations.{Claim, OpeningCovered, ResetCovered, Marked, Cleared, Unbound, Live, StepCovered, Holds, obligation_of, JoinedAreMarked, CreatedAreUnbound}
-use Rattle.mg_model.specs.Script.{Script, State}
 use Rattle.mg_model.specs.Steps.{opening, reset, with_link, steps_of}
 use Rattle.mg_model.specs.Tables.{state_of}
 use Rattle.mg_examples.specs.Needed.{BreaksOnly}
-use Rattle.mg_examples.specs.TwoLines.{idle}
+use Rattle.mg_examples.specs.NamesKept.{name_kept, add, at_idle, before_make, after_make, before_leave, after_leave, before_again, at_lost, name_kept_entries}
 use Rattle.mg_examples.proofs.QuietStates.{no_command}
 use Rattle.mg_examples.proofs.PointFacts.{Below, EachPoint, at_points, EachCovered, steps_covered, plain_formed, none_joined, nothing_ends}
-use Rattle.mg_examples.proofs.EntriesOfTwo.{Place, null, talking, subtracted, entry_of, HasTwoLines, is_entry, of_context, is_covered, pairs_uncut, point_of, is_free_live, is_first_live, is_first_settled, point_formed, point_covered, unused_covered}
+use Rattle.mg_examples.proofs.EntriesOfTwo.{HasTwoLines, is_entry, of_context, is_covered, pairs_uncut, point_of, is_free_live, is_first_live, is_first_settled, point_formed, point_covered, unused_covered}
+use Rattle.mg_examples.specs.EntriesOfTwo.{Place, null, talking, subtracted, entry_of}
 
--- ---- the script
-
--- line a is added to the context c, a new one or the one of that name, and may be heard and hear
-abbrev add : Bool → Command
-add create = AddLine create 0 0 record { mode = Some SendReceive; events = None; signals = None }
-
-abbrev to_make_off_hook : List Transition
-to_make_off_hook = record { line = 0; kind = Of; target = 1 } ∷ []
-
-abbrev make : State
-make = record (idle []) { name = codes "make"; commands = add true ∷ []; ok = Some 2 }
-
-abbrev leave : State
-leave = record (idle []) { name = codes "leave"; commands = Subtract 0 (Line 0) ∷ []; ok = Some 3 }
-
-abbrev again : State
-again = record (idle []) { name = codes "again"; commands = add false ∷ [] }
-
-abbrev lost : State
-lost = record (idle []) { name = codes "lost" }
-
-abbrev pub name_kept : Script
-name_kept = record {
-  lines = codes "a" ∷ codes "b" ∷ [];
-  contexts = codes "c" ∷ [];
-  ephemerals = [];
-  lists = [];
-  signals = [];
-  maps = [];
-  states = idle to_make_off_hook ∷ make ∷ leave ∷ again ∷ lost ∷ [];
-  start = 0;
-  restart = 4;
-}
+-- ---- the script and the entries are accepted
 
 two : HasTwoLines name_kept
 two = record { lines = refl; ephemerals = refl }
@@ -104,34 +66,8 @@ none_ends (suc (suc (suc zero))) = refl
 none_ends (suc (suc (suc (suc zero)))) = refl
 none_ends (suc (suc (suc (suc (suc n))))) = refl
 
--- ---- the entries
-
-abbrev at_idle : Entry
-at_idle = entry_of 0 (Resting ∷ []) Armed null null (Some Free)
-
-abbrev before_make : Entry
-before_make = entry_of 1 (Sent ∷ Failed ∷ []) Armed null null (Some Free)
-
-abbrev after_make : Entry
-after_make = entry_of 1 (Answered ∷ []) Armed talking null (Some value.Live)
-
-abbrev before_leave : Entry
-before_leave = entry_of 2 (Sent ∷ Failed ∷ []) Armed talking null (Some value.Live)
-
-abbrev after_leave : Entry
-after_leave = entry_of 2 (Answered ∷ []) Armed subtracted null (Some Stale)
-
-abbrev before_again : Entry
-before_again = entry_of 3 (Sent ∷ Failed ∷ []) Armed subtracted null (Some Stale)
-
-abbrev at_lost : Entry
-at_lost = entry_of 4 (Answered ∷ Resting ∷ []) Empty null null (Some Free)
-
-abbrev pub entries : List Entry
-entries = at_idle ∷ before_make ∷ after_make ∷ before_leave ∷ after_leave ∷ before_again ∷ at_lost ∷ []
-
-pub listed : All (IsEntryOf name_kept) entries
-listed = All-from_recursion (IsEntryOf name_kept) entries (
+pub listed : All (IsEntryOf name_kept) name_kept_entries
+listed = All-from_recursion (IsEntryOf name_kept) name_kept_entries (
   one 0 (Resting ∷ []) Armed null Free,
   (
     one 1 (Sent ∷ Failed ∷ []) Armed null Free,
@@ -154,20 +90,20 @@ listed = All-from_recursion (IsEntryOf name_kept) entries (
 
 -- ---- what is covered
 
-opening_covered : IsCovered entries (opening name_kept)
-opening_covered = unused_covered entries 0 (Resting ∷ []) Resting Armed (Some Free) refl (0, omega (arith), refl) (0, omega (arith), refl)
+opening_covered : IsCovered name_kept_entries (opening name_kept)
+opening_covered = unused_covered name_kept_entries 0 (Resting ∷ []) Resting Armed (Some Free) refl (0, omega (arith), refl) (0, omega (arith), refl)
 
-reset_covered : IsCovered entries (reset name_kept)
+reset_covered : IsCovered name_kept_entries (reset name_kept)
 reset_covered =
-    unused_covered entries 4 (Answered ∷ Resting ∷ []) Answered Empty (Some Free) refl (6, omega (arith), refl) (0, omega (arith), refl)
+    unused_covered name_kept_entries 4 (Answered ∷ Resting ∷ []) Answered Empty (Some Free) refl (6, omega (arith), refl) (0, omega (arith), refl)
 
 -- after the request of `make`: line a stands in c
 abbrev made : Configuration
 made = with_link (effects.effect name_kept (numbered before_make 0) (add true)) Answered
 
-made_covered : IsCovered entries made
+made_covered : IsCovered name_kept_entries made
 made_covered =
-    is_covered 1 (Answered ∷ []) Armed talking null (Some value.Live) made entries (2, omega (arith), refl) refl (0, omega (arith), refl)
+    is_covered 1 (Answered ∷ []) Armed talking null (Some value.Live) made name_kept_entries (2, omega (arith), refl) refl (0, omega (arith), refl)
     (plain_formed made is_first_settled (record { mode = λ k. refl; remote = λ k. refl; uncut = pairs_uncut }))
     (record { first_line = refl; second_line = refl; context = refl; cut_to = refl; cut_from = refl })
 
@@ -184,9 +120,9 @@ still_uncut : (forgotten was : Bool) → was ≡ false → (if forgotten then fa
 still_uncut true was uncut = refl
 still_uncut false was uncut = uncut
 
-left_covered : IsCovered entries left
+left_covered : IsCovered name_kept_entries left
 left_covered =
-    is_covered 2 (Answered ∷ []) Armed subtracted null (Some Stale) left entries (4, omega (arith), refl) refl (0, omega (arith), refl)
+    is_covered 2 (Answered ∷ []) Armed subtracted null (Some Stale) left name_kept_entries (4, omega (arith), refl) refl (0, omega (arith), refl)
     (plain_formed left (λ j. is_left_settled (j == 0)) (record {
       mode = λ k. refl;
       remote = λ k. refl;
@@ -194,44 +130,44 @@ left_covered =
     }))
     (record { first_line = refl; second_line = refl; context = refl; cut_to = refl; cut_from = refl })
 
-make_covered : (linked : LinkPhase) → Contains (Sent ∷ Failed ∷ []) linked → IsCovered entries (point_of 1 linked Armed null null (Some Free))
+make_covered : (linked : LinkPhase) → Contains (Sent ∷ Failed ∷ []) linked → IsCovered name_kept_entries (point_of 1 linked Armed null null (Some Free))
 make_covered linked among =
-    point_covered entries 1 (Sent ∷ Failed ∷ []) linked Armed null null (Some Free) (1, omega (arith), refl) among (λ j. is_free_live (j == 0))
+    point_covered name_kept_entries 1 (Sent ∷ Failed ∷ []) linked Armed null null (Some Free) (1, omega (arith), refl) among (λ j. is_free_live (j == 0))
 
 leave_covered : (linked : LinkPhase) → Contains (Sent ∷ Failed ∷ []) linked
-    → IsCovered entries (point_of 2 linked Armed talking null (Some value.Live))
+    → IsCovered name_kept_entries (point_of 2 linked Armed talking null (Some value.Live))
 leave_covered linked among =
-    point_covered entries 2 (Sent ∷ Failed ∷ []) linked Armed talking null (Some value.Live) (3, omega (arith), refl) among is_first_live
+    point_covered name_kept_entries 2 (Sent ∷ Failed ∷ []) linked Armed talking null (Some value.Live) (3, omega (arith), refl) among is_first_live
 
 is_stale_live : (test : Bool) → is_live (if test then Stale else Free) ≡ false
 is_stale_live true = refl
 is_stale_live false = refl
 
 again_covered : (linked : LinkPhase) → Contains (Sent ∷ Failed ∷ []) linked
-    → IsCovered entries (point_of 3 linked Armed subtracted null (Some Stale))
+    → IsCovered name_kept_entries (point_of 3 linked Armed subtracted null (Some Stale))
 again_covered linked among =
-    point_covered entries 3 (Sent ∷ Failed ∷ []) linked Armed subtracted null (Some Stale) (5, omega (arith), refl) among (λ j. is_stale_live (j == 0))
+    point_covered name_kept_entries 3 (Sent ∷ Failed ∷ []) linked Armed subtracted null (Some Stale) (5, omega (arith), refl) among (λ j. is_stale_live (j == 0))
 
-lost_covered : IsCovered entries (point_of 4 Resting Empty null null (Some Free))
+lost_covered : IsCovered name_kept_entries (point_of 4 Resting Empty null null (Some Free))
 lost_covered =
-    point_covered entries 4 (Answered ∷ Resting ∷ []) Resting Empty null null (Some Free) (6, omega (arith), refl) (1, omega (arith), refl) (λ j. is_free_live (j == 0))
+    point_covered name_kept_entries 4 (Answered ∷ Resting ∷ []) Resting Empty null null (Some Free) (6, omega (arith), refl) (1, omega (arith), refl) (λ j. is_free_live (j == 0))
 
 -- ---- the obligations that hold
 
-all_covered : EachPoint (λ c. EachCovered entries (steps_of name_kept c)) entries
+all_covered : EachPoint (λ c. EachCovered name_kept_entries (steps_of name_kept c)) name_kept_entries
 unfolding Below EachPoint EachCovered
 all_covered = (
   ((λ formed. (make_covered Sent (0, omega (arith), refl), tt)), tt),
   (
-    ((λ formed. tt), ((λ formed. (make_covered Failed (1, omega (arith), refl), (made_covered, tt))), tt)),
+    ((λ formed. (make_covered Sent (0, omega (arith), refl), tt)), ((λ formed. (make_covered Failed (1, omega (arith), refl), (made_covered, tt))), tt)),
     (
       ((λ formed. (leave_covered Sent (0, omega (arith), refl), tt)), tt),
       (
-        ((λ formed. tt), ((λ formed. (leave_covered Failed (1, omega (arith), refl), (left_covered, tt))), tt)),
+        ((λ formed. (leave_covered Sent (0, omega (arith), refl), tt)), ((λ formed. (leave_covered Failed (1, omega (arith), refl), (left_covered, tt))), tt)),
         (
           ((λ formed. (again_covered Sent (0, omega (arith), refl), tt)), tt),
           (
-            ((λ formed. tt), ((λ formed. (again_covered Failed (1, omega (arith), refl), tt)), tt)),
+            ((λ formed. (again_covered Sent (0, omega (arith), refl), tt)), ((λ formed. (again_covered Failed (1, omega (arith), refl), tt)), tt)),
             (((λ formed. tt), ((λ formed. (lost_covered, tt)), tt)), tt),
           ),
         ),
@@ -241,7 +177,7 @@ all_covered = (
 )
 
 -- line b is always in the null context
-marked : EachPoint (JoinedAreMarked name_kept) entries
+marked : EachPoint (JoinedAreMarked name_kept) name_kept_entries
 unfolding Below EachPoint
 marked = (
   (apart at_idle 0 refl, tt),
@@ -264,7 +200,7 @@ marked = (
     apart entry n null formed = none_joined name_kept (numbered entry n) refl null
 
 -- only `make` creates a name, and c is free while its request is sent
-unbound : EachPoint (CreatedAreUnbound name_kept) entries
+unbound : EachPoint (CreatedAreUnbound name_kept) name_kept_entries
 unfolding Below EachPoint
 unbound = (
   ((λ formed sent. refl), tt),
@@ -292,21 +228,21 @@ unbound = (
     not_sent : Answered ≡ Sent → ⊥
     not_sent e = true≢false (ap is_answered e)
 
-others : (other : Claim) → (obligation_of other ≡ obligation.NamesLive → ⊥) → Holds name_kept entries other
+others : (other : Claim) → (obligation_of other ≡ obligation.NamesLive → ⊥) → Holds name_kept name_kept_entries other
 others OpeningCovered differs = opening_covered
 others ResetCovered differs = reset_covered
-others (Marked e p) differs = at_points (JoinedAreMarked name_kept) entries marked e p
-others (Cleared e p) differs = nothing_ends name_kept entries none_ends e p
-others (Unbound e p) differs = at_points (CreatedAreUnbound name_kept) entries unbound e p
+others (Marked e p) differs = at_points (JoinedAreMarked name_kept) name_kept_entries marked e p
+others (Cleared e p) differs = nothing_ends name_kept name_kept_entries none_ends e p
+others (Unbound e p) differs = at_points (CreatedAreUnbound name_kept) name_kept_entries unbound e p
 others (Live e p) differs = absurd (differs refl)
-others (StepCovered e p s) differs = steps_covered name_kept entries all_covered e p s
+others (StepCovered e p s) differs = steps_covered name_kept name_kept_entries all_covered e p s
 
 -- ---- the one that is broken
 
-broken : Holds name_kept entries (Live 5 0) → ⊥
+broken : Holds name_kept name_kept_entries (Live 5 0) → ⊥
 broken holds =
     let formed = point_formed 3 Sent Armed subtracted null (Some Stale) (λ j. is_stale_live (j == 0)) in
     (holds before_again refl (numbered before_again 0) (omega (arith), refl, formed) (inl refl)).contexts 0 refl
 
-pub breaks : BreaksOnly name_kept entries obligation.NamesLive
+pub breaks : BreaksOnly name_kept name_kept_entries obligation.NamesLive
 breaks = record { claim = Live 5 0; is_of = refl; broken = broken; others = others }

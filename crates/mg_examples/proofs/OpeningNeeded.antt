@@ -1,12 +1,12 @@
 -- That the obligation of the opening is needed. The script: line a goes off hook in `idle`, and the call enters `talk`, which puts both lines
 -- in a context and marks no pair. The one entry has `idle` with empty events lists, which is what a call is in after a restart, so it
 -- leaves out the configuration that a call opens in. In the run line 1 goes off hook.
-use Rattle.std.proofs.Common.{◌≡◌, List, [], ◌∷◌, Bool, true, false, refl, ap, arith, true≢false}
+use Rattle.std.proofs.Common.{◌≡◌, [], ◌∷◌, Bool, true, false, refl, ap, arith, true≢false}
 use Rattle.std.proofs.lemmas.List.Elements.{All-from_recursion}
 use Rattle.mg_names.specs.declared.phases.LinkPhase.TheVariants.{Answered, Resting}
 use Rattle.mg_model.specs.declared.commands.EventsName.{EventsName}
 use Rattle.mg_model.specs.declared.commands.EventsName.TheVariants.{Empty, Armed, Own}
-use Rattle.mg_model.specs.Entries.{Entry, links, IsCovered}
+use Rattle.mg_model.specs.Entries.{links, IsCovered}
 use Rattle.mg_names.specs.declared.obligations.Obligation.TheVariants as obligation
 use Rattle.mg_model.specs.Obligations.{Claim, OpeningCovered, ResetCovered, Marked, Cleared, Unbound, Live, StepCovered, Holds, obligation_of, JoinedAreMarked, CreatedAreUnbound, NamesAreLive}
 use Rattle.mg_model.specs.Steps.{opening}
@@ -15,14 +15,12 @@ use Rattle.mg_model.specs.Accepted.{IsEntryOf}
 use Rattle.mg_model.proofs.Single.{only_one}
 use Rattle.mg_examples.specs.TwoLines.{to_talk_off_hook, calling}
 use Rattle.mg_examples.proofs.CallingRun.{calling_ends_badly}
-use Rattle.mg_examples.proofs.IdleEntries.{idle_unarmed, reset_covered, sole_included, unarmed_marked, unarmed_unbound, unarmed_live, unarmed_steps}
+use Rattle.mg_examples.proofs.IdleEntries.{reset_covered, sole_included, unarmed_marked, unarmed_unbound, unarmed_live, unarmed_steps}
+use Rattle.mg_examples.specs.TalkEntries.{idle_unarmed, after_a_restart}
 use Rattle.mg_examples.proofs.PointFacts.{EachPoint, at_points, steps_covered, nothing_ends}
-use Rattle.mg_examples.proofs.EntriesOfTwo.{null}
+use Rattle.mg_examples.specs.EntriesOfTwo.{null}
 use Rattle.mg_examples.proofs.TwoLines.{is_script, is_entry, none_ends}
 use Rattle.mg_names.specs.declared.context_values.ContextValue.TheVariants.{Free}
-
-abbrev after_a_restart : List Entry
-after_a_restart = idle_unarmed ∷ []
 
 abbrev is_empty_list : EventsName → Bool
 is_empty_list Empty = true
@@ -46,10 +44,8 @@ others_hold (Live e p) differ = at_points NamesAreLive after_a_restart (unarmed_
 others_hold (StepCovered e p s) differ =
     steps_covered (calling []) after_a_restart (unarmed_steps [] to_talk_off_hook 0 after_a_restart (0, omega (arith), refl), tt) e p s
 
-pub opening_needed : IsNeeded obligation.OpeningCovered
+pub opening_needed : IsNeeded (calling []) after_a_restart obligation.OpeningCovered
 opening_needed = record {
-  script = calling [];
-  entries = after_a_restart;
   accepted = is_script [] to_talk_off_hook 0;
   listed = All-from_recursion (IsEntryOf (calling [])) after_a_restart (is_entry [] to_talk_off_hook 0 0 (Answered ∷ Resting ∷ []) Empty null null Free, tt);
   breaks = record { claim = OpeningCovered; is_of = refl; broken = not_opened; others = others_hold };

@@ -4,20 +4,16 @@ use Rattle.std.proofs.Common.{List, [], ◌∷◌, None, refl, arith, inl}
 use Rattle.std.specs.Prelude.{unwrap_or}
 use Rattle.mg_model.specs.Agent.{Agent, heard}
 use Rattle.mg_model.specs.Gateway.{restarted}
-use Rattle.mg_model.specs.Script.{Script}
 use Rattle.mg_model.specs.declared.events.Event.{Event}
 use Rattle.mg_model.specs.declared.events.Event.TheVariants.{Restart}
 use Rattle.mg_model.specs.World.{World, execute, hear, AgentSteps, agent_steps, Runs, with_gateway}
 use Rattle.mg_examples.specs.Needed.{EndsBadly}
 use Rattle.mg_examples.specs.Talk.{call}
-use Rattle.mg_examples.specs.TwoLines.{two_lines}
+use Rattle.mg_examples.specs.TwoLines.{recovering}
 use Rattle.mg_examples.proofs.TwoLines.{none_marked}
 use Rattle.mg_examples.proofs.TwoLinesOpening.{gateway, agent, opened_world, opens, one_call, restart_settled}
 use Rattle.mg_examples.proofs.TalkExecuted.{executes}
 use Rattle.mg_examples.proofs.TwoLinesJoined.{IsReady, to_talk, talking_world, joined, not_good}
-
-abbrev pub recovering : Script
-recovering = two_lines [] [] 1
 
 abbrev w0 : World
 w0 = opened_world recovering (call ∷ [])

@@ -1,26 +1,25 @@
 -- That the obligation of the reset is needed. The script: `idle` has no transition, and `talk`, which puts both lines in a context and
 -- marks no pair, is the restart state. The one entry has `idle` at rest with armed lines, which is what a call opens in, so it leaves
 -- out the configuration after a restart. In the run the gateway restarts.
-use Rattle.std.proofs.Common.{◌≡◌, List, [], ◌∷◌, refl, ap, arith, true≢false}
+use Rattle.std.proofs.Common.{◌≡◌, [], ◌∷◌, refl, ap, arith, true≢false}
 use Rattle.std.proofs.lemmas.List.Elements.{All-from_recursion}
 use Rattle.std.specs.Prelude.{◌==◌}
 use Rattle.mg_names.specs.declared.phases.LinkPhase.TheVariants.{Resting}
 use Rattle.mg_model.specs.declared.commands.EventsName.TheVariants.{Armed}
-use Rattle.mg_model.specs.Entries.{Entry, IsCovered}
+use Rattle.mg_model.specs.Entries.{IsCovered}
 use Rattle.mg_names.specs.declared.obligations.Obligation.TheVariants as obligation
 use Rattle.mg_model.specs.Obligations.{Claim, OpeningCovered, ResetCovered, Marked, Cleared, Unbound, Live, StepCovered, Holds, obligation_of, JoinedAreMarked, CreatedAreUnbound, NamesAreLive}
 use Rattle.mg_model.specs.Steps.{reset}
 use Rattle.mg_examples.specs.Needed.{IsNeeded}
 use Rattle.mg_model.specs.Accepted.{IsEntryOf}
-use Rattle.mg_examples.proofs.IdleEntries.{idle_armed, opening_covered, sole_included, armed_marked, armed_unbound, armed_live, armed_stays}
+use Rattle.mg_examples.proofs.IdleEntries.{opening_covered, sole_included, armed_marked, armed_unbound, armed_live, armed_stays}
+use Rattle.mg_examples.specs.TalkEntries.{idle_armed, at_rest}
 use Rattle.mg_examples.proofs.PointFacts.{EachPoint, at_points, steps_covered, nothing_ends}
-use Rattle.mg_examples.proofs.RecoveringRun.{recovering, recovering_ends_badly}
-use Rattle.mg_examples.proofs.EntriesOfTwo.{null}
+use Rattle.mg_examples.proofs.RecoveringRun.{recovering_ends_badly}
+use Rattle.mg_examples.specs.TwoLines.{recovering}
+use Rattle.mg_examples.specs.EntriesOfTwo.{null}
 use Rattle.mg_examples.proofs.TwoLines.{is_script, is_entry, none_ends}
 use Rattle.mg_names.specs.declared.context_values.ContextValue.TheVariants.{Free}
-
-abbrev at_rest : List Entry
-at_rest = idle_armed ∷ []
 
 -- the reset is in the state `talk`, and the entry isn't
 not_reset : IsCovered at_rest (reset recovering) → ⊥
@@ -36,10 +35,8 @@ others_hold (Unbound e p) differ = at_points (CreatedAreUnbound recovering) at_r
 others_hold (Live e p) differ = at_points NamesAreLive at_rest (armed_live, tt) e p
 others_hold (StepCovered e p s) differ = steps_covered recovering at_rest (armed_stays [] 1 at_rest, tt) e p s
 
-pub reset_needed : IsNeeded obligation.ResetCovered
+pub reset_needed : IsNeeded recovering at_rest obligation.ResetCovered
 reset_needed = record {
-  script = recovering;
-  entries = at_rest;
   accepted = is_script [] [] 1;
   listed = All-from_recursion (IsEntryOf recovering) at_rest (is_entry [] [] 1 0 (Resting ∷ []) Armed null null Free, tt);
   breaks = record { claim = ResetCovered; is_of = refl; broken = not_reset; others = others_hold };

@@ -1,7 +1,7 @@
 -- That the obligation of the steps is needed. The script: line a goes off hook in `idle`, and the call enters `talk`, which puts both lines in
 -- a context and marks no pair. The entries have what a call opens in and what it is in after a restart, both in `idle`, so they leave
 -- out what the step into `talk` leads to. In the run line 1 goes off hook.
-use Rattle.std.proofs.Common.{◌≡◌, ◌∙◌, List, [], ◌∷◌, refl, ap, arith, true≢false}
+use Rattle.std.proofs.Common.{◌≡◌, ◌∙◌, [], ◌∷◌, refl, ap, arith, true≢false}
 use Rattle.std.proofs.lemmas.List.Elements.{All-from_recursion, All-contains}
 use Rattle.std.specs.Prelude.{Contains, ◌==◌}
 use Rattle.mg_names.specs.declared.kinds.Kind.TheVariants.{Of}
@@ -16,14 +16,12 @@ use Rattle.mg_examples.specs.Needed.{IsNeeded}
 use Rattle.mg_model.specs.Accepted.{IsEntryOf}
 use Rattle.mg_examples.specs.TwoLines.{to_talk_off_hook, calling}
 use Rattle.mg_examples.proofs.CallingRun.{calling_ends_badly}
-use Rattle.mg_examples.proofs.IdleEntries.{idle_armed, idle_unarmed, opening_covered, reset_covered, unarmed_marked, unarmed_unbound, unarmed_live, armed_marked, armed_unbound, armed_live, armed_formed}
+use Rattle.mg_examples.proofs.IdleEntries.{opening_covered, reset_covered, unarmed_marked, unarmed_unbound, unarmed_live, armed_marked, armed_unbound, armed_live, armed_formed}
+use Rattle.mg_examples.specs.TalkEntries.{idle_armed, in_idle}
 use Rattle.mg_examples.proofs.PointFacts.{EachPoint, at_points, nothing_ends}
-use Rattle.mg_examples.proofs.EntriesOfTwo.{null}
+use Rattle.mg_examples.specs.EntriesOfTwo.{null}
 use Rattle.mg_examples.proofs.TwoLines.{is_script, is_entry, none_ends}
 use Rattle.mg_names.specs.declared.context_values.ContextValue.TheVariants.{Free}
-
-abbrev in_idle : List Entry
-in_idle = idle_unarmed ∷ idle_armed ∷ []
 
 -- each entry is of the state `idle`
 all_idle : (entry : Entry) → Contains in_idle entry → entry.state ≡ 0
@@ -49,10 +47,8 @@ others_hold (Unbound e p) differ =
 others_hold (Live e p) differ = at_points NamesAreLive in_idle (unarmed_live, (armed_live, tt)) e p
 others_hold (StepCovered e p s) differ = absurd (differ refl)
 
-pub step_needed : IsNeeded obligation.StepsCovered
+pub step_needed : IsNeeded (calling []) in_idle obligation.StepsCovered
 step_needed = record {
-  script = calling [];
-  entries = in_idle;
   accepted = is_script [] to_talk_off_hook 0;
   listed = All-from_recursion (IsEntryOf (calling [])) in_idle
       (is_entry [] to_talk_off_hook 0 0 (Answered ∷ Resting ∷ []) Empty null null Free, (is_entry [] to_talk_off_hook 0 0 (Resting ∷ []) Armed null null Free, tt));

@@ -1,5 +1,5 @@
--- The entries of `talk` where line a goes off hook in `idle`: while its request is sent or was refused at once, after a refusal of its second
--- command, and after both commands. And that the steps of the entries that hold all that is reachable lead to such entries.
+-- The entries that hold all that is reachable where line a goes off hook in `idle`: their steps lead to such entries, `talk` creates no name that
+-- is bound, and no name is stale.
 use Rattle.std.proofs.Common.{◌≡◌, ◌∙◌, ℕ, List, [], ◌∷◌, Some, None, Bool, true, false, refl, sym, ap, arith, true≢false}
 use Rattle.std.proofs.lemmas.List.Elements.{All-from_recursion}
 use Rattle.std.specs.List.{All}
@@ -16,33 +16,21 @@ use Rattle.mg_model.specs.declared.commands.EventsName.TheVariants.{Empty, Armed
 use Rattle.mg_model.specs.Accepted.{IsEntryOf}
 use Rattle.mg_model.specs.Configuration.{Configuration, IsWellFormed, is_live, value_of}
 use Rattle.mg_model.specs.Effects.{effect}
-use Rattle.mg_model.specs.Entries.{Entry, IsCovered, numbered}
+use Rattle.mg_model.specs.Entries.{IsCovered, numbered}
 use Rattle.mg_model.specs.Obligations.{CreatedAreUnbound, NamesAreLive}
 use Rattle.mg_model.specs.Script.{Script}
 use Rattle.mg_model.specs.Steps.{steps_of, with_link}
 use Rattle.mg_model.specs.declared.transitions.Pair.{Pair}
 use Rattle.mg_examples.specs.TwoLines.{to_talk_off_hook, calling}
-use Rattle.mg_examples.proofs.IdleEntries.{idle_armed, idle_unarmed, unarmed_unbound, unarmed_live, unarmed_steps, armed_unbound, armed_live}
+use Rattle.mg_examples.proofs.IdleEntries.{unarmed_unbound, unarmed_live, unarmed_steps, armed_unbound, armed_live}
+use Rattle.mg_examples.specs.TalkEntries.{idle_armed, sent, half, both, stopped_at_once, stopped_half, reachable}
 use Rattle.mg_model.proofs.Cases.{same_turned}
-use Rattle.mg_examples.proofs.EntriesOfTwo.{Place, null, talking, entry_of, is_covered, pairs_uncut, point_of, is_free_live, is_first_settled, is_both_live, point_formed, point_covered}
+use Rattle.mg_examples.proofs.EntriesOfTwo.{is_covered, pairs_uncut, point_of, is_free_live, is_first_live, is_first_settled, is_both_live, point_formed, point_covered}
+use Rattle.mg_examples.specs.EntriesOfTwo.{Place, null, talking, entry_of}
 use Rattle.mg_examples.proofs.PointFacts.{plain_formed, Below, EachPoint, EachCovered, still_formed, first_stands}
 use Rattle.mg_examples.proofs.TwoLines.{is_entry}
 
 -- ---- entries
-
--- the request is sent, or its first command was refused
-abbrev pub sent : Entry
-sent = entry_of 1 (Sent ∷ Failed ∷ []) Armed null null (Some Free)
-
--- its second command was refused
-abbrev pub half : Entry
-half = entry_of 1 (Failed ∷ []) Armed talking null (Some Live)
-
-abbrev pub both : Entry
-both = entry_of 1 (Answered ∷ Resting ∷ []) Armed talking talking (Some Live)
-
-abbrev pub reachable : List Entry
-reachable = idle_unarmed ∷ idle_armed ∷ sent ∷ half ∷ both ∷ []
 
 -- they are entries of the script, whatever it marks
 pub all_listed : (marks : List Pair) → All (IsEntryOf (calling marks)) reachable
@@ -52,7 +40,13 @@ all_listed marks = All-from_recursion (IsEntryOf (calling marks)) reachable (
     its 0 (Resting ∷ []) Armed null null Free,
     (
       its 1 (Sent ∷ Failed ∷ []) Armed null null Free,
-      (its 1 (Failed ∷ []) Armed talking null Live, (its 1 (Answered ∷ Resting ∷ []) Armed talking talking Live, tt)),
+      (
+        its 1 (Failed ∷ []) Armed talking null Live,
+        (
+          its 1 (Answered ∷ Resting ∷ []) Armed talking talking Live,
+          (its 2 (Answered ∷ Resting ∷ []) Armed null null Free, (its 2 (Answered ∷ Resting ∷ []) Armed talking null Live, tt)),
+        ),
+      ),
     ),
   ),
 )
@@ -127,6 +121,16 @@ rests =
     point_covered reachable 1 (Answered ∷ Resting ∷ []) Resting Armed talking talking (Some Live) (4, omega (arith), refl) (1, omega (arith), refl)
     is_both_live
 
+-- a refusal leads to `stopped`, where the call comes to rest
+stopped_covered : (linked : LinkPhase) → Contains (Answered ∷ Resting ∷ []) linked → IsCovered reachable (point_of 2 linked Armed null null (Some Free))
+stopped_covered linked among =
+    point_covered reachable 2 (Answered ∷ Resting ∷ []) linked Armed null null (Some Free) (5, omega (arith), refl) among (λ j. is_free_live (j == 0))
+
+half_stopped_covered : (linked : LinkPhase) → Contains (Answered ∷ Resting ∷ []) linked
+    → IsCovered reachable (point_of 2 linked Armed talking null (Some Live))
+half_stopped_covered linked among =
+    point_covered reachable 2 (Answered ∷ Resting ∷ []) linked Armed talking null (Some Live) (6, omega (arith), refl) among is_first_live
+
 -- where no request is sent, no created name is asked about
 abbrev is_sent : LinkPhase → Bool
 is_sent Sent = true
@@ -147,21 +151,29 @@ module _ (marks : List Pair) where
 
   sent_steps : Below Stepped sent 2
   unfolding Below EachCovered
-  sent_steps = ((λ formed. tt), ((λ formed. (sent_covered Failed (1, omega (arith), refl), (refused_second, (executed_both, tt)))), tt))
+  sent_steps = ((λ formed. (stopped_covered Answered (0, omega (arith), refl), tt)), ((λ formed. (sent_covered Failed (1, omega (arith), refl), (refused_second, (executed_both, tt)))), tt))
 
   half_steps : Below Stepped half 1
   unfolding Below EachCovered
-  half_steps = ((λ formed. tt), tt)
+  half_steps = ((λ formed. (half_stopped_covered Answered (0, omega (arith), refl), tt)), tt)
 
   both_steps : Below Stepped both 2
   unfolding Below EachCovered
   both_steps = ((λ formed. tt), ((λ formed. (rests, tt)), tt))
 
+  stopped_steps : Below Stepped stopped_at_once 2
+  unfolding Below EachCovered
+  stopped_steps = ((λ formed. tt), ((λ formed. (stopped_covered Resting (1, omega (arith), refl), tt)), tt))
+
+  half_stopped_steps : Below Stepped stopped_half 2
+  unfolding Below EachCovered
+  half_stopped_steps = ((λ formed. tt), ((λ formed. (half_stopped_covered Resting (1, omega (arith), refl), tt)), tt))
+
   pub all_stepped : EachPoint Stepped reachable
   unfolding EachPoint
   all_stepped = (
     unarmed_steps marks to_talk_off_hook 0 reachable (0, omega (arith), refl),
-    (armed_steps, (sent_steps, (half_steps, (both_steps, tt)))),
+    (armed_steps, (sent_steps, (half_steps, (both_steps, (stopped_steps, (half_stopped_steps, tt)))))),
   )
 
   -- ---- created names
@@ -178,11 +190,22 @@ module _ (marks : List Pair) where
   unfolding Below
   both_unbound = ((λ formed. not_sent (calling marks) (numbered both 1) refl), ((λ formed. not_sent (calling marks) (numbered both 0) refl), tt))
 
+  stopped_unbound : Below (CreatedAreUnbound (calling marks)) stopped_at_once 2
+  unfolding Below
+  stopped_unbound = ((λ formed asks. refl), ((λ formed asks. refl), tt))
+
+  half_stopped_unbound : Below (CreatedAreUnbound (calling marks)) stopped_half 2
+  unfolding Below
+  half_stopped_unbound = ((λ formed asks. refl), ((λ formed asks. refl), tt))
+
   pub all_unbound : EachPoint (CreatedAreUnbound (calling marks)) reachable
   unfolding EachPoint
   all_unbound = (
     unarmed_unbound marks to_talk_off_hook 0,
-    (armed_unbound marks to_talk_off_hook 0, (sent_unbound, (half_unbound, (both_unbound, tt)))),
+    (
+      armed_unbound marks to_talk_off_hook 0,
+      (sent_unbound, (half_unbound, (both_unbound, (stopped_unbound, (half_stopped_unbound, tt))))),
+    ),
   )
 
 -- ---- names
@@ -199,6 +222,20 @@ both_live : Below NamesAreLive both 2
 unfolding Below
 both_live = ((λ formed. first_stands (numbered both 1) Live refl (λ j. refl) (λ k. refl)), ((λ formed. first_stands (numbered both 0) Live refl (λ j. refl) (λ k. refl)), tt))
 
+stopped_live : Below NamesAreLive stopped_at_once 2
+unfolding Below
+stopped_live = (
+  (λ formed. first_stands (numbered stopped_at_once 1) Free refl (λ j. refl) (λ k. refl)),
+  ((λ formed. first_stands (numbered stopped_at_once 0) Free refl (λ j. refl) (λ k. refl)), tt),
+)
+
+half_stopped_live : Below NamesAreLive stopped_half 2
+unfolding Below
+half_stopped_live = (
+  (λ formed. first_stands (numbered stopped_half 1) Live refl (λ j. refl) (λ k. refl)),
+  ((λ formed. first_stands (numbered stopped_half 0) Live refl (λ j. refl) (λ k. refl)), tt),
+)
+
 pub all_live : EachPoint NamesAreLive reachable
 unfolding EachPoint
-all_live = (unarmed_live, (armed_live, (sent_live, (half_live, (both_live, tt)))))
+all_live = (unarmed_live, (armed_live, (sent_live, (half_live, (both_live, (stopped_live, (half_stopped_live, tt)))))))

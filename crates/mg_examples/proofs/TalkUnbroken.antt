@@ -12,7 +12,8 @@ use Rattle.mg_examples.specs.TwoLines.{to_talk_off_hook, calling}
 use Rattle.mg_examples.specs.TwoTalks.{both_lines}
 use Rattle.mg_examples.proofs.IdleEntries.{armed_marked, unarmed_marked, opening_covered, reset_covered}
 use Rattle.mg_examples.proofs.PointFacts.{Below, EachPoint, at_points, steps_covered, nothing_ends, none_joined}
-use Rattle.mg_examples.proofs.TalkEntries.{sent, half, both, reachable, all_stepped, all_unbound, all_live}
+use Rattle.mg_examples.proofs.TalkEntries.{all_stepped, all_unbound, all_live}
+use Rattle.mg_examples.specs.TalkEntries.{sent, half, both, stopped_at_once, stopped_half, reachable}
 use Rattle.mg_examples.proofs.TwoLines.{none_ends}
 
 -- ---- marks
@@ -49,7 +50,22 @@ all_marked = (
       ),
       (
         ((λ formed. none_joined (calling both_lines) (numbered half 0) refl refl), tt),
-        (((λ formed. two_marked (calling both_lines) refl (numbered both 1) refl), ((λ formed. two_marked (calling both_lines) refl (numbered both 0) refl), tt)), tt),
+        (
+          ((λ formed. two_marked (calling both_lines) refl (numbered both 1) refl), ((λ formed. two_marked (calling both_lines) refl (numbered both 0) refl), tt)),
+          (
+            (
+              (λ formed. none_joined (calling both_lines) (numbered stopped_at_once 1) refl refl),
+              ((λ formed. none_joined (calling both_lines) (numbered stopped_at_once 0) refl refl), tt),
+            ),
+            (
+              (
+                (λ formed. none_joined (calling both_lines) (numbered stopped_half 1) refl refl),
+                ((λ formed. none_joined (calling both_lines) (numbered stopped_half 0) refl refl), tt),
+              ),
+              tt,
+            ),
+          ),
+        ),
       ),
     ),
   ),

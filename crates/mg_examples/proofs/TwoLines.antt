@@ -1,6 +1,6 @@
--- The scripts of two lines with the states `idle` and `talk` are accepted and have no end state, and no pair is marked where `talk` marks
+-- The scripts of two lines with the states `idle`, `talk` and `stopped` are accepted and have no end state, and no pair is marked where `talk` marks
 -- none. And the entries of two lines are entries of such scripts.
-use Rattle.std.proofs.Common.{◌≡◌, ℕ, zero, suc, false, List, [], ◌∷◌, Some, refl, arith}
+use Rattle.std.proofs.Common.{◌≡◌, ℕ, zero, suc, false, List, [], Some, refl, arith}
 use Rattle.std.proofs.lemmas.List.Elements.{All-from_recursion}
 use Rattle.mg_names.specs.declared.context_values.ContextValue.{ContextValue}
 use Rattle.mg_names.specs.declared.phases.LinkPhase.{LinkPhase}
@@ -8,9 +8,10 @@ use Rattle.mg_model.specs.declared.commands.EventsName.{EventsName}
 use Rattle.mg_model.specs.declared.transitions.Pair.{Pair}
 use Rattle.mg_model.specs.declared.transitions.Transition.{Transition}
 use Rattle.mg_model.specs.Tables.{state_of}
-use Rattle.mg_examples.specs.TwoLines.{idle, talk, two_lines}
+use Rattle.mg_examples.specs.TwoLines.{talk, two_lines}
 use Rattle.mg_examples.proofs.QuietStates.{no_command}
-use Rattle.mg_examples.proofs.EntriesOfTwo.{Place, entry_of, of_context}
+use Rattle.mg_examples.proofs.EntriesOfTwo.{of_context}
+use Rattle.mg_examples.specs.EntriesOfTwo.{Place, entry_of}
 use Rattle.mg_examples.proofs.EntriesOfTwo as entries
 use Rattle.mg_model.specs.Accepted.{IsScript, IsStateOf, IsCommandOf, IsEntryOf}
 
@@ -28,20 +29,23 @@ module _ (marks : List Pair) (on : List Transition) (restart : ℕ) where
     lines = omega (arith);
     ephemerals = omega (arith);
     contexts = omega (arith);
-    states = All-from_recursion (IsStateOf (two_lines marks on restart)) (idle on ∷ talk marks ∷ []) (no_command (two_lines marks on restart), (talk_accepted, tt));
+    states = All-from_recursion (IsStateOf (two_lines marks on restart)) (two_lines marks on restart).states
+        (no_command (two_lines marks on restart), (talk_accepted, (no_command (two_lines marks on restart), tt)));
   }
 
 -- where `talk` marks no pair, no state does
 pub none_marked : (on : List Transition) (again n : ℕ) → (state_of (two_lines [] on again) n).talk ≡ []
 none_marked on again zero = refl
 none_marked on again (suc zero) = refl
-none_marked on again (suc (suc n)) = refl
+none_marked on again (suc (suc zero)) = refl
+none_marked on again (suc (suc (suc n))) = refl
 
 -- no state is an end state
 pub none_ends : (marks : List Pair) (on : List Transition) (again n : ℕ) → (state_of (two_lines marks on again) n).is_end ≡ false
 none_ends marks on again zero = refl
 none_ends marks on again (suc zero) = refl
-none_ends marks on again (suc (suc n)) = refl
+none_ends marks on again (suc (suc zero)) = refl
+none_ends marks on again (suc (suc (suc n))) = refl
 
 -- ---- entries
 

@@ -13,7 +13,7 @@ use Rattle.mg_examples.specs.Talk.{call, off_hook, to_talk, all_done}
 use Rattle.mg_examples.specs.TwoLines.{to_talk_off_hook, calling}
 use Rattle.mg_examples.specs.TwoTalks.{both_lines, other_call, to_two_talks, TwoCallsTalk}
 use Rattle.mg_examples.proofs.Finding.{of_both}
-use Rattle.mg_examples.proofs.TalkEntries.{reachable, all_listed}
+use Rattle.mg_examples.proofs.TalkEntries.{all_listed}
 use Rattle.mg_examples.proofs.TalkUnbroken.{none_broken}
 use Rattle.mg_examples.proofs.TwoLines.{is_script}
 use Rattle.mg_examples.proofs.TalkExecuted.{executes}
@@ -172,7 +172,6 @@ run =
 
 pub two_calls_talk : TwoCallsTalk
 two_calls_talk = record {
-  entries = reachable;
   accepted = is_script both_lines to_talk_off_hook 0;
   listed = all_listed both_lines;
   none_broken = none_broken;

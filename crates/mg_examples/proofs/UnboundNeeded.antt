@@ -1,4 +1,4 @@
--- The obligation that created names are unbound is needed. Under the entries of `CreatedTwice` the script creates the context c twice. The
+-- The obligation that created names are unbound is needed. Under the entries of `specs/CreatedTwice` the script creates the context c twice. The
 -- run: the timer ends, both requests are executed, and the call ends with line a in a context that has no name any more.
 use Rattle.std.proofs.Common.{◌≡◌, ◌∙◌, ℕ, List, [], ◌∷◌, Some, None, refl, ap, arith, inl}
 use Rattle.std.specs.Prelude.{unwrap_or}
@@ -14,7 +14,8 @@ use Rattle.mg_model.specs.RequestRun.{Running, after_command, item_at, RunsFrom}
 use Rattle.mg_model.specs.declared.events.Event.{Event}
 use Rattle.mg_model.specs.World.{World, execute, reply, pass, timer, IsFirst, Runs, IsGood, with_gateway, agent_steps}
 use Rattle.mg_examples.specs.Needed.{IsNeeded}
-use Rattle.mg_examples.proofs.CreatedTwice.{created_twice, entries, accepted, listed, breaks}
+use Rattle.mg_examples.proofs.CreatedTwice.{accepted, listed, breaks}
+use Rattle.mg_examples.specs.CreatedTwice.{created_twice, created_twice_entries}
 use Rattle.mg_examples.specs.Talk.{call}
 use Rattle.mg_model.proofs.Single.{first_in}
 use Rattle.mg_examples.proofs.Creations.{creates, made, created, creation_executed, created_settled}
@@ -221,10 +222,8 @@ bad good =
     let place : 1 ≡ 0 = ap place_in its_row ∙ ap place_in null.1 ∙ null.2 in
     omega (arith, place)
 
-pub unbound_needed : IsNeeded obligation.CreatedUnbound
+pub unbound_needed : IsNeeded created_twice created_twice_entries obligation.CreatedUnbound
 unbound_needed = record {
-  script = created_twice;
-  entries = entries;
   accepted = accepted;
   listed = listed;
   breaks = breaks;

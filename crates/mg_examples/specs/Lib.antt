@@ -1,6 +1,11 @@
 pub mod Basic
 pub mod TwoLines
+pub mod EntriesOfTwo
+pub mod TalkEntries
 pub mod Talk
 pub mod TwoTalks
 pub mod Needed
 pub mod BegunTalk
+pub mod Unarmed
+pub mod CreatedTwice
+pub mod NamesKept

@@ -1,5 +1,5 @@
--- That each obligation is needed: a script and a set of entries that break this obligation alone, with a run of the script that
--- leaves a world that isn't good. A reader should check that the script and the entries meet the premises of the promise.
+-- That an obligation is needed: the script and the entries break this obligation alone, and a run of the script leaves a world that
+-- isn't good. A reader should check that the script and the entries meet the premises of the promise.
 use Rattle.std.specs.Prelude.{◌≡◌, List}
 use Rattle.std.specs.List.{All}
 use Rattle.mg_model.specs.Entries.{Entry}
@@ -26,9 +26,8 @@ pub record EndsBadly (script : Script) : Type 0 where
   pub runs : Runs script events opening end
   pub bad : IsGood script end → ⊥
 
-pub record IsNeeded (obligation : Obligation) : Type 0 where
-  pub script : Script
-  pub entries : List Entry
+-- the script and the entries show that the obligation is needed
+pub record IsNeeded (script : Script) (entries : List Entry) (obligation : Obligation) : Type 0 where
   pub accepted : IsScript script
   pub listed : All (IsEntryOf script) entries
   pub breaks : BreaksOnly script entries obligation

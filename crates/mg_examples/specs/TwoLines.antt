@@ -1,5 +1,6 @@
--- Scripts of two lines and one context with two states: in `idle` nothing is asked for; `talk` puts both lines in a new context,
--- SendReceive. Which pairs of lines `talk` marks as talking, where `idle` leads and which state is the restart state is left open.
+-- Scripts of two lines and one context with three states: in `idle` nothing is asked for; `talk` puts both lines in a new context,
+-- SendReceive; where the gateway refuses that, a call is in `stopped` and does nothing more. Which pairs of lines `talk` marks as talking,
+-- where `idle` leads and which state is the restart state is left open.
 use Rattle.std.specs.Prelude.{ℕ, true, false, List, [], ◌∷◌, Some, None, codes}
 use Rattle.mg_names.specs.declared.kinds.Kind.TheVariants.{Of}
 use Rattle.mg_names.specs.declared.modes.Mode.TheVariants.{SendReceive}
@@ -29,10 +30,17 @@ talk marks = record {
   talk = marks;
   is_end = false;
   ok = None;
-  fault = None;
+  fault = Some 2;
   timer = None;
   on = [];
 }
+
+abbrev pub stopped : State
+stopped = record (idle []) { name = codes "stopped" }
+
+-- an end state, which other scripts have beside these
+abbrev pub done : State
+done = record (idle []) { name = codes "done"; is_end = true }
 
 -- a call starts in `idle`
 abbrev pub two_lines : List Pair → List Transition → ℕ → Script
@@ -43,7 +51,7 @@ two_lines marks on restart = record {
   lists = [];
   signals = [];
   maps = [];
-  states = idle on ∷ talk marks ∷ [];
+  states = idle on ∷ talk marks ∷ stopped ∷ [];
   start = 0;
   restart = restart;
 }
@@ -55,3 +63,7 @@ to_talk_off_hook = record { line = 0; kind = Of; target = 1 } ∷ []
 -- the script in which it does; after a restart a call is in `idle`
 abbrev pub calling : List Pair → Script
 calling marks = two_lines marks to_talk_off_hook 0
+
+-- the script in which nothing leads to `talk` but a restart, and no pair is marked
+abbrev pub recovering : Script
+recovering = two_lines [] [] 1

@@ -8,12 +8,12 @@ use Rattle.mg_model.specs.declared.line_events.Hook.TheVariants as hooks
 use Rattle.mg_model.specs.declared.line_events.LineEvent.TheVariants as event
 use Rattle.mg_model.specs.declared.transitions.Pair.{Pair}
 use Rattle.mg_model.specs.Accepted.{IsScript, IsEntryOf}
-use Rattle.mg_model.specs.Entries.{Entry}
 use Rattle.mg_model.specs.Media.{AreJoined}
 use Rattle.mg_model.specs.Obligations.{NoneBroken}
 use Rattle.mg_model.specs.declared.events.Event.{Event}
 use Rattle.mg_model.specs.World.{World, on_a_line, note, execute, reply, Opened, IsOpening, Runs}
 use Rattle.mg_examples.specs.Talk.{call}
+use Rattle.mg_examples.specs.TalkEntries.{reachable}
 use Rattle.mg_examples.specs.TwoLines.{calling}
 
 -- `talk` marks the lines a and b as talking
@@ -31,10 +31,9 @@ to_two_talks =
 -- the script and the entries are accepted and break no obligation; these events are a run from an opening with the two calls, and its last
 -- world joins the lines of each
 pub record TwoCallsTalk : Type 0 where
-  pub entries : List Entry
   pub accepted : IsScript (calling both_lines)
-  pub listed : All (IsEntryOf (calling both_lines)) entries
-  pub none_broken : NoneBroken (calling both_lines) entries
+  pub listed : All (IsEntryOf (calling both_lines)) reachable
+  pub none_broken : NoneBroken (calling both_lines) reachable
   pub opening : World
   pub end : World
   pub opens : IsOpening (calling both_lines) (call ∷ other_call ∷ []) opening
