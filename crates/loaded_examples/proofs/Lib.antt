@@ -1,0 +1,3 @@
+pub mod OnTexts
+pub mod ScriptsRead
+pub mod CertificatesRead

@@ -1,0 +1,9 @@
+//! Examples that can be loaded: the scripts of `mg_examples` and their entries, as bytes that the readers accept.
+//!
+//! That the promise over runs isn't hollow is shown by scripts and entries as tables (`mg_examples`). Here the bytes of a script and of a certificate
+//! stand beside each of these, and the laws are of bytes, not of trees: the reader's definitions of TOML and JSON, of faults and of what a document
+//! means are computed on them, and give that table and these entries (`read`). The same bytes stand in files of `examples/` and `tests/cases`, and
+//! `tools/texts` compares the two. Each function here is empty: its contract is the law.
+#![tactic(auto)]
+
+pub mod read;
