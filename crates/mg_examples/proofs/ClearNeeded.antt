@@ -1,23 +1,23 @@
 -- The obligation that ended calls are cleared is needed: under the script and the entries of `specs/Unarmed` only that at rest in `done` a line
 -- isn't armed is wrong. The run: the gateway restarts, the call hears of it, and ends with lines that report nothing.
-use Rattle.std.proofs.Common.{◌≡◌, List, [], ◌∷◌, refl, sym, ap, arith, true≢false, None}
+use Rattle.std.proofs.Common.{◌≡◌, List, [], ◌∷◌, refl, sym, ap, arith, true≢false, None, inl, inr, Bool, true, false}
 use Rattle.std.proofs.lemmas.List.Elements.{All-from_recursion}
-use Rattle.std.specs.Prelude.{unwrap_or}
+use Rattle.std.specs.Prelude.{unwrap_or, ◌⊎◌}
 use Rattle.std.specs.List.{All}
-use Rattle.mg_names.specs.declared.phases.LinkPhase.TheVariants.{Answered, Resting}
+use Rattle.mg_names.specs.declared.phases.LinkPhase.TheVariants.{Answered, Resting, Sent, Failed}
 use Rattle.mg_model.specs.declared.commands.EventsName.TheVariants.{Empty, Armed}
 use Rattle.mg_model.specs.Agent.{Agent, heard, passed}
 use Rattle.mg_model.specs.Entries.{numbered, IsCovered}
 use Rattle.mg_model.specs.Gateway.{restarted}
 use Rattle.mg_model.specs.LineEvents.{ListItem}
 use Rattle.mg_names.specs.declared.obligations.Obligation.TheVariants as obligation
-use Rattle.mg_model.specs.Obligations.{Claim, OpeningCovered, ResetCovered, Marked, Cleared, Unbound, Live, StepCovered, Holds, obligation_of, JoinedAreMarked, CreatedAreUnbound, NamesAreLive}
+use Rattle.mg_model.specs.Obligations.{Claim, OpeningCovered, ResetCovered, Marked, Cleared, Unbound, Live, StepCovered, Holds, obligation_of, JoinedAreMarked, CreatedAreUnbound, NamesAreLive, ComesBefore, EndedIsCleared}
 use Rattle.mg_model.specs.Steps.{opening, reset, with_link, steps_of}
 use Rattle.mg_model.specs.Tables.{is_empty}
 use Rattle.mg_model.specs.declared.events.Event.{Event}
 use Rattle.mg_model.specs.declared.events.Event.TheVariants.{Restart}
 use Rattle.mg_model.specs.World.{World, hear, pass, Runs, IsGood, with_gateway, agent_steps}
-use Rattle.mg_examples.specs.Needed.{IsNeeded}
+use Rattle.mg_examples.specs.Needed.{IsNeeded, fault_at}
 use Rattle.mg_model.specs.Accepted.{IsScript, IsStateOf, IsEntryOf}
 use Rattle.mg_examples.proofs.PointFacts.{Below, EachPoint, at_points, EachCovered, steps_covered, none_joined, none_bound}
 use Rattle.mg_examples.proofs.EntriesOfTwo.{HasTwoLines, is_entry, none_below, point_formed, point_covered, unused_covered}
@@ -26,6 +26,8 @@ use Rattle.mg_examples.specs.Unarmed.{unarmed, ended, resting_idle, unarmed_entr
 use Rattle.mg_examples.proofs.QuietStates.{no_command}
 use Rattle.mg_examples.specs.Talk.{call}
 use Rattle.mg_examples.proofs.TwoLinesOpening.{gateway, agent, opened_world, opens, one_call}
+use Rattle.mg_examples.proofs.FirstFaults.{holds_before, place_before}
+use Rattle.mg_names.specs.declared.phases.LinkPhase.{LinkPhase}
 
 -- ---- the script and the entries are accepted
 
@@ -97,14 +99,29 @@ live = (
   ),
 )
 
-others : (other : Claim) → (obligation_of other ≡ obligation.EndedCleared → ⊥) → Holds unarmed unarmed_entries other
-others OpeningCovered differs = opening_covered
-others ResetCovered differs = reset_covered
-others (Marked e p) differs = at_points (JoinedAreMarked unarmed) unarmed_entries marked e p
-others (Cleared e p) differs = absurd (differs refl)
-others (Unbound e p) differs = at_points (CreatedAreUnbound unarmed) unarmed_entries unbound e p
-others (Live e p) differs = at_points NamesAreLive unarmed_entries live e p
-others (StepCovered e p s) differs = steps_covered unarmed unarmed_entries all_covered e p s
+-- while its reply counts as outstanding a call isn't at rest
+abbrev is_resting : LinkPhase → Bool
+is_resting Resting = true
+is_resting Sent = false
+is_resting Answered = false
+is_resting Failed = false
+
+is_answered : Answered ≡ Resting → ⊥
+is_answered e = true≢false (sym (ap is_resting e))
+
+-- every claim of another obligation holds, and so does every one that comes before the first that is broken
+others : (other : Claim) → (obligation_of other ≡ obligation.EndedCleared → ⊥) ⊎ ComesBefore other (Cleared 1 1) → Holds unarmed unarmed_entries other
+unfolding Below EachPoint
+others OpeningCovered h = opening_covered
+others ResetCovered h = reset_covered
+others (Marked e p) h = at_points (JoinedAreMarked unarmed) unarmed_entries marked e p
+others (Cleared e p) (inl differs) = absurd (differs refl)
+others (Cleared e p) (inr before) =
+    holds_before (EndedIsCleared unarmed) (resting_idle ∷ []) ended [] 1 (((λ formed rests ends. absurd (true≢false (sym ends))), tt), tt)
+    ((λ formed rests ends. absurd (is_answered rests)), tt) e p (place_before e p 1 0 1 1 before)
+others (Unbound e p) h = at_points (CreatedAreUnbound unarmed) unarmed_entries unbound e p
+others (Live e p) h = at_points NamesAreLive unarmed_entries live e p
+others (StepCovered e p s) h = steps_covered unarmed unarmed_entries all_covered e p s
 
 -- ---- the one that is broken
 
@@ -158,10 +175,21 @@ bad good =
     let cleared = good.ended 7 at_rest refl (record { is_end = refl; at_rest = refl; current = refl }) in
     true≢false (ap (λ (list : List ListItem). is_empty list) (cleared.is_armed 0 (omega (arith))))
 
-pub clear_needed : IsNeeded unarmed unarmed_entries obligation.EndedCleared
+pub clear_needed : IsNeeded unarmed unarmed_entries (fault_at obligation.EndedCleared 1 1 None)
 clear_needed = record {
   accepted = accepted;
   listed = listed;
-  breaks = record { claim = Cleared 1 1; is_of = refl; broken = broken; others = others };
+  breaks = record {
+    first = record {
+      claim = Cleared 1 1;
+      broken = broken;
+      before = λ earlier before. others earlier (inr before);
+      obligation = refl;
+      entry = refl;
+      point = refl;
+      step = refl;
+    };
+    others = λ other differs. others other (inl differs);
+  };
   ends = record { calls = call ∷ []; events = events; opening = w0; end = w3; opens = opens unarmed refl (call ∷ []) (one_call unarmed refl); runs = run; bad = bad };
 }

@@ -1,8 +1,8 @@
 -- Of the script that creates a context twice and its entries (`specs/CreatedTwice`): both are accepted, and they break the obligation on created
 -- names alone.
-use Rattle.std.proofs.Common.{◌≡◌, ◌<◌, ℕ, true, false, [], ◌∷◌, Some, refl, sym, arith, true≢false}
+use Rattle.std.proofs.Common.{◌≡◌, ◌<◌, ℕ, true, false, [], ◌∷◌, Some, refl, sym, arith, true≢false, inl, inr, None}
 use Rattle.std.proofs.lemmas.List.Elements.{All-from_recursion}
-use Rattle.std.specs.Prelude.{◌==◌, Contains}
+use Rattle.std.specs.Prelude.{◌==◌, Contains, ◌⊎◌}
 use Rattle.std.specs.List.{All}
 use Rattle.mg_names.specs.declared.context_values.ContextValue.TheVariants.{Free, Live}
 use Rattle.mg_names.specs.declared.phases.LinkPhase.{LinkPhase}
@@ -12,15 +12,17 @@ use Rattle.mg_model.specs.Configuration.{Configuration}
 use Rattle.mg_model.specs.Effects as effects
 use Rattle.mg_model.specs.Entries.{numbered, IsCovered}
 use Rattle.mg_names.specs.declared.obligations.Obligation.TheVariants as obligation
-use Rattle.mg_model.specs.Obligations.{Claim, OpeningCovered, ResetCovered, Marked, Cleared, Unbound, Live, StepCovered, Holds, obligation_of, JoinedAreMarked, EndedIsCleared, NamesAreLive}
+use Rattle.mg_model.specs.Obligations.{Claim, OpeningCovered, ResetCovered, Marked, Cleared, Unbound, Live, StepCovered, Holds, obligation_of, JoinedAreMarked, EndedIsCleared, NamesAreLive, ComesBefore, CreatedAreUnbound}
 use Rattle.mg_model.specs.Steps.{opening, reset, with_link, steps_of}
-use Rattle.mg_examples.specs.Needed.{BreaksOnly}
+use Rattle.mg_examples.specs.Needed.{BreaksOnly, fault_at}
 use Rattle.mg_model.specs.Accepted.{IsScript, IsStateOf, IsCommandOf, IsEntryOf}
 use Rattle.mg_examples.proofs.PointFacts.{Below, EachPoint, at_points, EachCovered, steps_covered, plain_formed, none_joined, first_stands}
 use Rattle.mg_examples.specs.CreatedTwice.{created_twice, add, at_idle, before_first, after_first, before_second, at_lost, created_twice_entries}
 use Rattle.mg_examples.proofs.QuietStates.{no_command}
 use Rattle.mg_examples.proofs.EntriesOfTwo.{HasTwoLines, is_entry, of_context, is_covered, pairs_uncut, point_of, is_free_live, is_first_live, is_first_settled, point_formed, point_covered, unused_covered}
 use Rattle.mg_examples.specs.EntriesOfTwo.{null, alone}
+use Rattle.mg_examples.proofs.FirstFaults.{holds_before, place_before}
+use Rattle.mg_examples.proofs.TalkEntries.{not_sent}
 
 -- ---- the script and the entries are accepted
 
@@ -151,14 +153,21 @@ live =
     (first_stands (numbered after_first 0) Live refl (λ j. refl) (λ k. refl)) (first_stands (numbered before_second 0) Live refl (λ j. refl) (λ k. refl))
     (first_stands (numbered at_lost 0) Free refl (λ j. refl) (λ k. refl)) (first_stands (numbered at_lost 1) Free refl (λ j. refl) (λ k. refl))
 
-others : (other : Claim) → (obligation_of other ≡ obligation.CreatedUnbound → ⊥) → Holds created_twice created_twice_entries other
-others OpeningCovered differs = opening_covered
-others ResetCovered differs = reset_covered
-others (Marked e p) differs = at_points (JoinedAreMarked created_twice) created_twice_entries marked e p
-others (Cleared e p) differs = at_points (EndedIsCleared created_twice) created_twice_entries cleared e p
-others (Unbound e p) differs = absurd (differs refl)
-others (Live e p) differs = at_points NamesAreLive created_twice_entries live e p
-others (StepCovered e p s) differs = steps_covered created_twice created_twice_entries all_covered e p s
+-- every claim of another obligation holds, and so does every one that comes before the first that is broken
+others : (other : Claim) → (obligation_of other ≡ obligation.CreatedUnbound → ⊥) ⊎ ComesBefore other (Unbound 3 0) → Holds created_twice created_twice_entries other
+unfolding Below EachPoint
+others OpeningCovered h = opening_covered
+others ResetCovered h = reset_covered
+others (Marked e p) h = at_points (JoinedAreMarked created_twice) created_twice_entries marked e p
+others (Cleared e p) h = at_points (EndedIsCleared created_twice) created_twice_entries cleared e p
+others (Unbound e p) (inl differs) = absurd (differs refl)
+others (Unbound e p) (inr before) =
+    holds_before (CreatedAreUnbound created_twice) (at_idle ∷ before_first ∷ after_first ∷ []) before_second (at_lost ∷ []) 0 (
+      ((λ formed sent. refl), ((λ formed sent. refl), tt)),
+      (((λ formed sent. refl), ((λ formed sent. refl), tt)), (((λ formed. not_sent created_twice (numbered after_first 0) refl), tt), tt)),
+    ) tt e p (place_before e p 2 0 3 0 before)
+others (Live e p) h = at_points NamesAreLive created_twice_entries live e p
+others (StepCovered e p s) h = steps_covered created_twice created_twice_entries all_covered e p s
 
 -- ---- the one that is broken
 
@@ -166,5 +175,16 @@ broken : Holds created_twice created_twice_entries (Unbound 3 0) → ⊥
 broken holds =
     true≢false (sym (holds before_second refl (numbered before_second 0) (omega (arith), refl, point_formed 2 Sent Armed alone null (Some Live) is_first_live) refl))
 
-pub breaks : BreaksOnly created_twice created_twice_entries obligation.CreatedUnbound
-breaks = record { claim = Unbound 3 0; is_of = refl; broken = broken; others = others }
+pub breaks : BreaksOnly created_twice created_twice_entries (fault_at obligation.CreatedUnbound 3 0 None)
+breaks = record {
+  first = record {
+    claim = Unbound 3 0;
+    broken = broken;
+    before = λ earlier before. others earlier (inr before);
+    obligation = refl;
+    entry = refl;
+    point = refl;
+    step = refl;
+  };
+  others = λ other differs. others other (inl differs);
+}

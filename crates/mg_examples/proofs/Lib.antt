@@ -8,6 +8,7 @@ pub mod LineRows
 pub mod Finding
 pub mod QuietStates
 pub mod PointFacts
+pub mod FirstFaults
 pub mod EntriesOfTwo
 pub mod TwoLines
 pub mod TwoLinesOpening

@@ -11,7 +11,7 @@ use Rattle.mg_model.specs.Agent.{Agent, noted, replied}
 use Rattle.mg_model.specs.Tables.{line_places}
 use Rattle.mg_model.specs.declared.events.Event.{Event}
 use Rattle.mg_model.specs.World.{World, on_a_line, execute, reply, note, AgentSteps, agent_steps, Opened, IsFirst, IsGood, Runs}
-use Rattle.mg_examples.specs.Needed.{IsNeeded}
+use Rattle.mg_examples.specs.Needed.{IsNeeded, fault_at}
 use Rattle.mg_examples.specs.Talk.{call, off_hook}
 use Rattle.mg_examples.specs.TwoTalks.{other_call}
 use Rattle.mg_examples.proofs.Creations.{made}
@@ -175,7 +175,7 @@ run = (
 bad : IsGood name_kept w10 → ⊥
 bad = not_good name_kept w10 1 3 none_marked (inl (record { another = λ e. omega (arith, e); crossings = []; goes = refl }))
 
-pub live_needed : IsNeeded name_kept name_kept_entries obligation.NamesLive
+pub live_needed : IsNeeded name_kept name_kept_entries (fault_at obligation.NamesLive 5 0 None)
 live_needed = record {
   accepted = accepted;
   listed = listed;

@@ -1,8 +1,8 @@
 -- Of the script that uses a context's name after the context is gone and its entries (`specs/NamesKept`): both are accepted, and they break the
 -- obligation on names alone.
-use Rattle.std.proofs.Common.{◌≡◌, ℕ, zero, suc, Bool, true, false, if◌then◌else◌, List, [], ◌∷◌, Some, refl, ap, arith, true≢false, inl}
+use Rattle.std.proofs.Common.{◌≡◌, ℕ, zero, suc, Bool, true, false, if◌then◌else◌, List, [], ◌∷◌, Some, refl, ap, arith, true≢false, inl, inr, None}
 use Rattle.std.proofs.lemmas.List.Elements.{All-from_recursion}
-use Rattle.std.specs.Prelude.{◌==◌, ◌||◌, Contains}
+use Rattle.std.specs.Prelude.{◌==◌, ◌||◌, Contains, ◌⊎◌}
 use Rattle.std.specs.List.{All}
 use Rattle.mg_names.specs.declared.context_values.ContextValue.{ContextValue}
 use Rattle.mg_names.specs.declared.context_values.ContextValue.TheVariants.{Free, Stale}
@@ -19,15 +19,17 @@ use Rattle.mg_model.specs.Accepted.{IsScript, IsStateOf, IsCommandOf, IsEntryOf}
 use Rattle.mg_model.specs.Configuration.{Configuration, IsWellFormed, is_live, is_same, value_of}
 use Rattle.mg_model.specs.Effects as effects
 use Rattle.mg_model.specs.Entries.{Entry, numbered, IsCovered}
-use Rattle.mg_model.specs.Obligations.{Claim, OpeningCovered, ResetCovered, Marked, Cleared, Unbound, Live, StepCovered, Holds, obligation_of, JoinedAreMarked, CreatedAreUnbound}
+use Rattle.mg_model.specs.Obligations.{Claim, OpeningCovered, ResetCovered, Marked, Cleared, Unbound, Live, StepCovered, Holds, obligation_of, JoinedAreMarked, CreatedAreUnbound, ComesBefore, NamesAreLive}
 use Rattle.mg_model.specs.Steps.{opening, reset, with_link, steps_of}
 use Rattle.mg_model.specs.Tables.{state_of}
-use Rattle.mg_examples.specs.Needed.{BreaksOnly}
+use Rattle.mg_examples.specs.Needed.{BreaksOnly, fault_at}
 use Rattle.mg_examples.specs.NamesKept.{name_kept, add, at_idle, before_make, after_make, before_leave, after_leave, before_again, at_lost, name_kept_entries}
 use Rattle.mg_examples.proofs.QuietStates.{no_command}
-use Rattle.mg_examples.proofs.PointFacts.{Below, EachPoint, at_points, EachCovered, steps_covered, plain_formed, none_joined, nothing_ends}
+use Rattle.mg_examples.proofs.PointFacts.{Below, EachPoint, at_points, EachCovered, steps_covered, plain_formed, none_joined, nothing_ends, first_stands, is_stale}
 use Rattle.mg_examples.proofs.EntriesOfTwo.{HasTwoLines, is_entry, of_context, is_covered, pairs_uncut, point_of, is_free_live, is_first_live, is_first_settled, point_formed, point_covered, unused_covered}
 use Rattle.mg_examples.specs.EntriesOfTwo.{Place, null, talking, subtracted, entry_of}
+use Rattle.mg_examples.proofs.FirstFaults.{holds_before, place_before}
+use Rattle.mg_model.specs.declared.components.Remote.TheVariants.{Unset}
 
 -- ---- the script and the entries are accepted
 
@@ -228,14 +230,45 @@ unbound = (
     not_sent : Answered ≡ Sent → ⊥
     not_sent e = true≢false (ap is_answered e)
 
-others : (other : Claim) → (obligation_of other ≡ obligation.NamesLive → ⊥) → Holds name_kept name_kept_entries other
-others OpeningCovered differs = opening_covered
-others ResetCovered differs = reset_covered
-others (Marked e p) differs = at_points (JoinedAreMarked name_kept) name_kept_entries marked e p
-others (Cleared e p) differs = nothing_ends name_kept name_kept_entries none_ends e p
-others (Unbound e p) differs = at_points (CreatedAreUnbound name_kept) name_kept_entries unbound e p
-others (Live e p) differs = absurd (differs refl)
-others (StepCovered e p s) differs = steps_covered name_kept name_kept_entries all_covered e p s
+-- where the first context has a value that isn't stale, names are live; while a reply is awaited they aren't asked about
+first_in : (entry : Entry) (n : ℕ) (what : ContextValue) → is_stale what ≡ false → ((j : ℕ) → (numbered entry n).context j ≡ (if j == 0 then what else Free))
+    → ((k : ℕ) → (numbered entry n).remote k ≡ Unset) → IsWellFormed (numbered entry n) → NamesAreLive (numbered entry n)
+first_in entry n what stands contexts unset formed = first_stands (numbered entry n) what stands contexts unset
+
+abbrev is_answered : LinkPhase → Bool
+is_answered Answered = true
+is_answered Sent = false
+is_answered Failed = false
+is_answered Resting = false
+
+not_asked : (Answered ≡ Sent) ⊎ (Answered ≡ Resting) → ⊥
+not_asked (inl e) = true≢false (ap is_answered e)
+not_asked (inr e) = true≢false (ap is_answered e)
+
+-- every claim of another obligation holds, and so does every one that comes before the first that is broken
+others : (other : Claim) → (obligation_of other ≡ obligation.NamesLive → ⊥) ⊎ ComesBefore other (Live 5 0) → Holds name_kept name_kept_entries other
+unfolding Below EachPoint
+others OpeningCovered h = opening_covered
+others ResetCovered h = reset_covered
+others (Marked e p) h = at_points (JoinedAreMarked name_kept) name_kept_entries marked e p
+others (Cleared e p) h = nothing_ends name_kept name_kept_entries none_ends e p
+others (Unbound e p) h = at_points (CreatedAreUnbound name_kept) name_kept_entries unbound e p
+others (Live e p) (inl differs) = absurd (differs refl)
+others (Live e p) (inr before) =
+    holds_before NamesAreLive (at_idle ∷ before_make ∷ after_make ∷ before_leave ∷ after_leave ∷ []) before_again (at_lost ∷ []) 0 (
+      (first_in at_idle 0 Free refl (λ j. refl) (λ k. refl), tt),
+      (
+        (first_in before_make 1 Free refl (λ j. refl) (λ k. refl), (first_in before_make 0 Free refl (λ j. refl) (λ k. refl), tt)),
+        (
+          (first_in after_make 0 value.Live refl (λ j. refl) (λ k. refl), tt),
+          (
+            (first_in before_leave 1 value.Live refl (λ j. refl) (λ k. refl), (first_in before_leave 0 value.Live refl (λ j. refl) (λ k. refl), tt)),
+            (((λ formed asks. absurd (not_asked asks)), tt), tt),
+          ),
+        ),
+      ),
+    ) tt e p (place_before e p 3 0 5 0 before)
+others (StepCovered e p s) h = steps_covered name_kept name_kept_entries all_covered e p s
 
 -- ---- the one that is broken
 
@@ -244,5 +277,16 @@ broken holds =
     let formed = point_formed 3 Sent Armed subtracted null (Some Stale) (λ j. is_stale_live (j == 0)) in
     (holds before_again refl (numbered before_again 0) (omega (arith), refl, formed) (inl refl)).contexts 0 refl
 
-pub breaks : BreaksOnly name_kept name_kept_entries obligation.NamesLive
-breaks = record { claim = Live 5 0; is_of = refl; broken = broken; others = others }
+pub breaks : BreaksOnly name_kept name_kept_entries (fault_at obligation.NamesLive 5 0 None)
+breaks = record {
+  first = record {
+    claim = Live 5 0;
+    broken = broken;
+    before = λ earlier before. others earlier (inr before);
+    obligation = refl;
+    entry = refl;
+    point = refl;
+    step = refl;
+  };
+  others = λ other differs. others other (inl differs);
+}

@@ -47,7 +47,7 @@ EachPoint P (entry ∷ more) = Below P entry (size_of entry.components) × EachP
 lies_before : (n size : ℕ) → n < suc size → (n == size) ≡ false → n < size
 lies_before n size within other = grind (arith, common_steps)
 
-at_number : (P : Configuration → Type 0) (entry : Entry) (size number : ℕ) → Below P entry size → number < size
+pub at_number : (P : Configuration → Type 0) (entry : Entry) (size number : ℕ) → Below P entry size → number < size
     → IsWellFormed (numbered entry number) → P (numbered entry number)
 unfolding Below
 at_number P entry zero number h within formed = absurd (let out : number < 0 = within in omega (arith, out))
@@ -149,7 +149,7 @@ none_joined script c two null i j first second joined =
 
 -- ---- names
 
-abbrev is_stale : ContextValue → Bool
+abbrev pub is_stale : ContextValue → Bool
 is_stale Stale = true
 is_stale Free = false
 is_stale Live = false
@@ -185,7 +185,7 @@ unfoldable pub EachCovered : List Entry → List Step → Type 0
 EachCovered entries [] = Unit {0}
 EachCovered entries (step ∷ more) = IsCovered entries step.1 × EachCovered entries more
 
-step_covered : (entries : List Entry) (steps : List Step) → EachCovered entries steps → (s : ℕ) (step : Step) → slice_get steps s ≡ Some step
+pub step_covered : (entries : List Entry) (steps : List Step) → EachCovered entries steps → (s : ℕ) (step : Step) → slice_get steps s ≡ Some step
     → IsCovered entries step.1
 unfolding EachCovered
 step_covered entries [] h s step there = absurd (true≢false (sym (ap is_some there)))

@@ -13,7 +13,7 @@ use Rattle.mg_model.specs.Messages.{Request, Reply, RequestCommand}
 use Rattle.mg_model.specs.RequestRun.{Running, after_command, item_at, RunsFrom}
 use Rattle.mg_model.specs.declared.events.Event.{Event}
 use Rattle.mg_model.specs.World.{World, execute, reply, pass, timer, IsFirst, Runs, IsGood, with_gateway, agent_steps}
-use Rattle.mg_examples.specs.Needed.{IsNeeded}
+use Rattle.mg_examples.specs.Needed.{IsNeeded, fault_at}
 use Rattle.mg_examples.proofs.CreatedTwice.{accepted, listed, breaks}
 use Rattle.mg_examples.specs.CreatedTwice.{created_twice, created_twice_entries}
 use Rattle.mg_examples.specs.Talk.{call}
@@ -222,7 +222,7 @@ bad good =
     let place : 1 ≡ 0 = ap place_in its_row ∙ ap place_in null.1 ∙ null.2 in
     omega (arith, place)
 
-pub unbound_needed : IsNeeded created_twice created_twice_entries obligation.CreatedUnbound
+pub unbound_needed : IsNeeded created_twice created_twice_entries (fault_at obligation.CreatedUnbound 3 0 None)
 unbound_needed = record {
   accepted = accepted;
   listed = listed;

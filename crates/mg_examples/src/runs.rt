@@ -1,11 +1,13 @@
 //! Runs, and certificates that break one obligation.
-ghost use Rattle.std.specs.Prelude.{List, []};
+ghost use Rattle.std.specs.Prelude.{List, [], Some, None};
+ghost use Rattle.mg_model.specs.declared.steps.StepName.TheVariants.{Observe};
 ghost use Rattle.mg_model.specs.declared.transitions.Pair.{Pair};
+ghost use Rattle.mg_names.specs.declared.kinds.Kind.TheVariants.{Of};
 ghost use Rattle.mg_names.specs.declared.obligations.Obligation.TheVariants as Obligation;
 ghost use Rattle.mg_examples.specs.BegunTalk.{BegunCallTalks};
 ghost use Rattle.mg_examples.specs.CreatedTwice.{created_twice, created_twice_entries};
 ghost use Rattle.mg_examples.specs.NamesKept.{name_kept, name_kept_entries};
-ghost use Rattle.mg_examples.specs.Needed.{IsNeeded};
+ghost use Rattle.mg_examples.specs.Needed.{IsNeeded, fault_at, whole_fault};
 ghost use Rattle.mg_examples.specs.Talk.{LeadsToATalk};
 ghost use Rattle.mg_examples.specs.TalkEntries.{reachable, after_a_restart, at_rest, in_idle};
 ghost use Rattle.mg_examples.specs.TwoLines.{calling, recovering};
@@ -32,13 +34,13 @@ pub fn a_begun_call_talks()
 {}
 
 /// No obligation could be left out: for each there is a script with entries that break it alone, and a run of the script that leaves a
-/// world that isn't good. The scripts and the entries are named, so that it can be said of each that it is read.
+/// world that isn't good. The scripts and the entries are named, so that it can be said of each that it is read, and the first fault is told.
 pub fn each_obligation_is_needed()
-    ensures opening { IsNeeded (calling []) after_a_restart Obligation.OpeningCovered }
-    ensures steps { IsNeeded (calling []) in_idle Obligation.StepsCovered }
-    ensures marks { IsNeeded (calling []) reachable Obligation.JoinedMarked }
-    ensures cleared { IsNeeded unarmed unarmed_entries Obligation.EndedCleared }
-    ensures unbound { IsNeeded created_twice created_twice_entries Obligation.CreatedUnbound }
-    ensures reset { IsNeeded recovering at_rest Obligation.ResetCovered }
-    ensures live { IsNeeded name_kept name_kept_entries Obligation.NamesLive }
+    ensures opening { IsNeeded (calling []) after_a_restart (whole_fault Obligation.OpeningCovered) }
+    ensures steps { IsNeeded (calling []) in_idle (fault_at Obligation.StepsCovered 1 0 (Some (Observe 0 Of))) }
+    ensures marks { IsNeeded (calling []) reachable (fault_at Obligation.JoinedMarked 4 0 None) }
+    ensures cleared { IsNeeded unarmed unarmed_entries (fault_at Obligation.EndedCleared 1 1 None) }
+    ensures unbound { IsNeeded created_twice created_twice_entries (fault_at Obligation.CreatedUnbound 3 0 None) }
+    ensures reset { IsNeeded recovering at_rest (whole_fault Obligation.ResetCovered) }
+    ensures live { IsNeeded name_kept name_kept_entries (fault_at Obligation.NamesLive 5 0 None) }
 {}
