@@ -30,9 +30,9 @@ install:
 	tools/install "$(DESTDIR)$(PREFIX)"
 
 soak:
-	for seed in 1 2 3; do tools/bytes $$seed 3000 || exit 1; done
-	tools/explain --long
-	tools/load
+	for seed in 1 2 3; do tools/gate/bytes $$seed 3000 || exit 1; done
+	tools/gate/explain --long
+	tools/gate/load
 
 bench:
 	tools/bench

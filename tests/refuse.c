@@ -1,4 +1,4 @@
-/* Preloaded into a program by tools/refusing.py. What fails is told by the environment:
+/* Preloaded into a program by tools/gate/refusing.py. What fails is told by the environment:
      REFUSE_CALL=N        the growth of memory with this number, from 0, is refused; each call that gives a program memory is one
      REFUSE_READ=N        reads of standard input give N bytes, and then fail
      REFUSE_READ_CALL=N   the read of standard input with this number, from 0, fails, and no other

@@ -1,4 +1,4 @@
-//! Uses of typed calls, as a runner makes them. `tools/refused_uses` puts a line into a copy of this file, and the compiler has to refuse it.
+//! Uses of typed calls, as a runner makes them. `tools/gate/refused_uses` puts a line into a copy of this file, and the compiler has to refuse it.
 #![tactic(auto)]
 
 use agent::{Call, Next, Refused, Resting, Waiting};

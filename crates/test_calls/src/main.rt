@@ -1,5 +1,5 @@
 //! `test_calls`: reads files of rows from standard input, makes the call that each row writes on the layer that the file's first line names, and
-//! writes the row again with the answer that it got. `tests/rows/README.md` says how rows are written; `tools/rows` compares. A call that wanted
+//! writes the row again with the answer that it got. `tests/rows/README.md` says how rows are written; `tools/gate/rows` compares. A call that wanted
 //! memory is made once more, after what it was made on is compared with what it was; so what is written is the same where one growth is refused.
 //! Where memory was wanted by the program itself the status is 4. It promises nothing else.
 #![tactic(auto)]

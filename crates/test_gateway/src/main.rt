@@ -1,5 +1,5 @@
 //! `test_gateway`: reads rows on standard input, makes each call, and writes each row with the answer that the call had. A line such as
-//! `layer contexts` says whose calls the rows behind it are. `tests/rows` says how rows are written and has them; `tools/rows` compares. It
+//! `layer contexts` says whose calls the rows behind it are. `tests/rows` says how rows are written and has them; `tools/gate/rows` compares. It
 //! promises nothing. A row whose call wants memory is answered once more, so what is written is the same where one growth is refused; behind a
 //! first line `watched` it is compared then what rows see before the call and after it. It ends with status 4 where the growth was its own.
 #![tactic(auto)]

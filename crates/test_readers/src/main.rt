@@ -1,5 +1,5 @@
 //! `test_readers`: reads files of rows from standard input, gives the document that each row reads to its reader, or makes the call of a checker or
-//! a small table, and writes the row again with the answer that it got. `tests/rows/README.md` says how rows are written; `tools/rows` compares. A
+//! a small table, and writes the row again with the answer that it got. `tests/rows/README.md` says how rows are written; `tools/gate/rows` compares. A
 //! call that wanted memory is made once more; so what is written is the same where one growth is refused. Where memory was wanted by the program
 //! itself the status is 4. It promises nothing else.
 #![tactic(auto)]

@@ -1,23 +1,55 @@
-"""The crates of `crates.txt`: their names, the libraries that each uses, what is below it, how the prover is called for it, and what a crate
-above can see of it: its items without the bodies of functions, its definitions and its lemmas."""
+"""The crates of `crates.txt`: their neighbourhoods and names, the libraries that each uses, what is below it, how the prover is called for it, and what a
+crate above can see of it: its items without the bodies of functions, its definitions and its lemmas."""
+import functools
 import re
 import shutil
+from collections import namedtuple
 from pathlib import Path
 
-TOP = Path(__file__).resolve().parent.parent
-KIT = Path(shutil.which("rt") or "rt").resolve().parent.parent
+TOP = Path(__file__).resolve().parents[2]
 FUNCTION = re.compile(r"([ \t]*)(?:pub(?:\([^)]*\))? )?(?:unsafe )?fn \w")
 CLAUSE = re.compile(r"^\s*((?:requires|ensures|ghost) .*?)[ ;]*$", re.MULTILINE)
+
+
+# A section of crates.txt: its name, what is said of it, and its crates with the libraries that they use.
+Neighbourhood = namedtuple("Neighbourhood", "name said uses_of")
 
 
 class Unusable(Exception):
     """A library that can't be used: what the prover says of it."""
 
 
+class NoToolchain(SystemExit):
+    """`rt` isn't on the path. Where nobody takes it up, one line says so."""
+
+    def __init__(self):
+        super().__init__("rt isn't on the path: README.md names the toolchain that has to be there")
+
+
+@functools.cache
+def kit():
+    """The folder of the toolchain."""
+    if found := shutil.which("rt"):
+        return Path(found).resolve().parents[1]
+    raise NoToolchain
+
+
+def neighbourhoods():
+    """The neighbourhoods in the order of the file, each with its crates in that order. Crates before the first stand in one without a name."""
+    found = [Neighbourhood("", "", {})]
+    for line in (TOP / "crates.txt").read_text().splitlines():
+        if line.startswith("## "):
+            name, _, said = line.removeprefix("## ").partition(": ")
+            found.append(Neighbourhood(name, said, {}))
+        elif line := line.partition("#")[0].strip():
+            name, _, uses = line.partition(":")
+            found[-1].uses_of[name.split()[0]] = uses.split()
+    return found
+
+
 def libraries():
     """The crates with the libraries that they use, in the order of the file."""
-    lines = (line.split("#")[0].strip() for line in (TOP / "crates.txt").read_text().splitlines())
-    return {name.split()[0]: uses.split() for name, _, uses in (line.partition(":") for line in lines if line)}
+    return {name: uses for neighbourhood in neighbourhoods() for name, uses in neighbourhood.uses_of.items()}
 
 
 def below(name, uses_of):
@@ -44,12 +76,12 @@ def is_program(name):
 def call(name, uses_of):
     """The prover's call for a crate, over the libraries that `rt ci` left."""
     top = "src/main.rt" if is_program(name) else "src/lib.rt"
-    words = [KIT / "bin" / "rattle", "check", "--crate-name", name, top]
+    words = [kit() / "bin" / "rattle", "check", "--crate-name", name, top]
     for use in ["std", *uses_of[name]]:
-        words += ["--extern", f"{use}={library(use) if use in uses_of else KIT / 'rlibs' / f'{use}.rlib'}"]
-    words += ["-L", f"dependency={KIT}/rlibs"]
+        words += ["--extern", f"{use}={library(use) if use in uses_of else kit() / 'rlibs' / f'{use}.rlib'}"]
+    words += ["-L", f"dependency={kit()}/rlibs"]
     words += [word for use in below(name, uses_of) for word in ("-L", f"dependency={library(use).parent}")]
-    words += ["--antt-project", KIT / "rattle" / "logic" / "antt-project.json", "--logic-built", KIT / "logic_built"]
+    words += ["--antt-project", kit() / "rattle" / "logic" / "antt-project.json", "--logic-built", kit() / "logic_built"]
     return [*words, "--jobs", "1", "--links", f"{name}="]
 
 

@@ -3,9 +3,8 @@ tree. Each is told by a seed and a number and is the same each time."""
 import random
 import re
 
-import answers
-import programs
-import trees
+from gate import answers, trees
+from shared import programs
 
 EXAMPLES = programs.TOP / "examples"
 TESTS = programs.TOP / "tests"

@@ -1,7 +1,7 @@
 """The files of tests/rows: which program answers for the layer that a file names, what it is given, and how what it writes is compared with the file."""
 import sys
 
-import programs
+from shared import programs
 
 ROWS = programs.TOP / "tests" / "rows"
 MARK = " => "

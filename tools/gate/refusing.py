@@ -7,7 +7,7 @@ import tempfile
 from collections import namedtuple
 from pathlib import Path
 
-import programs
+from shared import programs
 
 SOURCE = programs.TOP / "tests" / "refuse.c"
 NO_MEMORY = 4, b"no memory\n"
@@ -105,16 +105,3 @@ def refusing():
         library = Path(folder) / "refuse.so"
         subprocess.run(["cc", "-O2", "-shared", "-fPIC", "-o", library, SOURCE], check=True)
         yield Refusing(library)
-
-
-def count(parts):
-    """Counts the named trials that hold, prints those that don't and the last line, and gives the status to end with."""
-    passed = failed = 0
-    for name, holds in parts:
-        if holds:
-            passed += 1
-        else:
-            failed += 1
-            print(f"failed: {name}")
-    print(f"{passed} passed, {failed} failed")
-    return 1 if failed or not passed else 0

@@ -8,7 +8,7 @@ import tempfile
 import time
 from pathlib import Path
 
-PROGRAM = Path(__file__).resolve().parent.parent / "crates/mgcall/out/mgcall"
+PROGRAM = Path(__file__).resolve().parents[2] / "crates/mgcall/out/mgcall"
 LINES = "abgh"
 MODES = ["Inactive", "SendOnly", "ReceiveOnly", "SendReceive"]
 

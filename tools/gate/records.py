@@ -8,10 +8,12 @@ import subprocess
 import sys
 import time
 
-from crates import TOP
+from shared import crates
 
 ANEW = "--anew"
 LINE = re.compile(r"(\S+) ([0-9a-f]{64})")
+TOOLS = crates.TOP / "tools"
+IMPORT = re.compile(r"^from (gate|shared) import (.+)$", re.MULTILINE)
 
 
 def words():
@@ -35,7 +37,7 @@ def digest(*parts):
 
 def kit():
     """What stands for the toolchain: the line that names it."""
-    return subprocess.run(["rt", "version"], capture_output=True, text=True, check=True).stdout.strip()
+    return subprocess.run([crates.kit() / "bin" / "rt", "version"], capture_output=True, text=True, check=True).stdout.strip()
 
 
 def of_files(root, *parts):
@@ -44,14 +46,20 @@ def of_files(root, *parts):
     return digest(*(word for path in paths for word in (path.relative_to(root), path.read_bytes())))
 
 
-def of_tools(*names):
-    """The checksum of tools that edits are judged by."""
-    return digest(*((TOP / "tools" / name).read_bytes() for name in names))
+def of_tools(name):
+    """The checksum of the tool of the gate that judges edits, with all of tools/ that it imports, by their paths."""
+    files, left = set(), [TOOLS / "gate" / name]
+    while left:
+        path = left.pop()
+        if path not in files:
+            files.add(path)
+            left += [TOOLS / folder / f"{module}.py" for folder, names in IMPORT.findall(path.read_text()) for module in names.split(", ")]
+    return digest(*(word for path in sorted(files) for word in (path.relative_to(TOOLS), path.read_bytes())))
 
 
 def sample(names, size):
     """So many of the names, or all where they are fewer: evenly spread over their groups, which stand before a slash, and chosen by the commit."""
-    commit = subprocess.run(["git", "rev-parse", "HEAD"], cwd=TOP, capture_output=True, text=True, check=False).stdout.strip()
+    commit = subprocess.run(["git", "rev-parse", "HEAD"], cwd=crates.TOP, capture_output=True, text=True, check=False).stdout.strip()
     chance = random.Random(commit)
     place = {name: chance.random() for name in sorted(names)}
     order = sorted(names, key=lambda name: (name.partition("/")[0], place[name]))
@@ -107,7 +115,7 @@ def told(tool, answers, recorded):
     for name in sorted(name for name, fault in answers.items() if not fault):
         print(f"{name}: refused")
     print(f"{recorded} taken from the record")
-    return ended({name: f"{fault} (tools/{tool} {name})" for name, fault in answers.items() if fault}, len(answers) + recorded)
+    return ended({name: f"{fault} (tools/gate/{tool} {name})" for name, fault in answers.items() if fault}, len(answers) + recorded)
 
 
 def looked(faults):
