@@ -18,9 +18,7 @@ def stop(told, status):
 
 
 def words(about, usage, least, most=None):
-    """The words that a tool was given, from so many to so many. With --help it says what it does, with status 0. Whoever reads only the front of what a
-    tool prints ends it."""
-    signal.signal(signal.SIGPIPE, signal.SIG_DFL)
+    """The words that a tool was given, from so many to so many. With --help it says what it does, with status 0."""
     given = sys.argv[1:]
     if "--help" in given or "-h" in given:
         print(f"usage: {usage}\n\n{about}")
@@ -28,6 +26,12 @@ def words(about, usage, least, most=None):
     if not least <= len(given) <= (least if most is None else most):
         stop(f"usage: {usage}", WORDS)
     return given
+
+
+def tell(lines):
+    """Prints lines. Whoever reads only the front of them ends the tool."""
+    signal.signal(signal.SIGPIPE, signal.SIG_DFL)
+    print(*lines, sep="\n", flush=True)
 
 
 def read(names):
