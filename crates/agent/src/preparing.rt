@@ -60,14 +60,14 @@ impl Plain {
     pub fn after(&self, script: &Script, delivery: &Delivery<'_>) -> Result<Plain, PlainFault>
         ensures { IsAfter (stepped_by script.now (agent_of self.now) delivery.now) result }
     {
-        let prepared = self.prepared(script, delivery)?;
+        let step = self.prepared(script, delivery)?;
         let Ok(mut after) = self.copy_at_rest() else {
             return Err(PlainFault::NoMemory);
         };
-        let Ok(()) = after.accept_if(prepared.note) else {
+        let Ok(()) = after.accept_if(step.note) else {
             return Err(PlainFault::NoMemory);
         };
-        let _ = after.finish(prepared);
+        let _ = after.finish(step);
         Ok(after)
     }
 

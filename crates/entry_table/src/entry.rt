@@ -56,7 +56,7 @@ impl Model for Entry {
 
 /// What the points of an entry are made of: a configuration, and components that are given their values in it, in their order.
 #[derive(Drop)]
-pub struct Turning<'e> {
+pub struct PointsByComponent<'e> {
     /// The configuration.
     pub base: Config,
     /// The components that are given their values.
@@ -151,12 +151,12 @@ impl Entry {
     }
 
     /// What its points are made of: the configuration with a number is the one in which the components have the choices with this number.
-    pub fn turning(&self) -> Turning<'_>
+    pub fn points_by_component(&self) -> PointsByComponent<'_>
         ensures size { size_of (shown_all result.components.now) ≡ size_of self.now.components }
         ensures numbers { (k : ℕ) → k < size_of self.now.components
             → numbered self.now k ≡ chosen (map choices_of (shown_all result.components.now)) k (configuration_of result.base) }
     {
-        Turning {
+        PointsByComponent {
             base: self.turned.base,
             components: self.turned.components.as_slice(),
         }
@@ -167,10 +167,10 @@ impl Entry {
         requires { number < size_of self.now.components }
         ensures { configuration_of result ≡ numbered self.now number }
     {
-        let turning = self.turning();
-        let mut config = turning.base;
+        let points = self.points_by_component();
+        let mut config = points.base;
         choose_all(
-            turning.components,
+            points.components,
             u64::from(self.size()),
             u64::from(number),
             &mut config,

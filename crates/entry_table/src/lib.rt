@@ -13,4 +13,4 @@ mod turned;
 
 pub use cert::Cert;
 pub use component::Component;
-pub use entry::{Entry, Turning, product_of};
+pub use entry::{Entry, PointsByComponent, product_of};

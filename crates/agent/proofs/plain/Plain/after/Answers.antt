@@ -31,10 +31,10 @@ finished_at_rest a p =
 pub returns : goal.returns
 returns c =
     let a = agent_of c.args.self.now in
-    let p = c.in_ok-prepared.prepared in
-    c.in_ok-prepared.ensures.0
+    let p = c.in_ok-step.step in
+    c.in_ok-step.ensures.0
     ∙ ap (λ (x : Agent). Some x)
     (sym (finished_at_rest (with_note a p.note) p)
     ∙ ap (λ (x : Agent). finished x p) (sym (note_at_rest a p.note) ∙ ap (λ (x : Agent). with_note x p.note) (sym c.in-Ok.ensures)
-    ∙ sym (c.in-Ok-accept_if.ensures ∙ ap (λ (v : PreparedValue). with_note (agent_of c.in-Ok.after) v.note) c.prepared-2.view_is))
+    ∙ sym (c.in-Ok-accept_if.ensures ∙ ap (λ (v : PreparedValue). with_note (agent_of c.in-Ok.after) v.note) c.step-2.view_is))
     ∙ sym c.finish.ensures.finished)
