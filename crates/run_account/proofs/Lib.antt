@@ -12,3 +12,4 @@ pub mod MergedParts
 pub mod MergedPlaces
 pub mod Passed
 pub mod SameEvents
+pub mod SameLines

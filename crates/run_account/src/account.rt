@@ -73,24 +73,33 @@ fn histories<'a>(alloc: Global, shards: &'a [Shard<'_>]) -> Result<Vec<&'a [Even
     Ok(histories)
 }
 
+/// A plan, with the script that it is for.
+#[derive(Clone, Copy)]
+pub struct PlannedRun<'a> {
+    /// The script.
+    pub checked: &'a Checked,
+    /// The plan.
+    pub plan: &'a Plan,
+}
+
 /// What a run of a plan on so many workers came to: `Disagree` where the shards weren't restarted equally often, or have another history than the calls went through, and
 /// `NoMemory` where memory ran out.
 pub fn finish<'a, 's, R: Threads + Sync>(
     rt: &R,
     alloc: Global,
-    checked: &'a Checked,
-    plan: &'a Plan,
+    run: PlannedRun<'a>,
     shards: &'a [Shard<'s>],
     planned_calls: Vec<PlannedCall<'s>>,
     workers: usize,
 ) -> Result<Outcome<'s>, RunFault>
-    requires plan { IsPlanFor checked.now.table plan.now }
-    requires few { length plan.now.calls ≤ plan_calls }
-    requires kept { AreOfRun checked.now.table plan.now.calls plan.now.shards 0 shards.now }
-    requires all { vec_len planned_calls ≡ length plan.now.calls }
-    ensures { IfOk result (λ outcome. IsRunOf checked.now.table plan.now outcome) }
+    requires plan { IsPlanFor run.checked.now.table run.plan.now }
+    requires few { length run.plan.now.calls ≤ plan_calls }
+    requires kept { AreOfRun run.checked.now.table run.plan.now.calls run.plan.now.shards 0 shards.now }
+    requires all { vec_len planned_calls ≡ length run.plan.now.calls }
+    ensures { IfOk result (λ outcome. IsRunOf run.entry.checked.now.table run.entry.plan.now outcome) }
 {
     laws::merges_are_runs();
+    let PlannedRun { checked, plan } = run;
     if shards.len() != usize::from(plan.shards()) {
         return Err(RunFault::Disagree);
     }

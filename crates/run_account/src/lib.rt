@@ -12,5 +12,5 @@ mod merge;
 mod outcome;
 mod report;
 
-pub use account::finish;
+pub use account::{PlannedRun, finish};
 pub use outcome::Outcome;

@@ -3,10 +3,11 @@
 ghost use Rattle.std.specs.Prelude.{◌≡◌, ◌<◌, ℕ, [], Contains, IfOk, length, map, slice_index_or};
 ghost use Rattle.std.specs.List.{flat_map, range_with_len, AllZip};
 ghost use Rattle.mg_model.specs.Plans as plans;
+ghost use Rattle.mg_model.specs.Script.{Script};
 ghost use Rattle.mg_model.specs.Reports.{IsReported};
 ghost use Rattle.run_account.specs.Comparing.{trails_of};
 ghost use Rattle.run_account.specs.FinalState.{HaveLines, IsLeftAmong};
-ghost use Rattle.planned_calls.specs.ReportLines.{AreNumbered, IsReportOf, line_of};
+ghost use Rattle.planned_calls.specs.ReportLines.{AreNumbered, IsReportOf, line_of, lines_told};
 ghost use Rattle.run_account.specs.CallReport.{IsTold};
 
 use crate::final_state::are_left;
@@ -45,7 +46,9 @@ fn agreed_lines(
     call: &PlanCall,
     planned: &PlannedCall<'_>,
 ) -> Result<Vec<Line>, RunFault>
-    ensures { IfOk result (λ lines. IsReported source.now.checked.now.table (plans.opened_as number call.now) (plans.steps_in (plans.epochs_of source.now.totals.calls) call.now.epochs) (plans.restarts_of_others source.now.totals call.now) (map (line_of source.now.checked.now.table) lines.items) × AreNumbered number lines.items) }
+    ensures reported { IfOk result (λ lines. IsReported source.now.checked.now.table (plans.opened_as number call.now) (plans.steps_in (plans.epochs_of source.now.totals.calls) call.now.epochs) (plans.restarts_of_others source.now.totals call.now) (map (line_of source.now.checked.now.table) lines.items)) }
+    ensures numbered { IfOk result (λ lines. AreNumbered number lines.items) }
+    ensures kept { IfOk result (λ lines. (script : Script) → map (line_of script) lines.items ≡ lines_told script planned.now.chain source.now.last.0) }
 {
     let Some(own) = restarts_asked(call) else {
         return Err(RunFault::Disagree);

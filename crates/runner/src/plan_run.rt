@@ -7,7 +7,7 @@ ghost use Rattle.run_account.specs.Runs.{HasRun, IsRunOf};
 use composition::Checked;
 use planned_calls::RunFault;
 use plans::Plan;
-use run_account::{Outcome, finish};
+use run_account::{Outcome, PlannedRun, finish};
 use std::alloc::Global;
 use std::sync::Wait;
 use std::thread::Threads;
@@ -34,7 +34,8 @@ fn go<'s, G: Gate, R: Threads + Wait + Sync>(
 {
     let (shards, planned_calls) = run_calls(rt, alloc, checked, plan, workers, gate)?;
     let shards = shards.as_slice();
-    finish(rt, alloc, checked, plan, shards, planned_calls, workers)
+    let run = PlannedRun { checked, plan };
+    finish(rt, alloc, run, shards, planned_calls, workers)
 }
 
 /// Runs a plan of calls of a checked script, which was read with that script, on 1 to 64 workers, over as many gateways as the plan has shards. Calls pass

@@ -19,7 +19,7 @@ use Rattle.run_account.proofs.account.finish.Goals as goal
 pub invariant_of-result : goal.invariant_of-result
 invariant_of-result g c =
     let shards = c.args.shards.now in
-    let plan = c.args.plan.now in
+    let plan = c.args.run.plan.now in
     let restarts = c.restarts_of-restarts.result in
     let planned_calls = c.args.planned_calls.items in
     let histories = map (λ v. v.history) shards in
@@ -40,7 +40,7 @@ invariant_of-result g c =
 pub returns : goal.returns
 returns g c =
     let shards = c.args.shards.now in
-    let plan = c.args.plan.now in
+    let plan = c.args.run.plan.now in
     let restarts = c.restarts_of-restarts.result in
     let planned_calls = c.args.planned_calls.items in
     let histories = map (λ v. v.history) shards in
@@ -60,7 +60,7 @@ returns g c =
     let some : 0 < plan.shards = omega (arith, c.requires.plan.some_shard) in
     let outcome : IsOutcome c.in_ok-history.history.items (trails_of planned_calls) =
     is_outcome plan restarts shards c.in_ok-history.history.items (trails_of planned_calls) some sized all agree merges in
-    let table = c.args.checked.now.table in
+    let table = c.args.run.checked.now.table in
     let lines = c.in_ok-report.report.items in
     let totals : c.in-Some.totals ≡ plan = c.in-Some.ensures in
     let reported : IsReportOf table plan lines = subst (λ (p : Plan). IsReportOf table p lines) totals c.in_ok-report.ensures.report in
@@ -71,6 +71,6 @@ returns g c =
     λ l among. subst (λ (p : Plan). IsLeftAmong table p.shards shards (trails_of planned_calls) l) totals
     (subst (λ (cs : List PlannedCall). IsLeftAmong table c.in-Some.totals.shards shards (trails_of cs) l) c.as_slice-3.ensures.value
     (c.in_ok-report.ensures.left l among)) in
-    is_run c.args.checked.now.table plan restarts c.requires.few c.merges_are_runs.ensures shards
+    is_run c.args.run.checked.now.table plan restarts c.requires.few c.merges_are_runs.ensures shards
     (record { history = c.in_ok-history.history.items; trails = trails_of planned_calls; lines = c.in_ok-report.report.items }) c.requires.plan sized c.requires.kept all agree merges calls
     outcome reported left told

@@ -28,8 +28,8 @@ returns c =
       is = subst (λ (cs : List PlanCall). slice_get cs c.args.place ≡ Some call) (c.calls.ensures ∙ ap (λ (p : Plan). p.calls) c.plan-plan.ensures)
           (slice_get_read calls (length calls) c.args.place call refl at.3.0 (at.3.1 call));
       reported = subst (λ (n : ℕ). IsReported script (opened_as n call) (steps_in (epochs_of plan.calls) call.epochs) (restarts_of_others plan call) (map (line_of script) lines))
-          number c.in_ok-lines.ensures.0;
-      numbered = subst (λ (n : ℕ). AreNumbered n lines) number c.in_ok-lines.ensures.1;
+          number c.in_ok-lines.ensures.reported;
+      numbered = subst (λ (n : ℕ). AreNumbered n lines) number c.in_ok-lines.ensures.numbered;
       left = λ l among.
           subst (λ (s : Script). IsLeftAmong s plan.shards shards trails l) c.script.ensures.table
           (subst (λ (n : ℕ). IsLeftAmong c.script.result.now n shards trails l) count
