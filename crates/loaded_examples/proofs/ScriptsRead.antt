@@ -1,5 +1,6 @@
 -- The bytes of each script are read as its table: the reader's definitions compute it.
 use Rattle.std.proofs.Common.{Ok, refl, []}
+use Rattle.mg_examples.specs.Basic.{basic}
 use Rattle.mg_examples.specs.BegunTalk.{renewing}
 use Rattle.mg_examples.specs.CreatedTwice.{created_twice}
 use Rattle.mg_examples.specs.NamesKept.{name_kept}
@@ -9,6 +10,10 @@ use Rattle.mg_examples.specs.Unarmed.{unarmed}
 use Rattle.scriptreader.specs.Reading.{ReadsScript}
 use Rattle.loaded_examples.specs.Scripts as bytes
 use Rattle.loaded_examples.proofs.OnTexts.{scripts_on_texts, script_read}
+
+pub basic_read : ReadsScript bytes.basic (Ok (basic both_lines))
+unfolding scripts_on_texts
+basic_read = script_read bytes.basic (basic both_lines) refl refl
 
 pub calling_read : ReadsScript bytes.calling (Ok (calling both_lines))
 unfolding scripts_on_texts

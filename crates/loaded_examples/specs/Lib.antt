@@ -1,3 +1,4 @@
 pub mod Lines
 pub mod Scripts
 pub mod Certificates
+pub mod Told

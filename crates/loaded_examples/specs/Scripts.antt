@@ -3,6 +3,42 @@
 use Rattle.std.specs.Prelude.{ℕ, List, [], ◌∷◌, codes}
 use Rattle.loaded_examples.specs.Lines.{text_of}
 
+-- `basic both_lines`
+abbrev pub basic : List ℕ
+basic = text_of (
+    codes "lines = [\"a\", \"b\"]"
+    ∷ codes "contexts = [\"c\"]"
+    ∷ codes "start = \"idle\""
+    ∷ codes "restart = \"rearm\""
+    ∷ codes "[[events]]"
+    ∷ codes "name = \"hang\""
+    ∷ codes "list = [\"al/on=state\"]"
+    ∷ codes "[[state]]"
+    ∷ codes "name = \"idle\""
+    ∷ codes "on.a.of = \"talk\""
+    ∷ codes "[[state]]"
+    ∷ codes "name = \"talk\""
+    ∷ codes "do = [\"add $c a mode=SendReceive events=hang\", \"add c b mode=SendReceive\"]"
+    ∷ codes "fault = \"part\""
+    ∷ codes "talk = [\"a-b\"]"
+    ∷ codes "on.a.on = \"part\""
+    ∷ codes "[[state]]"
+    ∷ codes "name = \"part\""
+    ∷ codes "do = [\"subtract c *\"]"
+    ∷ codes "talk = [\"a-b\"]"
+    ∷ codes "ok = \"rearm\""
+    ∷ codes "fault = \"part\""
+    ∷ codes "[[state]]"
+    ∷ codes "name = \"done\""
+    ∷ codes "end = true"
+    ∷ codes "[[state]]"
+    ∷ codes "name = \"rearm\""
+    ∷ codes "do = [\"modify - a events=armed signals=none\", \"modify - b events=armed signals=none\"]"
+    ∷ codes "ok = \"done\""
+    ∷ codes "fault = \"rearm\""
+    ∷ []
+    )
+
 -- the script `calling both_lines`
 abbrev pub calling : List ℕ
 calling = text_of (

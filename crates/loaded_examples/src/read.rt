@@ -1,8 +1,9 @@
 //! The bytes of each example, and what the readers make of them.
-ghost use Rattle.std.specs.Prelude.{[]};
+ghost use Rattle.std.specs.Prelude.{[], Ok};
 ghost use Rattle.composition.specs.Verdict.{AreRead};
 ghost use Rattle.loaded_examples.specs.Certificates as certificates;
 ghost use Rattle.loaded_examples.specs.Scripts as scripts;
+ghost use Rattle.mg_examples.specs.Basic.{basic};
 ghost use Rattle.mg_examples.specs.BegunTalk.{renewing, renewing_entries};
 ghost use Rattle.mg_examples.specs.CreatedTwice.{created_twice, created_twice_entries};
 ghost use Rattle.mg_examples.specs.NamesKept.{name_kept, name_kept_entries};
@@ -10,6 +11,13 @@ ghost use Rattle.mg_examples.specs.TalkEntries.{after_a_restart, at_rest, in_idl
 ghost use Rattle.mg_examples.specs.TwoLines.{calling, recovering};
 ghost use Rattle.mg_examples.specs.TwoTalks.{both_lines};
 ghost use Rattle.mg_examples.specs.Unarmed.{unarmed, unarmed_entries};
+ghost use Rattle.scriptreader.specs.Reading.{ReadsScript};
+
+/// Of the script whose run joins two lines, whatever pairs its state marks (`mg_examples::runs::a_run_joins_two_lines`): the bytes of
+/// `examples/basic/script.toml` are read as it, with its two lines marked.
+pub fn basic_is_read()
+    ensures { ReadsScript scripts.basic (Ok (basic both_lines)) }
+{}
 
 /// Of the script and the entries under which two calls talk at once (`mg_examples::runs::two_calls_talk_at_once`): the bytes of
 /// `examples/talks` are read as these.
