@@ -1,4 +1,4 @@
--- The bytes of the certificates of the examples, as the files of the repository have them (`tools/texts`). A reader should see that they are what one would
+-- The bytes of the certificates of the examples, as the files of the repository have them (`tools/gate/texts`). A reader should see that they are what one would
 -- write for the entries of `mg_examples`.
 use Rattle.std.specs.Prelude.{ℕ, List, [], ◌∷◌, codes}
 use Rattle.loaded_examples.specs.Lines.{text_of}
