@@ -5,6 +5,7 @@
 
 mod collecting;
 mod fault;
+mod happening;
 mod item;
 mod lines;
 mod list;

@@ -1,5 +1,5 @@
 //! What happens on the lines.
-ghost use Rattle.std.specs.Prelude.{◌≡◌, [], ◌∷◌, IfOk, OnOk, OnErr};
+ghost use Rattle.std.specs.Prelude.{◌≡◌, ◌&&◌, is_some, [], ◌∷◌, IfOk, OnOk, OnErr};
 ghost use Rattle.mg_model.specs.Gateway.{outcome_of, board_restarted};
 ghost use Rattle.mg_model.specs.LineEvents.{cleared};
 ghost use Rattle.mg_model.specs.Numbers.{opening_request};
@@ -25,6 +25,16 @@ fn opening_list(alloc: Global) -> Result<EventList, AllocError>
 }
 
 impl Connections {
+    /// Whether an event can happen on a line: where `happen` has no fault. On a line that isn't there none can.
+    pub fn can_happen(&self, line: LineNo, event: LineEvent) -> bool
+        ensures { result ≡ (has_line (board_in self.now) line.0 && is_some (outcome_of (line_in self.now line.0) event)) }
+    {
+        match self.lines.row(line) {
+            Some(row) => row.can_happen(event),
+            None => false,
+        }
+    }
+
     /// An event on a line, and the note that it raises. `UnknownLine` for a line that isn't there, `CannotHappen` for an event that
     /// can't happen on the line as it is; it takes no memory.
     pub fn happen(&mut self, line: LineNo, event: LineEvent) -> Result<Option<Note>, LineFault>
