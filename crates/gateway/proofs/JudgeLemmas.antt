@@ -1,10 +1,11 @@
 -- What is found of a request before it runs, and what its run leaves.
-use Rattle.std.proofs.Common.{◌≡◌, ◌∙◌, ℕ, ◌+◌, ◌<◌, ◌≤◌, List, length, Option, Some, None, is_some, refl, sym, ap, subst, arith, true≢false}
+use Rattle.std.proofs.Common.{◌≡◌, ◌∙◌, ℕ, ◌+◌, ◌<◌, ◌≤◌, Bool, true, false, nat_le, List, length, Option, Some, None, is_some, refl, sym, ap, subst, arith, true≢false}
+use Rattle.std.proofs.lemmas.Bool.Decides.{nat_tests}
 use Rattle.std.proofs.lemmas.List.{length-map}
 use Rattle.mg_model.specs.RequestRun.{RaisedNote}
 use Rattle.mg_model.specs.declared.failures.ChosenRefusal.{ChosenRefusal}
 use Rattle.mg_model.specs.declared.failures.Failure.{Failure}
-use Rattle.mg_model.specs.Delivery.{offer, kept as kept_again, discard, fresh}
+use Rattle.mg_model.specs.Delivery.{Offer, offer, kept as kept_again, discard, fresh}
 use Rattle.mg_model.specs.Numbers.{last_number}
 use Rattle.mg_model.specs.Gateway.{IsKept, IsDiscarded, offer_to, sent_notes}
 use Rattle.mg_model.specs.Messages.{Request, Reply, SentNote}
@@ -12,12 +13,24 @@ use Rattle.mg_model.specs.Items.{Done}
 use Rattle.requests.specs.declared.outcome.LineNote.{LineNote}
 use Rattle.requests.specs.Connected.{Connected, line_in, start_in, Ends}
 use Rattle.requests.specs.Views.{line_notes}
-use Rattle.gateway.specs.Answers.{IsAddressed, HasNoRoom}
+use Rattle.gateway.specs.Answers.{CanExecute, IsAddressed, HasNoRoom}
 use Rattle.gateway.specs.Calls.{OpenCall, call_in, delivery_link, link_of}
 use Rattle.gateway.specs.Execution.{IsNew, IsRun}
 use Rattle.gateway.specs.GatewayValue.{GatewayValue, gateway_of, is_open}
 use Rattle.gateway.proofs.NoteLemmas.{notes_at_most}
 use Rattle.gateway.proofs.OfferLemmas.{offer_is}
+
+at_most : (n m : ℕ) → nat_le n m ≡ true → n ≤ m
+at_most n m is = grind (arith, nat_tests)
+
+above : (n m : ℕ) → nat_le n m ≡ false → m < n
+above n m is = grind (arith, nat_tests)
+
+pub kept_not_fresh : (reply : Reply) → kept_again reply ≡ fresh → ⊥
+kept_not_fresh reply e = cc
+
+pub discard_not_fresh : (offered : Offer Reply) → offered ≡ discard → offered ≡ fresh → ⊥
+discard_not_fresh offered is e = cc
 
 pub nobody : (w : GatewayValue) (call : ℕ) (request : Request) → call_in w.calls call ≡ None → IsAddressed w call request → ⊥
 unfolding is_open
@@ -53,6 +66,23 @@ module _ (w : GatewayValue) (call : ℕ) (request : Request) (state : OpenCall) 
     is_fresh = asked ∙ e;
     full = by_link (λ (o : Option OpenCall). last_number < (link_of o).notes + length request.commands) full;
   }
+
+  -- only a request that would be executed may find no room
+  pub never_full : (o : Offer Reply) → offer (delivery_link state) request.association request.number ≡ o → (o ≡ fresh → ⊥) → CanExecute w call request true
+  never_full o e other = λ both. other (sym (asked ∙ e) ∙ both.1.is_fresh)
+
+  pub full_or_not : offer (delivery_link state) request.association request.number ≡ fresh → (count room : ℕ) → count ≡ length request.commands
+      → room + state.notes ≡ last_number → (can : Bool) → can ≡ nat_le count room → CanExecute w call request can
+  unfolding gateway_of
+  full_or_not e count room count_is all true few = λ both.
+      let full : last_number < state.notes + length request.commands =
+      subst (λ (o : Option OpenCall). last_number < (link_of o).notes + length request.commands) found_request both.1.full in
+      let within : count ≤ room = at_most count room (sym few) in
+      absurd (omega (arith, full, within, count_is, all))
+  full_or_not e count room count_is all false many =
+      let beyond : room < count = above count room (sym many) in
+      let full : last_number < state.notes + length request.commands = omega (arith, beyond, count_is, all) in
+      (addressed, has_no_room e full)
 
 -- ---- the run
 

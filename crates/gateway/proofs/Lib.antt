@@ -9,6 +9,7 @@ pub mod MayLemmas
 pub mod RestartLemmas
 pub mod JudgeLemmas
 pub mod HappenLemmas
+pub mod HolderLemmas
 pub mod StartLemmas
 pub mod CreatorLemmas
 pub mod CreatedLemmas

@@ -1,6 +1,6 @@
 -- What a gateway answers to a request, an event and a restart, and what becomes of it. A reader should check that each answer but
 -- that of an execution leaves the gateway as it was, and when each one comes.
-use Rattle.std.specs.Prelude.{◌≡◌, ℕ, ◌+◌, ◌<◌, true, List, [], ◌∷◌, length, Option, Some, None, Result, Ok, Err, ◌⊎◌}
+use Rattle.std.specs.Prelude.{◌≡◌, ℕ, ◌+◌, ◌<◌, Bool, true, false, List, [], ◌∷◌, length, Option, Some, None, Result, Ok, Err, ◌⊎◌}
 use Rattle.mg_model.specs.declared.failures.ChosenRefusal.{ChosenRefusal}
 use Rattle.mg_names.specs.declared.identifiers.Assoc.{Assoc}
 use Rattle.mg_model.specs.Numbers.{last_number, last_association}
@@ -47,6 +47,11 @@ IsAnswered old call request refusal new CannotHappen =
     IsAddressed old call request × (HasNoRoom (gateway_of old) request × (new ≡ old))
 IsAnswered old call request refusal new NoMemory = IsSame old new
 
+-- whether it can reach the gateway: what is false gives just what is answered where it can't
+abbrev pub CanExecute : GatewayValue → ℕ → Request → Bool → Type 0
+CanExecute old call request true = IsAddressed old call request × HasNoRoom (gateway_of old) request → ⊥
+CanExecute old call request false = IsAddressed old call request × HasNoRoom (gateway_of old) request
+
 -- ---- an event of a line
 
 abbrev pub note_listed : Option SentNote → List SentNote
@@ -56,6 +61,17 @@ note_listed (Some note) = note ∷ []
 abbrev pub CannotOccur : GatewayValue → ℕ → LineEvent → Type 0
 CannotOccur old line event =
     (after : Gateway) (notes : List SentNote) → Happens (gateway_of old) line event after notes → ⊥
+
+-- it leads to a gateway, with these notes
+pub record CanOccur (old : GatewayValue) (line : ℕ) (event : LineEvent) : Type 0 where
+  pub after : Gateway
+  pub notes : List SentNote
+  pub happens : Happens (gateway_of old) line event after notes
+
+-- whether it can happen
+abbrev pub CanHappen : GatewayValue → ℕ → LineEvent → Bool → Type 0
+CanHappen old line event true = CanOccur old line event
+CanHappen old line event false = CannotOccur old line event
 
 -- it happens, or it can't
 abbrev pub IsHappened : GatewayValue → ℕ → LineEvent → GatewayValue → Result (Option SentNote) fault.CannotHappen → Type 0

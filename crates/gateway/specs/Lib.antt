@@ -7,3 +7,4 @@ pub mod Faults
 pub mod Beginnings
 pub mod Answers
 pub mod Execution
+pub mod Holders

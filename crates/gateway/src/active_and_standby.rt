@@ -1,5 +1,5 @@
 //! The connections of a gateway with a standby.
-ghost use Rattle.std.specs.Prelude.{◌≡◌, ◌<◌, IfOk, OnOk, option_map};
+ghost use Rattle.std.specs.Prelude.{◌≡◌, ◌<◌, ◌&&◌, is_some, IfOk, OnOk, option_map};
 ghost use Rattle.mg_model.specs.Gateway.{outcome_of, board_restarted};
 ghost use Rattle.mg_model.specs.LineEvents.{new_line, cleared};
 ghost use Rattle.contexts.specs.BoardValue.{opened, started};
@@ -102,6 +102,13 @@ impl ActiveAndStandby {
         ensures { result ≡ is_raised (outcome_of (line_in self.now line.0) event) }
     {
         self.active.raises(line, event)
+    }
+
+    /// Whether an event can happen on a line.
+    pub(crate) fn can_happen(&self, line: LineNo, event: LineEvent) -> bool
+        ensures { result ≡ (has_line (board_in self.now) line.0 && is_some (outcome_of (line_in self.now line.0) event)) }
+    {
+        self.active.can_happen(line, event)
     }
 
     /// The standby, or a copy.

@@ -111,8 +111,8 @@ impl Gateway {
         !self.has_any(state.created(), call)
     }
 
-    /// Whether a call can begin on the lines of another.
-    fn can_begin(&self, old: CallNo, new: CallNo) -> Result<(), BeginFault>
+    /// Whether a call can begin on the lines of another: the fault that `begin` answers, but want of memory (this profile's own).
+    pub fn can_begin(&self, old: CallNo, new: CallNo) -> Result<(), BeginFault>
         ensures { CanBegin self.now old.0 new.0 result }
     {
         let Some(state) = calls::call(&self.calls, old.0) else {

@@ -1,6 +1,7 @@
 //! An open call.
-ghost use Rattle.std.specs.Prelude.{◌≡◌, ℕ, true, OnOk};
+ghost use Rattle.std.specs.Prelude.{◌≡◌, ℕ, ◌+◌, true, OnOk};
 ghost use Rattle.mg_model.specs.Delivery.{offer, fresh};
+ghost use Rattle.mg_model.specs.Numbers.{last_number};
 ghost use Rattle.delivery.specs.Offers.{offered};
 ghost use Rattle.gateway.specs.Calls.{delivery_link, new_call, keeping, counting, creating, restarting, is_among};
 ghost use Rattle.gateway.specs.Creators.{any_created};
@@ -8,7 +9,7 @@ ghost use Rattle.gateway.specs.Creators.{any_created};
 use crate::created;
 use contexts::Done;
 use delivery::{Link, Offer};
-use mg_names::identifiers::{Assoc, LineNo};
+use mg_names::identifiers::{Assoc, LAST_NUMBER, LineNo};
 use requests::Reply;
 use std::alloc::{AllocError, Global};
 use std::collections::BTreeSet;
@@ -90,6 +91,13 @@ impl CallState {
         ensures { result ≡ self.now.notes }
     {
         self.notes
+    }
+
+    /// For how many notes more numbers are left.
+    pub(crate) fn room(&self) -> usize
+        ensures { result + self.now.notes ≡ last_number }
+    {
+        (LAST_NUMBER - self.notes) as usize
     }
 
     /// Keeps the reply to a request that was executed, with the number of the last note.

@@ -11,7 +11,7 @@ use crate::{calls, creators, numbering};
 use contexts::Done;
 use delivery::Offer;
 use mg_model::failures::ChosenRefusal;
-use mg_names::identifiers::{CallNo, LAST_NUMBER};
+use mg_names::identifiers::CallNo;
 use requests::{Connections, Outcome, Reply, Request, SentNote};
 use std::alloc::AllocError;
 
@@ -59,7 +59,7 @@ impl Gateway {
             },
             Offer::Fresh => {
                 let last = state.notes();
-                if request.commands().len() > (LAST_NUMBER - last) as usize {
+                if request.commands().len() > state.room() {
                     Judged::Full
                 } else {
                     Judged::New(last)

@@ -18,6 +18,7 @@ mod happen;
 mod holders;
 mod numbering;
 mod open_call;
+mod possible;
 mod readers;
 mod restart;
 

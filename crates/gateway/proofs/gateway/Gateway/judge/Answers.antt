@@ -47,8 +47,8 @@ returns-in-Ok c =
           (is_kept w call request state found tied ours c.in-Kept.reply.now (asked ∙ sym c.in-Kept.ensures)),
     )
 
-pub returns-then-commands-last : goal.returns-then-commands-last
-returns-then-commands-last c =
+pub returns-then-commands-room : goal.returns-then-commands-room
+returns-then-commands-room c =
     let w : GatewayValue = c.args.self.now in
     let call : ℕ = c.args.call.0 in
     let request : Request = c.args.request.now in
@@ -59,6 +59,5 @@ returns-then-commands-last c =
     let asked : offer (delivery_link state) request.association request.number ≡ offer (delivery_link state) c.association.result.0 c.number.result =
     ap (λ (a : ℕ). offer (delivery_link state) a request.number) (sym c.association.ensures) ∙ ap (offer (delivery_link state) c.association.result.0) (sym c.number.ensures) in
     let same : length request.commands ≡ length c.commands.result.now = ap length (sym c.commands.ensures) ∙ (rw length-map refl) in
-    let last : c.notes-last.result ≡ state.notes = c.notes-last.ensures in
-    let full : last_number < state.notes + length request.commands = omega (arith, c.if-commands-last.true) in
+    let full : last_number < state.notes + length request.commands = omega (arith, same, c.room.ensures, c.if-commands-room.true) in
     (addressed w call request state found tied ours, has_no_room w call request state found tied ours (asked ∙ sym c.in-Fresh.ensures) full)
