@@ -1,6 +1,9 @@
 //! A step of a call of whichever kind, at what reaches it: the call comes back by what it is then, or as it was.
-ghost use Rattle.std.specs.Prelude.{◌≡◌};
-ghost use Rattle.agent.specs.Advancing.{IsAdvanced, IsHanded};
+ghost use Rattle.std.specs.Prelude.{◌≡◌, is_some};
+ghost use Rattle.agent.specs.AgentValue.{agent_of};
+ghost use Rattle.agent.specs.Advancing.{IsAdvanced, IsHanded, advancing, takes};
+ghost use Rattle.agent.specs.Calls.{value_of, variant_of};
+ghost use Rattle.agent.specs.Preparing.{stepped_by};
 ghost use Rattle.agent.specs.declared.call.Next.TheVariants as next;
 
 use crate::call::{Call, Ended, Next, Refused, Resting, Waiting};
@@ -80,7 +83,45 @@ fn advance_ended<'s>(
     }
 }
 
+/// Whether a call of its kind has a step at what reaches it.
+fn takes(next: &Next<'_>, delivery: &Delivery<'_>) -> bool
+    ensures { result ≡ takes (variant_of next.now) delivery.now }
+{
+    match next {
+        Next::Resting(_) => matches!(
+            delivery,
+            Delivery::Note(_) | Delivery::Timer | Delivery::Hear(_)
+        ),
+        Next::Waiting(_) => matches!(
+            delivery,
+            Delivery::Reply(_) | Delivery::Pass | Delivery::Hear(_)
+        ),
+        Next::Ended(_) => matches!(delivery, Delivery::Hear(_)),
+    }
+}
+
+/// Whether the agent of a call can take the step at what reaches it.
+fn can_step(next: &Next<'_>, delivery: &Delivery<'_>) -> bool
+    ensures { result ≡ is_some (stepped_by (value_of next.now).script (agent_of (value_of next.now).agent) delivery.now) }
+{
+    match next {
+        Next::Resting(call) => call.can_step(delivery),
+        Next::Waiting(call) => call.can_step(delivery),
+        Next::Ended(call) => call.can_step(delivery),
+    }
+}
+
 impl<'s> Next<'s> {
+    /// Whether the step at what reaches the call can be taken: where it can't, `advance` answers `NotEnabled`, want of memory apart. It takes no memory.
+    pub fn can_take(&self, delivery: &Delivery<'_>) -> bool
+        ensures { result ≡ is_some (advancing self.now delivery.now) }
+    {
+        if !takes(self, delivery) {
+            return false;
+        }
+        can_step(self, delivery)
+    }
+
     /// The step at what reaches the call, which comes back by what it is then. `NotEnabled` where a call of its kind has no such step, or where its agent can't
     /// take it, as each step says; `NoMemory` where memory ran out for a step that could be taken. Then the call comes back as it was.
     pub fn advance(self, delivery: &Delivery<'_>) -> (Next<'s>, Result<(), Refusal>)

@@ -1,13 +1,15 @@
 //! A call whose type says whether it rests, waits or has ended. A step takes the call, and hands it back with its kind or, where it is
 //! refused, as it was.
-ghost use Rattle.std.specs.Prelude.{◌≡◌, ◌≤◌, [], IfOk, OnOk, OnErr, length, map, option_map, slice_index_or};
+ghost use Rattle.std.specs.Prelude.{◌≡◌, ◌≤◌, [], IfOk, OnOk, OnErr, is_some, length, map, option_map, slice_index_or};
 ghost use Rattle.mg_model.specs.Agent as model;
 ghost use Rattle.mg_model.specs.Tables.{line_places};
 ghost use Rattle.mg_model.specs.World as event;
 ghost use Rattle.agent.specs.AgentValue.{agent_of};
 ghost use Rattle.agent.specs.Calls.{IsNext, value_of, IsHandedOn, IsTaken, IsLogged, IsBeginning, with_room};
+ghost use Rattle.agent.specs.Preparing.{stepped_by};
 ghost use Rattle.agent.specs.Steps.{outstanding};
 
+use crate::delivered::Delivery;
 use crate::logged::Logged;
 use crate::refusal::Refusal;
 use crate::retired::Retired;
@@ -103,6 +105,13 @@ impl<'s, S> Call<'s, S> {
         ensures { result.now ≡ self.now.transcript }
     {
         self.logged.transcript()
+    }
+
+    /// Whether its agent can take the step at what reaches it, whichever kind of call it is.
+    pub(crate) fn can_step(&self, delivery: &Delivery<'_>) -> bool
+        ensures { result ≡ is_some (stepped_by self.now.script (agent_of self.now.agent) delivery.now) }
+    {
+        self.logged.can_step(delivery)
     }
 }
 

@@ -114,8 +114,8 @@ impl Plain {
         }
     }
 
-    /// Whether the step can be taken at what reaches the call.
-    pub(crate) fn can_take(&self, script: &Script, delivery: &Delivery<'_>) -> bool
+    /// Whether the step can be taken at what reaches the call: false exactly where `prepare` answers `NotEnabled`, want of memory apart (this profile's own).
+    pub fn can_take(&self, script: &Script, delivery: &Delivery<'_>) -> bool
         ensures { result ≡ is_some (stepped_by script.now (agent_of self.now) delivery.now) }
     {
         match delivery {

@@ -1,7 +1,7 @@
 //! An agent with its script and its transcript. On any refusal nothing changes: the place in the transcript is made first, then the
 //! step is taken, and then its event is put into that place, which takes no memory. Where memory runs out, what isn't enabled is told
 //! all the same, and not want of memory.
-ghost use Rattle.std.specs.Prelude.{◌≡◌, ◌≤◌, [], OnOk, OnErr, length, map, slice_index_or};
+ghost use Rattle.std.specs.Prelude.{◌≡◌, ◌≤◌, [], OnOk, OnErr, is_some, length, map, slice_index_or};
 ghost use Rattle.mg_model.specs.Agent as model;
 ghost use Rattle.mg_model.specs.declared.events.Event.TheVariants.{OfCall};
 ghost use Rattle.mg_model.specs.Tables.{line_places, state_of};
@@ -110,11 +110,18 @@ impl<'s> Logged<'s> {
         }
     }
 
-    /// Why a step isn't taken for which memory ran out. Whether it could be taken is asked here alone: a step that is taken has told so by itself.
+    /// Whether the agent can take the step at what reaches the call.
+    pub(crate) fn can_step(&self, delivery: &Delivery<'_>) -> bool
+        ensures { result ≡ is_some (stepped_by self.now.script (agent_of self.now.agent) delivery.now) }
+    {
+        self.agent.can_take(self.script, delivery)
+    }
+
+    /// Why a step isn't taken for which memory ran out. Only then is it asked whether it could be taken: a step that is taken has told so by itself.
     fn refusal(&self, delivery: &Delivery<'_>) -> Refusal
         ensures { IsRefused (stepped_by self.now.script (agent_of self.now.agent) delivery.now) result }
     {
-        if self.agent.can_take(self.script, delivery) {
+        if self.can_step(delivery) {
             Refusal::NoMemory
         } else {
             Refusal::NotEnabled

@@ -10,7 +10,8 @@ pub enum Refusal {
     /// The step can't be taken by this call, or no number is left for the request that it would send (this profile's own).
     #[error("the step is not enabled")]
     NotEnabled,
-    /// The slot that stands for the call counts another number of events than its transcript has. No call answers so by itself.
+    /// The slot that stands for the call counts another number of events than its transcript has, and the event could happen to both as they are. No call
+    /// answers so by itself.
     #[error("the slot of the call counts {slot_count} events")]
     Behind {
         /// How many events of the call its slot counts.
