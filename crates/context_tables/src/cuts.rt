@@ -88,12 +88,7 @@ fn append_if(
 }
 
 /// Sets whether media is cut between two terminations of a context.
-pub fn set(
-    cuts: &mut Cuts,
-    alloc: Global,
-    context: u32,
-    pair: CutPair,
-) -> Result<(), AllocError>
+pub fn set(cuts: &mut Cuts, alloc: Global, context: u32, pair: CutPair) -> Result<(), AllocError>
     ensures ok { OnOk result ((c : ℕ) → group_at cuts.new.entries c ≡ (if c == context then Some (set_between pair.first pair.second pair.forward pair.backward (listed (group_at cuts.old.entries context))) else group_at cuts.old.entries c)) }
     ensures err { OnErr result ((c : ℕ) → group_at cuts.new.entries c ≡ group_at cuts.old.entries c) }
 {

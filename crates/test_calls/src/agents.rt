@@ -1,7 +1,7 @@
 //! The layer of agents: what reaches the agent of a call is written out in each row, and no gateway is there.
 use crate::messages::{Delivered, Party, read_delivered, read_party};
 use crate::told::{Phase, Standing, waiting};
-use agent::{PreparedStep, Delivery, Plain, PlainFault};
+use agent::{Delivery, Plain, PlainFault, PreparedStep};
 use mg_names::identifiers::{Assoc, CallNo};
 use script_table::Script;
 use test_documents::scripts::{Sizes, script};
@@ -72,7 +72,11 @@ fn stepped(
 }
 
 /// A step that is prepared.
-fn prepare(plain: &mut Plain, script: &Script, told: &Delivered) -> Result<PreparedStep, PlainFault> {
+fn prepare(
+    plain: &mut Plain,
+    script: &Script,
+    told: &Delivered,
+) -> Result<PreparedStep, PlainFault> {
     match told {
         Delivered::Reply(reply) => plain.prepare(script, &Delivery::Reply(reply)),
         Delivered::Pass => plain.prepare(script, &Delivery::Pass),
