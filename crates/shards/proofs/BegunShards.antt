@@ -150,7 +150,7 @@ module _ (v : ShardValue) (was : IsShard v) (value : CallValue) (new old : ℕ) 
     pub back_kept : IsShard back
     back_kept = shard_unchanged v back was back_unchanged (refused_counts v v.gateway before same_gateway same_slots was.counts)
 
-  cannot : (h : GatewayValue) (why : BeginFault) → IsBegun v.gateway old new h (Err why) → IsRefusedStep v handed named (refusal_of why)
+  pub cannot : (h : GatewayValue) (why : BeginFault) → IsBegun v.gateway old new h (Err why) → IsRefusedStep v handed named (refusal_of why)
   cannot h fault.UnknownCall is = inl closed
     where
       closed : CannotOccur v handed named

@@ -1,8 +1,10 @@
 -- What the gateway sends: a reply has the number of its request, and notes are numbered on.
 use Rattle.std.proofs.Common.{◌≡◌, ◌∙◌, ◌+◌, ◌≤◌, ◌==◌, ℕ, suc, Bool, true, false, true≢false, List, [], ◌∷◌, length, Option, Some, None, if◌then◌else◌, refl, sym, ap, subst, arith}
-use Rattle.std.specs.Prelude.{nat_lt}
+use Rattle.std.specs.Option.{option_eq}
+use Rattle.std.specs.Prelude.{nat_lt, not, option_map}
 use Rattle.std.proofs.lemmas.Bool.{eqb-true}
 use Rattle.mg_model.proofs.Cases.{the_some}
+use Rattle.mg_names.specs.declared.identifiers.CallNo.{CallNo}
 use Rattle.mg_model.specs.declared.failures.ChosenRefusal.{ChosenRefusal}
 use Rattle.mg_model.specs.declared.line_events.LineEvent.{LineEvent}
 use Rattle.mg_model.specs.Delivery.{Offer, fresh, kept, discard, offer_by}
@@ -14,6 +16,15 @@ use Rattle.gateway.proofs.NoteLemmas.{notes_at_most}
 use Rattle.call_messages.specs.Messages.{AreNumberedFrom, note_numbers}
 
 -- ---- a line
+
+-- the call that a test finds to be the holder
+pub held : (holder : Option CallNo) (call : CallNo) → false ≡ not (option_eq (λ x y. x.0 == y.0) holder (Some call)) → option_map (λ c. c.0) holder ≡ Some call.0
+held None call e = absurd (true≢false (sym e))
+held (Some c) call e = by_test (c.0 == call.0) refl e
+  where
+    by_test : (test : Bool) → (c.0 == call.0) ≡ test → false ≡ not test → Some c.0 ≡ Some call.0
+    by_test true same e = ap Some (eqb-true c.0 call.0 same)
+    by_test false same e = absurd (true≢false (sym e))
 
 from_line : (g : Gateway) (call line : ℕ) (raised : Option Note) (note : SentNote) → note ∷ [] ≡ notes_from g call line raised
     → note.number ≡ (g.link call).notes + 1

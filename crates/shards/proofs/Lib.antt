@@ -22,6 +22,7 @@ pub mod ShownBegins
 pub mod TakenSteps
 pub mod GatewaySteps
 pub mod BegunShards
+pub mod PossibleEvents
 pub mod OpenedShards
 pub mod LastingShards
 pub mod TakenCalls

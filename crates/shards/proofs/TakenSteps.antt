@@ -21,10 +21,10 @@ use Rattle.shards.proofs.ShardSteps.{AreSameSlots, keeps_all, none_same, one_sam
 use Rattle.shards.proofs.ShownSteps.{step_leads_on}
 use Rattle.shards.proofs.ValueSteps.{event_is, value_cannot, value_goes}
 use Rattle.shards.specs.Shards.{CountsEvents, HasHappened, IsShard, IsUnchanged, IsWorldOf, ShardValue, events_of}
-use Rattle.shards.specs.Shows.{IsTold}
+use Rattle.shards.specs.Shows.{IsTold, is_told}
 use Rattle.shards.specs.SlotTable.{IsReady, CountsNotes, OthersStay, StepsIn, events_bound, slot_in}
 use Rattle.shards.specs.Slots.{IsStepped, Steps}
-use Rattle.shards.specs.Stepping.{CannotOccur, HasStepped, IsAtAgent, IsRefusedStep, IsSameNext, call_in, is_beginning, is_told}
+use Rattle.shards.specs.Stepping.{CannotOccur, HasStepped, IsAtAgent, IsRefusedStep, IsSameNext, call_in, is_beginning}
 use Rattle.agent.specs.Advancing.{event_of}
 use Rattle.shards.specs.declared.slot.Slot.{Slot}
 

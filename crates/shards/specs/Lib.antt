@@ -3,8 +3,9 @@ pub mod SlotTable
 pub mod Shows
 pub mod Shards
 pub mod Standings
-pub mod Stepping
 pub mod Beginnings
+pub mod CouldHappen
+pub mod Stepping
 pub mod Opening
 pub mod Lasting
 pub mod Meaning

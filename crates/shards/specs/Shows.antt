@@ -1,6 +1,6 @@
 -- When a gateway and slots of calls show a world. A reader should check that the gateway and each agent are those of the world, that every message of
 -- a call that is held is found as the world has it, and that no other call is open.
-use Rattle.std.specs.Prelude.{◌≡◌, ℕ, ◌≤◌, ◌==◌, if◌then◌else◌, length, Contains, Option, Some, None, is_some}
+use Rattle.std.specs.Prelude.{◌≡◌, ℕ, ◌≤◌, ◌==◌, Bool, true, nat_le, if◌then◌else◌, length, Contains, Option, Some, None, is_some}
 use Rattle.std.specs.List.{find}
 use Rattle.mg_model.specs.declared.events.CallEvent.{CallEvent}
 use Rattle.mg_model.specs.declared.events.CallEvent.TheVariants.{Hear}
@@ -37,6 +37,11 @@ abbrev pub with_slot : (ℕ → Option Slot) → ℕ → Slot → ℕ → Option
 with_slot slot call new c = if c == call then Some new else slot c
 
 -- an agent hears of no association that the gateway hasn't begun
+abbrev pub is_told : ℕ → CallEvent → Bool
+is_told current (Hear association) = nat_le association.0 current
+is_told current event = true
+
+-- the same of a world
 abbrev pub IsTold : World → CallEvent → Type 0
 IsTold w (Hear association) = association.0 ≤ w.gateway.association
 IsTold w event = Unit {0}

@@ -1,7 +1,7 @@
 -- A step of a shard: an event of a call, at its slot and to the call that is handed in. A reader should check that both go on by the event alone, that a
 -- step is refused as not enabled only where the event can't happen, to the shard or to the call that is handed in, or where the shard doesn't hold that
--- call, and that whatever is refused leaves both as they were. This profile's own.
-use Rattle.std.specs.Prelude.{◌≡◌, ℕ, Bool, true, false, nat_le, [], ◌∷◌, length, Option, Some, None, Result, Ok, Err, ◌⊎◌}
+-- call, as behind only where it could happen, and that whatever is refused leaves both as they were. This profile's own.
+use Rattle.std.specs.Prelude.{◌≡◌, ℕ, Bool, true, false, [], ◌∷◌, length, Option, Some, None, Result, Ok, Err, ◌⊎◌}
 use Rattle.mg_model.specs.declared.events.CallEvent.{CallEvent}
 use Rattle.mg_model.specs.declared.events.CallEvent.TheVariants as to_call
 use Rattle.mg_model.specs.declared.events.Event.{Event}
@@ -16,6 +16,7 @@ use Rattle.agent.specs.Calls.{IsLonger, IsNext, IsRetired, value_of, variant_of}
 use Rattle.agent.specs.declared.call.Next.{Next}
 use Rattle.agent.specs.declared.refusal.Refusal.{Refusal}
 use Rattle.agent.specs.declared.refusal.Refusal.TheVariants.{NotEnabled, Behind, NoMemory}
+use Rattle.shards.specs.CouldHappen.{CouldHappen}
 use Rattle.shards.specs.Shards.{HasHappened, IsUnchanged, IsWorldOf, ShardValue}
 use Rattle.gateway.specs.GatewayValue.{GatewayValue}
 use Rattle.shards.specs.SlotTable.{ExecutesIn, HappensIn, slot_in}
@@ -121,6 +122,11 @@ CannotOccur v next event = (w : World) → IsWorldOf v w → (after : World) (a 
 abbrev pub IsNotEnabled : ShardValue → Next → Event → Type 0
 IsNotEnabled v next event = CannotOccur v next event ⊎ (slot_in v.slots (call_in next) ≡ None)
 
+-- whether it could happen
+abbrev pub IsPossible : ShardValue → Next → Event → Bool → Type 0
+IsPossible v next event true = CouldHappen v next event
+IsPossible v next event false = IsNotEnabled v next event
+
 -- the slot of the call counts so many events, and the transcript has another number of them
 pub record IsBehind (v : ShardValue) (next : Next) (slot_count : ℕ) : Type 0 where
   pub slot : Slot
@@ -130,7 +136,7 @@ pub record IsBehind (v : ShardValue) (next : Next) (slot_count : ℕ) : Type 0 w
 
 abbrev pub IsRefusedStep : ShardValue → Next → Event → Refusal → Type 0
 IsRefusedStep v next event NotEnabled = IsNotEnabled v next event
-IsRefusedStep v next event (Behind slot_count) = IsBehind v next slot_count
+IsRefusedStep v next event (Behind slot_count) = IsBehind v next slot_count × CouldHappen v next event
 IsRefusedStep v next event NoMemory = Unit {0}
 
 -- ---- a step
@@ -154,21 +160,16 @@ IsAtAgent (to_call.Execute number chosen) = ⊥
 IsAtAgent (to_call.Begin old) = ⊥
 IsAtAgent event = Unit {0}
 
--- an agent hears of no association that the gateway hasn't begun
-abbrev pub is_told : ℕ → CallEvent → Bool
-is_told current (to_call.Hear association) = nat_le association.0 current
-is_told current event = true
-
 -- an event at the gateway, in the entry of a call
 abbrev pub AtGateway : GatewayValue → GatewayValue → ℕ → CallEvent → Option Slot → Option Slot → Result (Unit {0}) Refusal → Type 0
 AtGateway old new call (to_call.OnLine line happens) entry after told = HappensIn old new call line.0 happens entry after told
 AtGateway old new call (to_call.Execute number chosen) entry after told = ExecutesIn old new call number chosen entry after told
 AtGateway old new call event entry after told = (told ≡ Err NotEnabled) × (new ≡ old) × (after ≡ entry)
 
--- ---- whether the shard holds a call
+-- ---- whether the shard holds a call, and is where it is
 
-abbrev pub IsHeld : ShardValue → Next → Result (Unit {0}) Refusal → Type 0
-IsHeld v next (Ok _) = IsUpToDate v next
-IsHeld v next (Err NotEnabled) = slot_in v.slots (call_in next) ≡ None
-IsHeld v next (Err (Behind slot_count)) = IsBehind v next slot_count
-IsHeld v next (Err NoMemory) = ⊥
+abbrev pub IsHeld : ShardValue → Next → Event → Result (Unit {0}) Refusal → Type 0
+IsHeld v next event (Ok _) = IsUpToDate v next
+IsHeld v next event (Err NotEnabled) = IsNotEnabled v next event
+IsHeld v next event (Err (Behind slot_count)) = IsBehind v next slot_count × CouldHappen v next event
+IsHeld v next event (Err NoMemory) = ⊥

@@ -10,7 +10,7 @@ use mg_model::events::CallEvent;
 use script_table::Script;
 
 /// What an event of a call brings its agent, of what was sent.
-fn brought<'a>(messages: &'a Messages, event: &CallEvent) -> Option<Delivery<'a>>
+pub(crate) fn brought<'a>(messages: &'a Messages, event: &CallEvent) -> Option<Delivery<'a>>
     ensures { IsDelivered messages.now.sent event.now result }
 {
     match *event {

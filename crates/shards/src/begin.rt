@@ -18,7 +18,7 @@ use mg_names::identifiers::{Assoc, CallNo};
 use script_table::Script;
 
 /// Whether a call has ended in this association.
-fn has_ended(slot: &Slot, script: &Script, association: Assoc) -> bool
+pub(crate) fn has_ended(slot: &Slot, script: &Script, association: Assoc) -> bool
     ensures { result ≡ has_ended script.now (agent_of slot.now.agent) association.0 }
 {
     if !slot.agent.is_resting() {

@@ -10,6 +10,7 @@
 mod at_agent;
 mod at_gateway;
 mod begin;
+mod could_happen;
 mod fault;
 mod laws;
 mod meaning;

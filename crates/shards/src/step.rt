@@ -2,8 +2,9 @@
 ghost use Rattle.std.specs.Prelude.{◌≡◌, OnOk, true};
 ghost use Rattle.mg_model.specs.declared.events.Event.TheVariants.{OfCall};
 ghost use Rattle.agent.specs.Calls.{is_of_gateway};
+ghost use Rattle.shards.specs.Shows.{is_told};
 ghost use Rattle.shards.specs.SlotTable.{slot_in, CountsNotes, IsReady, OthersStay};
-ghost use Rattle.shards.specs.Stepping.{AtGateway, IsAtAgent, IsHeld, IsStep, IsUpToDate, is_told};
+ghost use Rattle.shards.specs.Stepping.{AtGateway, IsAtAgent, IsHeld, IsStep, IsUpToDate};
 
 use crate::shard::{self, Shard};
 use crate::slots;
@@ -15,7 +16,7 @@ use mg_model::events::{CallEvent, Event};
 use mg_names::identifiers::CallNo;
 
 /// Whether an agent may hear of it: of no association that the gateway hasn't begun.
-fn is_told(gateway: &Gateway, event: &CallEvent) -> bool
+pub(crate) fn is_told(gateway: &Gateway, event: &CallEvent) -> bool
     ensures { result ≡ is_told gateway.now.association event.now }
 {
     match *event {
@@ -46,15 +47,19 @@ fn at_gateway(
 }
 
 impl<'s> Shard<'s> {
-    /// Whether the shard holds the call that is handed in, and counts as many events of it as its transcript has.
-    fn holds(&self, next: &Next<'s>) -> Result<(), Refusal>
-        ensures { IsHeld self.now next.now result }
+    /// Whether the shard holds the call that is handed in, and counts as many events of it as its transcript has. Only where it counts another number is it
+    /// asked whether the event could happen.
+    fn holds(&self, next: &Next<'s>, call: CallNo, event: CallEvent) -> Result<(), Refusal>
+        ensures { IsHeld self.now next.now (OfCall call event) result }
     {
         let Some(slot) = slots::slot(&self.slots, next.call()) else {
             return Err(Refusal::NotEnabled);
         };
         let slot_count = slot.events;
         if next.transcript().len() != slot_count {
+            if !self.could_happen(next, call, event) {
+                return Err(Refusal::NotEnabled);
+            }
             return Err(Refusal::Behind { slot_count });
         }
         Ok(())
@@ -119,7 +124,8 @@ impl<'s> Shard<'s> {
     /// The event of a call happens to the shard and to the call that is handed in, which comes back after it; an event that begins a call comes with what is
     /// left of the one on whose lines it begins. `NotEnabled` where the shard doesn't hold the call, or where the event isn't one of that call, or can't happen
     /// to it or in the shard: a message was never sent, a line is held by another call, or the call isn't in the phase for it, among others. `Behind` where the
-    /// shard counts another number of events of the call than its transcript has. `NoMemory` where memory ran out. Then the call comes back as it was, and
+    /// shard counts another number of events of the call than its transcript has, and the event could happen to both as they are. `NoMemory` where memory ran
+    /// out. Then the call comes back as it was, and
     /// nothing changes. It takes as long with many calls, and after a long history, as with few. This profile's own.
     pub fn step(&mut self, next: Next<'s>, event: Event) -> (Next<'s>, Result<Stepped, Refusal>)
         ensures stepped { IsStep self.old self.new next.entry result.0 event result.1 }
@@ -128,7 +134,7 @@ impl<'s> Shard<'s> {
         let Event::OfCall { call, event } = event else {
             return (next, Err(Refusal::NotEnabled));
         };
-        if let Err(why) = self.holds(&next) {
+        if let Err(why) = self.holds(&next, call, event) {
             return (next, Err(why));
         }
         match event {

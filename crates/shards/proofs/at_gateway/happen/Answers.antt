@@ -1,24 +1,12 @@
 -- The note has the number after the others of the call.
-use Rattle.std.proofs.Common.{◌≡◌, ◌∙◌, ◌+◌, ◌==◌, Bool, true, false, true≢false, length, Option, Some, None, refl, sym, ap, subst}
-use Rattle.std.specs.Prelude.{not, option_map}
-use Rattle.std.specs.Option.{option_eq}
-use Rattle.std.proofs.lemmas.Bool.{eqb-true}
-use Rattle.mg_names.specs.declared.identifiers.CallNo.{CallNo}
+use Rattle.std.proofs.Common.{◌∙◌, ◌+◌, length, Option, sym, ap, subst}
 use Rattle.mg_model.specs.Gateway.{Happens}
 use Rattle.mg_model.specs.Messages.{SentNote}
 use Rattle.call_messages.specs.Messages.{Messages}
 use Rattle.gateway.specs.Answers.{note_listed}
 use Rattle.gateway.specs.GatewayValue.{gateway_of}
-use Rattle.shards.proofs.GatewayLemmas.{note_number}
+use Rattle.shards.proofs.GatewayLemmas.{held, note_number}
 use Rattle.shards.proofs.at_gateway.happen.Goals as goal
-
-held : (holder : Option CallNo) (call : CallNo) → false ≡ not (option_eq (λ x y. x.0 == y.0) holder (Some call)) → option_map (λ c. c.0) holder ≡ Some call.0
-held None call e = absurd (true≢false (sym e))
-held (Some c) call e = by_test (c.0 == call.0) refl e
-  where
-    by_test : (test : Bool) → (c.0 == call.0) ≡ test → false ≡ not test → Some c.0 ≡ Some call.0
-    by_test true same e = ap Some (eqb-true c.0 call.0 same)
-    by_test false same e = absurd (true≢false (sym e))
 
 pub raise_one-requires-clause-numbered : goal.raise_one-requires-clause-numbered
 unfolding gateway_of

@@ -1,0 +1,137 @@
+//! Whether an event of a call could happen to a shard and to the call that is handed in, without the event. It takes no memory.
+ghost use Rattle.std.specs.Prelude.{◌≡◌, true, option_map};
+ghost use Rattle.mg_model.specs.declared.events.CallEvent.TheVariants.{Begin};
+ghost use Rattle.mg_model.specs.declared.events.Event.TheVariants.{OfCall};
+ghost use Rattle.agent.specs.Calls.{is_of_gateway};
+ghost use Rattle.agent.specs.declared.call.Next.TheVariants as next;
+ghost use Rattle.shards.specs.CouldHappen.{HasOwnSlot, IsPossibleOn, IsPossibleRequest, IsPossibleStep};
+ghost use Rattle.shards.specs.Stepping.{IsAtAgent, IsPossible};
+
+use crate::shard::Shard;
+use crate::slot::Slot;
+use crate::step::is_told;
+use crate::{at_agent, at_gateway, begin, slots};
+use agent::{Call, Ended, Next};
+use gateway::Gateway;
+use mg_model::events::CallEvent;
+use mg_model::line_events::LineEvent;
+use mg_names::identifiers::{CallNo, LineNo};
+use script_table::Script;
+
+/// Whether a call holds a line, and the event can happen there.
+fn could_happen_on(gateway: &Gateway, call: CallNo, line: LineNo, event: LineEvent) -> bool
+    ensures { IsPossibleOn gateway.now call.0 line.0 event result }
+{
+    if gateway.holder(line) != Some(call) {
+        return false;
+    }
+    gateway.can_happen(line, event)
+}
+
+/// Whether a call sent a request with this number, and the gateway would take it.
+fn could_execute(gateway: &Gateway, slot: &Slot, call: CallNo, number: u32) -> bool
+    ensures { IsPossibleRequest gateway.now call.0 number slot.now result }
+{
+    let Some(request) = at_gateway::request(slot, number) else {
+        return false;
+    };
+    gateway.can_execute(call, request)
+}
+
+/// Whether what an event brings was sent, and the slot's agent and the call that is handed in can both take it.
+fn could_step(slot: &Slot, script: &Script, next: &Next<'_>, event: &CallEvent) -> bool
+    ensures { IsPossibleStep script.now next.now event.now slot.now result }
+{
+    let Some(delivery) = at_agent::brought(&slot.messages, event) else {
+        return false;
+    };
+    if !slot.agent.can_take(script, &delivery) {
+        return false;
+    }
+    next.can_take(&delivery)
+}
+
+impl<'s> Shard<'s> {
+    /// The slot of the call that is handed in, where it is the call of the event.
+    fn own_slot(&self, next: &Next<'s>, call: CallNo) -> Option<&Slot>
+        ensures { HasOwnSlot self.now next.now call.0 (option_map (λ s. s.now) result) }
+    {
+        if next.call().0 != call.0 {
+            return None;
+        }
+        slots::slot(&self.slots, call)
+    }
+
+    /// Whether an event could reach the agent.
+    fn could_reach_agent(&self, next: &Next<'s>, call: CallNo, event: CallEvent) -> bool
+        requires { IsAtAgent event }
+        ensures { IsPossible self.now next.now (OfCall call event) result }
+    {
+        let Some(slot) = self.own_slot(next, call) else {
+            return false;
+        };
+        if !is_told(&self.gateway, &event) {
+            return false;
+        }
+        could_step(slot, self.script, next, &event)
+    }
+
+    /// Whether an event could happen at the gateway.
+    fn could_reach_gateway(&self, next: &Next<'s>, call: CallNo, event: CallEvent) -> bool
+        requires { is_of_gateway event ≡ true }
+        ensures { IsPossible self.now next.now (OfCall call event) result }
+    {
+        let Some(slot) = self.own_slot(next, call) else {
+            return false;
+        };
+        match event {
+            CallEvent::OnLine { line, event } => could_happen_on(&self.gateway, call, line, event),
+            CallEvent::Execute { number, .. } => could_execute(&self.gateway, slot, call, number),
+            _ => false,
+        }
+    }
+
+    /// Whether a call could begin on the lines of a call that has ended.
+    fn could_begin_on(&self, ended: &Call<'s, Ended>, call: CallNo, old: CallNo) -> bool
+        ensures { IsPossible self.now (next.Ended ended.now) (OfCall call (Begin old)) result }
+    {
+        if ended.call().0 != old.0 {
+            return false;
+        }
+        let Some(slot) = slots::slot(&self.slots, old) else {
+            return false;
+        };
+        if !begin::has_ended(slot, self.script, self.gateway.association()) {
+            return false;
+        }
+        let Ok(()) = self.gateway.can_begin(old, call) else {
+            return false;
+        };
+        true
+    }
+
+    /// Whether a call could begin on the lines of the one that is handed in.
+    fn could_begin(&self, next: &Next<'s>, call: CallNo, old: CallNo) -> bool
+        ensures { IsPossible self.now next.now (OfCall call (Begin old)) result }
+    {
+        match next {
+            Next::Ended(ended) => self.could_begin_on(ended, call, old),
+            Next::Resting(_) => false,
+            Next::Waiting(_) => false,
+        }
+    }
+
+    /// Whether an event of a call could happen to the shard and to the call that is handed in. What it asks is what a step asks: who is behind may be told so
+    /// only where the step could be taken otherwise.
+    pub(crate) fn could_happen(&self, next: &Next<'s>, call: CallNo, event: CallEvent) -> bool
+        ensures { IsPossible self.now next.now (OfCall call event) result }
+    {
+        match event {
+            CallEvent::Begin { old } => self.could_begin(next, call, old),
+            CallEvent::OnLine { .. } | CallEvent::Execute { .. } => {
+                self.could_reach_gateway(next, call, event)
+            }
+            _ => self.could_reach_agent(next, call, event),
+        }
+    }
+}
