@@ -6,6 +6,7 @@
 
 mod agents;
 mod calls;
+mod event_words;
 mod mail;
 mod messages;
 mod sent;

@@ -1,11 +1,12 @@
 //! The layer of shards: a gateway with its calls and their history, which takes a call, an event of it, and hands the call back. Calls are named by their places, 0 and 1.
+use crate::event_words::event;
 use crate::messages::Delivered;
 use crate::shard_opening::{Unopened, checked, opened};
 use crate::told_events::{Told, tell_events};
 use crate::typed::{Done, Seen, seen, standing, stepped};
 use agent::{Next, Refusal};
 use composition::{CheckFault, Checked, Verdict};
-use mg_model::events::{CallEvent, Event};
+use mg_model::events::Event;
 use mg_model::plans::PlanStep;
 use mg_names::identifiers::{Assoc, CallNo};
 use script_table::Script;
@@ -174,16 +175,12 @@ impl<'s> Desk<'_, 's> {
 
     /// A row of a call that was taken out of its place.
     fn row_of_call(&mut self, next: Next<'s>, verb: &str, rest: &str) -> Result<Next<'s>, Failure> {
-        if verb == "call" {
-            return self.go(next, rest);
-        }
-        let of = wanted(rest.strip_prefix("hear "))?;
         match verb {
-            "apart" => self.hear_apart(next, of),
+            "call" => self.go(next, rest),
+            "apart" => self.hear_apart(next, wanted(rest.strip_prefix("hear "))?),
             _ => {
                 let call = call_of(&next);
-                let association = Assoc(association(of)?);
-                let event = CallEvent::Hear { association };
+                let event = event(rest)?;
                 self.give(next, Event::OfCall { call, event })
             }
         }
