@@ -1,6 +1,7 @@
 //! Contexts of two lines each, on which commands are executed one context after the other; a chain of contexts, and two contexts with crossings between
 //! them, in which a path is looked for.
 use crate::failure::Failure;
+use crate::lines::lines;
 use crate::ways;
 use crate::words::number;
 use contexts::Board;
@@ -24,19 +25,12 @@ pub(crate) const SETTINGS: Settings = Settings {
     remote: None,
 };
 
-/// The lines 1 to twice the number of contexts.
-fn lines(alloc: Global, contexts: u32) -> Result<Vec<LineNo>, Failure> {
-    let mut found = Vec::new(alloc);
-    for number in 0..contexts {
-        let first = number.saturating_mul(2).saturating_add(1);
-        let Ok(_) = found.push(LineNo(first)) else {
-            return Err(Failure::Memory);
-        };
-        let Ok(_) = found.push(LineNo(first.saturating_add(1))) else {
-            return Err(Failure::Memory);
-        };
+/// A board with these lines.
+pub(crate) fn board(alloc: Global, lines: &[LineNo]) -> Result<Board, Failure> {
+    match Board::new(alloc, lines) {
+        Ok(board) => Ok(board),
+        Err(_) => Err(Failure::Memory),
     }
-    Ok(found)
 }
 
 /// Adds two lines to a new context.
@@ -69,10 +63,7 @@ fn make_pair(board: &mut Board, first: u32) -> Result<Pair, Failure> {
 fn pairs(alloc: Global, board: &mut Board, contexts: u32) -> Result<Vec<Pair>, Failure> {
     let mut found = Vec::new(alloc);
     for number in 0..contexts {
-        let made = make_pair(board, number.saturating_mul(2).saturating_add(1))?;
-        let Ok(_) = found.push(made) else {
-            return Err(Failure::Memory);
-        };
+        found.push(make_pair(board, number.saturating_mul(2).saturating_add(1))?)?;
     }
     Ok(found)
 }
@@ -106,15 +97,30 @@ fn commands(board: &mut Board, pairs: &[Pair], count: u32) -> Result<(), Failure
     Ok(())
 }
 
+/// How many contexts a board has after the commands. Another function owns it, since what is owned is let go at each exit.
+fn commanded(
+    alloc: Global,
+    board: &mut Board,
+    contexts: u32,
+    count: u32,
+) -> Result<usize, Failure> {
+    let pairs = pairs(alloc, board, contexts)?;
+    commands(board, pairs.as_slice(), count)?;
+    Ok(board.contexts())
+}
+
 /// How many contexts there are after the commands.
 fn run(alloc: Global, contexts: u32, count: u32) -> Result<usize, Failure> {
-    let lines = lines(alloc, contexts)?;
-    let Ok(mut board) = Board::new(alloc, lines.as_slice()) else {
-        return Err(Failure::Memory);
-    };
-    let pairs = pairs(alloc, &mut board, contexts)?;
-    commands(&mut board, pairs.as_slice(), count)?;
-    Ok(board.contexts())
+    let lines = lines(alloc, contexts.saturating_mul(2))?;
+    let mut board = board(alloc, lines.as_slice())?;
+    commanded(alloc, &mut board, contexts, count)
+}
+
+/// Whether the path through the chain is found, and none past the crossings.
+fn found(alloc: Global, chain: &String, crossings: &String) -> Result<(bool, bool), Failure> {
+    let through = ways::goes_through(alloc, number(chain)?)?;
+    let past = ways::goes_past(alloc, number(crossings)?)?;
+    Ok((through, past))
 }
 
 /// Makes so many contexts and executes so many commands on them, then makes a chain, and so many crossings: `CONTEXTS COMMANDS CHAIN CROSSINGS`.
@@ -123,8 +129,7 @@ pub(crate) fn measured(alloc: Global, words: &[String]) -> Result<String, Failur
         return Err(Failure::Words);
     };
     let contexts = run(alloc, number(contexts)?, number(commands)?)?;
-    let chain = ways::goes_through(alloc, number(chain)?)?;
-    let crossings = ways::goes_past(alloc, number(crossings)?)?;
+    let (chain, crossings) = found(alloc, chain, crossings)?;
     let told = format!(in alloc;
         "{contexts} contexts, through the chain {chain}, past the crossings {crossings}"
     )?;

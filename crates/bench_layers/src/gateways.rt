@@ -1,6 +1,7 @@
 //! Open calls with a line each, whose requests are executed one call after the other: each adds the call's line to a new context and a new ephemeral
 //! beside it, and subtracts both again. Or open calls with two lines each, on whose lines new calls begin, each on those of the call that is open the longest.
 use crate::failure::Failure;
+use crate::lines::lines;
 use crate::words::number;
 use gateway::{Answer, Gateway};
 use mg_model::references::{ContextRef, SettingsRef};
@@ -8,17 +9,6 @@ use mg_names::identifiers::{CallNo, ContextId, LineNo};
 use mg_names::modes::Mode;
 use requests::{LineDescriptors, MessageId, Newcomer, Request, RequestCommand};
 use std::alloc::Global;
-
-/// The lines from 1 on, so many.
-fn lines(alloc: Global, count: u32) -> Result<Vec<LineNo>, Failure> {
-    let mut found = Vec::new(alloc);
-    for before in 0..count {
-        let Ok(_) = found.push(LineNo(before.saturating_add(1))) else {
-            return Err(Failure::Memory);
-        };
-    }
-    Ok(found)
-}
 
 /// What is done after the calls were opened.
 #[derive(Clone, Copy, Debug, PartialEq, Eq)]
@@ -103,15 +93,22 @@ fn request(alloc: Global, gateway: &Gateway, call: u32, number: u32) -> Result<R
     Ok(Request::new(id, commands))
 }
 
+/// Whether a request was executed, and none of its commands failed.
+fn is_done(answer: &Answer) -> bool {
+    match answer {
+        Answer::Executed { reply, .. } => reply.failure().is_none(),
+        _ => false,
+    }
+}
+
 /// One request.
 fn execute(alloc: Global, gateway: &mut Gateway, call: u32, number: u32) -> Result<(), Failure> {
     let request = request(alloc, gateway, call, number)?;
-    match gateway.execute(CallNo(call), &request, None) {
-        Answer::Executed { reply, .. } => match reply.failure() {
-            Some(_) => Err(Failure::Refused),
-            None => Ok(()),
-        },
-        _ => Err(Failure::Refused),
+    let answer = gateway.execute(CallNo(call), &request, None);
+    if is_done(&answer) {
+        Ok(())
+    } else {
+        Err(Failure::Refused)
     }
 }
 
@@ -139,21 +136,32 @@ fn needed(calls: u32, work: Work) -> u32 {
     }
 }
 
-fn run(alloc: Global, calls: u32, work: Work) -> Result<usize, Failure> {
-    let lines = lines(alloc, needed(calls, work))?;
-    let Ok(mut gateway) = Gateway::new(alloc, lines.as_slice()) else {
-        return Err(Failure::Memory);
-    };
+/// A gateway with these lines.
+fn gateway(alloc: Global, lines: &[LineNo]) -> Result<Gateway, Failure> {
+    match Gateway::new(alloc, lines) {
+        Ok(gateway) => Ok(gateway),
+        Err(_) => Err(Failure::Memory),
+    }
+}
+
+/// Opens the calls of a gateway and does the work. Another function owns the gateway, since what is owned is let go at each exit.
+fn do_work(alloc: Global, gateway: &mut Gateway, calls: u32, work: Work) -> Result<(), Failure> {
     match work {
         Work::Requests(count) => {
-            open_calls(&mut gateway, calls)?;
-            execute_all(alloc, &mut gateway, calls, count)?;
+            open_calls(gateway, calls)?;
+            execute_all(alloc, gateway, calls, count)
         }
         Work::Beginnings(count) => {
-            open_wide(&mut gateway, calls)?;
-            begin(&mut gateway, calls, count)?;
+            open_wide(gateway, calls)?;
+            begin(gateway, calls, count)
         }
     }
+}
+
+fn run(alloc: Global, calls: u32, work: Work) -> Result<usize, Failure> {
+    let lines = lines(alloc, needed(calls, work))?;
+    let mut gateway = gateway(alloc, lines.as_slice())?;
+    do_work(alloc, &mut gateway, calls, work)?;
     Ok(gateway.board().contexts())
 }
 

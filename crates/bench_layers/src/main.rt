@@ -6,6 +6,7 @@
 mod boards;
 mod failure;
 mod gateways;
+mod lines;
 mod notes;
 mod plan_documents;
 mod ways;

@@ -59,17 +59,35 @@ fn after<'s>(call: Call<'s, Resting>, note: &SentNote) -> Option<Call<'s, Restin
     }
 }
 
-/// How many of so many notes a call accepts.
-fn accepted(alloc: Global, script: &Script, notes: u32, stride: u32) -> Option<usize> {
-    let mut lines = line(alloc)?;
-    let mut call = opened(alloc, script)?;
+/// How many of so many notes of a line a call accepts.
+fn accepted(
+    lines: &mut LineSet,
+    call: Call<'_, Resting>,
+    notes: u32,
+    stride: u32,
+) -> Option<usize> {
+    let mut call = call;
     let mut last = 0u32;
     for _ in 0..notes {
         let next = u64::from(last).saturating_add(u64::from(stride)) % u64::from(notes);
         last = next as u32;
-        call = after(call, &note(&mut lines, last.saturating_add(1))?)?;
+        call = after(call, &note(lines, last.saturating_add(1))?)?;
     }
     Some(call.transcript().len())
+}
+
+/// How many of so many notes a call that is opened here accepts.
+fn counted(alloc: Global, script: &Script, notes: u32, stride: u32) -> Option<usize> {
+    let mut lines = line(alloc)?;
+    accepted(&mut lines, opened(alloc, script)?, notes, stride)
+}
+
+/// The script of the call.
+fn script(alloc: Global) -> Result<Script, Failure> {
+    match read_script(alloc, SCRIPT.as_bytes()) {
+        Ok(script) => Ok(script),
+        Err(_) => Err(Failure::Memory),
+    }
 }
 
 /// How many of so many notes are accepted: `NOTES STRIDE`.
@@ -77,10 +95,9 @@ pub(crate) fn measured(alloc: Global, words: &[String]) -> Result<String, Failur
     let [notes, stride] = words else {
         return Err(Failure::Words);
     };
-    let Ok(script) = read_script(alloc, SCRIPT.as_bytes()) else {
-        return Err(Failure::Memory);
-    };
-    let Some(count) = accepted(alloc, &script, number(notes)?, number(stride)?) else {
+    let (notes, stride) = (number(notes)?, number(stride)?);
+    let script = script(alloc)?;
+    let Some(count) = counted(alloc, &script, notes, stride) else {
         return Err(Failure::Refused);
     };
     let told = format!(in alloc; "{count}")?;

@@ -1,7 +1,7 @@
 //! Boards on which media has far to go, or many ways to go.
-
-use crate::boards::SETTINGS;
+use crate::boards::{SETTINGS, board};
 use crate::failure::Failure;
+use crate::lines::lines;
 use contexts::{Board, Done};
 use mg_model::items::{Added, Item, RemoteSetting, Settings};
 use mg_names::identifiers::{ContextId, LineNo, TermId};
@@ -67,53 +67,54 @@ struct Row {
     contexts: Vec<ContextId>,
 }
 
-fn make_row(alloc: Global, count: u32) -> Result<Row, Failure> {
-    let mut lines = Vec::new(alloc);
-    for number in 0..count {
-        let Ok(_) = lines.push(LineNo(number.saturating_add(1))) else {
-            return Err(Failure::Memory);
-        };
-    }
-    let Ok(mut board) = Board::new(alloc, lines.as_slice()) else {
-        return Err(Failure::Memory);
-    };
+/// A new context for each of these lines.
+fn contexts(alloc: Global, board: &mut Board, lines: &[LineNo]) -> Result<Vec<ContextId>, Failure> {
     let mut contexts = Vec::new(alloc);
-    for line in lines.as_slice() {
-        let made = context_of(&mut board, line.0)?;
-        let Ok(_) = contexts.push(made) else {
-            return Err(Failure::Memory);
-        };
+    for line in lines {
+        contexts.push(context_of(board, line.0)?)?;
     }
+    Ok(contexts)
+}
+
+fn make_row(alloc: Global, count: u32) -> Result<Row, Failure> {
+    let lines = lines(alloc, count)?;
+    let mut board = board(alloc, lines.as_slice())?;
+    let contexts = contexts(alloc, &mut board, lines.as_slice())?;
     Ok(Row { board, contexts })
+}
+
+/// Lets media cross from each context to the next.
+fn chain(board: &mut Board, contexts: &[ContextId]) -> Result<(), Failure> {
+    for pair in contexts.windows(2) {
+        if let [one, other] = pair {
+            cross(board, *one, *other)?;
+        }
+    }
+    Ok(())
+}
+
+/// Lets media cross so many times between the first two contexts.
+fn cross_often(board: &mut Board, contexts: &[ContextId], count: u32) -> Result<(), Failure> {
+    let [one, other, ..] = contexts else {
+        return Err(Failure::Refused);
+    };
+    for _ in 0..count {
+        cross(board, *one, *other)?;
+    }
+    Ok(())
 }
 
 /// Whether media goes from the first line to the last one through a chain of contexts, each of which crosses to the next.
 pub(crate) fn goes_through(alloc: Global, count: u32) -> Result<bool, Failure> {
-    let Row {
-        mut board,
-        contexts,
-    } = make_row(alloc, count)?;
-    for pair in contexts.as_slice().windows(2) {
-        let [one, other] = pair else {
-            return Ok(false);
-        };
-        cross(&mut board, *one, *other)?;
-    }
-    Ok(board.joined(LineNo(1), LineNo(count)))
+    let mut row = make_row(alloc, count)?;
+    chain(&mut row.board, row.contexts.as_slice())?;
+    Ok(row.board.joined(LineNo(1), LineNo(count)))
 }
 
 /// Whether media goes from a line to one beside it, where there are so many crossings between the line's context and another
 /// one, and none to the context of the line beside it.
 pub(crate) fn goes_past(alloc: Global, count: u32) -> Result<bool, Failure> {
-    let Row {
-        mut board,
-        contexts,
-    } = make_row(alloc, 3)?;
-    let [one, other, _] = contexts.as_slice() else {
-        return Ok(false);
-    };
-    for _ in 0..count {
-        cross(&mut board, *one, *other)?;
-    }
-    Ok(board.joined(LineNo(1), LineNo(3)))
+    let mut row = make_row(alloc, 3)?;
+    cross_often(&mut row.board, row.contexts.as_slice(), count)?;
+    Ok(row.board.joined(LineNo(1), LineNo(3)))
 }
