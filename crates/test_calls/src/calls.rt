@@ -1,14 +1,14 @@
 //! The layer of typed calls: a call on a gateway, which takes what reaches it in its phase alone.
 use crate::mail::{Mail, chosen, line_event};
-use crate::messages::{Party, read_party};
-use crate::told_events::tell_events;
-use crate::typed::{Done, events, log, logged, room, standing, stepped};
 use agent::{Call, Ended, Next, Refusal, Retired, Waiting};
 use mg_model::events::{CallEvent, Event};
 use mg_model::failures::ChosenRefusal;
 use mg_names::identifiers::CallNo;
 use script_table::Script;
 use test_documents::scripts::{Sizes, script};
+use test_steps::messages::{Party, read_party};
+use test_steps::told_events::tell_events;
+use test_steps::typed::{Done, events, log, logged, room, standing, stepped};
 use test_words::failure::{Failure, wanted};
 use test_words::rows::{number, opening, row_in, words};
 
@@ -273,8 +273,11 @@ impl<'r> Desk<'r> {
 
     /// A call that opens, once more where that wanted memory.
     fn enter(&self) -> Result<Next<'r>, Failure> {
-        let Party { call, lines } = self.party;
-        let alloc = self.rt.alloc();
+        let Party {
+            call,
+            lines: [first, second],
+        } = self.party;
+        let (alloc, lines) = (self.rt.alloc(), [first, second]);
         match Call::enter(alloc, self.script, call, &lines) {
             Ok(next) => Ok(next),
             Err(_) => Ok(Call::enter(alloc, self.script, call, &lines)?),

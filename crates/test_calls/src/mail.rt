@@ -1,5 +1,4 @@
 //! A gateway, and the last note and reply that are on their way from it to a call.
-use crate::messages::{Delivered, Party, read_delivered};
 use gateway::{Answer, BeginFault, Gateway, OpenFault};
 use mg_model::failures::{ChosenRefusal, Refusal};
 use mg_model::line_events::{Hook, LineEvent};
@@ -9,6 +8,7 @@ use mg_names::symbols::Symbol;
 use requests::{Reply, Request, SentNote};
 use script_table::Script;
 use std::alloc::Global;
+use test_steps::messages::{Delivered, Party, read_delivered};
 use test_words::failure::{Failure, wanted};
 
 /// A gateway with the last note and the last reply of it.

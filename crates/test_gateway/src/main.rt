@@ -34,12 +34,9 @@ use crate::rows::Page;
 use crate::runs::Runs;
 use crate::tables::Tables;
 use std::alloc::Global;
-use std::io::Read;
 use std::process::ExitCode;
 use test_words::failure::{Failure, wanted};
-
-/// How many bytes of rows are read without another growth.
-const ROOM: usize = 0x1_0000;
+use test_words::programs::{read_input, status};
 
 fn play_boards(alloc: Global, page: &mut Page, rows: &str) -> Result<(), Failure> {
     let mut boards = Boards::open(alloc)?;
@@ -122,15 +119,10 @@ fn answer_parts(rt: &HostRuntime, text: &str) -> Result<(), Failure> {
 }
 
 fn run(rt: &HostRuntime) -> Result<(), Failure> {
-    let mut text = String::with_capacity(rt.alloc(), ROOM)?;
-    let _read = rt.stdin().read_to_string(&mut text)?;
+    let text = read_input(rt)?;
     answer_parts(rt, text.as_str())
 }
 
 fn main(rt: HostRuntime) -> ExitCode {
-    match run(&rt) {
-        Ok(()) => ExitCode::SUCCESS,
-        Err(Failure::Memory) => ExitCode::from(4),
-        Err(_) => ExitCode::FAILURE,
-    }
+    status(run(&rt))
 }

@@ -1,7 +1,8 @@
-//! What the programs share that answer rows (`tests/rows`): why one ends early, the lines of a file of rows, and the words of a row. No part of the
-//! product. It promises nothing; what it is proved to be is safe.
+//! What the programs share that answer rows (`tests/rows`): what each reads, why one ends early and with which status, the lines of a file of rows, and
+//! the words of a row. No part of the product. It promises nothing; what it is proved to be is safe.
 #![tactic(auto)]
 
 pub mod failure;
+pub mod programs;
 pub mod rows;
 pub mod words;

@@ -5,7 +5,7 @@ use std::fmt;
 
 /// What a call does in its state.
 #[derive(Clone, Copy, Debug, PartialEq, Eq)]
-pub(crate) enum Phase {
+pub enum Phase {
     /// It rests.
     Resting,
     /// It waits for the reply to this request, which has so many commands.
@@ -18,11 +18,13 @@ pub(crate) enum Phase {
 
 /// Where a call stands.
 #[derive(Clone, Copy, Debug)]
-pub(crate) struct Standing<'a> {
+pub struct Standing<'a> {
     /// The name of its state.
-    pub(crate) state: &'a str,
-    pub(crate) phase: Phase,
-    pub(crate) association: Assoc,
+    pub state: &'a str,
+    /// What it does in it.
+    pub phase: Phase,
+    /// The association in which it does so.
+    pub association: Assoc,
 }
 
 impl fmt::Display for Phase {
@@ -48,7 +50,7 @@ impl fmt::Display for Standing<'_> {
 }
 
 /// The phase of a call that waits.
-pub(crate) fn waiting(request: Option<&Request>) -> Phase {
+pub fn waiting(request: Option<&Request>) -> Phase {
     match request {
         Some(request) => Phase::Asking(request.number(), request.commands().len()),
         None => Phase::Passing,

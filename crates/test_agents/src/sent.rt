@@ -1,13 +1,14 @@
-//! The layer of messages: what a call and its gateway sent each other, by number. A row goes through one exchange; which message a number means is tried by rows of shards.
+//! The layer of messages: what a call and its gateway sent each other, by number. A row goes through one exchange; which message a number means is tried by
+//! rows of shards.
 ghost use Rattle.std.specs.Prelude.{◌≡◌, OnOk};
 ghost use Rattle.call_messages.specs.Messages.{HasRoomToSend, HasRoomForNotes};
 
-use crate::messages::raised;
 use call_messages::Messages;
 use mg_names::identifiers::{Assoc, CallNo, LineNo};
 use mg_names::kinds::Kind;
 use requests::{LineNote, MessageId, Request, SentNote};
 use std::alloc::Global;
+use test_steps::messages::raised;
 use test_words::failure::{Failure, wanted};
 use test_words::rows::row_in;
 

@@ -1,9 +1,7 @@
-//! The layer of shards: a gateway with its calls and their history, which takes a call, an event of it, and hands the call back. Calls are named by their places, 0 and 1.
+//! The layer of shards: a gateway with its calls and their history, which takes a call, an event of it, and hands the call back. Calls are named by their
+//! places, 0 and 1.
 use crate::event_words::event;
-use crate::messages::Delivered;
 use crate::shard_opening::{Unopened, checked, opened};
-use crate::told_events::{Told, tell_events};
-use crate::typed::{Done, Seen, seen, standing, stepped};
 use agent::{Next, Refusal};
 use composition::{CheckFault, Checked, Verdict};
 use mg_model::events::Event;
@@ -15,6 +13,9 @@ use std::alloc::AllocError;
 use test_documents::documents::{Document, gather};
 use test_documents::plan_texts::{first_step, read, write_step};
 use test_documents::scripts::Sizes;
+use test_steps::messages::Delivered;
+use test_steps::told_events::{Told, tell_events};
+use test_steps::typed::{Done, Seen, seen, standing, stepped};
 use test_words::failure::{Failure, once_more, wanted};
 use test_words::rows::{association, number, opening, parted, row_in};
 

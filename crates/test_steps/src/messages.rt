@@ -17,7 +17,7 @@ use test_words::rows::{association, number};
 
 /// What reaches a call.
 #[derive(Debug, Drop)]
-pub(crate) enum Delivered {
+pub enum Delivered {
     /// A reply to a request.
     Reply(Reply),
     /// That it is to go on from an empty request.
@@ -32,13 +32,15 @@ pub(crate) enum Delivered {
 
 /// The call that messages are of, on the lines of the gateway for the lines of its script.
 #[derive(Clone, Copy, Debug)]
-pub(crate) struct Party {
-    pub(crate) call: CallNo,
-    pub(crate) lines: [LineNo; 2],
+pub struct Party {
+    /// Its number.
+    pub call: CallNo,
+    /// Its lines, in the order of the script's.
+    pub lines: [LineNo; 2],
 }
 
 /// The lines of a call that opens, as a row writes them: `7 on 11 12`.
-pub(crate) fn read_party(words: &[&str]) -> Result<Party, Failure> {
+pub fn read_party(words: &[&str]) -> Result<Party, Failure> {
     let [call, _on, first, second] = words else {
         return Err(Failure::Unreadable);
     };
@@ -50,12 +52,7 @@ pub(crate) fn read_party(words: &[&str]) -> Result<Party, Failure> {
 }
 
 /// What happens on a line that is armed for it, with this RequestID.
-pub(crate) fn raised(
-    alloc: Global,
-    line: LineNo,
-    kind: Kind,
-    request: u32,
-) -> Result<Note, Failure> {
+pub fn raised(alloc: Global, line: LineNo, kind: Kind, request: u32) -> Result<Note, Failure> {
     let item = match kind {
         Kind::On => EventItem::OnHook(Strict::Exact),
         Kind::Fl => EventItem::Flash,
@@ -213,7 +210,7 @@ fn read(
 }
 
 /// The same, made once more where that wanted memory.
-pub(crate) fn read_delivered(
+pub fn read_delivered(
     alloc: Global,
     script: &Script,
     party: &Party,

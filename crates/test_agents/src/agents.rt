@@ -1,10 +1,10 @@
 //! The layer of agents: what reaches the agent of a call is written out in each row, and no gateway is there.
-use crate::messages::{Delivered, Party, read_delivered, read_party};
-use crate::told::{Phase, Standing, waiting};
 use agent::{Delivery, Plain, PlainFault, PreparedStep};
 use mg_names::identifiers::{Assoc, CallNo};
 use script_table::Script;
 use test_documents::scripts::{Sizes, script};
+use test_steps::messages::{Delivered, Party, read_delivered, read_party};
+use test_steps::told::{Phase, Standing, waiting};
 use test_words::failure::{Failure, once_more, wanted};
 use test_words::rows::{number, opening, row_in, words};
 

@@ -8,7 +8,7 @@ use test_words::failure::Failure;
 
 /// An event as it is written.
 #[derive(Clone, Copy, Debug)]
-pub(crate) struct Told<'a>(pub(crate) &'a Event);
+pub struct Told<'a>(pub &'a Event);
 
 /// What happens on a line of the gateway.
 #[derive(Clone, Copy, Debug)]
@@ -76,7 +76,7 @@ impl fmt::Display for Told<'_> {
 }
 
 /// Tells events, the latest last.
-pub(crate) fn tell_events(rt: &HostRuntime, events: &[Event]) -> Result<(), Failure> {
+pub fn tell_events(rt: &HostRuntime, events: &[Event]) -> Result<(), Failure> {
     print!(rt; "{} events", events.len())?;
     for (place, event) in events.iter().enumerate() {
         let told = Told(event);

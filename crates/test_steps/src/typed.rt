@@ -8,11 +8,11 @@ use script_table::Script;
 use test_words::failure::{Failure, once_more};
 
 /// What is seen of a call: its state, its association, and how many events happened to it.
-pub(crate) type Seen = (u8, Assoc, usize);
+pub type Seen = (u8, Assoc, usize);
 
 /// What a step came to.
 #[derive(Clone, Copy, Debug, PartialEq, Eq)]
-pub(crate) enum Done {
+pub enum Done {
     /// It was taken.
     Taken,
     /// It was refused, and the call came back as it was.
@@ -21,7 +21,8 @@ pub(crate) enum Done {
     NoStep,
 }
 
-pub(crate) fn seen(next: &Next<'_>) -> Seen {
+/// What is seen of a call that is in some phase.
+pub fn seen(next: &Next<'_>) -> Seen {
     match next {
         Next::Resting(call) => (call.state(), call.association(), call.transcript().len()),
         Next::Waiting(call) => (call.state(), call.association(), call.transcript().len()),
@@ -30,7 +31,7 @@ pub(crate) fn seen(next: &Next<'_>) -> Seen {
 }
 
 /// What happened to a call.
-pub(crate) fn events<'n>(next: &'n Next<'_>) -> &'n [Event] {
+pub fn events<'n>(next: &'n Next<'_>) -> &'n [Event] {
     match next {
         Next::Resting(call) => call.transcript(),
         Next::Waiting(call) => call.transcript(),
@@ -39,7 +40,7 @@ pub(crate) fn events<'n>(next: &'n Next<'_>) -> &'n [Event] {
 }
 
 /// Where a call stands.
-pub(crate) fn standing<'s>(script: &'s Script, next: &Next<'_>) -> Standing<'s> {
+pub fn standing<'s>(script: &'s Script, next: &Next<'_>) -> Standing<'s> {
     let (state, association, _) = seen(next);
     let phase = match next {
         Next::Resting(_) => Phase::Resting,
@@ -116,7 +117,7 @@ fn step<'s>(next: Next<'s>, told: &Delivered) -> (Next<'s>, Done) {
 }
 
 /// The same, taken once more where it wanted memory.
-pub(crate) fn stepped<'s>(next: Next<'s>, told: &Delivered) -> Result<(Next<'s>, Done), Failure> {
+pub fn stepped<'s>(next: Next<'s>, told: &Delivered) -> Result<(Next<'s>, Done), Failure> {
     let before = seen(&next);
     let (next, done) = step(next, told);
     if done != Done::Refused(Refusal::NoMemory) {
@@ -126,7 +127,7 @@ pub(crate) fn stepped<'s>(next: Next<'s>, told: &Delivered) -> Result<(Next<'s>,
 }
 
 /// An event of the gateway is put into what happened to a call.
-pub(crate) fn log(next: Next<'_>, event: Event) -> (Next<'_>, Done) {
+pub fn log(next: Next<'_>, event: Event) -> (Next<'_>, Done) {
     match next {
         Next::Resting(call) => rested(call.log_event(event)),
         Next::Waiting(call) => waited(call.log_event(event)),
@@ -135,7 +136,7 @@ pub(crate) fn log(next: Next<'_>, event: Event) -> (Next<'_>, Done) {
 }
 
 /// The same, once more where it wanted memory.
-pub(crate) fn logged(next: Next<'_>, event: Event) -> Result<(Next<'_>, Done), Failure> {
+pub fn logged(next: Next<'_>, event: Event) -> Result<(Next<'_>, Done), Failure> {
     let before = seen(&next);
     let (next, done) = log(next, event);
     if done != Done::Refused(Refusal::NoMemory) {
@@ -154,7 +155,7 @@ fn make_room(next: &mut Next<'_>) -> bool {
 }
 
 /// The same, once more where it wanted memory.
-pub(crate) fn room(next: &mut Next<'_>) -> Result<bool, Failure> {
+pub fn room(next: &mut Next<'_>) -> Result<bool, Failure> {
     let before = seen(next);
     if make_room(next) {
         return Ok(true);
