@@ -2,9 +2,9 @@
 //!
 //! The way of an event: a shard is opened with its calls (`opening`), each of which has a slot by its number: its agent, its messages, and how many events it
 //! had (`slot`, `slots`). A step of a plan means an event, which is looked up in what was sent (`meaning`). An event comes with the call that it is of, which has
-//! to be as far as its slot (`step`): one of its agent is taken by both (`at_agent`), one of a line and a request go to the gateway (`at_gateway`), and a
-//! beginning is one of the gateway, the slots and the call (`begin`). All that may want memory comes first, then it happens, and it is the last of the history
-//! (`shard`). `standing` tells where a call is, and `laws` what every shard keeps.
+//! to be as far as its slot (`step`; where it is behind, `could_happen` says whether that is why it is refused): one of its agent is taken by both
+//! (`at_agent`), one of a line and a request go to the gateway (`at_gateway`), and a beginning is one of the gateway, the slots and the call (`begin`). All that
+//! may want memory comes first, then it happens, and it is the last of the history (`shard`). `standing` tells where a call is, and `laws` what every shard keeps.
 #![tactic(auto)]
 
 mod at_agent;
