@@ -1,5 +1,5 @@
 //! The path that media takes from one line to another.
-ghost use Rattle.std.specs.Prelude.{◌≡◌, ◌+◌, ◌∷◌, [], IfOk, IfSome, IfNone};
+ghost use Rattle.std.specs.Prelude.{◌≡◌, ◌+◌, ◌∷◌, IfOk, IfSome, IfNone};
 ghost use Rattle.mg_model.specs.declared.commands.Termination.TheVariants.{Line};
 ghost use Rattle.configuration.specs.Config.{configuration_of};
 ghost use Rattle.explanation.specs.Paths.{GoesNowhere, GoesNowhereOver, GoesWithin, HasNoCrossing, IsCrossingOver, IsShortest, shown};
@@ -54,10 +54,8 @@ fn path_over(
     from: &Termination,
     ephemeral: Slot,
     to: Slot,
-    slots: &[Slot],
     left: usize,
 ) -> Result<Option<Vec<Crossing>>, AllocError>
-    requires { slots.now ≡ 0 ∷ 1 ∷ 2 ∷ 3 ∷ [] }
     ensures some { IfOk result (λ found. IfSome found (λ path.
         GoesWithin (configuration_of config.now) from.now (shown path.items) to (left + 1))) }
     ensures none { IfOk result (λ found. IfNone found (GoesNowhereOver (configuration_of config.now) from.now ephemeral to left)) }
@@ -66,7 +64,7 @@ fn path_over(
         return Ok(None);
     };
     let next = Termination::Ephemeral(crossing.to);
-    let Some(path) = path_within(alloc, config, &next, to, slots, left)? else {
+    let Some(path) = path_within(alloc, config, &next, to, left)? else {
         return Ok(None);
     };
     let whole = behind(crossing, path)?;
@@ -80,10 +78,8 @@ fn path_within(
     config: &Config,
     from: &Termination,
     to: Slot,
-    slots: &[Slot],
     left: usize,
 ) -> Result<Option<Vec<Crossing>>, AllocError>
-    requires { slots.now ≡ 0 ∷ 1 ∷ 2 ∷ 3 ∷ [] }
     ensures some { IfOk result (λ found. IfSome found (λ path. GoesWithin (configuration_of config.now) from.now (shown path.items) to left)) }
     ensures none { IfOk result (λ found. IfNone found (GoesNowhere (configuration_of config.now) from.now to left)) }
 {
@@ -93,8 +89,9 @@ fn path_within(
     if left == 0 {
         return Ok(None);
     }
-    for ephemeral in slots {
-        if let Some(path) = path_over(alloc, config, from, *ephemeral, to, slots, left - 1)? {
+    let slots = Slot::all();
+    for ephemeral in &slots {
+        if let Some(path) = path_over(alloc, config, from, *ephemeral, to, left - 1)? {
             return Ok(Some(path));
         }
     }
@@ -107,14 +104,12 @@ fn shortest_path(
     config: &Config,
     from: &Termination,
     to: Slot,
-    slots: &[Slot],
 ) -> Result<Option<Vec<Crossing>>, AllocError>
-    requires { slots.now ≡ 0 ∷ 1 ∷ 2 ∷ 3 ∷ [] }
     ensures some { IfOk result (λ found. IfSome found (λ path. IsShortest (configuration_of config.now) from.now (shown path.items) to)) }
     ensures none { IfOk result (λ found. IfNone found (GoesNowhere (configuration_of config.now) from.now to 4)) }
 {
     for left in 0..LENGTHS {
-        if let Some(path) = path_within(alloc, config, from, to, slots, left)? {
+        if let Some(path) = path_within(alloc, config, from, to, left)? {
             return Ok(Some(path));
         }
     }
@@ -133,6 +128,5 @@ pub fn find_path(
     ensures some { IfOk result (λ found. IfSome found (λ path. IsShortest (configuration_of config.now) (Line from) (shown path.items) to)) }
     ensures none { IfOk result (λ found. IfNone found (GoesNowhere (configuration_of config.now) (Line from) to 4)) }
 {
-    let slots = Slot::all();
-    shortest_path(alloc, config, &Termination::Line(from), to, &slots)
+    shortest_path(alloc, config, &Termination::Line(from), to)
 }
