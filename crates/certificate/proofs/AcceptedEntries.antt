@@ -14,8 +14,8 @@ use Rattle.certificate.specs.Laws.{AcceptedCertificates}
 use Rattle.entry_table.specs.Listed.{Listed}
 use Rattle.typed_values.specs.Shape.{each, only_if, ◌>>=◌}
 use Rattle.certificate_document.specs.Written as written
-use Rattle.certificate_components.specs.declared.fault.CertFault.{CertFault}
-use Rattle.certificate_components.specs.declared.fault.CertFault.TheVariants.{EmptySet, TooManyEntries, TooManyPoints}
+use Rattle.certificate.specs.declared.fault.CertFault.{CertFault}
+use Rattle.certificate.specs.declared.fault.CertFault.TheVariants.{EmptySet, TooManyEntries, TooManyPoints}
 use Rattle.certificate_components.specs.declared.key.Key.{Key}
 use Rattle.certificate.proofs.Members.{some_is, none_is_some, each_read, each_is}
 use Rattle.certificate.proofs.DeclaredKeys.{link_key, spot_key, mode_key, events_key, plays_key, context_key, remote_key, cut_key}

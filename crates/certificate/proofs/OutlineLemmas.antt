@@ -5,15 +5,14 @@ use Rattle.std.specs.List.{list_any}
 use Rattle.std.proofs.lemmas.List.Sums.{sum_by-cons}
 use Rattle.mg_model.specs.Script.{Script}
 use Rattle.entry_table.specs.Listed.{Listed}
-use Rattle.mg_model.specs.Memory.{Faults}
-use Rattle.certificate_components.specs.FaultNames.{is_memory}
-use Rattle.certificate.specs.Certificate.{listed_meant, checked, checked_or, has_empty, is_large, has_crowd, entries_for, some_below}
+use Rattle.certificate.specs.Certificate.{Answers, listed_meant, checked, checked_or, unread_by, has_empty, is_large, has_crowd, entries_for, some_below}
 use Rattle.certificate.specs.Outlines.{outline_of, outline_meant, limit_passed, outlined_for, has_crowd_in}
-use Rattle.typed_values.specs.Shape.{each, ◌>>=◌}
+use Rattle.typed_values.specs.Shape.{Misses, each, ◌>>=◌}
+use Rattle.typed_values.specs.declared.missing.Missing.{Missing}
+use Rattle.typed_values.specs.declared.missing.Missing.TheVariants.{Nothing, Memory}
 use Rattle.certificate_document.specs.Written as written
-use Rattle.certificate_components.specs.declared.fault.CertFault.{CertFault}
-use Rattle.certificate_components.specs.declared.fault.CertFault.TheVariants.{NotJson, BadKey, Unknown, EmptySet, TooManyEntries, TooManyPoints, OldVersion, NoMemory}
-use Rattle.certificate_components.specs.Naming.{Lacks}
+use Rattle.certificate.specs.declared.fault.CertFault.{CertFault}
+use Rattle.certificate.specs.declared.fault.CertFault.TheVariants.{EmptySet, TooManyEntries, TooManyPoints}
 use Rattle.certificate.specs.declared.outline.Outline.{Outline}
 
 -- what is meant of each entry, outlined, is the outline meant of each
@@ -72,16 +71,6 @@ none_passed false true c e = absurd (true≢false (ap is_some e))
 none_passed false false true e = absurd (true≢false (ap is_some e))
 none_passed false false false e = (refl, refl)
 
-itself : (entries : Result (List Listed) CertFault) (fault : CertFault) → entries ≡ Err fault → Faults is_memory fault entries
-itself entries NotJson e = e
-itself entries BadKey e = e
-itself entries Unknown e = e
-itself entries EmptySet e = e
-itself entries TooManyEntries e = e
-itself entries TooManyPoints e = e
-itself entries OldVersion e = e
-itself entries NoMemory e = tt
-
 module _ (script : Script) where
   abbrev passed_of : List Listed → Option CertFault
   passed_of entries =
@@ -95,13 +84,12 @@ module _ (script : Script) where
       rw (any_outlined (λ outline. outline.is_empty) entries, crowd_outlined script entries, any_outlined (λ outline. outline.is_large) entries) refl
 
   pub refused : (meant : Option (List Listed)) (outlines : List Outline) (fault : CertFault) → option_map (map outline_of) meant ≡ Some outlines
-      → limit_passed script outlines ≡ Some fault → Faults is_memory fault (checked_or script meant)
+      → limit_passed script outlines ≡ Some fault → checked_or script meant ≡ Err fault
   refused None outlines fault e passed = absurd (true≢false (sym (ap is_some e)))
   refused (Some entries) outlines fault e passed =
       let same : map outline_of entries ≡ outlines = ap (λ o. unwrap_or o outlines) e in
       let found : passed_of entries ≡ Some fault = sym (passed_is entries) ∙ ap (limit_passed script) same ∙ passed in
-      itself (checked script entries) fault
-      (tests_agree (list_any has_empty entries) (has_crowd script entries) (list_any is_large entries) entries ∙ ap (or_fault entries) found)
+      tests_agree (list_any has_empty entries) (has_crowd script entries) (list_any is_large entries) entries ∙ ap (or_fault entries) found
 
   pub within : (meant : Option (List Listed)) (outlines : List Outline) (entries : List Listed) → option_map (map outline_of) meant ≡ Some outlines
       → limit_passed script outlines ≡ None → meant ≡ Some entries
@@ -114,13 +102,15 @@ module _ (script : Script) where
       (small.0, small.1, tests_agree (list_any has_empty entries) (has_crowd script entries) (list_any is_large entries) entries ∙ ap (or_fault entries) found)
 
   -- a name of an outline is unknown where it is one of the entry's
-  pub unknown : (meant : Option (List Listed)) (fault : CertFault) → Lacks fault (option_map (map outline_of) meant) → Faults is_memory fault (checked_or script meant)
-  unknown None Unknown e = refl
-  unknown (Some entries) Unknown e = absurd (true≢false (ap is_some e))
-  unknown meant NoMemory e = tt
-  unknown meant NotJson e = absurd e
-  unknown meant BadKey e = absurd e
-  unknown meant EmptySet e = absurd e
-  unknown meant TooManyEntries e = absurd e
-  unknown meant TooManyPoints e = absurd e
-  unknown meant OldVersion e = absurd e
+  pub unknown : (meant : Option (List Listed)) (missing : Missing) → Misses missing (option_map (map outline_of) meant)
+      → Answers (λ (entries : List Listed). entries) (Err (unread_by missing)) (checked_or script meant)
+  unknown None Nothing e = refl
+  unknown (Some entries) Nothing e = absurd (true≢false (ap is_some e))
+  unknown meant Memory e = tt
+
+  -- so it is where one of an entry's own is
+  pub unlisted : (meant : Option (List Listed)) (missing : Missing) → Misses missing meant
+      → Answers (λ (entries : List Listed). entries) (Err (unread_by missing)) (checked_or script meant)
+  unlisted None Nothing e = refl
+  unlisted (Some entries) Nothing e = absurd (true≢false (ap is_some e))
+  unlisted meant Memory e = tt

@@ -13,8 +13,12 @@ use Rattle.certificate_components.specs.Components.{component_meant, keys_of}
 use Rattle.certificate_document.specs.Document.{document_meant}
 use Rattle.entry_table.specs.Listed.{Listed, choices_of, size_of}
 use Rattle.certificate_document.specs.Written as written
-use Rattle.certificate_components.specs.declared.fault.CertFault.{CertFault}
-use Rattle.certificate_components.specs.declared.fault.CertFault.TheVariants.{NotJson, BadKey, Unknown, EmptySet, TooManyEntries, TooManyPoints, OldVersion, NoMemory}
+use Rattle.typed_values.specs.declared.missing.Missing.{Missing}
+use Rattle.typed_values.specs.declared.missing.Missing.TheVariants.{Nothing, Memory}
+use Rattle.typed_values.specs.declared.unread.Unread.{Unread}
+use Rattle.typed_values.specs.declared.unread.Unread.TheVariants.{Fault, NoMemory}
+use Rattle.certificate.specs.declared.fault.CertFault.{CertFault}
+use Rattle.certificate.specs.declared.fault.CertFault.TheVariants.{NotJson, BadKey, Unknown, EmptySet, TooManyEntries, TooManyPoints, OldVersion}
 
 -- whether each key that is a name stands for what its place asks for
 abbrev pub are_known : Script → written.Entry → Bool
@@ -84,15 +88,25 @@ document_read script document = resolved_or script (document_meant document)
 abbrev pub IsText : List ℕ → Data → Type 0
 IsText bytes document = IsUtf8 bytes × (read_text bytes ≡ Some document)
 
--- the answer is that of the document, or says that there is none; memory may run out
+-- the answer is that of the document, or says that there is none
 abbrev pub ReadsCertificate : Script → List ℕ → Result (List Listed) CertFault → Type 0
-ReadsCertificate script bytes (Err NoMemory) = Unit {0}
 ReadsCertificate script bytes (Err NotJson) = (document : Data) → IsText bytes document → ⊥
 ReadsCertificate script bytes answer = (document : Data) × IsText bytes document × (document_read script document ≡ answer)
 
 -- what the parsing of the bytes gives, seen by view
-abbrev pub Parses : {X : Type 0} → (X → Data) → Result X CertFault → List ℕ → Type 0
+abbrev pub Parses : {X : Type 0} → (X → Data) → Result X (Unread CertFault) → List ℕ → Type 0
 Parses view (Ok x) bytes = IsText bytes (view x)
 Parses view (Err NoMemory) bytes = Unit {0}
-Parses view (Err NotJson) bytes = (document : Data) → IsText bytes document → ⊥
-Parses view (Err fault) bytes = ⊥
+Parses view (Err (Fault NotJson)) bytes = (document : Data) → IsText bytes document → ⊥
+Parses view (Err (Fault fault)) bytes = ⊥
+
+-- what a function returned, seen by view, is the expected answer; memory may run out
+abbrev pub Answers : {X Y : Type 0} → (X → Y) → Result X (Unread CertFault) → Result Y CertFault → Type 0
+Answers view (Ok x) expected = expected ≡ Ok (view x)
+Answers view (Err (Fault fault)) expected = expected ≡ Err fault
+Answers view (Err NoMemory) expected = Unit {0}
+
+-- why a document is not read where a name or a word of it is looked up and stands for nothing
+abbrev pub unread_by : Missing → Unread CertFault
+unread_by Nothing = Fault Unknown
+unread_by Memory = NoMemory

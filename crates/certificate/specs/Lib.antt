@@ -1,3 +1,4 @@
 pub mod Certificate
+pub mod FaultNames
 pub mod Laws
 pub mod Outlines

@@ -13,8 +13,8 @@ use Rattle.certificate_components.specs.Naming.{cut_named}
 use Rattle.certificate_components.specs.Ranks.{switch_rank}
 use Rattle.certificate_document.specs.Written as written
 use Rattle.certificate_document.specs.Written.{Text}
-use Rattle.certificate_components.specs.declared.fault.CertFault.{CertFault}
-use Rattle.certificate_components.specs.declared.fault.CertFault.TheVariants.{EmptySet, TooManyEntries, TooManyPoints}
+use Rattle.certificate.specs.declared.fault.CertFault.{CertFault}
+use Rattle.certificate.specs.declared.fault.CertFault.TheVariants.{EmptySet, TooManyEntries, TooManyPoints}
 use Rattle.certificate_components.specs.declared.key.Key.{Key}
 use Rattle.certificate_components.specs.declared.key.Key.TheVariants as key
 use Rattle.certificate.specs.declared.outline.Outline.{Outline}

@@ -5,18 +5,19 @@ ghost use Rattle.script_table.specs.Table.{place_of, state_named};
 ghost use Rattle.certificate.specs.Certificate.{are_known, has_empty, is_large, listed_meant};
 ghost use Rattle.certificate_components.specs.Components.{component_meant, keys_of};
 ghost use Rattle.entry_table.specs.Listed.{choices_of, size_of};
-ghost use Rattle.certificate_components.specs.Naming.{Resolves, pair_named};
-ghost use Rattle.typed_values.specs.Shape.{each, only_if};
+ghost use Rattle.certificate_components.specs.Naming.{pair_named};
+ghost use Rattle.typed_values.specs.Shape.{Gives, each, only_if};
 ghost use Rattle.entry_table.specs.Shown.{shown_all};
 
 use certificate_components::{
-    CertFault, ContextNames, EphemeralNames, Key, LineNames, are_cuts, are_named, read_component,
+    ContextNames, EphemeralNames, Key, LineNames, are_cuts, are_named, read_component,
 };
 use certificate_document::WrittenEntry;
 use entry_table::{Component, Entry, product_of};
 use script_table::Script;
 use std::alloc::{AllocError, Global};
 use std::marker::Model;
+use typed_values::Missing;
 
 /// How many points an entry may have.
 const POINTS: u32 = 65_536;
@@ -98,8 +99,8 @@ fn components(
     script: &Script,
     entry: &WrittenEntry,
     keys: &[Key],
-) -> Result<Vec<Component>, CertFault>
-    ensures { Resolves (λ v. shown_all v.items) result (each (component_meant script.now entry.now) keys.now) }
+) -> Result<Vec<Component>, Missing>
+    ensures { Gives (λ v. shown_all v.items) result (each (component_meant script.now entry.now) keys.now) }
 {
     let mut found = Vec::new(alloc);
     for key in keys {
@@ -114,12 +115,12 @@ pub(crate) fn read_draft(
     script: &Script,
     keys: &[Key],
     entry: &WrittenEntry,
-) -> Result<Draft, CertFault>
+) -> Result<Draft, Missing>
     requires { keys.now ≡ keys_of script.now }
-    ensures { Resolves (λ d. d) result (listed_meant script.now entry.now) }
+    ensures { Gives (λ d. d) result (listed_meant script.now entry.now) }
 {
     let Some(state) = state_of(script, entry) else {
-        return Err(CertFault::Unknown);
+        return Err(Missing::Nothing);
     };
     let components = components(alloc, script, entry, keys)?;
     let lines = script.lines();
@@ -136,9 +137,9 @@ pub(crate) fn drafts(
     script: &Script,
     keys: &[Key],
     entries: &[WrittenEntry],
-) -> Result<Vec<Draft>, CertFault>
+) -> Result<Vec<Draft>, Missing>
     requires { keys.now ≡ keys_of script.now }
-    ensures { Resolves (λ v. v.items) result (each (listed_meant script.now) entries.now) }
+    ensures { Gives (λ v. v.items) result (each (listed_meant script.now) entries.now) }
 {
     let mut found = Vec::new(alloc);
     for entry in entries {

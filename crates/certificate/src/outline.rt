@@ -4,16 +4,17 @@ ghost use Rattle.std.specs.Prelude.{◌≡◌, map, option_map};
 ghost use Rattle.std.specs.List.{list_any};
 ghost use Rattle.certificate.specs.Certificate.{listed_meant};
 ghost use Rattle.certificate_components.specs.Components.{keys_of};
-ghost use Rattle.certificate_components.specs.Naming.{Resolves};
 ghost use Rattle.certificate.specs.Outlines.{has_crowd_in, limit_passed, outline_meant, outline_of, outlined_for};
-ghost use Rattle.typed_values.specs.Shape.{each};
+ghost use Rattle.typed_values.specs.Shape.{Gives, each};
 
 use crate::draft::{self, are_large, state_of};
+use crate::fault::CertFault;
 use crate::varied::varied;
-use certificate_components::{CertFault, Key};
+use certificate_components::Key;
 use certificate_document::WrittenEntry;
 use script_table::Script;
 use std::alloc::Global;
+use typed_values::Missing;
 
 /// How many entries a state may have.
 const ENTRIES: usize = 256;
@@ -33,12 +34,12 @@ fn read_outline(
     script: &Script,
     keys: &[Key],
     entry: &WrittenEntry,
-) -> Result<Outline, CertFault>
+) -> Result<Outline, Missing>
     requires { keys.now ≡ keys_of script.now }
-    ensures { Resolves (λ o. o) result (outline_meant script.now entry.now) }
+    ensures { Gives (λ o. o) result (outline_meant script.now entry.now) }
 {
     let Some(state) = state_of(script, entry) else {
-        return Err(CertFault::Unknown);
+        return Err(Missing::Nothing);
     };
     let varied = varied(alloc, script, entry, keys)?;
     Ok(Outline {
@@ -54,9 +55,9 @@ pub(crate) fn outlines(
     script: &Script,
     keys: &[Key],
     entries: &[WrittenEntry],
-) -> Result<Vec<Outline>, CertFault>
+) -> Result<Vec<Outline>, Missing>
     requires { keys.now ≡ keys_of script.now }
-    ensures { Resolves (λ v. v.items) result (each (outline_meant script.now) entries.now) }
+    ensures { Gives (λ v. v.items) result (each (outline_meant script.now) entries.now) }
 {
     let mut found = Vec::new(alloc);
     for entry in entries {

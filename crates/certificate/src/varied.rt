@@ -3,17 +3,17 @@
 ghost use Rattle.std.specs.Prelude.{◌≡◌, ◌==◌, ◌++◌, length, map, option_map, OnOk};
 ghost use Rattle.std.specs.List.{flat_map};
 ghost use Rattle.certificate_components.specs.Components.{component_meant, cut_at};
-ghost use Rattle.certificate_components.specs.Naming.{Resolves};
 ghost use Rattle.certificate.specs.Outlines.{cuts_meant, has_none_like, is_left_out, varied};
 ghost use Rattle.entry_table.specs.Shown.{shown, shown_all};
-ghost use Rattle.typed_values.specs.Shape.{each};
+ghost use Rattle.typed_values.specs.Shape.{Gives, each};
 
-use certificate_components::{CertFault, Cuts, Key, cut, read_component, read_set};
+use certificate_components::{Cuts, Key, cut, read_component, read_set};
 use certificate_document::{Row, WrittenEntry};
 use entry_table::Component;
 use mg_model::commands::Termination;
 use script_table::Script;
 use std::alloc::{AllocError, Global};
+use typed_values::Missing;
 
 /// Whether there are no rows.
 fn are_none<T>(rows: &[Row<T>]) -> bool
@@ -89,8 +89,8 @@ fn keep_cuts(
     source: &Termination,
     sink: &Termination,
     found: &mut Vec<Component>,
-) -> Result<(), CertFault>
-    ensures { Resolves (λ _. shown_all found.new.items) result
+) -> Result<(), Missing>
+    ensures { Gives (λ _. shown_all found.new.items) result
         (option_map (λ component. shown_all found.old.items ++ varied component)
         (cuts_meant source.now sink.now (cut_at script.now source.now sink.now entry.now.cuts))) }
 {
@@ -110,8 +110,8 @@ fn keep_at(
     entry: &WrittenEntry,
     key: &Key,
     found: &mut Vec<Component>,
-) -> Result<(), CertFault>
-    ensures { Resolves (λ _. shown_all found.new.items) result
+) -> Result<(), Missing>
+    ensures { Gives (λ _. shown_all found.new.items) result
         (option_map (λ component. shown_all found.old.items ++ varied component) (component_meant script.now entry.now key.now)) }
 {
     if is_left_out(entry, key) {
@@ -131,8 +131,8 @@ pub(crate) fn varied(
     script: &Script,
     entry: &WrittenEntry,
     keys: &[Key],
-) -> Result<Vec<Component>, CertFault>
-    ensures { Resolves (λ v. shown_all v.items) result
+) -> Result<Vec<Component>, Missing>
+    ensures { Gives (λ v. shown_all v.items) result
         (option_map (flat_map varied) (each (component_meant script.now entry.now) keys.now)) }
 {
     let mut found = Vec::new(alloc);

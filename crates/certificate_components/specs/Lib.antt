@@ -1,4 +1,3 @@
 pub mod Components
-pub mod FaultNames
 pub mod Naming
 pub mod Ranks

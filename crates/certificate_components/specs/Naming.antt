@@ -1,6 +1,6 @@
 -- What the words and names of a certificate stand for, given a script. A reader should compare the words with the
 -- table of the page on formats.
-use Rattle.std.specs.Prelude.{◌≡◌, Bool, true, false, ◌==◌, if◌then◌else◌, Option, Some, None, option_map, option_and_then, Result, Ok, Err, codes, length, nat_lt}
+use Rattle.std.specs.Prelude.{Bool, true, false, ◌==◌, if◌then◌else◌, Option, Some, None, option_map, option_and_then, codes, length, nat_lt}
 use Rattle.std.specs.List.{position_or_len, before_first, after_first}
 use Rattle.std.specs.Str.{bytes_eq}
 use Rattle.mg_model.specs.declared.commands.Termination.{Termination}
@@ -13,8 +13,6 @@ use Rattle.mg_model.specs.Script.{Script}
 use Rattle.mg_model.specs.Configuration.{is_same}
 use Rattle.script_table.specs.Table.{place_of}
 use Rattle.certificate_document.specs.Written.{Text}
-use Rattle.certificate_components.specs.declared.fault.CertFault.{CertFault}
-use Rattle.certificate_components.specs.declared.fault.CertFault.TheVariants.{Unknown, NoMemory}
 
 -- a text is one word
 abbrev pub is_word : Text → Text → Bool
@@ -76,14 +74,3 @@ source_named script key = option_and_then (λ (parts : Text × Text). terminatio
 abbrev pub is_termination : Option Termination → Termination → Bool
 is_termination None other = false
 is_termination (Some t) other = is_same t other
-
--- nothing is named: an unknown name, unless memory ran out
-abbrev pub Lacks : {Y : Type 0} → CertFault → Option Y → Type 0
-Lacks NoMemory meaning = Unit {0}
-Lacks Unknown meaning = meaning ≡ None
-Lacks fault meaning = ⊥
-
--- what a function returned, seen by view, is what the names stand for
-abbrev pub Resolves : {X Y : Type 0} → (X → Y) → Result X CertFault → Option Y → Type 0
-Resolves view (Ok x) meaning = meaning ≡ Some (view x)
-Resolves view (Err fault) meaning = Lacks fault meaning

@@ -3,11 +3,11 @@ ghost use Rattle.std.specs.Prelude.{◌≡◌, false, option_map};
 ghost use Rattle.mg_names.specs.Words.{context_value_named, link_named, mode_named};
 ghost use Rattle.certificate_components.specs.Ranks.{context_rank, events_rank, link_rank, mode_rank, remote_rank, spot_rank, switch_rank};
 ghost use Rattle.certificate_components.specs.Components.{component_meant, cut_at, ephemeral_words, line_words, row_at, set_of, set_or};
-ghost use Rattle.certificate_components.specs.Naming.{Resolves, cut_named, ephemeral_spot_named, line_spot_named, plays_named, remote_named};
+ghost use Rattle.certificate_components.specs.Naming.{cut_named, ephemeral_spot_named, line_spot_named, plays_named, remote_named};
 ghost use Rattle.entry_table.specs.Shown.{shown};
+ghost use Rattle.typed_values.specs.Shape.{Gives};
 ghost use Rattle.script_table.specs.Table.{list_named};
 
-use crate::fault::CertFault;
 use crate::key::Key;
 use crate::names::{cut_at, row_at};
 use crate::ranked::Ranked;
@@ -25,7 +25,7 @@ use mg_names::phases::LinkPhase;
 use mg_names::slots::Slot;
 use script_table::Script;
 use std::alloc::Global;
-use typed_values::Words;
+use typed_values::{Missing, Words};
 
 /// The set that some words name, or the default alone where nothing is written.
 fn set_or<T: Ranked + Drop, V: Vocabulary<T>>(
@@ -33,8 +33,8 @@ fn set_or<T: Ranked + Drop, V: Vocabulary<T>>(
     vocabulary: &V,
     default: T,
     words: Option<&Words>,
-) -> Result<Vec<T>, CertFault>
-    ensures { Resolves (λ set. set.items) result
+) -> Result<Vec<T>, Missing>
+    ensures { Gives (λ set. set.items) result
         (set_or T.place (V.named vocabulary.now) default (option_map (λ w. w.now) words.entry)) }
 {
     let Some(words) = words else {
@@ -87,8 +87,8 @@ pub fn cut<'a>(
 }
 
 /// The links of an entry.
-fn links(alloc: Global, entry: &WrittenEntry) -> Result<Vec<LinkPhase>, CertFault>
-    ensures { Resolves (λ set. set.items) result (set_of link_rank link_named entry.now.link) }
+fn links(alloc: Global, entry: &WrittenEntry) -> Result<Vec<LinkPhase>, Missing>
+    ensures { Gives (λ set. set.items) result (set_of link_rank link_named entry.now.link) }
 {
     read_set(alloc, &Links, entry.link.as_slice())
 }
@@ -99,8 +99,8 @@ fn line_spots(
     script: &Script,
     entry: &WrittenEntry,
     slot: Slot,
-) -> Result<Vec<Spot>, CertFault>
-    ensures { Resolves (λ set. set.items) result (set_or spot_rank (line_spot_named script.now) Spot.Null
+) -> Result<Vec<Spot>, Missing>
+    ensures { Gives (λ set. set.items) result (set_or spot_rank (line_spot_named script.now) Spot.Null
         (line_words script.now entry.now slot (λ line. line.at))) }
 {
     let words = match line(script, entry, slot) {
@@ -116,8 +116,8 @@ fn ephemeral_spots(
     script: &Script,
     entry: &WrittenEntry,
     slot: Slot,
-) -> Result<Vec<Spot>, CertFault>
-    ensures { Resolves (λ set. set.items) result (set_or spot_rank (ephemeral_spot_named script.now) Spot.Absent
+) -> Result<Vec<Spot>, Missing>
+    ensures { Gives (λ set. set.items) result (set_or spot_rank (ephemeral_spot_named script.now) Spot.Absent
         (ephemeral_words script.now entry.now slot (λ ephemeral. ephemeral.at))) }
 {
     let words = match ephemeral(script, entry, slot) {
@@ -133,8 +133,8 @@ fn line_modes(
     script: &Script,
     entry: &WrittenEntry,
     slot: Slot,
-) -> Result<Vec<Mode>, CertFault>
-    ensures { Resolves (λ set. set.items) result (set_or mode_rank mode_named Mode.Inactive
+) -> Result<Vec<Mode>, Missing>
+    ensures { Gives (λ set. set.items) result (set_or mode_rank mode_named Mode.Inactive
         (line_words script.now entry.now slot (λ line. line.mode))) }
 {
     let words = match line(script, entry, slot) {
@@ -150,8 +150,8 @@ fn ephemeral_modes(
     script: &Script,
     entry: &WrittenEntry,
     slot: Slot,
-) -> Result<Vec<Mode>, CertFault>
-    ensures { Resolves (λ set. set.items) result (set_or mode_rank mode_named Mode.Inactive
+) -> Result<Vec<Mode>, Missing>
+    ensures { Gives (λ set. set.items) result (set_or mode_rank mode_named Mode.Inactive
         (ephemeral_words script.now entry.now slot (λ ephemeral. ephemeral.mode))) }
 {
     let words = match ephemeral(script, entry, slot) {
@@ -167,8 +167,8 @@ fn events(
     script: &Script,
     entry: &WrittenEntry,
     slot: Slot,
-) -> Result<Vec<EventsName>, CertFault>
-    ensures { Resolves (λ set. set.items) result (set_or events_rank (λ word. list_named word script.now.lists) EventsName.Armed
+) -> Result<Vec<EventsName>, Missing>
+    ensures { Gives (λ set. set.items) result (set_or events_rank (λ word. list_named word script.now.lists) EventsName.Armed
         (line_words script.now entry.now slot (λ line. line.events))) }
 {
     let words = match line(script, entry, slot) {
@@ -184,8 +184,8 @@ fn plays(
     script: &Script,
     entry: &WrittenEntry,
     slot: Slot,
-) -> Result<Vec<bool>, CertFault>
-    ensures { Resolves (λ set. set.items) result (set_or switch_rank plays_named false
+) -> Result<Vec<bool>, Missing>
+    ensures { Gives (λ set. set.items) result (set_or switch_rank plays_named false
         (line_words script.now entry.now slot (λ line. line.plays))) }
 {
     let words = match line(script, entry, slot) {
@@ -201,8 +201,8 @@ fn contexts(
     script: &Script,
     entry: &WrittenEntry,
     slot: Slot,
-) -> Result<Vec<ContextValue>, CertFault>
-    ensures { Resolves (λ set. set.items) result (set_or context_rank context_value_named ContextValue.Free
+) -> Result<Vec<ContextValue>, Missing>
+    ensures { Gives (λ set. set.items) result (set_or context_rank context_value_named ContextValue.Free
         (row_at script.now.contexts slot entry.now.contexts)) }
 {
     let words = context(script, entry, slot);
@@ -215,8 +215,8 @@ fn remotes(
     script: &Script,
     entry: &WrittenEntry,
     slot: Slot,
-) -> Result<Vec<Remote>, CertFault>
-    ensures { Resolves (λ set. set.items) result (set_or remote_rank (remote_named script.now) Remote.Unset
+) -> Result<Vec<Remote>, Missing>
+    ensures { Gives (λ set. set.items) result (set_or remote_rank (remote_named script.now) Remote.Unset
         (ephemeral_words script.now entry.now slot (λ ephemeral. ephemeral.remote))) }
 {
     let words = match ephemeral(script, entry, slot) {
@@ -233,8 +233,8 @@ fn cuts(
     entry: &WrittenEntry,
     source: &Termination,
     sink: &Termination,
-) -> Result<Vec<bool>, CertFault>
-    ensures { Resolves (λ set. set.items) result (set_or switch_rank cut_named false
+) -> Result<Vec<bool>, Missing>
+    ensures { Gives (λ set. set.items) result (set_or switch_rank cut_named false
         (cut_at script.now source.now sink.now entry.now.cuts)) }
 {
     let words = cut(script, entry, source, sink);
@@ -247,8 +247,8 @@ fn spots(
     script: &Script,
     entry: &WrittenEntry,
     termination: &Termination,
-) -> Result<Component, CertFault>
-    ensures { Resolves shown result (component_meant script.now entry.now (Key.Spot termination.now)) }
+) -> Result<Component, Missing>
+    ensures { Gives shown result (component_meant script.now entry.now (Key.Spot termination.now)) }
 {
     match *termination {
         Termination::Line(slot) => {
@@ -268,8 +268,8 @@ fn modes(
     script: &Script,
     entry: &WrittenEntry,
     termination: &Termination,
-) -> Result<Component, CertFault>
-    ensures { Resolves shown result (component_meant script.now entry.now (Key.Mode termination.now)) }
+) -> Result<Component, Missing>
+    ensures { Gives shown result (component_meant script.now entry.now (Key.Mode termination.now)) }
 {
     match *termination {
         Termination::Line(slot) => {
@@ -289,8 +289,8 @@ pub fn read_component(
     script: &Script,
     entry: &WrittenEntry,
     key: &Key,
-) -> Result<Component, CertFault>
-    ensures { Resolves shown result (component_meant script.now entry.now key.now) }
+) -> Result<Component, Missing>
+    ensures { Gives shown result (component_meant script.now entry.now key.now) }
 {
     match key {
         Key::Link => Ok(Component::Links(links(alloc, entry)?)),

@@ -1,9 +1,8 @@
 //! The words of each component, and the names of a script.
 ghost use Rattle.std.specs.Prelude.{◌≡◌, ℕ, List, Option, []};
-ghost use Rattle.certificate_components.specs.Naming.{Resolves};
+ghost use Rattle.typed_values.specs.Shape.{Gives};
 ghost use Rattle.certificate_components.specs.Ranks.{set_with};
 
-use crate::fault::CertFault;
 use crate::ranked::{Ranked, insert};
 use mg_model::commands::EventsName;
 use mg_model::components::{Remote, Spot};
@@ -13,7 +12,7 @@ use mg_names::phases::LinkPhase;
 use mg_names::slots::Slot;
 use script_table::Script;
 use std::alloc::Global;
-use typed_values::Word;
+use typed_values::{Missing, Word};
 
 /// Words that name values.
 pub trait Vocabulary<T> {
@@ -29,13 +28,13 @@ pub fn read_set<T: Ranked + Drop, V: Vocabulary<T>>(
     alloc: Global,
     vocabulary: &V,
     words: &[Word],
-) -> Result<Vec<T>, CertFault>
-    ensures { Resolves (λ set. set.items) result (set_with T.place (V.named vocabulary.now) [] words.now) }
+) -> Result<Vec<T>, Missing>
+    ensures { Gives (λ set. set.items) result (set_with T.place (V.named vocabulary.now) [] words.now) }
 {
     let mut set = Vec::new(alloc);
     for word in words {
         let Some(value) = vocabulary.named(word.as_str()) else {
-            return Err(CertFault::Unknown);
+            return Err(Missing::Nothing);
         };
         insert(&mut set, value)?;
     }

@@ -1,7 +1,7 @@
 -- Which line answers a script and a certificate, from their bytes. A reader should check that the line names the fault of
 -- the script where it has one, else that of the certificate, else the first obligation that is broken, and that it is
 -- `yes` where none is, and that a yes says of every run of the script that it is good.
-use Rattle.std.specs.Prelude.{◌≡◌, ℕ, List, length, Option, None, Some, option_map, Ok}
+use Rattle.std.specs.Prelude.{◌≡◌, ℕ, List, length, Option, None, Some, option_map}
 use Rattle.mg_names.specs.Obligations.{obligation_number}
 use Rattle.mg_model.specs.declared.faults.Fault.{Fault}
 use Rattle.mg_model.specs.Script.{Script}
@@ -9,10 +9,9 @@ use Rattle.mg_model.specs.Entries.{Entry}
 use Rattle.mg_model.specs.Obligations.{IsFirstFault}
 use Rattle.script_faults.specs.declared.fault.ScriptFault.{ScriptFault}
 use Rattle.script_faults.specs.FaultNames as script_names
-use Rattle.scriptreader.specs.Reading.{ReadsScript}
 use Rattle.script_table.specs.Words.{words_of}
-use Rattle.certificate_components.specs.declared.fault.CertFault.{CertFault}
-use Rattle.certificate_components.specs.FaultNames as certificate_names
+use Rattle.certificate.specs.declared.fault.CertFault.{CertFault}
+use Rattle.certificate.specs.FaultNames as certificate_names
 use Rattle.composition.specs.Verdict.{AreRead, HasScriptFault, HasCertificateFault, IsChecked}
 use Rattle.composition.specs.declared.verdict.CheckFault.{CheckFault}
 use Rattle.composition.specs.declared.verdict.CheckFault.TheVariants as fault
@@ -63,13 +62,13 @@ abbrev pub IsLineOfSections : Option (Text × Text) → Line → Type 0
 IsLineOfSections None l = l ≡ sections
 IsLineOfSections (Some (script, certificate)) l = Judges script certificate l
 
--- the line names a fault, with its step in the words of the script that the bytes are; memory may run out
-abbrev pub NamesFault : Text → Fault → Line → Type 0
-NamesFault script fault (no obligation entry point step) =
+-- the line names a fault, with its step in the words of the script; memory may run out
+abbrev pub NamesFault : Script → Fault → Line → Type 0
+NamesFault table fault (no obligation entry point step) =
     (obligation ≡ obligation_number fault.obligation) × (entry ≡ fault.entry) × (point ≡ fault.point)
-    × (table : Script) × ReadsScript script (Ok table) × (step ≡ option_map (words_of table.lines) fault.step)
-NamesFault script fault no_memory = Unit {0}
-NamesFault script fault _ = ⊥
+    × (step ≡ option_map (words_of table.lines) fault.step)
+NamesFault table fault no_memory = Unit {0}
+NamesFault table fault _ = ⊥
 
 -- the line names the fault for which there is no verdict
 abbrev pub NamesRefusal : CheckFault → Line → Type 0

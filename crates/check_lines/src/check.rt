@@ -6,11 +6,9 @@ ghost use Rattle.check_lines.specs.VerdictLines.{Judges, NamesFault, NamesRefusa
 ghost use Rattle.script_table.specs.Words.{words_of};
 
 use crate::answer::{Answer, Broken};
-use composition::{CheckFault, Verdict, check, check_par};
-use mg_model::faults::Fault;
+use composition::{CheckFault, Refuted, Verdict, check, check_par};
 use mg_model::steps::StepName;
 use script_table::Script;
-use scriptreader::read_script;
 use std::alloc::{AllocError, Global};
 use std::thread::Threads;
 
@@ -28,14 +26,12 @@ fn words_of(
     }
 }
 
-/// What is said of a broken obligation. A step's words name lines, so the script is read again.
-pub fn broken(alloc: Global, bytes: &[u8], fault: &Fault) -> Answer
-    ensures { NamesFault bytes.now fault.now (answer_line result) }
+/// What is said of a certificate that breaks an obligation. A step's words name lines of the script.
+pub fn broken(alloc: Global, refuted: &Refuted) -> Answer
+    ensures { NamesFault refuted.now.table refuted.now.fault (answer_line result) }
 {
-    let Ok(script) = read_script(alloc, bytes) else {
-        return Answer::NoMemory;
-    };
-    match words_of(alloc, &script, &fault.step) {
+    let fault = refuted.fault();
+    match words_of(alloc, refuted.script(), &fault.step) {
         Ok(step) => Answer::No(Broken {
             obligation: fault.obligation.number(),
             entry: fault.entry,
@@ -96,7 +92,7 @@ pub fn answer(
             entries: checked.entries(),
             points: checked.points(),
         },
-        Ok(Verdict::No(fault)) => broken(alloc, script, &fault),
+        Ok(Verdict::No(refuted)) => broken(alloc, &refuted),
         Err(fault) => refused(fault),
     }
 }

@@ -1,30 +1,27 @@
 -- What the bytes of a script and of a certificate are: a script with a fault, or a script and a certificate with a fault,
--- or both read; and what a certificate that is checked says. A reader should check that a certificate is faulty only
--- beside a script that is read, and that a checked one is of a script as its reader accepts it, breaks no obligation and
--- says of every run of the script that it is good.
-use Rattle.std.specs.Prelude.{◌≢◌, ℕ, List, Ok, Err}
+-- or both read; and what a certificate that is checked says, and one that is refuted. A reader should check that a certificate
+-- is faulty only beside a script that is read, and that a checked one is of a script as its reader accepts it, breaks no
+-- obligation and says of every run of the script that it is good.
+use Rattle.std.specs.Prelude.{ℕ, List, Ok, Err}
 use Rattle.std.specs.List.{All}
 use Rattle.mg_model.specs.Accepted.{IsEntryOf, IsScript}
 use Rattle.mg_model.specs.Script.{Script}
 use Rattle.mg_model.specs.Entries.{Entry, HavePoints}
 use Rattle.mg_model.specs.Obligations.{NoneBroken}
+use Rattle.mg_model.specs.declared.faults.Fault.{Fault}
 use Rattle.mg_safety.specs.Headline.{RunsAreGood}
 use Rattle.script_faults.specs.declared.fault.ScriptFault.{ScriptFault}
-use Rattle.script_faults.specs.declared.fault.ScriptFault.TheVariants as scripts
 use Rattle.scriptreader.specs.Laws.{HasFewCommands}
 use Rattle.scriptreader.specs.Reading.{ReadsScript}
-use Rattle.certificate_components.specs.declared.fault.CertFault.{CertFault}
-use Rattle.certificate_components.specs.declared.fault.CertFault.TheVariants as certificates
+use Rattle.certificate.specs.declared.fault.CertFault.{CertFault}
 use Rattle.certificate.specs.Certificate.{ReadsCertificate}
 
 -- the bytes are a script that has this fault
-pub record HasScriptFault (script : List ℕ) (fault : ScriptFault) : Type 0 where
-  pub told : fault ≢ scripts.NoMemory
-  pub reads : ReadsScript script (Err fault)
+abbrev pub HasScriptFault : List ℕ → ScriptFault → Type 0
+HasScriptFault script fault = ReadsScript script (Err fault)
 
 -- the bytes are a script, and the others a certificate for it that has this fault
 pub record HasCertificateFault (script certificate : List ℕ) (fault : CertFault) : Type 0 where
-  pub told : fault ≢ certificates.NoMemory
   pub table : Script
   pub reads : ReadsScript script (Ok table)
   pub refuses : ReadsCertificate table certificate (Err fault)
@@ -52,3 +49,9 @@ pub record CheckedScript : Type 0 where
   pub table : Script
   pub entries : List Entry
   pub points : ℕ
+
+-- a script with a certificate that breaks an obligation, and the first that it breaks
+pub record RefutedScript : Type 0 where
+  pub table : Script
+  pub entries : List Entry
+  pub fault : Fault

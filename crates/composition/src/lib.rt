@@ -6,4 +6,4 @@
 
 mod verdict;
 
-pub use verdict::{CheckFault, Checked, Verdict, check, check_par};
+pub use verdict::{CheckFault, Checked, Refuted, Verdict, check, check_par};

@@ -1,6 +1,7 @@
 //! The verdict on a script and a certificate. A `Yes` can be made in no other way than by `check` and `check_par`.
 ghost use Rattle.std.specs.Prelude.{◌≡◌, length};
 ghost use Rattle.mg_model.specs.Accepted.{IsScript};
+ghost use Rattle.mg_model.specs.Obligations.{IsFirstFault};
 ghost use Rattle.mg_safety.specs.Headline.{RunsAreGood};
 ghost use Rattle.closure.specs.Answer.{IsFinding};
 ghost use Rattle.scriptreader.specs.Laws.{HasFewCommands};
@@ -20,6 +21,8 @@ use scriptreader::{ScriptFault, read_script};
 use std::alloc::{AllocError, Global};
 use std::marker::Model;
 use std::thread::Threads;
+use thiserror::Error;
+use typed_values::Unread;
 
 /// A script as its reader accepts it, with a certificate that breaks no obligation: every run of any number of calls of the script, on lines distinct at each moment, is good.
 #[derive(Drop)]
@@ -73,23 +76,69 @@ impl Checked {
     }
 }
 
+/// A script as its reader accepts it, with a certificate that breaks an obligation: the documents of a No, and the first obligation that is broken.
+#[derive(Drop)]
+pub struct Refuted {
+    script: Script,
+    cert: Cert,
+    fault: Fault,
+}
+
+impl Model for Refuted {
+    ghost use Rattle.mg_model.specs.Obligations.{IsFirstFault};
+    ghost use Rattle.composition.specs.Verdict.{RefutedScript};
+
+    ghost Value = { RefutedScript };
+
+    ghost view = { λ r. record { table = r.script; entries = r.cert; fault = r.fault } };
+
+    ghost invariant = { λ r. IsFirstFault r.script r.cert r.fault };
+}
+
+impl Refuted {
+    /// The script.
+    pub fn script(&self) -> &Script
+        ensures { result.now ≡ self.now.table }
+    {
+        &self.script
+    }
+
+    /// The certificate.
+    pub fn cert(&self) -> &Cert
+        ensures { result.now ≡ self.now.entries }
+    {
+        &self.cert
+    }
+
+    /// The first obligation that the certificate breaks, with its entry, its point and its step where it has them.
+    pub fn fault(&self) -> &Fault
+        ensures fault { result.now ≡ self.now.fault }
+        ensures first { IsFirstFault self.now.table self.now.entries result.now }
+    {
+        &self.fault
+    }
+}
+
 /// What the checker says of a script and a certificate that are read.
 #[derive(Drop)]
 pub enum Verdict {
     /// No obligation is broken.
     Yes(Checked),
-    /// The first obligation that is broken.
-    No(Fault),
+    /// An obligation is broken.
+    No(Refuted),
 }
 
 /// Why there is no verdict.
-#[derive(Debug, Drop)]
+#[derive(Debug, Drop, Error)]
 pub enum CheckFault {
     /// 1: the script is not read.
+    #[error("no script: {0}")]
     Script(ScriptFault),
     /// 2: the certificate is not read.
+    #[error("no certificate: {0}")]
     Cert(CertFault),
-    /// 3: there was no memory to check them.
+    /// 3: there was no memory to read or check them.
+    #[error("out of memory")]
     NoMemory,
 }
 
@@ -117,6 +166,34 @@ impl CheckFault {
     }
 }
 
+impl From<Unread<ScriptFault>> for CheckFault {
+    ghost use Rattle.std.specs.Prelude.{◌≡◌};
+    ghost use Rattle.composition.specs.Verdicts.{of_script};
+
+    ghost from_gives = { λ unread fault. fault ≡ of_script unread };
+
+    fn from(unread: Unread<ScriptFault>) -> CheckFault {
+        match unread {
+            Unread::Fault(fault) => CheckFault::Script(fault),
+            Unread::NoMemory => CheckFault::NoMemory,
+        }
+    }
+}
+
+impl From<Unread<CertFault>> for CheckFault {
+    ghost use Rattle.std.specs.Prelude.{◌≡◌};
+    ghost use Rattle.composition.specs.Verdicts.{of_certificate};
+
+    ghost from_gives = { λ unread fault. fault ≡ of_certificate unread };
+
+    fn from(unread: Unread<CertFault>) -> CheckFault {
+        match unread {
+            Unread::Fault(fault) => CheckFault::Cert(fault),
+            Unread::NoMemory => CheckFault::NoMemory,
+        }
+    }
+}
+
 /// A script, and a certificate for it.
 #[derive(Drop)]
 struct Documents {
@@ -128,16 +205,8 @@ struct Documents {
 fn read_documents(alloc: Global, script: &[u8], certificate: &[u8]) -> Result<Documents, CheckFault>
     ensures { IsReading script.now certificate.now result }
 {
-    let script = match read_script(alloc, script) {
-        Ok(script) => script,
-        Err(ScriptFault::NoMemory) => return Err(CheckFault::NoMemory),
-        Err(fault) => return Err(CheckFault::Script(fault)),
-    };
-    let cert = match read_cert(alloc, certificate, &script) {
-        Ok(cert) => cert,
-        Err(CertFault::NoMemory) => return Err(CheckFault::NoMemory),
-        Err(fault) => return Err(CheckFault::Cert(fault)),
-    };
+    let script = read_script(alloc, script)?;
+    let cert = read_cert(alloc, certificate, &script)?;
     accepted_scripts();
     accepted_certificates();
     Ok(Documents { script, cert })
@@ -158,7 +227,11 @@ fn verdict_of(documents: Documents, found: Finding) -> Verdict
                 points,
             })
         }
-        Finding::Broken(fault) => Verdict::No(fault),
+        Finding::Broken(fault) => Verdict::No(Refuted {
+            script: documents.script,
+            cert: documents.cert,
+            fault,
+        }),
     }
 }
 

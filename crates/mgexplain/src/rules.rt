@@ -92,7 +92,6 @@ pub(crate) fn script_rule(fault: &ScriptFault) -> &'static str {
         ScriptFault::TooMany => {
             "A script has at most 4 lines, 4 contexts, 4 ephemerals and 64 states, 16 commands in a state, and 16 each of events lists, signals lists and maps."
         }
-        ScriptFault::NoMemory => "There was no memory.",
     }
 }
 
@@ -112,7 +111,6 @@ pub(crate) fn certificate_rule(fault: &CertFault) -> &'static str {
         CertFault::OldVersion => {
             "The version of a certificate is 2; version 1 did not ask that names stand for what exists."
         }
-        CertFault::NoMemory => "There was no memory.",
     }
 }
 

@@ -15,20 +15,16 @@ use crate::places::{certificate_place, script_place};
 use crate::rules::{YES_RULE, certificate_rule, input_rule, script_rule};
 use crate::said::{Said, headed, with_status};
 use crate::words::Form;
-use certificate::read_cert;
 use check_lines::answer::Answer;
 use check_lines::check::{broken, refused};
 use check_lines::reply::{InputFault, Reply};
 use closure::steps::{opening, reset};
-use composition::{CheckFault, Checked, Verdict, check};
-use entry_table::Cert;
+use composition::{CheckFault, Checked, Refuted, Verdict, check};
 use explanation::locate;
-use mg_model::faults::Fault;
 use mg_names::obligations::Obligation;
 use program_rim::input::Input;
 use program_rim::sections::two_sections;
 use script_table::Script;
-use scriptreader::read_script;
 use std::alloc::{AllocError, Global};
 
 /// What comes of an input.
@@ -106,12 +102,13 @@ fn yes_told(alloc: Global, form: Form, reply: &Reply, checked: &Checked) -> Resu
 }
 
 /// What a No marks of a picture: the state of its point, or the one that a call opens in, or that after a restart.
-fn marked(script: &Script, cert: &Cert, fault: &Fault) -> Marked {
-    let config = match locate(cert, fault) {
+fn marked(refuted: &Refuted) -> Marked {
+    let fault = refuted.fault();
+    let config = match locate(refuted.cert(), fault) {
         Some(point) => point.config,
         None => match fault.obligation {
-            Obligation::ResetCovered => reset(script),
-            _ => opening(script),
+            Obligation::ResetCovered => reset(refuted.script()),
+            _ => opening(refuted.script()),
         },
     };
     Marked {
@@ -120,48 +117,27 @@ fn marked(script: &Script, cert: &Cert, fault: &Fault) -> Marked {
     }
 }
 
-/// What is said of a No.
+/// What is said of a No. The page shows an entry as the text of the certificate has it.
 fn no_told(
     alloc: Global,
     form: Form,
     reply: &Reply,
-    documents: &Documents<'_>,
-    fault: &Fault,
+    refuted: &Refuted,
+    certificate: &[u8],
 ) -> Result<Said, AllocError>
     ensures { IfOk result (IsUnder form (line_of reply.now)) }
 {
     if matches!(form, Form::Dot) {
-        let marked = marked(documents.script, documents.cert, fault);
-        return picture_told(alloc, reply, Some(documents.script), Some(marked));
+        return picture_told(alloc, reply, Some(refuted.script()), Some(marked(refuted)));
     }
-    let line = line(alloc, reply)?;
-    let page = no_page(alloc, line, documents, fault)?;
-    page_told(alloc, form, reply, &page)
-}
-
-/// What is said of a No, whose documents are read once more.
-fn no_read_told(
-    alloc: Global,
-    form: Form,
-    reply: &Reply,
-    script: &[u8],
-    certificate: &[u8],
-    fault: &Fault,
-) -> Result<Said, AllocError>
-    ensures { IfOk result (IsUnder form (line_of reply.now)) }
-{
-    let Ok(script) = read_script(alloc, script) else {
-        return Err(AllocError);
-    };
-    let Ok(cert) = read_cert(alloc, certificate, &script) else {
-        return Err(AllocError);
-    };
     let documents = Documents {
-        script: &script,
-        cert: &cert,
+        script: refuted.script(),
+        cert: refuted.cert(),
         certificate,
     };
-    no_told(alloc, form, reply, &documents, fault)
+    let line = line(alloc, reply)?;
+    let page = no_page(alloc, line, &documents, refuted.fault())?;
+    page_told(alloc, form, reply, &page)
 }
 
 /// The rule that a fault breaks, and where the text breaks it.
@@ -214,9 +190,9 @@ fn documents_told(
             });
             yes_told(alloc, form, &reply, &checked)
         }
-        Ok(Verdict::No(fault)) => {
-            let reply = Reply::Checked(broken(alloc, script, &fault));
-            no_read_told(alloc, form, &reply, script, certificate, &fault)
+        Ok(Verdict::No(refuted)) => {
+            let reply = Reply::Checked(broken(alloc, &refuted));
+            no_told(alloc, form, &reply, &refuted, certificate)
         }
         Err(fault) => fault_told(alloc, form, script, certificate, fault),
     }

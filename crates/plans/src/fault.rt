@@ -2,7 +2,6 @@
 ghost use Rattle.std.specs.Prelude.{◌≡◌};
 ghost use Rattle.plans.specs.FaultNames.{number_of, name_of};
 
-use std::alloc::{AllocError, AllocFailed};
 use thiserror::Error;
 
 /// Why a document is no plan. Where several apply, the one that comes first here is given.
@@ -18,18 +17,14 @@ pub enum PlanFault {
     /// More than 1,000 steps in a call or more than 16 epochs.
     #[error("too many steps or epochs")]
     TooMany,
-    /// Memory ran out.
-    #[error("out of memory")]
-    NoMemory,
 }
 
 impl PlanFault {
-    /// The fault's number in the order of precedence, or 0 where memory ran out.
+    /// The fault's number, 1 to 3, in the order of precedence.
     pub fn number(&self) -> u8
         ensures { result ≡ number_of self.now }
     {
         match self {
-            PlanFault::NoMemory => 0,
             PlanFault::NotToml => 1,
             PlanFault::BadStep => 2,
             PlanFault::TooMany => 3,
@@ -41,32 +36,9 @@ impl PlanFault {
         ensures { result.now ≡ name_of self.now }
     {
         match self {
-            PlanFault::NoMemory => "NoMemory",
             PlanFault::NotToml => "NotToml",
             PlanFault::BadStep => "BadStep",
             PlanFault::TooMany => "TooMany",
         }
-    }
-}
-
-impl From<AllocError> for PlanFault {
-    ghost use Rattle.std.specs.Prelude.{◌≡◌};
-    ghost use Rattle.plans.specs.declared.fault.PlanFault.TheVariants.{NoMemory};
-
-    ghost from_gives = { λ _ e. e ≡ NoMemory };
-
-    fn from(_e: AllocError) -> PlanFault {
-        PlanFault::NoMemory
-    }
-}
-
-impl<T: Drop> From<AllocFailed<T>> for PlanFault {
-    ghost use Rattle.std.specs.Prelude.{◌≡◌};
-    ghost use Rattle.plans.specs.declared.fault.PlanFault.TheVariants.{NoMemory};
-
-    ghost from_gives = { λ _ e. e ≡ NoMemory };
-
-    fn from(_e: AllocFailed<T>) -> PlanFault {
-        PlanFault::NoMemory
     }
 }

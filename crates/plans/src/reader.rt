@@ -1,6 +1,7 @@
 //! The reader of plans.
 ghost use Rattle.std.specs.Prelude.{IfOk};
 ghost use Rattle.toml.specs.View.{table_view};
+ghost use Rattle.typed_values.specs.Unread.{OrNoMemory};
 ghost use Rattle.plans.specs.Accepted.{IsPlanFor};
 ghost use Rattle.plans.specs.Reading.{Answers, ReadsPlan, tree_read};
 
@@ -10,24 +11,24 @@ use crate::tables;
 use script_table::Script;
 use std::alloc::Global;
 use toml::Table;
-use typed_values::Missing;
+use typed_values::{Missing, Unread};
 
 /// The plan that a tree is. The tree, which takes several times the memory of its document, is let go once that is read.
 #[tactic(auto, unfolding(crate::specs::Reading::tree_read))]
-fn of_tree(alloc: Global, script: &Script, tree: Table) -> Result<Plan, PlanFault>
-    ensures { Answers result (tree_read script.now (table_view tree)) }
+fn of_tree(alloc: Global, script: &Script, tree: Table) -> Result<Plan, Unread<PlanFault>>
+    ensures { OrNoMemory (Answers (tree_read script.now (table_view tree))) result }
 {
     let read = tables::plan(alloc, script, &tree);
     drop(tree);
     match read {
         Ok(plan) => {
             if plan.is_too_large() {
-                return Err(PlanFault::TooMany);
+                return Err(Unread::Fault(PlanFault::TooMany));
             }
             Ok(plan)
         }
-        Err(Missing::Nothing) => Err(PlanFault::BadStep),
-        Err(Missing::Memory) => Err(PlanFault::NoMemory),
+        Err(Missing::Nothing) => Err(Unread::Fault(PlanFault::BadStep)),
+        Err(Missing::Memory) => Err(Unread::NoMemory),
     }
 }
 
@@ -35,8 +36,8 @@ impl Plan {
     /// Reads a plan of calls of a script. The bytes are TOML; the format is this profile's own. Of all faults that the document has anywhere the lowest is
     /// given; `NoMemory` may come in place of any answer.
     #[tactic(auto, using(crate::proofs::Readings::plan_is_read, crate::proofs::Readings::plan_is_accepted))]
-    pub fn read(alloc: Global, bytes: &[u8], script: &Script) -> Result<Plan, PlanFault>
-        ensures reads { ReadsPlan script.now bytes.now result }
+    pub fn read(alloc: Global, bytes: &[u8], script: &Script) -> Result<Plan, Unread<PlanFault>>
+        ensures reads { OrNoMemory (ReadsPlan script.now bytes.now) result }
 
         // Of two calls no line is the same, and each call has a line for each of the script's.
         ensures accepted { IfOk result (λ plan. IsPlanFor script.now plan) }
@@ -45,9 +46,9 @@ impl Plan {
             Ok(tree) => of_tree(alloc, script, tree),
             Err(error) => {
                 if error.is_memory() {
-                    return Err(PlanFault::NoMemory);
+                    return Err(Unread::NoMemory);
                 }
-                Err(PlanFault::NotToml)
+                Err(Unread::Fault(PlanFault::NotToml))
             }
         }
     }

@@ -1,18 +1,19 @@
 -- What is told in place of a report.
-use Rattle.std.proofs.Common.{◌≡◌, ◌≢◌, ℕ, List, Ok, Err, refl, sym, ap, subst, arith, inl}
-use Rattle.mg_model.specs.Entries.{Entry}
-use Rattle.mg_model.specs.Obligations.{IsFirstFault}
+use Rattle.std.proofs.Common.{◌≡◌, ◌≢◌, ℕ, Ok, Err, refl, sym, ap, subst, arith, inl}
 use Rattle.mg_model.specs.Plans.{Plan}
 use Rattle.mg_model.specs.Script.{Script}
 use Rattle.mg_model.specs.declared.faults.Fault.{Fault}
-use Rattle.composition.specs.Verdict.{AreRead}
-use Rattle.composition.specs.Verdicts.{IsUnread}
+use Rattle.composition.specs.Verdict.{RefutedScript}
+use Rattle.composition.specs.Verdicts.{IsUnread, IsVerdict}
+use Rattle.composition.specs.declared.verdict.Verdict.TheVariants.{No}
 use Rattle.composition.specs.declared.verdict.CheckFault.{CheckFault}
 use Rattle.composition.specs.declared.verdict.CheckFault.TheVariants as fault
 use Rattle.plans.specs.FaultNames as plan_names
 use Rattle.plans.specs.Reading.{ReadsPlan}
 use Rattle.plans.specs.declared.fault.PlanFault.{PlanFault}
-use Rattle.plans.specs.declared.fault.PlanFault.TheVariants as plans
+use Rattle.typed_values.specs.Unread.{OrNoMemory}
+use Rattle.typed_values.specs.declared.unread.Unread.{Unread}
+use Rattle.typed_values.specs.declared.unread.Unread.TheVariants as unread
 use Rattle.planned_calls.specs.FaultNames as run_names
 use Rattle.run_account.specs.Runs.{HasRun}
 use Rattle.planned_calls.specs.declared.fault.RunFault.{RunFault}
@@ -24,20 +25,11 @@ use Rattle.check_lines.proofs.VerdictLines.{told}
 
 -- ---- a plan that is not read
 
-plan_told : (table : Script) (workers : ℕ) (plan : Text) (fault : PlanFault) (l : Line) → fault ≢ plans.NoMemory → ReadsPlan table plan (Err fault)
-    → l ≡ plan_fault (plan_names.number_of fault) (plan_names.name_of fault) → AnswersPlan table workers plan (line l)
-plan_told table workers plan fault l other reads is = subst (λ (m : Line). AnswersPlan table workers plan (line m)) (sym is)
-    (record { fault = fault; told = other; reads = reads; numbered = refl; named = refl })
-
-pub plan_refused : (table : Script) (workers : ℕ) (plan : Text) (fault : PlanFault) (l : Line) → ReadsPlan table plan (Err fault) → TellsPlanFault fault l
-    → AnswersPlan table workers plan (line l)
-plan_refused table workers plan plans.NoMemory l reads is = subst (λ (m : Line). AnswersPlan table workers plan (line m)) (sym is) tt
-plan_refused table workers plan plans.NotToml l reads is =
-    plan_told table workers plan plans.NotToml l (λ e. let n = ap plan_names.number_of e in omega (arith, n)) reads is
-plan_refused table workers plan plans.BadStep l reads is =
-    plan_told table workers plan plans.BadStep l (λ e. let n = ap plan_names.number_of e in omega (arith, n)) reads is
-plan_refused table workers plan plans.TooMany l reads is =
-    plan_told table workers plan plans.TooMany l (λ e. let n = ap plan_names.number_of e in omega (arith, n)) reads is
+pub plan_refused : (table : Script) (workers : ℕ) (plan : Text) (why : Unread PlanFault) (l : Line) → OrNoMemory (ReadsPlan table plan) (Err why)
+    → TellsPlanFault why l → AnswersPlan table workers plan (line l)
+plan_refused table workers plan (unread.Fault fault) l reads is = subst (λ (m : Line). AnswersPlan table workers plan (line m)) (sym is)
+    (record { fault = fault; reads = reads; numbered = refl; named = refl })
+plan_refused table workers plan unread.NoMemory l reads is = subst (λ (m : Line). AnswersPlan table workers plan (line m)) (sym is) tt
 
 -- ---- a plan without a report
 
@@ -60,23 +52,22 @@ run_refused table workers plan steps runs.Disagree l reads has is =
 -- ---- a script that is not checked
 
 -- a fault that is named isn't a yes
-named : (script certificate : Text) (fault : Fault) (l : Line) → NamesFault script fault l → Judges script certificate l → Refuses script certificate (line l)
-named script certificate fault (no obligation entry point step) names judges = judges
-named script certificate fault no_memory names judges = judges
-named script certificate fault (yes states entries points) names judges = absurd names
-named script certificate fault usage names judges = absurd names
-named script certificate fault sections names judges = absurd names
-named script certificate fault too_long names judges = absurd names
-named script certificate fault (script_fault number name) names judges = absurd names
-named script certificate fault (certificate_fault number name) names judges = absurd names
-named script certificate fault (plan_fault number name) names judges = absurd names
-named script certificate fault (run_fault number name) names judges = absurd names
+named : (script certificate : Text) (table : Script) (fault : Fault) (l : Line) → NamesFault table fault l → Judges script certificate l → Refuses script certificate (line l)
+named script certificate table fault (no obligation entry point step) names judges = judges
+named script certificate table fault no_memory names judges = judges
+named script certificate table fault (yes states entries points) names judges = absurd names
+named script certificate table fault usage names judges = absurd names
+named script certificate table fault sections names judges = absurd names
+named script certificate table fault too_long names judges = absurd names
+named script certificate table fault (script_fault number name) names judges = absurd names
+named script certificate table fault (certificate_fault number name) names judges = absurd names
+named script certificate table fault (plan_fault number name) names judges = absurd names
+named script certificate table fault (run_fault number name) names judges = absurd names
 
-pub no_told : (workers : ℕ) (script certificate plan : Text) (table : Script) (entries : List Entry) (fault : Fault) (l : Line)
-    → AreRead script certificate table entries → IsFirstFault table entries fault → NamesFault script fault l
-    → AnswersRun workers script certificate plan (line l)
-no_told workers script certificate plan table entries fault l read first names =
-    inl (named script certificate fault l names (told script certificate table entries fault l read first names))
+pub no_told : (workers : ℕ) (script certificate plan : Text) (refuted : RefutedScript) (l : Line) → IsVerdict script certificate (Ok (No refuted))
+    → NamesFault refuted.table refuted.fault l → AnswersRun workers script certificate plan (line l)
+no_told workers script certificate plan refuted l is names =
+    inl (named script certificate refuted.table refuted.fault l names (told script certificate refuted l is names))
 
 pub unread_told : (workers : ℕ) (script certificate plan : Text) (unread : CheckFault) (l : Line) → IsUnread script certificate unread
     → NamesRefusal unread l → AnswersRun workers script certificate plan (line l)

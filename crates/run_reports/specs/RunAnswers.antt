@@ -8,7 +8,8 @@ use Rattle.composition.specs.Verdict.{AreRead, IsChecked}
 use Rattle.plans.specs.FaultNames as plan_names
 use Rattle.plans.specs.Reading.{ReadsPlan}
 use Rattle.plans.specs.declared.fault.PlanFault.{PlanFault}
-use Rattle.plans.specs.declared.fault.PlanFault.TheVariants as plans
+use Rattle.typed_values.specs.declared.unread.Unread.{Unread}
+use Rattle.typed_values.specs.declared.unread.Unread.TheVariants as unread
 use Rattle.planned_calls.specs.FaultNames as run_names
 use Rattle.planned_calls.specs.ReportLines.{line_of}
 use Rattle.run_account.specs.Runs.{HasRun, OutcomeValue}
@@ -22,7 +23,6 @@ use Rattle.check_lines.specs.VerdictLines.{Judges}
 
 pub record IsPlanFault (table : Script) (plan : Text) (number : ℕ) (name : Text) : Type 0 where
   pub fault : PlanFault
-  pub told : fault ≢ plans.NoMemory
   pub reads : ReadsPlan table plan (Err fault)
   pub numbered : number ≡ plan_names.number_of fault
   pub named : name ≡ plan_names.name_of fault
@@ -60,9 +60,9 @@ AnswersPlan table workers plan (report calls) = IsReported table workers plan ca
 
 -- ---- what is told of a fault
 
-abbrev pub TellsPlanFault : PlanFault → Line → Type 0
-TellsPlanFault plans.NoMemory l = l ≡ no_memory
-TellsPlanFault fault l = l ≡ plan_fault (plan_names.number_of fault) (plan_names.name_of fault)
+abbrev pub TellsPlanFault : Unread PlanFault → Line → Type 0
+TellsPlanFault (unread.Fault fault) l = l ≡ plan_fault (plan_names.number_of fault) (plan_names.name_of fault)
+TellsPlanFault unread.NoMemory l = l ≡ no_memory
 
 abbrev pub TellsRunFault : RunFault → Line → Type 0
 TellsRunFault runs.NoMemory l = l ≡ no_memory

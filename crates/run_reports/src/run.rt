@@ -18,17 +18,18 @@ use runner::{NoGate, RunFault, run};
 use std::alloc::Global;
 use std::sync::Wait;
 use std::thread::Threads;
+use typed_values::Unread;
 
 /// What is said where a plan is not read.
-fn plan_reply(fault: PlanFault) -> Reply
-    ensures { TellsPlanFault fault (line_of result) }
+fn plan_reply(unread: Unread<PlanFault>) -> Reply
+    ensures { TellsPlanFault unread (line_of result) }
 {
-    match fault {
-        PlanFault::NoMemory => Reply::Checked(Answer::NoMemory),
-        _ => Reply::PlanFault {
+    match unread {
+        Unread::Fault(fault) => Reply::PlanFault {
             number: fault.number(),
             name: fault.name(),
         },
+        Unread::NoMemory => Reply::Checked(Answer::NoMemory),
     }
 }
 
@@ -60,7 +61,7 @@ fn write_plan<W: Sink, T: Threads + Wait + Sync>(
 {
     let steps = match Plan::read(alloc, plan, checked.script()) {
         Ok(steps) => steps,
-        Err(fault) => return write_reply(alloc, &plan_reply(fault), sink),
+        Err(unread) => return write_reply(alloc, &plan_reply(unread), sink),
     };
     match run(rt, alloc, checked, &steps, usize::from(workers), &NoGate) {
         Ok(outcome) => write_report(sink, checked.script(), outcome.lines()),
@@ -83,8 +84,8 @@ pub fn write_run<W: Sink, T: Threads + Wait + Sync>(
     let (script, certificate, plan) = sections;
     match check(alloc, script, certificate) {
         Ok(Verdict::Yes(checked)) => write_plan(rt, alloc, &checked, plan, workers, sink),
-        Ok(Verdict::No(fault)) => {
-            write_reply(alloc, &Reply::Checked(broken(alloc, script, &fault)), sink)
+        Ok(Verdict::No(refuted)) => {
+            write_reply(alloc, &Reply::Checked(broken(alloc, &refuted)), sink)
         }
         Err(fault) => write_reply(alloc, &Reply::Checked(refused(fault)), sink),
     }

@@ -13,7 +13,7 @@ use crate::meeting::Meeting;
 use crate::stopping::Stopping;
 use composition::{CheckFault, Checked, Verdict, check};
 use mg_names::identifiers::CallNo;
-use plans::{Plan, PlanFault};
+use plans::Plan;
 use runner::{Gate, Line, NoGate, Outcome, RunFault, run};
 use script_table::Script;
 use std::alloc::{AllocError, AllocFailed, Global};
@@ -22,6 +22,7 @@ use std::io::{self, Read, Write};
 use std::process::ExitCode;
 use std::sync::Wait;
 use std::thread::Threads;
+use typed_values::Unread;
 
 /// The `g`th call that begins within call `n` of the plan has the number `g` times this, and `n`.
 const PLAN_CALLS: u32 = 10_000;
@@ -204,8 +205,8 @@ fn tour<T: Threads + Wait + Sync>(
 ) -> Result<(), Failure> {
     let plan = match Plan::read(rt.alloc(), text.as_bytes(), checked.script()) {
         Ok(plan) => plan,
-        Err(PlanFault::NoMemory) => return Err(Failure::Memory),
-        Err(_) => return Err(Failure::Refused),
+        Err(Unread::NoMemory) => return Err(Failure::Memory),
+        Err(Unread::Fault(_)) => return Err(Failure::Refused),
     };
     match kind {
         Kind::Meet => meet(rt, threads, checked, &plan, workers),

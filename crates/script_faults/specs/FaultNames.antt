@@ -1,10 +1,9 @@
 -- The faults of a script: their numbers, which are their order of precedence, and their names.
 use Rattle.std.specs.Prelude.{ℕ, List, codes}
 use Rattle.script_faults.specs.declared.fault.ScriptFault.{ScriptFault}
-use Rattle.script_faults.specs.declared.fault.ScriptFault.TheVariants.{NotToml, BadKey, BadName, Duplicate, Unknown, BadMap, NoStart, NoRestart, NoFault, OkWithoutActions, EndWithTransitions, MadeAndSubtracted, TooMany, NoMemory}
+use Rattle.script_faults.specs.declared.fault.ScriptFault.TheVariants.{NotToml, BadKey, BadName, Duplicate, Unknown, BadMap, NoStart, NoRestart, NoFault, OkWithoutActions, EndWithTransitions, MadeAndSubtracted, TooMany}
 
 abbrev pub number_of : ScriptFault → ℕ
-number_of NoMemory = 0
 number_of NotToml = 1
 number_of BadKey = 2
 number_of BadName = 3
@@ -20,7 +19,6 @@ number_of MadeAndSubtracted = 12
 number_of TooMany = 13
 
 abbrev pub name_of : ScriptFault → List ℕ
-name_of NoMemory = codes "NoMemory"
 name_of NotToml = codes "NotToml"
 name_of BadKey = codes "BadKey"
 name_of BadName = codes "BadName"

@@ -2,7 +2,6 @@
 ghost use Rattle.std.specs.Prelude.{◌≡◌};
 ghost use Rattle.script_faults.specs.FaultNames.{number_of, name_of};
 
-use std::alloc::{AllocError, AllocFailed};
 use thiserror::Error;
 
 /// Why a document is no script. Where several apply, the one that comes first here is given.
@@ -47,18 +46,14 @@ pub enum ScriptFault {
     /// More than a script may have.
     #[error("too many")]
     TooMany,
-    /// Memory ran out.
-    #[error("out of memory")]
-    NoMemory,
 }
 
 impl ScriptFault {
-    /// The fault's number in the order of precedence, or 0 where memory ran out.
+    /// The fault's number, 1 to 13, in the order of precedence.
     pub fn number(&self) -> u8
         ensures { result ≡ number_of self.now }
     {
         match self {
-            ScriptFault::NoMemory => 0,
             ScriptFault::NotToml => 1,
             ScriptFault::BadKey => 2,
             ScriptFault::BadName => 3,
@@ -80,7 +75,6 @@ impl ScriptFault {
         ensures { result.now ≡ name_of self.now }
     {
         match self {
-            ScriptFault::NoMemory => "NoMemory",
             ScriptFault::NotToml => "NotToml",
             ScriptFault::BadKey => "BadKey",
             ScriptFault::BadName => "BadName",
@@ -95,27 +89,5 @@ impl ScriptFault {
             ScriptFault::MadeAndSubtracted => "MadeAndSubtracted",
             ScriptFault::TooMany => "TooMany",
         }
-    }
-}
-
-impl From<AllocError> for ScriptFault {
-    ghost use Rattle.std.specs.Prelude.{◌≡◌};
-    ghost use Rattle.script_faults.specs.declared.fault.ScriptFault.TheVariants.{NoMemory};
-
-    ghost from_gives = { λ _ e. e ≡ NoMemory };
-
-    fn from(_e: AllocError) -> ScriptFault {
-        ScriptFault::NoMemory
-    }
-}
-
-impl<T: Drop> From<AllocFailed<T>> for ScriptFault {
-    ghost use Rattle.std.specs.Prelude.{◌≡◌};
-    ghost use Rattle.script_faults.specs.declared.fault.ScriptFault.TheVariants.{NoMemory};
-
-    ghost from_gives = { λ _ e. e ≡ NoMemory };
-
-    fn from(_e: AllocFailed<T>) -> ScriptFault {
-        ScriptFault::NoMemory
     }
 }

@@ -4,7 +4,7 @@ use Rattle.std.specs.Prelude.{if◌then◌else◌, is_some, Result, Ok, Err}
 use Rattle.toml.specs.Data.{Members}
 use Rattle.mg_model.specs.Script.{Script}
 use Rattle.script_faults.specs.declared.fault.ScriptFault.{ScriptFault}
-use Rattle.script_faults.specs.declared.fault.ScriptFault.TheVariants.{NotToml, BadKey, BadName, Duplicate, Unknown, BadMap, NoStart, NoRestart, NoFault, OkWithoutActions, EndWithTransitions, MadeAndSubtracted, TooMany, NoMemory}
+use Rattle.script_faults.specs.declared.fault.ScriptFault.TheVariants.{NotToml, BadKey, BadName, Duplicate, Unknown, BadMap, NoStart, NoRestart, NoFault, OkWithoutActions, EndWithTransitions, MadeAndSubtracted, TooMany}
 use Rattle.script_document.specs.Written.{Document}
 use Rattle.std.specs.List.{list_any}
 use Rattle.script_document.specs.Limits.{is_too_large}
@@ -12,6 +12,9 @@ use Rattle.script_faults.specs.Faults.{fault_of, use_fault_of, state_fault_of, h
 use Rattle.script_meaning.specs.Meaning.{script_meant}
 use Rattle.script_document.specs.Documents.{document_in}
 use Rattle.toml_values.specs.Text.{IsText}
+use Rattle.typed_values.specs.Unread.{OrNoMemory}
+use Rattle.typed_values.specs.declared.unread.Unread.{Unread}
+use Rattle.typed_values.specs.declared.unread.Unread.TheVariants.{Fault, NoMemory}
 use Rattle.scriptreader.specs.Reading.{Answers, ReadsScript, document_read, fault_or_table, tree_read}
 use Rattle.scriptreader.proofs.Meanings.{table_found}
 
@@ -47,8 +50,7 @@ is_toml d =
     other (has_bad_name d) BadName _ (λ p. absurd cc)
     (other (has_duplicate d) Duplicate (use_fault_of d) (λ p. absurd cc) (use_fault_is_other d))
 
-pub fault_answers : (fault : ScriptFault) (read : Option (Result Script ScriptFault)) → (fault ≡ NotToml → ⊥) → read ≡ Some (Err fault) → Answers (Err fault) read
-fault_answers NoMemory read never e = tt
+pub fault_answers : (fault : ScriptFault) (read : Option (Result Script ScriptFault)) → (fault ≡ NotToml → ⊥) → read ≡ Some (Err fault) → Answers read (Err fault)
 fault_answers NotToml read never e = absurd (never refl)
 fault_answers BadKey read never e = e
 fault_answers BadName read never e = e
@@ -63,22 +65,28 @@ fault_answers EndWithTransitions read never e = e
 fault_answers MadeAndSubtracted read never e = e
 fault_answers TooMany read never e = e
 
-pub script_read : (bytes : List ℕ) (tree : Members) (answer : Result Script ScriptFault) → IsText bytes tree → Answers answer (tree_read tree) → ReadsScript bytes answer
-script_read bytes tree (Ok script) text e = (tree, text, e)
+-- what is said of a tree is said of the bytes that are a text of it
+of_text : (bytes : List ℕ) (tree : Members) (answer : Result Script ScriptFault) → IsText bytes tree → Answers (tree_read tree) answer → ReadsScript bytes answer
+of_text bytes tree (Ok script) text e = (tree, text, e)
+of_text bytes tree (Err NotToml) text e = absurd e
+of_text bytes tree (Err BadKey) text e = (tree, text, e)
+of_text bytes tree (Err BadName) text e = (tree, text, e)
+of_text bytes tree (Err Duplicate) text e = (tree, text, e)
+of_text bytes tree (Err Unknown) text e = (tree, text, e)
+of_text bytes tree (Err BadMap) text e = (tree, text, e)
+of_text bytes tree (Err NoStart) text e = (tree, text, e)
+of_text bytes tree (Err NoRestart) text e = (tree, text, e)
+of_text bytes tree (Err NoFault) text e = (tree, text, e)
+of_text bytes tree (Err OkWithoutActions) text e = (tree, text, e)
+of_text bytes tree (Err EndWithTransitions) text e = (tree, text, e)
+of_text bytes tree (Err MadeAndSubtracted) text e = (tree, text, e)
+of_text bytes tree (Err TooMany) text e = (tree, text, e)
+
+pub script_read : (bytes : List ℕ) (tree : Members) (answer : Result Script (Unread ScriptFault)) → IsText bytes tree
+    → OrNoMemory (Answers (tree_read tree)) answer → OrNoMemory (ReadsScript bytes) answer
+script_read bytes tree (Ok script) text e = of_text bytes tree (Ok script) text e
+script_read bytes tree (Err (Fault fault)) text e = of_text bytes tree (Err fault) text e
 script_read bytes tree (Err NoMemory) text e = tt
-script_read bytes tree (Err NotToml) text e = absurd e
-script_read bytes tree (Err BadKey) text e = (tree, text, e)
-script_read bytes tree (Err BadName) text e = (tree, text, e)
-script_read bytes tree (Err Duplicate) text e = (tree, text, e)
-script_read bytes tree (Err Unknown) text e = (tree, text, e)
-script_read bytes tree (Err BadMap) text e = (tree, text, e)
-script_read bytes tree (Err NoStart) text e = (tree, text, e)
-script_read bytes tree (Err NoRestart) text e = (tree, text, e)
-script_read bytes tree (Err NoFault) text e = (tree, text, e)
-script_read bytes tree (Err OkWithoutActions) text e = (tree, text, e)
-script_read bytes tree (Err EndWithTransitions) text e = (tree, text, e)
-script_read bytes tree (Err MadeAndSubtracted) text e = (tree, text, e)
-script_read bytes tree (Err TooMany) text e = (tree, text, e)
 
 -- a document without a fault has a table, so every tree is read as something
 pub answered : (tree : Members) → is_some (tree_read tree) ≡ true

@@ -1,11 +1,11 @@
 -- What the bytes of a script are read as. A reader should check that the shape comes first, then the lowest fault, and
--- that the table is given only where there is no fault.
+-- that the table is given only where there is no fault. Want of memory, which may stand in place of any answer, is none of these answers.
 use Rattle.std.specs.Prelude.{◌≡◌, ℕ, List, Option, Some, None, option_map, Result, Ok, Err}
 use Rattle.toml.specs.Data.{Members}
 use Rattle.mg_model.specs.Script.{Script}
 use Rattle.toml_values.specs.Text.{IsText}
 use Rattle.script_faults.specs.declared.fault.ScriptFault.{ScriptFault}
-use Rattle.script_faults.specs.declared.fault.ScriptFault.TheVariants.{NotToml, BadKey, NoMemory}
+use Rattle.script_faults.specs.declared.fault.ScriptFault.TheVariants.{NotToml, BadKey}
 use Rattle.script_document.specs.Written.{Document}
 use Rattle.script_document.specs.Documents.{document_in}
 use Rattle.script_faults.specs.Faults.{fault_of}
@@ -25,14 +25,12 @@ document_read (Some d) = fault_or_table (fault_of d) (script_meant d)
 unfoldable pub tree_read : Members → Option (Result Script ScriptFault)
 tree_read tree = document_read (document_in tree)
 
--- an answer that the reader gave of a tree; memory may run out
-abbrev pub Answers : Result Script ScriptFault → Option (Result Script ScriptFault) → Type 0
-Answers (Err NoMemory) read = Unit {0}
-Answers (Err NotToml) read = ⊥
-Answers answer read = read ≡ Some answer
+-- the answer is that of the tree
+abbrev pub Answers : Option (Result Script ScriptFault) → Result Script ScriptFault → Type 0
+Answers read (Err NotToml) = ⊥
+Answers read answer = read ≡ Some answer
 
--- the answer is that of the tree, or says that there is no tree; memory may run out
+-- the answer is that of the tree, or says that there is no tree
 abbrev pub ReadsScript : List ℕ → Result Script ScriptFault → Type 0
-ReadsScript bytes (Err NoMemory) = Unit {0}
 ReadsScript bytes (Err NotToml) = (tree : Members) → IsText bytes tree → ⊥
 ReadsScript bytes answer = (tree : Members) × IsText bytes tree × (tree_read tree ≡ Some answer)

@@ -5,11 +5,12 @@ use plans::{Plan, PlanFault};
 use script_table::Script;
 use std::alloc::Global;
 use test_words::failure::Failure;
+use typed_values::Unread;
 
 /// A plan that is read, once more where that wanted memory.
-pub fn read(alloc: Global, bytes: &[u8], script: &Script) -> Result<Plan, PlanFault> {
+pub fn read(alloc: Global, bytes: &[u8], script: &Script) -> Result<Plan, Unread<PlanFault>> {
     match Plan::read(alloc, bytes, script) {
-        Err(PlanFault::NoMemory) => Plan::read(alloc, bytes, script),
+        Err(Unread::NoMemory) => Plan::read(alloc, bytes, script),
         answer => answer,
     }
 }

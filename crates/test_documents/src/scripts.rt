@@ -5,6 +5,7 @@ use scriptreader::{ScriptFault, read_script};
 use std::alloc::Global;
 use std::fmt;
 use test_words::failure::Failure;
+use typed_values::Unread;
 
 /// How many lines and states a script has, as the row above those of a script says it.
 #[derive(Clone, Copy)]
@@ -18,9 +19,9 @@ impl fmt::Display for Sizes<'_> {
 }
 
 /// A script that is read, once more where that wanted memory.
-pub fn read(alloc: Global, bytes: &[u8]) -> Result<Script, ScriptFault> {
+pub fn read(alloc: Global, bytes: &[u8]) -> Result<Script, Unread<ScriptFault>> {
     match read_script(alloc, bytes) {
-        Err(ScriptFault::NoMemory) => read_script(alloc, bytes),
+        Err(Unread::NoMemory) => read_script(alloc, bytes),
         answer => answer,
     }
 }
@@ -31,7 +32,7 @@ pub fn script(alloc: Global, lines: &str) -> Result<Script, Failure> {
     gather(&mut document, lines)?;
     match read(alloc, document.bytes()) {
         Ok(script) => Ok(script),
-        Err(ScriptFault::NoMemory) => Err(Failure::Memory),
-        Err(_) => Err(Failure::Unreadable),
+        Err(Unread::NoMemory) => Err(Failure::Memory),
+        Err(Unread::Fault(_)) => Err(Failure::Unreadable),
     }
 }

@@ -8,11 +8,16 @@ use test_documents::documents::Document;
 use test_documents::scripts::{Sizes, script};
 use test_words::failure::{Failure, wanted};
 use test_words::rows::{number, parted, row_in};
+use typed_values::Unread;
 
 /// A certificate that is read, once more where that wanted memory.
-pub(crate) fn read(alloc: Global, bytes: &[u8], script: &Script) -> Result<Cert, CertFault> {
+pub(crate) fn read(
+    alloc: Global,
+    bytes: &[u8],
+    script: &Script,
+) -> Result<Cert, Unread<CertFault>> {
     match read_cert(alloc, bytes, script) {
-        Err(CertFault::NoMemory) => read_cert(alloc, bytes, script),
+        Err(Unread::NoMemory) => read_cert(alloc, bytes, script),
         answer => answer,
     }
 }
@@ -29,8 +34,8 @@ fn tell_text(
             println!(rt; "entries {}", cert.entries().len())?;
             *kept = Some(cert);
         }
-        Err(CertFault::NoMemory) => return Err(Failure::Memory),
-        Err(fault) => println!(rt; "{} {}", fault.number(), fault.name())?,
+        Err(Unread::NoMemory) => return Err(Failure::Memory),
+        Err(Unread::Fault(fault)) => println!(rt; "{} {}", fault.number(), fault.name())?,
     }
     Ok(())
 }

@@ -7,10 +7,14 @@ use test_documents::plan_texts::{first_step, read, write_step};
 use test_documents::scripts::{Sizes, script};
 use test_words::failure::{Failure, wanted};
 use test_words::rows::{number, parted, row_in};
+use typed_values::Unread;
 
 /// Tells the fault of a text that is no plan.
-fn tell_fault(rt: &HostRuntime, fault: PlanFault) -> Result<(), Failure> {
-    println!(rt; "{} {}", fault.number(), fault.name())?;
+fn tell_fault(rt: &HostRuntime, unread: Unread<PlanFault>) -> Result<(), Failure> {
+    match unread {
+        Unread::Fault(fault) => println!(rt; "{} {}", fault.number(), fault.name())?,
+        Unread::NoMemory => return Err(Failure::Memory),
+    }
     Ok(())
 }
 
@@ -28,7 +32,7 @@ fn tell_step(
             println!(rt; "{}", Step { script, step })?;
             Ok(())
         }
-        Err(fault) => tell_fault(rt, fault),
+        Err(unread) => tell_fault(rt, unread),
     }
 }
 
@@ -70,7 +74,7 @@ fn tell_sizes(rt: &HostRuntime, script: &Script, document: &Document) -> Result<
             println!(rt; "epochs {}, steps {}", call.epochs().len(), steps_of(call))?;
             Ok(())
         }
-        Err(fault) => tell_fault(rt, fault),
+        Err(unread) => tell_fault(rt, unread),
     }
 }
 
@@ -78,7 +82,7 @@ fn tell_sizes(rt: &HostRuntime, script: &Script, document: &Document) -> Result<
 fn tell_text(rt: &HostRuntime, script: &Script, document: &Document) -> Result<(), Failure> {
     match read(rt.alloc(), document.bytes(), script) {
         Ok(plan) => tell_plan(rt, script, &plan),
-        Err(fault) => tell_fault(rt, fault),
+        Err(unread) => tell_fault(rt, unread),
     }
 }
 

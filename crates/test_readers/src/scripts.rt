@@ -6,6 +6,7 @@ use test_documents::documents::Document;
 use test_documents::scripts;
 use test_words::failure::{Failure, wanted};
 use test_words::rows::{number, row_in};
+use typed_values::Unread;
 
 /// The name of a state.
 fn state_name(script: &Script, state: u8) -> &str {
@@ -43,8 +44,8 @@ fn tell_text(
             tell_script(rt, &script)?;
             *kept = Some(script);
         }
-        Err(ScriptFault::NoMemory) => return Err(Failure::Memory),
-        Err(fault) => println!(rt; "{} {}", fault.number(), fault.name())?,
+        Err(Unread::NoMemory) => return Err(Failure::Memory),
+        Err(Unread::Fault(fault)) => println!(rt; "{} {}", fault.number(), fault.name())?,
     }
     Ok(())
 }
@@ -93,10 +94,11 @@ fn tell_laws(rt: &HostRuntime) -> Result<(), Failure> {
     Ok(())
 }
 
-/// Tells the number of the fault that says that memory ran out.
-fn tell_memory(rt: &HostRuntime) -> Result<(), Failure> {
-    let fault = ScriptFault::NoMemory;
-    println!(rt; "{} {}", fault.number(), fault.name())?;
+/// Tells how a fault of a script, and want of memory in its place, are printed.
+fn tell_words(rt: &HostRuntime) -> Result<(), Failure> {
+    let fault = Unread::Fault(ScriptFault::BadMap);
+    let memory: Unread<ScriptFault> = Unread::NoMemory;
+    println!(rt; "{fault}, {memory}")?;
     Ok(())
 }
 
@@ -117,7 +119,7 @@ fn tell_row(
         return tell_text(rt, kept, document);
     }
     match row {
-        "memory" => tell_memory(rt),
+        "words" => tell_words(rt),
         "laws" => tell_laws(rt),
         _ => tell_name(rt, wanted(kept.as_ref())?, row),
     }

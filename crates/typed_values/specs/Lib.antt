@@ -1,3 +1,4 @@
 pub mod Names
 pub mod Shape
 pub mod Texts
+pub mod Unread

@@ -7,5 +7,5 @@ use Rattle.check_lines.proofs.check.answer.Goals as goal
 
 pub returns-in-Ok-No : goal.returns-in-Ok-No
 returns-in-Ok-No g c =
-    let found = subst (λ verdict. IsVerdict c.args.script.now c.args.certificate.now (Ok verdict)) c.in-Ok-No.field-0-is c.in-Ok-No.ensures in
-    told c.args.script.now c.args.certificate.now found.0 found.1 c.in-Ok-No.fault (answer_line c.broken.result) found.2 found.3 c.broken.ensures
+    told c.args.script.now c.args.certificate.now c.in-Ok-No.refuted (answer_line c.broken.result)
+    (subst (λ verdict. IsVerdict c.args.script.now c.args.certificate.now (Ok verdict)) c.in-Ok-No.field-0-is c.in-Ok-No.ensures) c.broken.ensures

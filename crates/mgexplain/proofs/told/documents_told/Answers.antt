@@ -9,6 +9,6 @@ use Rattle.mgexplain.proofs.told.documents_told.Goals as goal
 
 pub returns-in-Ok-No : goal.returns-in-Ok-No
 returns-in-Ok-No c =
-    let found = subst (λ verdict. IsVerdict c.args.script.now c.args.certificate.now (Ok verdict)) c.in-Ok-No.field-0-is c.in-Ok-No.ensures.verdict in
-    let judged = told c.args.script.now c.args.certificate.now found.0 found.1 c.in-Ok-No.fault (answer_line c.broken.result) found.2 found.3 c.broken.ensures in
-    said_under (Judges c.args.script.now c.args.certificate.now) c.args.form (answer_line c.broken.result) judged c.no_read_told.result c.no_read_told.ensures
+    let is = subst (λ verdict. IsVerdict c.args.script.now c.args.certificate.now (Ok verdict)) c.in-Ok-No.field-0-is c.in-Ok-No.ensures.verdict in
+    let judged = told c.args.script.now c.args.certificate.now c.in-Ok-No.refuted (answer_line c.broken.result) is c.broken.ensures in
+    said_under (Judges c.args.script.now c.args.certificate.now) c.args.form (answer_line c.broken.result) judged c.no_told.result c.no_told.ensures

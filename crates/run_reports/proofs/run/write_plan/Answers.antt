@@ -3,6 +3,7 @@ use Rattle.std.proofs.Common.{◌≡◌, Ok, Err, ap₂, subst, inr}
 use Rattle.mg_model.specs.Script.{Script}
 use Rattle.run_account.specs.Runs.{HasRun}
 use Rattle.plans.specs.Reading.{ReadsPlan}
+use Rattle.typed_values.specs.Unread.{OrNoMemory}
 use Rattle.check_lines.specs.Output.{report}
 use Rattle.check_lines.specs.Replies.{line_of}
 use Rattle.run_reports.specs.RunAnswers.{AnswersPlan, call_lines}
@@ -15,8 +16,8 @@ returns-in-Err-clause-output g c =
     let contents = g.W.Sink.contents in
     let table = c.args.checked.now.table in
     serves (AnswersPlan table c.args.workers c.args.plan.now) (line_of c.plan_reply.result) (contents c.args.sink.now) (contents c.write_reply.new.sink) c.write_reply.result
-    (plan_refused table c.args.workers c.args.plan.now c.in-Err.fault _
-    (subst (λ (script : Script). ReadsPlan script c.args.plan.now (Err c.in-Err.fault)) c.script.ensures.table c.in-Err.ensures.reads) c.plan_reply.ensures)
+    (plan_refused table c.args.workers c.args.plan.now c.in-Err.unread _
+    (subst (λ (script : Script). OrNoMemory (ReadsPlan script c.args.plan.now) (Err c.in-Err.unread)) c.script.ensures.table c.in-Err.ensures.reads) c.plan_reply.ensures)
     c.write_reply.ensures.line
 
 pub returns-in-Ok-run-clause-output : goal.returns-in-Ok-run-clause-output

@@ -13,9 +13,9 @@ returns-in-Ok-No-clause-output g c =
     let script = c.args.sections.0.now in
     let certificate = c.args.sections.1.now in
     let plan = c.args.sections.2.now in
-    let found = subst (λ verdict. IsVerdict script certificate (Ok verdict)) c.in-Ok-No.field-0-is c.in-Ok-No.ensures.verdict in
+    let is = subst (λ verdict. IsVerdict script certificate (Ok verdict)) c.in-Ok-No.field-0-is c.in-Ok-No.ensures.verdict in
     serves (AnswersRun c.args.workers script certificate plan) (answer_line c.broken.result) (contents c.args.sink.now) (contents c.write_reply.new.sink) c.write_reply.result
-    (no_told c.args.workers script certificate plan found.0 found.1 c.in-Ok-No.fault (answer_line c.broken.result) found.2 found.3 c.broken.ensures)
+    (no_told c.args.workers script certificate plan c.in-Ok-No.refuted (answer_line c.broken.result) is c.broken.ensures)
     c.write_reply.ensures.line
 
 pub returns-in-Err-clause-output : goal.returns-in-Err-clause-output

@@ -1,8 +1,7 @@
 //! Why a document is no certificate.
 ghost use Rattle.std.specs.Prelude.{◌≡◌};
-ghost use Rattle.certificate_components.specs.FaultNames.{number_of, name_of};
+ghost use Rattle.certificate.specs.FaultNames.{number_of, name_of};
 
-use std::alloc::{AllocError, AllocFailed};
 use thiserror::Error;
 
 /// Why a document is no certificate. Where several apply, the one that comes first here is given.
@@ -29,13 +28,10 @@ pub enum CertFault {
     /// A document of version 1, whose entries were made for identifiers that are never given again.
     #[error("an old version")]
     OldVersion,
-    /// Memory ran out.
-    #[error("out of memory")]
-    NoMemory,
 }
 
 impl CertFault {
-    /// The fault's number in the order of precedence, or 0 where memory ran out.
+    /// The fault's number, 1 to 7, in the order of precedence.
     pub fn number(&self) -> u8
         ensures { result ≡ number_of self.now }
     {
@@ -47,7 +43,6 @@ impl CertFault {
             CertFault::TooManyEntries => 5,
             CertFault::TooManyPoints => 6,
             CertFault::OldVersion => 7,
-            CertFault::NoMemory => 0,
         }
     }
 
@@ -63,29 +58,6 @@ impl CertFault {
             CertFault::TooManyEntries => "TooManyEntries",
             CertFault::TooManyPoints => "TooManyPoints",
             CertFault::OldVersion => "OldVersion",
-            CertFault::NoMemory => "NoMemory",
         }
-    }
-}
-
-impl From<AllocError> for CertFault {
-    ghost use Rattle.std.specs.Prelude.{◌≡◌};
-    ghost use Rattle.certificate_components.specs.declared.fault.CertFault.TheVariants.{NoMemory};
-
-    ghost from_gives = { λ _ fault. fault ≡ NoMemory };
-
-    fn from(_error: AllocError) -> CertFault {
-        CertFault::NoMemory
-    }
-}
-
-impl<T: Drop> From<AllocFailed<T>> for CertFault {
-    ghost use Rattle.std.specs.Prelude.{◌≡◌};
-    ghost use Rattle.certificate_components.specs.declared.fault.CertFault.TheVariants.{NoMemory};
-
-    ghost from_gives = { λ _ fault. fault ≡ NoMemory };
-
-    fn from(_error: AllocFailed<T>) -> CertFault {
-        CertFault::NoMemory
     }
 }
