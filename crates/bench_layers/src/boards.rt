@@ -1,13 +1,13 @@
 //! Contexts of two lines each, on which commands are executed one context after the other; a chain of contexts, and two contexts with crossings between
 //! them, in which a path is looked for.
+use crate::empty_boards::{SETTINGS, board};
 use crate::failure::Failure;
 use crate::lines::lines;
 use crate::ways;
 use crate::words::number;
 use contexts::Board;
-use mg_model::items::{Added, Item, Settings};
+use mg_model::items::{Added, Item};
 use mg_names::identifiers::{ContextId, LineNo, TermId};
-use mg_names::modes::Mode;
 use mg_names::topologies::Topology;
 use std::alloc::Global;
 
@@ -17,20 +17,6 @@ struct Pair {
     context: ContextId,
     first: TermId,
     second: TermId,
-}
-
-/// A termination sends and receives.
-pub(crate) const SETTINGS: Settings = Settings {
-    mode: Some(Mode::SendReceive),
-    remote: None,
-};
-
-/// A board with these lines.
-pub(crate) fn board(alloc: Global, lines: &[LineNo]) -> Result<Board, Failure> {
-    match Board::new(alloc, lines) {
-        Ok(board) => Ok(board),
-        Err(_) => Err(Failure::Memory),
-    }
 }
 
 /// Adds two lines to a new context.

@@ -4,6 +4,7 @@
 #![tactic(auto)]
 
 mod boards;
+mod empty_boards;
 mod failure;
 mod gateways;
 mod lines;

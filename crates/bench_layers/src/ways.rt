@@ -1,5 +1,5 @@
 //! Boards on which media has far to go, or many ways to go.
-use crate::boards::{SETTINGS, board};
+use crate::empty_boards::{SETTINGS, board};
 use crate::failure::Failure;
 use crate::lines::lines;
 use contexts::{Board, Done};

@@ -68,6 +68,13 @@ enum Kind {
     Stop { seed: u64 },
 }
 
+/// What the words ask for, and on how many workers.
+#[derive(Clone, Copy, Debug)]
+struct Asked {
+    workers: usize,
+    kind: Kind,
+}
+
 /// The name of a state.
 fn name_of(script: &Script, state: u8) -> &str {
     match script.state(state) {
@@ -143,14 +150,13 @@ fn go<G: Gate, T: Threads + Wait + Sync>(
     threads: &T,
     checked: &Checked,
     plan: &Plan,
-    workers: usize,
+    asked: Asked,
     gate: &G,
-    kind: Kind,
 ) -> Result<(), Failure>
     requires { IsPlanFor checked.now.table plan.now }
 {
-    match run(threads, rt.alloc(), checked, plan, workers, gate) {
-        Ok(outcome) => tell(rt, checked.script(), &outcome, kind),
+    match run(threads, rt.alloc(), checked, plan, asked.workers, gate) {
+        Ok(outcome) => tell(rt, checked.script(), &outcome, asked.kind),
         Err(RunFault::NoMemory) => Err(Failure::Memory),
         Err(fault) => tell_fault(rt, fault),
     }
@@ -168,12 +174,12 @@ fn meet<T: Threads + Wait + Sync>(
     threads: &T,
     checked: &Checked,
     plan: &Plan,
-    workers: usize,
+    asked: Asked,
 ) -> Result<(), Failure>
     requires { IsPlanFor checked.now.table plan.now }
 {
     let gate = Meeting::new();
-    go(rt, threads, checked, plan, workers, &gate, Kind::Meet)?;
+    go(rt, threads, checked, plan, asked, &gate)?;
     let told = if gate.was_late() { "late" } else { "met" };
     writeln!(rt.stdout(), "{told}")?;
     Ok(())
@@ -185,13 +191,13 @@ fn stop<T: Threads + Wait + Sync>(
     threads: &T,
     checked: &Checked,
     plan: &Plan,
-    workers: usize,
+    asked: Asked,
     seed: u64,
 ) -> Result<(), Failure>
     requires { IsPlanFor checked.now.table plan.now }
 {
     let gate = Stopping::new(rt, seed);
-    go(rt, threads, checked, plan, workers, &gate, Kind::Lines)
+    go(rt, threads, checked, plan, asked, &gate)
 }
 
 /// A plan for this script, read and run.
@@ -200,31 +206,34 @@ fn tour<T: Threads + Wait + Sync>(
     threads: &T,
     checked: &Checked,
     text: &str,
-    workers: usize,
-    kind: Kind,
+    asked: Asked,
 ) -> Result<(), Failure> {
     let plan = match Plan::read(rt.alloc(), text.as_bytes(), checked.script()) {
         Ok(plan) => plan,
         Err(Unread::NoMemory) => return Err(Failure::Memory),
         Err(Unread::Fault(_)) => return Err(Failure::Refused),
     };
-    match kind {
-        Kind::Meet => meet(rt, threads, checked, &plan, workers),
-        Kind::Stop { seed } => stop(rt, threads, checked, &plan, workers, seed),
-        _ => go(rt, threads, checked, &plan, workers, &NoGate, kind),
+    match asked.kind {
+        Kind::Meet => meet(rt, threads, checked, &plan, asked),
+        Kind::Stop { seed } => stop(rt, threads, checked, &plan, asked, seed),
+        Kind::Lines | Kind::Count => go(rt, threads, checked, &plan, asked, &NoGate),
     }
 }
 
 /// What the words ask for.
-fn asked(rt: &HostRuntime) -> Result<(usize, Kind), Failure> {
+fn asked(rt: &HostRuntime) -> Result<Asked, Failure> {
     let words: Vec<String> = env::args(rt)?.collect(rt.alloc())?;
     let Some(workers) = words.as_slice().get(1) else {
-        return Ok((1, Kind::Lines));
+        return Ok(Asked {
+            workers: 1,
+            kind: Kind::Lines,
+        });
     };
     let Ok(workers) = workers.as_str().parse() else {
         return Err(Failure::Refused);
     };
-    Ok((workers, kind_of(words.as_slice())?))
+    let kind = kind_of(words.as_slice())?;
+    Ok(Asked { workers, kind })
 }
 
 /// What the words behind the number of workers ask for.
@@ -249,7 +258,7 @@ fn stop_by(word: Option<&String>) -> Result<Kind, Failure> {
 }
 
 fn all<T: Threads + Wait + Sync>(rt: &HostRuntime, threads: &T) -> Result<(), Failure> {
-    let (workers, kind) = asked(rt)?;
+    let asked = asked(rt)?;
     let mut text = String::new(rt.alloc());
     let _read = rt.stdin().read_to_string(&mut text)?;
     let sections: Vec<&str> = text.as_str().split("\n%%\n").collect(rt.alloc())?;
@@ -262,7 +271,7 @@ fn all<T: Threads + Wait + Sync>(rt: &HostRuntime, threads: &T) -> Result<(), Fa
         _ => return Err(Failure::Refused),
     };
     for plan in plans {
-        tour(rt, threads, &checked, plan, workers, kind)?;
+        tour(rt, threads, &checked, plan, asked)?;
     }
     Ok(())
 }

@@ -4,7 +4,6 @@ use crate::rows::{self, Layer};
 use crate::{items, results, seen};
 use contexts::{Board, Done, ExecFault};
 use mg_model::items::Item;
-use mg_model::rows::Row;
 use mg_names::identifiers::{ContextId, LineNo};
 use std::alloc::{AllocError, Global};
 use std::mem;
@@ -33,22 +32,6 @@ fn write_contexts(told: &mut String, names: &Names, contexts: &[ContextId]) -> R
     for context in contexts {
         write!(told, " ")?;
         names.write_context(told, *context)?;
-    }
-    Ok(())
-}
-
-/// Writes what the board keeps of a termination.
-pub(crate) fn write_row(told: &mut String, names: &Names, row: Option<Row>) -> Result<(), Failure> {
-    let Some(row) = row else {
-        write!(told, "unknown")?;
-        return Ok(());
-    };
-    write!(told, "in ")?;
-    names.write_context(told, row.place)?;
-    write!(told, ", {}", row.mode.text())?;
-    if let Some(remote) = row.remote {
-        write!(told, ", remote ")?;
-        names.write_ephemeral(told, remote)?;
     }
     Ok(())
 }
@@ -115,7 +98,7 @@ pub(crate) fn write_read(
     match verb {
         "lines" | "ephemerals" | "contexts" => write_existing(told, names, board, verb),
         "show" => match names.termination(words.next()) {
-            Some(termination) => write_row(told, names, board.get(termination)),
+            Some(termination) => names.write_row(told, board.get(termination)),
             None => Err(Failure::Unreadable),
         },
         "members" => match names.context(words.next()) {

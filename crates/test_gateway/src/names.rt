@@ -1,6 +1,7 @@
 //! How rows name contexts and terminations: `$`, `-` and `*` as H.248.1 writes them, `c1` and `e1` for the first context and the first
 //! ephemeral that was given, `l/1` for line 1, `5` and `e/5` for the context and the ephemeral of that very number.
 use crate::given::{Given, NOTHING_GIVEN};
+use mg_model::rows::Row;
 use mg_names::identifiers::{ContextId, LineNo, TermId};
 use test_words::failure::Failure;
 use test_words::words::number;
@@ -95,6 +96,22 @@ impl Names {
         match self.ephemerals.place(ephemeral) {
             0 => write!(told, "e/{ephemeral}")?,
             place => write!(told, "e{place}")?,
+        }
+        Ok(())
+    }
+
+    /// Writes what is kept of a termination.
+    pub(crate) fn write_row(&self, told: &mut String, row: Option<Row>) -> Result<(), Failure> {
+        let Some(row) = row else {
+            write!(told, "unknown")?;
+            return Ok(());
+        };
+        write!(told, "in ")?;
+        self.write_context(told, row.place)?;
+        write!(told, ", {}", row.mode.text())?;
+        if let Some(remote) = row.remote {
+            write!(told, ", remote ")?;
+            self.write_ephemeral(told, remote)?;
         }
         Ok(())
     }

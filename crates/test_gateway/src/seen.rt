@@ -1,6 +1,5 @@
 //! What rows can see of boards, of tables of terminations and of lines, as a text: it is told before a call and again where the call wanted
 //! memory, and has to be the same then. Contexts and ephemerals are told by their very numbers.
-use crate::boards::write_row;
 use crate::events;
 use crate::names::NO_NAMES;
 use contexts::Board;
@@ -25,7 +24,7 @@ fn show_row(told: &mut String, t: TermId, row: Option<Row>) -> Result<(), Failur
     write!(told, ";")?;
     show_name(told, t)?;
     write!(told, " ")?;
-    write_row(told, &NO_NAMES, row)
+    NO_NAMES.write_row(told, row)
 }
 
 /// Tells the contexts, each with the number of its members, which a board keeps beside its rows.

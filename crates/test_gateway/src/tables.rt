@@ -1,5 +1,4 @@
 //! The layer `terminations`: a table of terminations with the context, the mode and the Remote of each.
-use crate::boards::write_row;
 use crate::names::{self, NO_NAMES, Names};
 use crate::rows::{self, Layer};
 use crate::{numbers, results, seen};
@@ -133,7 +132,7 @@ impl Tables {
         word: &str,
     ) -> Result<(), Failure> {
         match verb {
-            "show" => write_row(told, &self.names, self.terms.get(t)),
+            "show" => self.names.write_row(told, self.terms.get(t)),
             "destroy" => write_did(told, self.terms.destroy(t)),
             "leave" => write_did(told, self.terms.leave(t)),
             "number" => write_number(told, t),

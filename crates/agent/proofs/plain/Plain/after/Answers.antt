@@ -36,5 +36,5 @@ returns c =
     ∙ ap (λ (x : Agent). Some x)
     (sym (finished_at_rest (with_note a p.note) p)
     ∙ ap (λ (x : Agent). finished x p) (sym (note_at_rest a p.note) ∙ ap (λ (x : Agent). with_note x p.note) (sym c.in-Ok.ensures)
-    ∙ sym (c.in-Ok-accept_if.ensures ∙ ap (λ (v : PreparedValue). with_note (agent_of c.in-Ok.after) v.note) c.step-2.view_is))
+    ∙ sym (c.in-Ok-accept_if.ensures ∙ ap (λ (v : PreparedValue). with_note (agent_of c.in-Ok.after) v.note) c.step.view_is))
     ∙ sym c.finish.ensures.finished)
