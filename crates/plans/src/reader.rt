@@ -35,7 +35,7 @@ fn of_tree(alloc: Global, script: &Script, tree: Table) -> Result<Plan, Unread<P
 impl Plan {
     /// Reads a plan of calls of a script. The bytes are TOML; the format is this profile's own. Of all faults that the document has anywhere the lowest is
     /// given; `NoMemory` may come in place of any answer.
-    #[tactic(auto, using(crate::proofs::Readings::plan_is_read, crate::proofs::Readings::plan_is_accepted))]
+    #[tactic(auto, using(crate::proofs::Readings::plan_is_read))]
     pub fn read(alloc: Global, bytes: &[u8], script: &Script) -> Result<Plan, Unread<PlanFault>>
         ensures reads { OrNoMemory (ReadsPlan script.now bytes.now) result }
 

@@ -13,7 +13,7 @@ use Rattle.plans.specs.Reading.{ReadsPlan}
 use Rattle.plans.specs.declared.fault.PlanFault.{PlanFault}
 use Rattle.typed_values.specs.Unread.{OrNoMemory}
 use Rattle.typed_values.specs.declared.unread.Unread.{Unread}
-use Rattle.typed_values.specs.declared.unread.Unread.TheVariants as unread
+use Rattle.typed_values.specs.declared.unread.Unread.TheVariants as unreads
 use Rattle.planned_calls.specs.FaultNames as run_names
 use Rattle.run_account.specs.Runs.{HasRun}
 use Rattle.planned_calls.specs.declared.fault.RunFault.{RunFault}
@@ -27,9 +27,9 @@ use Rattle.check_lines.proofs.VerdictLines.{told}
 
 pub plan_refused : (table : Script) (workers : ℕ) (plan : Text) (why : Unread PlanFault) (l : Line) → OrNoMemory (ReadsPlan table plan) (Err why)
     → TellsPlanFault why l → AnswersPlan table workers plan (line l)
-plan_refused table workers plan (unread.Fault fault) l reads is = subst (λ (m : Line). AnswersPlan table workers plan (line m)) (sym is)
+plan_refused table workers plan (unreads.Fault fault) l reads is = subst (λ (m : Line). AnswersPlan table workers plan (line m)) (sym is)
     (record { fault = fault; reads = reads; numbered = refl; named = refl })
-plan_refused table workers plan unread.NoMemory l reads is = subst (λ (m : Line). AnswersPlan table workers plan (line m)) (sym is) tt
+plan_refused table workers plan unreads.NoMemory l reads is = subst (λ (m : Line). AnswersPlan table workers plan (line m)) (sym is) tt
 
 -- ---- a plan without a report
 

@@ -9,7 +9,7 @@ use Rattle.plans.specs.FaultNames as plan_names
 use Rattle.plans.specs.Reading.{ReadsPlan}
 use Rattle.plans.specs.declared.fault.PlanFault.{PlanFault}
 use Rattle.typed_values.specs.declared.unread.Unread.{Unread}
-use Rattle.typed_values.specs.declared.unread.Unread.TheVariants as unread
+use Rattle.typed_values.specs.declared.unread.Unread.TheVariants as unreads
 use Rattle.planned_calls.specs.FaultNames as run_names
 use Rattle.planned_calls.specs.ReportLines.{line_of}
 use Rattle.run_account.specs.Runs.{HasRun, OutcomeValue}
@@ -61,8 +61,8 @@ AnswersPlan table workers plan (report calls) = IsReported table workers plan ca
 -- ---- what is told of a fault
 
 abbrev pub TellsPlanFault : Unread PlanFault → Line → Type 0
-TellsPlanFault (unread.Fault fault) l = l ≡ plan_fault (plan_names.number_of fault) (plan_names.name_of fault)
-TellsPlanFault unread.NoMemory l = l ≡ no_memory
+TellsPlanFault (unreads.Fault fault) l = l ≡ plan_fault (plan_names.number_of fault) (plan_names.name_of fault)
+TellsPlanFault unreads.NoMemory l = l ≡ no_memory
 
 abbrev pub TellsRunFault : RunFault → Line → Type 0
 TellsRunFault runs.NoMemory l = l ≡ no_memory
