@@ -1,4 +1,5 @@
 pub mod Devices
+pub mod Fused
 pub mod Input
 pub mod Sections
 pub mod Statuses
