@@ -2,24 +2,11 @@
 //! program's line says. The first line is that line, by the same calls, and the exit status is the same. `--json` says the same facts as one JSON
 //! value; `--dot` writes the script's state machine as Graphviz text, with what a No names marked.
 //!
-//! `explain` puts together what is said, a `Page`; the facts in it are those of the crate `explanation`. What is here binds it to the process.
+//! `explanation_page` has what is said, and `script_picture` the picture. Here what the check comes to is said by them, under its line (`told`, with
+//! `said`), in the form that the words ask for (`words`), and bound to the process.
 #![tactic(auto)]
 
-mod command_text;
-mod component_text;
-mod config_text;
-mod entry_text;
-mod explain;
-mod facts;
-mod listed;
-mod names;
-mod page;
-mod picture;
-mod places;
-mod request_text;
-mod rules;
 mod said;
-mod step_text;
 mod told;
 mod words;
 

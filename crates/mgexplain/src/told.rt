@@ -8,11 +8,6 @@ ghost use Rattle.program_rim.specs.Sections.{pair_of, sections_of};
 ghost use Rattle.mgexplain.specs.declared.words.Form.TheVariants as Form;
 ghost use Rattle.mgexplain.specs.Saying.{IsOutcome, IsOutcomeOf, IsSaid, IsUnder};
 
-use crate::explain::{Documents, new_page, no_page};
-use crate::page::Page;
-use crate::picture::{Marked, picture};
-use crate::places::{certificate_place, script_place};
-use crate::rules::{YES_RULE, certificate_rule, input_rule, script_rule};
 use crate::said::{Said, headed, with_status};
 use crate::words::Form;
 use check_lines::answer::Answer;
@@ -21,9 +16,14 @@ use check_lines::reply::{InputFault, Reply};
 use closure::steps::{opening, reset};
 use composition::{CheckFault, Checked, Refuted, Verdict, check};
 use explanation::locate;
+use explanation_page::Page;
+use explanation_page::explain::{Documents, new_page, no_page};
+use explanation_page::places::{certificate_place, script_place};
+use explanation_page::rules::{YES_RULE, certificate_rule, script_rule};
 use mg_names::obligations::Obligation;
 use program_rim::input::Input;
 use program_rim::sections::two_sections;
+use script_picture::{Marked, draw};
 use script_table::Script;
 use std::alloc::{AllocError, Global};
 
@@ -67,8 +67,18 @@ fn picture_told(
     ensures { IfOk result (IsUnder Form.Dot (line_of reply.now)) }
 {
     let line = line(alloc, reply)?;
-    let text = picture(alloc, line.as_str(), script, marked)?;
+    let text = draw(alloc, line.as_str(), script, marked)?;
     Ok(with_status(reply, text))
+}
+
+/// What an input must be for it not to have this fault.
+fn input_rule(fault: InputFault) -> &'static str {
+    match fault {
+        InputFault::Sections => {
+            "The input is a script and a certificate, divided by a line that is exactly `%%`, with no other such line."
+        }
+        InputFault::TooLong => "The input has at most 16,777,216 bytes.",
+    }
 }
 
 /// What is said where no script is read.

@@ -1,12 +1,8 @@
 //! The page on a No: what the first broken obligation is about.
-use crate::component_text::{component_text, word_in};
-use crate::config_text::config_text;
-use crate::entry_text::entry_text;
 use crate::facts::facts;
 use crate::listed::listed_text;
 use crate::page::{Lack, NearText, Page, PointText};
 use crate::rules::{advice, obligation_rule};
-use crate::step_text::step_text;
 use closure::steps::{opening, reset};
 use configuration::config::Config;
 use configuration::well_formed::is_well_formed;
@@ -16,18 +12,25 @@ use mg_model::faults::Fault;
 use mg_names::obligations::Obligation;
 use program_rim::status::Status;
 use script_table::Script;
+use script_words::component_text::{component_text, word_in};
+use script_words::config_text::config_text;
+use script_words::entry_text::entry_text;
+use script_words::step_text::step_text;
 use std::alloc::{AllocError, Global};
 
 /// The two documents, with the text of the second.
 #[derive(Clone, Copy)]
-pub(crate) struct Documents<'a> {
-    pub(crate) script: &'a Script,
-    pub(crate) cert: &'a Cert,
-    pub(crate) certificate: &'a [u8],
+pub struct Documents<'a> {
+    /// The script.
+    pub script: &'a Script,
+    /// The certificate.
+    pub cert: &'a Cert,
+    /// The text of the certificate, which has its entries as they were written.
+    pub certificate: &'a [u8],
 }
 
 /// A page with a line, the rule that is broken, and where.
-pub(crate) fn new_page<'a>(
+pub fn new_page<'a>(
     alloc: Global,
     line: String,
     status: Status,
@@ -184,8 +187,8 @@ fn add_whole<'a>(
     add_uncovered(alloc, page, documents, &config)
 }
 
-/// The page on the first obligation that is broken.
-pub(crate) fn no_page<'a>(
+/// The page on the first obligation that is broken. The only error is running out of memory.
+pub fn no_page<'a>(
     alloc: Global,
     line: String,
     documents: &Documents<'a>,

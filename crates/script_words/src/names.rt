@@ -1,4 +1,4 @@
-//! The words by which the formats name what a configuration has.
+//! The words by which the formats name what a configuration has. A name that the script doesn't have is `?`; what its reader accepts has each.
 use mg_model::commands::{EventsName, Termination};
 use mg_model::components::{Remote, Spot};
 use mg_names::context_values::ContextValue;
@@ -7,29 +7,34 @@ use mg_names::phases::LinkPhase;
 use mg_names::slots::Slot;
 use script_table::Script;
 
-/// What stands for a name that the script doesn't have; what its reader accepts has each.
+/// What stands for a name that the script doesn't have.
 pub(crate) const NO_NAME: &str = "?";
 
-pub(crate) fn state_name(script: &Script, state: u8) -> &str {
+/// The name of a state.
+pub fn state_name(script: &Script, state: u8) -> &str {
     match script.state(state) {
         Some(state) => state.name(),
         None => NO_NAME,
     }
 }
 
-pub(crate) fn line_name(script: &Script, line: Slot) -> &str {
+/// The name of a line.
+pub fn line_name(script: &Script, line: Slot) -> &str {
     script.line_name(line).unwrap_or(NO_NAME)
 }
 
-pub(crate) fn context_name(script: &Script, context: Slot) -> &str {
+/// The name of a context.
+pub fn context_name(script: &Script, context: Slot) -> &str {
     script.context_name(context).unwrap_or(NO_NAME)
 }
 
-pub(crate) fn ephemeral_name(script: &Script, ephemeral: Slot) -> &str {
+/// The name of an ephemeral.
+pub fn ephemeral_name(script: &Script, ephemeral: Slot) -> &str {
     script.ephemeral_name(ephemeral).unwrap_or(NO_NAME)
 }
 
-pub(crate) fn termination_name(script: &Script, termination: Termination) -> &str {
+/// The name of a line or an ephemeral.
+pub fn termination_name(script: &Script, termination: Termination) -> &str {
     match termination {
         Termination::Line(line) => line_name(script, line),
         Termination::Ephemeral(ephemeral) => ephemeral_name(script, ephemeral),

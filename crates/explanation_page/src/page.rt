@@ -1,9 +1,9 @@
 //! What is said of a script and a certificate under the line of the check: as text paragraph by paragraph, and as one JSON value with that line.
-use crate::config_text::ConfigText;
-use crate::entry_text::EntryText;
 use crate::facts::Fact;
 use crate::listed::ListedText;
-use crate::step_text::StepText;
+use script_words::config_text::ConfigText;
+use script_words::entry_text::EntryText;
+use script_words::step_text::StepText;
 use serde::Serialize;
 use std::fmt;
 
@@ -35,9 +35,9 @@ pub(crate) struct PointText<'a> {
     pub(crate) configuration: ConfigText<'a>,
 }
 
-/// All that is said.
+/// All that is said. Its JSON value has the line; the text stands under it.
 #[derive(Drop, Serialize)]
-pub(crate) struct Page<'a> {
+pub struct Page<'a> {
     /// The line of the check.
     pub(crate) line: String,
     /// The exit status that goes with it.

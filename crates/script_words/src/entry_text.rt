@@ -11,8 +11,9 @@ use std::fmt;
 
 /// An entry as JSON: its text, whose keys stand in the order of the format, and the value of that text.
 #[derive(Drop)]
-pub(crate) struct EntryText {
-    pub(crate) line: String,
+pub struct EntryText {
+    /// The text, on one line.
+    pub line: String,
     value: Value,
 }
 
@@ -133,12 +134,8 @@ fn entry_line(
     format!(in alloc; "{{{members}}}")
 }
 
-/// An entry as JSON.
-pub(crate) fn entry_text(
-    alloc: Global,
-    script: &Script,
-    entry: &Entry,
-) -> Result<EntryText, AllocError> {
+/// An entry as JSON. The only error is running out of memory.
+pub fn entry_text(alloc: Global, script: &Script, entry: &Entry) -> Result<EntryText, AllocError> {
     let components = component_texts(alloc, script, entry.components())?;
     let state = state_name(script, entry.state());
     let line = entry_line(alloc, script, state, components.as_slice())?;

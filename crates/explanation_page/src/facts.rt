@@ -1,5 +1,4 @@
 //! What of a point breaks an obligation, in sentences; and the ways that media takes between joined lines, hop by hop.
-use crate::names::{context_name, ephemeral_name, line_name, state_name, termination_name};
 use configuration::config::Config;
 use explanation::{Breach, Crossing, find_breaches, find_path};
 use mg_model::commands::Termination;
@@ -8,6 +7,7 @@ use mg_model::transitions::Pair;
 use mg_names::obligations::Obligation;
 use mg_names::slots::Slot;
 use script_table::Script;
+use script_words::names::{context_name, ephemeral_name, line_name, state_name, termination_name};
 use serde::Serialize;
 use std::alloc::{AllocError, Global};
 use std::fmt;
@@ -124,6 +124,26 @@ fn path<'a>(
     Ok(Vec::new(alloc))
 }
 
+/// The sentence on two lines that are joined, behind which the way of the media is said.
+fn joined_says(
+    alloc: Global,
+    script: &Script,
+    state: &str,
+    pair: Pair,
+) -> Result<String, AllocError> {
+    let first = line_name(script, pair.first);
+    let second = line_name(script, pair.second);
+    format!(in alloc;
+        "Lines {first} and {second} are joined, and state {state} has no `{first}-{second}` in its `talk`. Media goes"
+    )
+}
+
+/// The sentence on a line of a call that has ended.
+fn line_says(alloc: Global, script: &Script, line: Slot, what: &str) -> Result<String, AllocError> {
+    let line = line_name(script, line);
+    format!(in alloc; "Line {line} {what}.")
+}
+
 /// The sentence on a breach.
 fn says(
     alloc: Global,
@@ -133,56 +153,32 @@ fn says(
 ) -> Result<String, AllocError> {
     let state = state_name(script, config.state());
     match *breach {
-        Breach::Joined(pair) => {
-            let (first, second) = (
-                line_name(script, pair.first),
-                line_name(script, pair.second),
-            );
-            format!(in alloc;
-                "Lines {first} and {second} are joined, and state {state} has no `{first}-{second}` in its `talk`. Media goes"
-            )
-        }
-        Breach::Away(line) => {
-            format!(in alloc;
-                "Line {} is not in the null context.",
-                line_name(script, line)
-            )
-        }
-        Breach::Playing(line) => {
-            format!(in alloc; "Line {} may still play a signal.", line_name(script, line))
-        }
+        Breach::Joined(pair) => joined_says(alloc, script, state, pair),
+        Breach::Away(line) => line_says(alloc, script, line, "is not in the null context"),
+        Breach::Playing(line) => line_says(alloc, script, line, "may still play a signal"),
         Breach::NotArmed(line) => {
-            format!(in alloc;
-                "The events list of line {} is not exactly `al/of`.",
-                line_name(script, line)
-            )
+            let line = line_name(script, line);
+            format!(in alloc; "The events list of line {line} is not exactly `al/of`.")
         }
         Breach::Remaining(name) => {
-            format!(in alloc; "Ephemeral {} still exists.", ephemeral_name(script, name))
+            let name = ephemeral_name(script, name);
+            format!(in alloc; "Ephemeral {name} still exists.")
         }
         Breach::BoundContext(name) => {
-            format!(in alloc;
-                "State {state} creates context {}, and that name is bound.",
-                context_name(script, name)
-            )
+            let name = context_name(script, name);
+            format!(in alloc; "State {state} creates context {name}, and that name is bound.")
         }
         Breach::BoundEphemeral(name) => {
-            format!(in alloc;
-                "State {state} creates ephemeral {}, and it exists.",
-                ephemeral_name(script, name)
-            )
+            let name = ephemeral_name(script, name);
+            format!(in alloc; "State {state} creates ephemeral {name}, and it exists.")
         }
         Breach::StaleContext(name) => {
-            format!(in alloc;
-                "Context {} has been deleted, and its name is bound.",
-                context_name(script, name)
-            )
+            let name = context_name(script, name);
+            format!(in alloc; "Context {name} has been deleted, and its name is bound.")
         }
         Breach::GoneRemote(name) => {
-            format!(in alloc;
-                "The Remote of ephemeral {} has been destroyed.",
-                ephemeral_name(script, name)
-            )
+            let name = ephemeral_name(script, name);
+            format!(in alloc; "The Remote of ephemeral {name} has been destroyed.")
         }
     }
 }

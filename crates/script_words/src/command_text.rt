@@ -145,7 +145,7 @@ impl fmt::Display for CommandText<'_> {
     }
 }
 
-/// Writes a Modify or a Move.
+/// Writes a Modify, or what is neither that nor an Add.
 fn write_change<W: fmt::Write>(text: &CommandText<'_>, f: &mut fmt::Formatter<W>) -> fmt::Result {
     let script = text.script;
     match *text.command {
@@ -155,11 +155,8 @@ fn write_change<W: fmt::Write>(text: &CommandText<'_>, f: &mut fmt::Formatter<W>
             options,
         } => {
             let (place, name) = (place_word(script, place), line_name(script, line));
-            write!(
-                f,
-                "modify {place} {name}{}",
-                LineOptionsText(script, options)
-            )
+            let options = LineOptionsText(script, options);
+            write!(f, "modify {place} {name}{options}")
         }
         Command::ModifyEphemeral {
             place,
@@ -167,38 +164,35 @@ fn write_change<W: fmt::Write>(text: &CommandText<'_>, f: &mut fmt::Formatter<W>
             options,
         } => {
             let (place, name) = (place_word(script, place), ephemeral_name(script, ephemeral));
-            write!(
-                f,
-                "modify {place} {name}{}",
-                EphemeralOptionsText(script, options)
-            )
+            let options = EphemeralOptionsText(script, options);
+            write!(f, "modify {place} {name}{options}")
         }
+        _ => write_move(text, f),
+    }
+}
+
+/// Writes a Move, or what is none of these.
+fn write_move<W: fmt::Write>(text: &CommandText<'_>, f: &mut fmt::Formatter<W>) -> fmt::Result {
+    let script = text.script;
+    match *text.command {
         Command::MoveLine {
             context,
             line,
             options,
         } => {
             let (context, name) = (context_name(script, context), line_name(script, line));
-            write!(
-                f,
-                "move {context} {name}{}",
-                LineOptionsText(script, options)
-            )
+            let options = LineOptionsText(script, options);
+            write!(f, "move {context} {name}{options}")
         }
         Command::MoveEphemeral {
             context,
             ephemeral,
             options,
         } => {
-            let (context, name) = (
-                context_name(script, context),
-                ephemeral_name(script, ephemeral),
-            );
-            write!(
-                f,
-                "move {context} {name}{}",
-                EphemeralOptionsText(script, options)
-            )
+            let context = context_name(script, context);
+            let name = ephemeral_name(script, ephemeral);
+            let options = EphemeralOptionsText(script, options);
+            write!(f, "move {context} {name}{options}")
         }
         _ => write_rest(text, f),
     }

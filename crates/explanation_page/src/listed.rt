@@ -1,9 +1,9 @@
 //! An entry as it stands in the text of a certificate. The reader of certificates keeps no text, so its place is sought anew here, in a text that
 //! was read: an object in the array that is a member of the outermost object. A certificate has no other such array.
-use crate::entry_text::{EntryText, entry_text};
 use crate::places::line_of;
 use entry_table::Entry;
 use script_table::Script;
+use script_words::entry_text::{EntryText, entry_text};
 use serde::Serialize;
 use std::alloc::{AllocError, Global};
 use std::fmt;

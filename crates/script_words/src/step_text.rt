@@ -14,7 +14,7 @@ use std::fmt;
 
 /// A step that leads where no entry is.
 #[derive(Drop, Serialize)]
-pub(crate) struct StepText<'a> {
+pub struct StepText<'a> {
     /// Its words, as the check writes them.
     name: String,
     /// What happens.
@@ -88,8 +88,8 @@ fn says(
     }
 }
 
-/// A step of a configuration.
-pub(crate) fn step_text<'a>(
+/// A step of a configuration. The only error is running out of memory.
+pub fn step_text<'a>(
     alloc: Global,
     script: &'a Script,
     config: &Config,

@@ -24,17 +24,17 @@ pub(crate) enum Owner {
     Cuts,
 }
 
-/// A component in the words of the format.
+/// A component in the words of the format of certificates, which is this profile's own.
 #[derive(Drop)]
-pub(crate) struct ComponentText<'a> {
+pub struct ComponentText<'a> {
     /// The object that it stands in.
     pub(crate) owner: Owner,
     /// Its key there.
     pub(crate) key: String,
     /// Its keys from the entry on, with dots between them.
-    pub(crate) path: String,
+    pub path: String,
     /// Its values.
-    pub(crate) words: Vec<&'a str>,
+    pub words: Vec<&'a str>,
     /// The value that it has where it is left out; none where it is needed.
     pub(crate) default: &'static str,
 }
@@ -99,7 +99,7 @@ fn component_words<'a>(
 }
 
 /// The value that a configuration has of a component, as a word.
-pub(crate) fn word_in<'a>(script: &'a Script, component: &Component, config: &Config) -> &'a str {
+pub fn word_in<'a>(script: &'a Script, component: &Component, config: &Config) -> &'a str {
     match component {
         Component::Links(_) => config.link().word(script),
         Component::Spots(t, _) => config.spot(*t).word(script),
@@ -172,8 +172,8 @@ fn path_of(alloc: Global, script: &Script, owner: Owner, key: &str) -> Result<St
     }
 }
 
-/// A component in words.
-pub(crate) fn component_text<'a>(
+/// A component in words. The only error is running out of memory.
+pub fn component_text<'a>(
     alloc: Global,
     script: &'a Script,
     component: &Component,

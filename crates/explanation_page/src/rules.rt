@@ -1,11 +1,10 @@
 //! The rules: a sentence for each obligation, and for each fault of a script and of a certificate.
 use certificate::CertFault;
-use check_lines::reply::InputFault;
 use mg_names::obligations::Obligation;
-use scriptreader::ScriptFault;
+use script_faults::ScriptFault;
 
 /// What a yes says.
-pub(crate) const YES_RULE: &str =
+pub const YES_RULE: &str =
     "Every obligation holds at each point and for each step from it. The numbers are those of the script's states, of the certificate's entries, and of their points.";
 
 /// What an obligation asks.
@@ -59,7 +58,7 @@ pub(crate) fn advice(obligation: Obligation) -> Option<&'static str> {
 }
 
 /// What a script must be for it not to have this fault.
-pub(crate) fn script_rule(fault: &ScriptFault) -> &'static str {
+pub fn script_rule(fault: &ScriptFault) -> &'static str {
     match fault {
         ScriptFault::NotToml => "A script is a TOML document.",
         ScriptFault::BadKey => {
@@ -96,7 +95,7 @@ pub(crate) fn script_rule(fault: &ScriptFault) -> &'static str {
 }
 
 /// What a certificate must be for it not to have this fault.
-pub(crate) fn certificate_rule(fault: &CertFault) -> &'static str {
+pub fn certificate_rule(fault: &CertFault) -> &'static str {
     match fault {
         CertFault::NotJson => "A certificate is a JSON text in UTF-8.",
         CertFault::BadKey => {
@@ -111,15 +110,5 @@ pub(crate) fn certificate_rule(fault: &CertFault) -> &'static str {
         CertFault::OldVersion => {
             "The version of a certificate is 2; version 1 did not ask that names stand for what exists."
         }
-    }
-}
-
-/// What an input must be for it not to have this fault.
-pub(crate) fn input_rule(fault: InputFault) -> &'static str {
-    match fault {
-        InputFault::Sections => {
-            "The input is a script and a certificate, divided by a line that is exactly `%%`, with no other such line."
-        }
-        InputFault::TooLong => "The input has at most 16,777,216 bytes.",
     }
 }

@@ -1,7 +1,7 @@
 //! Where a text breaks its format, as far as the library that reads it tells a place.
 use certificate::CertFault;
 use digits::DigitMap;
-use scriptreader::ScriptFault;
+use script_faults::ScriptFault;
 use serde_json::Value;
 use std::alloc::{AllocError, Global};
 
@@ -76,8 +76,8 @@ fn json_place(alloc: Global, certificate: &[u8]) -> Result<String, AllocError> {
     }
 }
 
-/// Where a script has a fault.
-pub(crate) fn script_place(
+/// Where a script has a fault, in a sentence. The only error is running out of memory.
+pub fn script_place(
     alloc: Global,
     fault: &ScriptFault,
     script: &[u8],
@@ -89,8 +89,8 @@ pub(crate) fn script_place(
     }
 }
 
-/// Where a certificate has a fault.
-pub(crate) fn certificate_place(
+/// Where a certificate has a fault, in a sentence. The only error is running out of memory.
+pub fn certificate_place(
     alloc: Global,
     fault: &CertFault,
     certificate: &[u8],

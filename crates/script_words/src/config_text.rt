@@ -12,7 +12,7 @@ use std::fmt;
 
 /// A component with the value that a configuration has of it.
 #[derive(Drop, Serialize)]
-pub(crate) struct Part<'a> {
+struct Part<'a> {
     /// Its keys in an entry, with dots between them.
     component: String,
     /// Its value.
@@ -28,9 +28,9 @@ pub(crate) struct Part<'a> {
     is_silent: bool,
 }
 
-/// A configuration.
+/// A configuration in words: its state, and each component with its value.
 #[derive(Drop, Serialize)]
-pub(crate) struct ConfigText<'a> {
+pub struct ConfigText<'a> {
     state: &'a str,
     parts: Vec<Part<'a>>,
 }
@@ -102,8 +102,8 @@ fn part_of<'a>(
     Ok((text.owner, part))
 }
 
-/// A configuration that is well formed, in words.
-pub(crate) fn config_text<'a>(
+/// A configuration that is well formed, in words; of another one the state alone. The only error is running out of memory.
+pub fn config_text<'a>(
     alloc: Global,
     script: &'a Script,
     config: &Config,
