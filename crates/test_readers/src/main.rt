@@ -11,30 +11,56 @@ mod scripts;
 mod tables;
 mod told_plans;
 
+use std::io::Read;
 use std::process::ExitCode;
 use std::thread::Threads;
-use test_documents::files::{Layers, answer};
-use test_words::failure::Failure;
+use test_words::failure::{Failure, wanted};
 
-/// The layers of documents and of the checker, which checks in pieces on threads.
-#[derive(Drop)]
-struct Readers<'t, T> {
-    threads: &'t T,
-}
+/// Room for a file of rows, made at once.
+const ROOM: usize = 65_536;
 
-impl<T: Threads + Sync> Layers for Readers<'_, T> {
-    fn tell(&self, rt: &HostRuntime, layer: &str, rows: &str) -> Result<(), Failure> {
-        match layer {
-            "certificates" => certificates::tell(rt, rows),
-            "checks" => checks::tell(rt, self.threads, rows),
-            "plans" => plan_rows::tell(rt, rows),
-            "scripts" => scripts::tell(rt, rows),
-            "tables" => tables::tell(rt, rows),
-            _ => Ok(()),
-        }
+/// The rows of a layer; those of a layer that another program answers for are passed over.
+fn tell<T: Threads + Sync>(
+    rt: &HostRuntime,
+    threads: &T,
+    layer: &str,
+    rows: &str,
+) -> Result<(), Failure> {
+    match layer {
+        "certificates" => certificates::tell(rt, rows),
+        "checks" => checks::tell(rt, threads, rows),
+        "plans" => plan_rows::tell(rt, rows),
+        "scripts" => scripts::tell(rt, rows),
+        "tables" => tables::tell(rt, rows),
+        _ => Ok(()),
     }
 }
 
+/// The rows of a file, whose first line names its layer.
+fn tell_file<T: Threads + Sync>(rt: &HostRuntime, threads: &T, file: &str) -> Result<(), Failure> {
+    let (layer, rows) = wanted(file.split_once('\n'))?;
+    tell(rt, threads, layer, rows)
+}
+
+/// The rows of each file that was read, one after the other.
+fn tell_files<T: Threads + Sync>(rt: &HostRuntime, threads: &T, text: &str) -> Result<(), Failure> {
+    let files = wanted(text.strip_prefix("layer "))?;
+    for file in files.split("\nlayer ") {
+        tell_file(rt, threads, file)?;
+    }
+    Ok(())
+}
+
+fn run<T: Threads + Sync>(rt: &HostRuntime, threads: &T) -> Result<(), Failure> {
+    let mut text = String::with_capacity(rt.alloc(), ROOM)?;
+    let _read = rt.stdin().read_to_string(&mut text)?;
+    tell_files(rt, threads, text.as_str())
+}
+
 fn main(rt: HostRuntime) -> ExitCode {
-    answer(&rt, &Readers { threads: &rt })
+    match run(&rt, &rt) {
+        Ok(()) => ExitCode::SUCCESS,
+        Err(Failure::Memory) => ExitCode::from(4),
+        Err(_) => ExitCode::FAILURE,
+    }
 }
