@@ -24,6 +24,7 @@ LAYERS = {
     "plans": "test_readers",
     "checks": "test_readers",
     "tables": "test_readers",
+    "devices": "test_engine",
 }
 
 
