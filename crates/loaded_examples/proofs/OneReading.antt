@@ -1,11 +1,11 @@
 -- Bytes that are read as a table and as entries are read as nothing else, and have no fault.
-use Rattle.std.proofs.Common.{◌≡◌, ◌∙◌, ℕ, Bool, true, false, List, Some, Result, Ok, Err, sym, ap, subst, true≢false, refl}
+use Rattle.std.proofs.Common.{◌≡◌, ◌∙◌, ℕ, Bool, true, false, List, Some, Result, Ok, Err, sym, ap, subst, true≢false}
 use Rattle.mg_model.proofs.Cases.{the_some}
 use Rattle.mg_model.specs.Entries.{Entry}
 use Rattle.mg_model.specs.Script.{Script}
 use Rattle.certificate.specs.Certificate.{ReadsCertificate, IsText, document_read}
-use Rattle.certificate_components.specs.declared.fault.CertFault.{CertFault}
-use Rattle.certificate_components.specs.declared.fault.CertFault.TheVariants as certificates
+use Rattle.certificate.specs.declared.fault.CertFault.{CertFault}
+use Rattle.certificate.specs.declared.fault.CertFault.TheVariants as certificates
 use Rattle.composition.specs.Verdict.{AreRead, HasCertificateFault, HasScriptFault}
 use Rattle.script_faults.specs.declared.fault.ScriptFault.{ScriptFault}
 use Rattle.script_faults.specs.declared.fault.ScriptFault.TheVariants as scripts
@@ -40,20 +40,19 @@ module _ (bytes : List ℕ) (table : Script) (reads : ReadsScript bytes (Ok tabl
       true≢false (ap is_ok (the_some {A = Result Script ScriptFault} (Ok table) (Err fault) same))
 
   pub no_script_fault : (fault : ScriptFault) → HasScriptFault bytes fault → ⊥
-  no_script_fault scripts.NoMemory has = has.told refl
-  no_script_fault scripts.NotToml has = has.reads reads.0 reads.1
-  no_script_fault scripts.BadKey has = not_refused scripts.BadKey has.reads
-  no_script_fault scripts.BadName has = not_refused scripts.BadName has.reads
-  no_script_fault scripts.Duplicate has = not_refused scripts.Duplicate has.reads
-  no_script_fault scripts.Unknown has = not_refused scripts.Unknown has.reads
-  no_script_fault scripts.BadMap has = not_refused scripts.BadMap has.reads
-  no_script_fault scripts.NoStart has = not_refused scripts.NoStart has.reads
-  no_script_fault scripts.NoRestart has = not_refused scripts.NoRestart has.reads
-  no_script_fault scripts.NoFault has = not_refused scripts.NoFault has.reads
-  no_script_fault scripts.OkWithoutActions has = not_refused scripts.OkWithoutActions has.reads
-  no_script_fault scripts.EndWithTransitions has = not_refused scripts.EndWithTransitions has.reads
-  no_script_fault scripts.MadeAndSubtracted has = not_refused scripts.MadeAndSubtracted has.reads
-  no_script_fault scripts.TooMany has = not_refused scripts.TooMany has.reads
+  no_script_fault scripts.NotToml has = has reads.0 reads.1
+  no_script_fault scripts.BadKey has = not_refused scripts.BadKey has
+  no_script_fault scripts.BadName has = not_refused scripts.BadName has
+  no_script_fault scripts.Duplicate has = not_refused scripts.Duplicate has
+  no_script_fault scripts.Unknown has = not_refused scripts.Unknown has
+  no_script_fault scripts.BadMap has = not_refused scripts.BadMap has
+  no_script_fault scripts.NoStart has = not_refused scripts.NoStart has
+  no_script_fault scripts.NoRestart has = not_refused scripts.NoRestart has
+  no_script_fault scripts.NoFault has = not_refused scripts.NoFault has
+  no_script_fault scripts.OkWithoutActions has = not_refused scripts.OkWithoutActions has
+  no_script_fault scripts.EndWithTransitions has = not_refused scripts.EndWithTransitions has
+  no_script_fault scripts.MadeAndSubtracted has = not_refused scripts.MadeAndSubtracted has
+  no_script_fault scripts.TooMany has = not_refused scripts.TooMany has
 
 -- ---- certificates
 
@@ -69,15 +68,14 @@ module _ (table : Script) (bytes : List ℕ) (entries : List Entry) (lists : Rea
   not_faulty fault again =
       true≢false (ap is_ok (sym lists.2 ∙ ap (document_read table) (one_document again.0 again.1) ∙ again.2))
 
-  no_fault : (fault : CertFault) → (fault ≡ certificates.NoMemory → ⊥) → ReadsCertificate table bytes (Err fault) → ⊥
-  no_fault certificates.NoMemory told reads = told refl
-  no_fault certificates.NotJson told reads = reads lists.0 lists.1
-  no_fault certificates.BadKey told reads = not_faulty certificates.BadKey reads
-  no_fault certificates.Unknown told reads = not_faulty certificates.Unknown reads
-  no_fault certificates.EmptySet told reads = not_faulty certificates.EmptySet reads
-  no_fault certificates.TooManyEntries told reads = not_faulty certificates.TooManyEntries reads
-  no_fault certificates.TooManyPoints told reads = not_faulty certificates.TooManyPoints reads
-  no_fault certificates.OldVersion told reads = not_faulty certificates.OldVersion reads
+  no_fault : (fault : CertFault) → ReadsCertificate table bytes (Err fault) → ⊥
+  no_fault certificates.NotJson reads = reads lists.0 lists.1
+  no_fault certificates.BadKey reads = not_faulty certificates.BadKey reads
+  no_fault certificates.Unknown reads = not_faulty certificates.Unknown reads
+  no_fault certificates.EmptySet reads = not_faulty certificates.EmptySet reads
+  no_fault certificates.TooManyEntries reads = not_faulty certificates.TooManyEntries reads
+  no_fault certificates.TooManyPoints reads = not_faulty certificates.TooManyPoints reads
+  no_fault certificates.OldVersion reads = not_faulty certificates.OldVersion reads
 
 -- ---- both
 
@@ -91,5 +89,5 @@ module _ (script certificate : List ℕ) (table : Script) (entries : List Entry)
   pub no_certificate_fault : (fault : CertFault) → HasCertificateFault script certificate fault → ⊥
   no_certificate_fault fault has =
       let same = one_table script table read.reads has.table has.reads in
-      no_fault table certificate entries read.lists fault has.told
+      no_fault table certificate entries read.lists fault
       (subst (λ (x : Script). ReadsCertificate x certificate (Err fault)) (sym same) has.refuses)
