@@ -221,7 +221,7 @@ fn tour<T: Threads + Wait + Sync>(
 }
 
 /// What the words ask for.
-fn asked(rt: &HostRuntime) -> Result<Asked, Failure> {
+fn read_arguments(rt: &HostRuntime) -> Result<Asked, Failure> {
     let words: Vec<String> = env::args(rt)?.collect(rt.alloc())?;
     let Some(workers) = words.as_slice().get(1) else {
         return Ok(Asked {
@@ -258,7 +258,7 @@ fn stop_by(word: Option<&String>) -> Result<Kind, Failure> {
 }
 
 fn all<T: Threads + Wait + Sync>(rt: &HostRuntime, threads: &T) -> Result<(), Failure> {
-    let asked = asked(rt)?;
+    let asked = read_arguments(rt)?;
     let mut text = String::new(rt.alloc());
     let _read = rt.stdin().read_to_string(&mut text)?;
     let sections: Vec<&str> = text.as_str().split("\n%%\n").collect(rt.alloc())?;
