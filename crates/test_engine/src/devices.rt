@@ -1,5 +1,5 @@
 //! The layer of devices: the whole program on a source and a sink over memory, which fail where a row says.
-use crate::trials::{Trial, command_line, trial};
+use crate::trials::{Trial, command_line, read_trial};
 use engine::program::engine;
 use program_rim::fused::{FusedSink, FusedSource};
 use program_rim::status::Status;
@@ -74,7 +74,7 @@ fn tell_line<T: Threads + Wait + Sync>(
     print!(rt; "{row} => ")?;
     match row {
         "input" => keep_input(rt, input, document),
-        _ => tell_trial(rt, threads, input.as_slice(), trial(row)?),
+        _ => tell_trial(rt, threads, input.as_slice(), read_trial(row)?),
     }
 }
 

@@ -45,7 +45,7 @@ fn most_of(words: &mut Words<'_>) -> Result<usize, Failure> {
 }
 
 /// The run that a row asks for.
-pub(crate) fn trial(row: &str) -> Result<Trial<'_>, Failure> {
+pub(crate) fn read_trial(row: &str) -> Result<Trial<'_>, Failure> {
     let mut words = Words::of(row);
     let most = most_of(&mut words)?;
     let source = fuse_of(&mut words, "read")?;
