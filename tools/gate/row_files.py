@@ -7,12 +7,12 @@ ROWS = programs.TOP / "tests" / "rows"
 MARK = " => "
 # Which program answers for which layer.
 LAYERS = {
-    "digits": "test_gateway",
-    "line_events": "test_gateway",
-    "delivery": "test_gateway",
-    "identifiers": "test_gateway",
-    "terminations": "test_gateway",
-    "contexts": "test_gateway",
+    "digits": "test_lines",
+    "line_events": "test_lines",
+    "delivery": "test_lines",
+    "identifiers": "test_boards",
+    "terminations": "test_boards",
+    "contexts": "test_boards",
     "requests": "test_gateway",
     "gateway": "test_gateway",
     "agents": "test_agents",

@@ -1,14 +1,14 @@
 //! The commands of a request, as the words of a row. A context or an ephemeral that an earlier command of the request creates is named by the
 //! place of that command, from 0, as `@0`.
-use crate::events;
-use crate::names::{self, Names};
-use crate::options::{self, Options};
 use mg_model::failures::{ChosenRefusal, Refusal};
 use mg_model::references::{ContextRef, TerminationRef};
 use mg_names::identifiers::LineNo;
 use mg_names::topologies::Topology;
 use requests::{LineDescriptors, Newcomer, RequestCommand, Target};
 use std::alloc::Global;
+use test_layers::events;
+use test_layers::names::{self, Names};
+use test_layers::options::{self, Options};
 use test_words::failure::Failure;
 use test_words::words::{Words, two_numbers};
 

@@ -1,12 +1,13 @@
 //! The layer `gateway`: a gateway with its calls, requests and events that reach it, and restarts.
-use crate::names::{self, NO_NAMES, Names};
-use crate::rows::{self, Layer};
-use crate::{boards, commands, events, replies, results, seen};
+use crate::{commands, replies};
 use gateway::{Answer, BeginFault, Gateway, OpenFault, SentNote};
 use mg_model::failures::ChosenRefusal;
 use mg_names::identifiers::{Assoc, CallNo, LineNo};
 use requests::{MessageId, Request, RequestCommand};
 use std::alloc::{AllocError, Global};
+use test_layers::names::{self, NO_NAMES, Names};
+use test_layers::rows::{self, Layer};
+use test_layers::{board_reads, board_seen, events, results};
 use test_words::failure::Failure;
 use test_words::words::Words;
 
@@ -262,7 +263,7 @@ impl Gateways {
             "open?" => rows::yes_or_no(told, self.gateway.is_open(call(words)?)),
             "calls" | "lines" => self.write_all(told, verb),
             "holder" | "line" | "creator" => self.write_of(told, verb, words.next()),
-            _ => boards::write_read(told, &self.names, self.gateway.board(), verb, words),
+            _ => board_reads::write_read(told, &self.names, self.gateway.board(), verb, words),
         }
     }
 }
@@ -270,7 +271,7 @@ impl Gateways {
 impl Layer for Gateways {
     fn show(&self, told: &mut String) -> Result<(), Failure> {
         self.names.show(told)?;
-        seen::show_board(told, self.gateway.board())?;
+        board_seen::show_board(told, self.gateway.board())?;
         self.show_calls(told)?;
         self.show_lines(told)?;
         self.show_ephemerals(told)

@@ -1,8 +1,8 @@
 //! What is written of a reply and of a note that is sent.
-use crate::names::Names;
-use crate::{events, results};
 use contexts::Done;
 use requests::{MessageId, Reply, SentNote};
+use test_layers::names::Names;
+use test_layers::{events, results};
 use test_words::failure::Failure;
 
 /// What the commands of a request created is given.

@@ -1,13 +1,13 @@
 //! The layer `requests`: requests that run on a connection model and its lines by themselves, without links and calls.
-use crate::lines::write_noted;
-use crate::names::{self, NO_NAMES, Names};
-use crate::rows::{self, Layer};
-use crate::{boards, commands, events, replies, seen};
+use crate::{commands, replies};
 use mg_model::failures::ChosenRefusal;
 use mg_model::line_events::LineEvent;
 use mg_names::identifiers::{Assoc, CallNo, LineNo};
 use requests::{Connections, LineNote, MessageId, Outcome, Reply, Request, SentNote};
 use std::alloc::{AllocError, Global};
+use test_layers::names::{self, NO_NAMES, Names};
+use test_layers::rows::{self, Layer};
+use test_layers::{board_reads, board_seen, events};
 use test_words::failure::Failure;
 use test_words::words::Words;
 
@@ -50,6 +50,16 @@ fn replied(id: MessageId, outcome: Outcome) -> Result<(Reply, Vec<LineNote>), Al
     let reply = Reply::new(id, results, failure);
     let copied = reply.copy()?;
     Ok((copied, notes))
+}
+
+/// Tells the lines of connections.
+fn show_lines(told: &mut String, connections: &Connections) -> Result<(), Failure> {
+    let found = connections.board().lines()?;
+    for line in found.as_slice() {
+        write!(told, "; l/{} ", line.0)?;
+        events::write_line(told, connections.line(*line))?;
+    }
+    Ok(())
 }
 
 impl Runs {
@@ -147,7 +157,7 @@ impl Runs {
             Ok(Some(note)) => {
                 replies::write_note(told, &SentNote::new(id, LineNote { line, note }))
             }
-            answer => write_noted(told, answer),
+            answer => events::write_noted(told, answer),
         }
     }
 
@@ -192,8 +202,8 @@ impl Runs {
 impl Layer for Runs {
     fn show(&self, told: &mut String) -> Result<(), Failure> {
         self.names.show(told)?;
-        seen::show_board(told, self.connections.board())?;
-        seen::show_lines(told, &self.connections)
+        board_seen::show_board(told, self.connections.board())?;
+        show_lines(told, &self.connections)
     }
 
     fn answer(&mut self, told: &mut String, words: &mut Words<'_>) -> Result<(), Failure> {
@@ -217,7 +227,7 @@ impl Layer for Runs {
             | "cut"
             | "path"
             | "joined" => {
-                boards::write_read(told, &self.names, self.connections.board(), verb, words)
+                board_reads::write_read(told, &self.names, self.connections.board(), verb, words)
             }
             _ => match names::line(words.next()) {
                 Some(line) => self.of_line(told, verb, line, words),

@@ -9,10 +9,10 @@ use test_words::words::number;
 
 /// What the words of a command set, with its events list as it is written.
 #[derive(Clone, Copy)]
-pub(crate) struct Options<'a> {
-    pub(crate) settings: SettingsRef,
-    pub(crate) events: Option<&'a str>,
-    pub(crate) signals: Option<SignalSet>,
+pub struct Options<'a> {
+    pub settings: SettingsRef,
+    pub events: Option<&'a str>,
+    pub signals: Option<SignalSet>,
 }
 
 /// Nothing is set.
@@ -26,12 +26,12 @@ const NOTHING: Options<'static> = Options {
 };
 
 /// The place that a word such as `@0` names: that of an earlier command of the request, from 0.
-pub(crate) fn place(word: &str) -> Option<usize> {
+pub fn place(word: &str) -> Option<usize> {
     Some(number(word.strip_prefix('@')?)? as usize)
 }
 
 /// The ephemeral that a word names.
-pub(crate) fn ephemeral(names: &Names, word: &str) -> Option<EphemeralRef> {
+pub fn ephemeral(names: &Names, word: &str) -> Option<EphemeralRef> {
     match place(word) {
         Some(place) => Some(EphemeralRef::MadeAt(place)),
         None => Some(EphemeralRef::Number(names.ephemeral(word)?)),
@@ -86,7 +86,7 @@ fn with<'a>(names: &Names, options: Options<'a>, word: &'a str) -> Option<Option
 }
 
 /// What the words of a text set.
-pub(crate) fn read<'a>(names: &Names, text: &'a str) -> Option<Options<'a>> {
+pub fn read<'a>(names: &Names, text: &'a str) -> Option<Options<'a>> {
     let mut options = NOTHING;
     if text.is_empty() {
         return Some(options);
@@ -107,7 +107,7 @@ fn numbered(remote: RemoteRef) -> Option<RemoteSetting> {
 }
 
 /// What the words of a text set on the connection model, by numbers.
-pub(crate) fn settings(names: &Names, text: &str) -> Option<Settings> {
+pub fn settings(names: &Names, text: &str) -> Option<Settings> {
     let set = read(names, text)?.settings;
     let remote = match set.remote {
         Some(remote) => Some(numbered(remote)?),

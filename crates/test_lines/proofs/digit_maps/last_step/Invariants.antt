@@ -1,5 +1,5 @@
 use Rattle.digits.specs.Progress.{Follows}
-use Rattle.test_gateway.proofs.digit_maps.last_step.Given as goal
+use Rattle.test_lines.proofs.digit_maps.last_step.Given as goal
 
 abbrev pub invariant-loop-byte : goal.invariant-loop-byte
 invariant-loop-byte l = Follows l.map l.collector

@@ -1,9 +1,9 @@
 //! A command on the connection model, as the words of a row (H.248.1 section 7.2).
-use crate::names::{self, Names};
-use crate::options;
 use mg_model::items::{Added, Item};
 use mg_names::identifiers::ContextId;
 use mg_names::topologies::Topology;
+use test_layers::names::{self, Names};
+use test_layers::options;
 use test_words::words::Words;
 
 /// What an Add brings: `$` for a new ephemeral, or a line.

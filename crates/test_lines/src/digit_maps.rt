@@ -1,11 +1,11 @@
 //! The layer `digits`: what texts are digit maps, and how what is dialled completes them.
 ghost use Rattle.digits.specs.Progress.{Follows};
 
-use crate::events;
-use crate::rows::Layer;
 use digits::{Collector, DigitMap, MapFault, Step};
 use mg_names::symbols::Symbol;
 use std::alloc::Global;
+use test_layers::events;
+use test_layers::rows::Layer;
 use test_words::failure::Failure;
 use test_words::words::Words;
 

@@ -1,8 +1,8 @@
 //! The layer `delivery`: a link with what it keeps of requests, and an inbox of notes.
-use crate::rows::{self, Layer};
 use delivery::{Arrival, Inbox, Link, Offer, laws};
 use mg_names::identifiers::Assoc;
 use std::alloc::Global;
+use test_layers::rows::{self, Layer};
 use test_words::failure::Failure;
 use test_words::words::Words;
 
@@ -26,7 +26,7 @@ fn state_laws() {
 }
 
 /// An association's number.
-pub(crate) fn association(words: &mut Words<'_>) -> Result<Assoc, Failure> {
+fn association(words: &mut Words<'_>) -> Result<Assoc, Failure> {
     match words.number() {
         Some(number) => Ok(Assoc(u64::from(number))),
         None => Err(Failure::Unreadable),
@@ -34,7 +34,7 @@ pub(crate) fn association(words: &mut Words<'_>) -> Result<Assoc, Failure> {
 }
 
 /// A number.
-pub(crate) fn number(words: &mut Words<'_>) -> Result<u32, Failure> {
+fn number(words: &mut Words<'_>) -> Result<u32, Failure> {
     match words.number() {
         Some(number) => Ok(number),
         None => Err(Failure::Unreadable),

@@ -1,7 +1,7 @@
 //! Events descriptors, as words such as `al/on:state+dd/ce:12|123` (H.248.1 section 7.1.9), what happens on a line, and the notes of it.
 use crate::signals;
 use digits::{DigitMap, MapFault};
-use line_events::{EventList, LineRow, ListItem, Note};
+use line_events::{EventList, LineFault, LineRow, ListItem, Note};
 use mg_model::line_events::{Hook, LineEvent, Method};
 use mg_model::transitions::EventItem;
 use mg_names::signals::Signal;
@@ -50,14 +50,14 @@ fn read_items(alloc: Global, items: &mut Vec<ListItem>, text: &str) -> Result<()
 }
 
 /// The Events descriptor that a text names.
-pub(crate) fn read(alloc: Global, text: &str) -> Result<EventList, Failure> {
+pub fn read(alloc: Global, text: &str) -> Result<EventList, Failure> {
     let mut items = Vec::new(alloc);
     read_items(alloc, &mut items, text)?;
     Ok(EventList::new(items))
 }
 
 /// What happens on a line, by the verb of a row and the words behind its line.
-pub(crate) fn event(verb: &str, words: &mut Words<'_>) -> Option<LineEvent> {
+pub fn event(verb: &str, words: &mut Words<'_>) -> Option<LineEvent> {
     match verb {
         "off" => Some(LineEvent::Hook(Hook::Off)),
         "on" => Some(LineEvent::Hook(Hook::On)),
@@ -70,11 +70,7 @@ pub(crate) fn event(verb: &str, words: &mut Words<'_>) -> Option<LineEvent> {
 }
 
 /// Writes how a digit map was completed, and by what (Annex E.6).
-pub(crate) fn write_method(
-    told: &mut String,
-    method: Method,
-    symbols: &[Symbol],
-) -> Result<(), Failure> {
+pub fn write_method(told: &mut String, method: Method, symbols: &[Symbol]) -> Result<(), Failure> {
     match method {
         Method::Unambiguous => write!(told, "Meth=UM ds=")?,
         Method::Full => write!(told, "Meth=FM ds=")?,
@@ -87,7 +83,7 @@ pub(crate) fn write_method(
 }
 
 /// Writes what a note reports.
-pub(crate) fn write_note(told: &mut String, note: &Note) -> Result<(), Failure> {
+pub fn write_note(told: &mut String, note: &Note) -> Result<(), Failure> {
     write!(told, "{}, RequestID {}", note.kind().text(), note.request())?;
     if let Some(method) = note.method() {
         write!(told, ", ")?;
@@ -110,7 +106,7 @@ fn write_items(told: &mut String, items: &[ListItem]) -> Result<(), Failure> {
 }
 
 /// Writes the row of a line: its hook state, its RequestID with its events, and what plays.
-pub(crate) fn write_line(told: &mut String, row: Option<&LineRow>) -> Result<(), Failure> {
+pub fn write_line(told: &mut String, row: Option<&LineRow>) -> Result<(), Failure> {
     let Some(row) = row else {
         write!(told, "unknown")?;
         return Ok(());
@@ -124,4 +120,27 @@ pub(crate) fn write_line(told: &mut String, row: Option<&LineRow>) -> Result<(),
     }
     write_items(told, row.list().items())?;
     signals::write(told, row.playing())
+}
+
+/// Writes why nothing happened on a line.
+pub fn write_fault(told: &mut String, fault: LineFault) -> Result<(), Failure> {
+    match fault {
+        LineFault::NoMemory => Err(Failure::Memory),
+        fault => Ok(write!(told, "{} {}", fault.number(), fault.name())?),
+    }
+}
+
+/// Writes the note that was raised, or why nothing happened.
+pub fn write_noted(
+    told: &mut String,
+    answer: Result<Option<Note>, LineFault>,
+) -> Result<(), Failure> {
+    match answer {
+        Ok(Some(note)) => {
+            write!(told, "note ")?;
+            write_note(told, &note)
+        }
+        Ok(None) => Ok(write!(told, "no note")?),
+        Err(fault) => write_fault(told, fault),
+    }
 }

@@ -6,13 +6,13 @@ use mg_names::identifiers::LineNo;
 use test_words::failure::Failure;
 
 /// Writes a code with its name.
-pub(crate) fn write_code(told: &mut String, code: Code) -> Result<(), Failure> {
+pub fn write_code(told: &mut String, code: Code) -> Result<(), Failure> {
     write!(told, "{} {}", code.number(), code.name())?;
     Ok(())
 }
 
 /// Writes the names of lines, each behind a blank.
-pub(crate) fn write_lines(told: &mut String, lines: &[LineNo]) -> Result<(), Failure> {
+pub fn write_lines(told: &mut String, lines: &[LineNo]) -> Result<(), Failure> {
     for line in lines {
         write!(told, " l/{}", line.0)?;
     }
@@ -20,7 +20,7 @@ pub(crate) fn write_lines(told: &mut String, lines: &[LineNo]) -> Result<(), Fai
 }
 
 /// Writes the names of ephemerals, each behind a blank.
-pub(crate) fn write_ephemerals(
+pub fn write_ephemerals(
     told: &mut String,
     names: &Names,
     ephemerals: &[u32],
@@ -46,7 +46,7 @@ fn write_created(told: &mut String, names: &Names, done: &Done) -> Result<(), Fa
 }
 
 /// Writes what a command did: what it created, and what it subtracted.
-pub(crate) fn write_done(told: &mut String, names: &Names, done: &Done) -> Result<(), Failure> {
+pub fn write_done(told: &mut String, names: &Names, done: &Done) -> Result<(), Failure> {
     write!(told, "done")?;
     write_created(told, names, done)?;
     if done.lines().is_empty() && done.ephemerals().is_empty() {
@@ -58,7 +58,7 @@ pub(crate) fn write_done(told: &mut String, names: &Names, done: &Done) -> Resul
 }
 
 /// What a command created is given.
-pub(crate) fn give(names: &mut Names, done: &Done) {
+pub fn give(names: &mut Names, done: &Done) {
     if let Some(context) = done.context() {
         names.give_context(context);
     }

@@ -1,11 +1,12 @@
 //! The layer `line_events`: lines with their descriptors, and what happens on them.
-use crate::rows::{self, Layer};
-use crate::{events, names, signals};
-use line_events::{EventList, LineFault, LineSet, Note};
+use line_events::{LineFault, LineSet, Note};
 use mg_model::line_events::LineEvent;
 use mg_names::identifiers::LineNo;
 use std::alloc::Global;
 use std::mem;
+use test_layers::events::{self, write_fault, write_noted};
+use test_layers::rows::{self, Layer};
+use test_layers::{names, signals};
 use test_words::failure::Failure;
 use test_words::words::Words;
 
@@ -31,29 +32,6 @@ fn happen(lines: &mut LineSet, line: LineNo, event: LineEvent) -> Result<Option<
             Ok(()) => Ok(None),
             Err(fault) => Err(fault),
         },
-    }
-}
-
-/// Writes why nothing happened on a line.
-fn write_fault(told: &mut String, fault: LineFault) -> Result<(), Failure> {
-    match fault {
-        LineFault::NoMemory => Err(Failure::Memory),
-        fault => Ok(write!(told, "{} {}", fault.number(), fault.name())?),
-    }
-}
-
-/// Writes the note that was raised, or why nothing happened.
-pub(crate) fn write_noted(
-    told: &mut String,
-    answer: Result<Option<Note>, LineFault>,
-) -> Result<(), Failure> {
-    match answer {
-        Ok(Some(note)) => {
-            write!(told, "note ")?;
-            events::write_note(told, &note)
-        }
-        Ok(None) => Ok(write!(told, "no note")?),
-        Err(fault) => write_fault(told, fault),
     }
 }
 

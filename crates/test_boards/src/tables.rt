@@ -1,13 +1,15 @@
 //! The layer `terminations`: a table of terminations with the context, the mode and the Remote of each.
-use crate::names::{self, NO_NAMES, Names};
-use crate::rows::{self, Layer};
-use crate::{numbers, results, seen};
+use crate::numbers;
 use mg_names::codes::Code;
 use mg_names::identifiers::{LineNo, TermId};
 use mg_names::modes::Mode;
 use std::alloc::Global;
 use std::mem;
 use terminations::{AddLineFault, CreateFault, Terms};
+use test_layers::board_seen::show_row;
+use test_layers::names::{self, NO_NAMES, Names};
+use test_layers::results;
+use test_layers::rows::{self, Layer};
 use test_words::failure::Failure;
 use test_words::words::Words;
 
@@ -47,6 +49,34 @@ fn withdraw(terms: &mut Terms, termination: TermId) -> Result<(), Failure> {
     }
     terms.withdraw(number);
     Ok(())
+}
+
+/// Tells the lines of a table.
+fn show_table_lines(told: &mut String, alloc: Global, terms: &Terms) -> Result<(), Failure> {
+    let found = terms.lines(alloc)?;
+    for line in found.as_slice() {
+        let t = TermId::Line(*line);
+        show_row(told, t, terms.get(t))?;
+    }
+    Ok(())
+}
+
+/// Tells the ephemerals of a table.
+fn show_table_ephemerals(told: &mut String, alloc: Global, terms: &Terms) -> Result<(), Failure> {
+    let found = terms.ephemerals(alloc)?;
+    for ephemeral in found.as_slice() {
+        let t = TermId::Eph(*ephemeral);
+        show_row(told, t, terms.get(t))?;
+    }
+    Ok(())
+}
+
+/// Tells a table of terminations.
+fn show_terms(told: &mut String, alloc: Global, terms: &Terms) -> Result<(), Failure> {
+    let word = if terms.is_full() { "full" } else { "not full" };
+    write!(told, "; {word}")?;
+    show_table_lines(told, alloc, terms)?;
+    show_table_ephemerals(told, alloc, terms)
 }
 
 impl Tables {
@@ -161,8 +191,8 @@ impl Tables {
 impl Layer for Tables {
     fn show(&self, told: &mut String) -> Result<(), Failure> {
         self.names.show(told)?;
-        seen::show_terms(told, self.alloc, &self.terms)?;
-        seen::show_terms(told, self.alloc, &self.kept)
+        show_terms(told, self.alloc, &self.terms)?;
+        show_terms(told, self.alloc, &self.kept)
     }
 
     fn answer(&mut self, told: &mut String, words: &mut Words<'_>) -> Result<(), Failure> {

@@ -1,13 +1,9 @@
-//! What rows can see of boards, of tables of terminations and of lines, as a text: it is told before a call and again where the call wanted
-//! memory, and has to be the same then. Contexts and ephemerals are told by their very numbers.
-use crate::events;
+//! What rows can see of boards, as a text: it is told before a call and again where the call wanted memory, and has to be the same then. Contexts
+//! and ephemerals are told by their very numbers.
 use crate::names::NO_NAMES;
 use contexts::Board;
 use mg_model::rows::Row;
 use mg_names::identifiers::{ContextId, LineNo, TermId};
-use requests::Connections;
-use std::alloc::Global;
-use terminations::Terms;
 use test_words::failure::Failure;
 
 /// Tells which termination it is that something is told of.
@@ -20,7 +16,7 @@ fn show_name(told: &mut String, t: TermId) -> Result<(), Failure> {
 }
 
 /// Tells what is kept of a termination.
-fn show_row(told: &mut String, t: TermId, row: Option<Row>) -> Result<(), Failure> {
+pub fn show_row(told: &mut String, t: TermId, row: Option<Row>) -> Result<(), Failure> {
     write!(told, ";")?;
     show_name(told, t)?;
     write!(told, " ")?;
@@ -81,47 +77,9 @@ fn show_terminations(
 }
 
 /// Tells what exists on a board.
-pub(crate) fn show_board(told: &mut String, board: &Board) -> Result<(), Failure> {
+pub fn show_board(told: &mut String, board: &Board) -> Result<(), Failure> {
     show_contexts(told, board)?;
     let lines = board.lines()?;
     let ephemerals = board.ephemerals()?;
     show_terminations(told, board, lines.as_slice(), ephemerals.as_slice())
-}
-
-/// Tells the lines of connections.
-pub(crate) fn show_lines(told: &mut String, connections: &Connections) -> Result<(), Failure> {
-    let found = connections.board().lines()?;
-    for line in found.as_slice() {
-        write!(told, "; l/{} ", line.0)?;
-        events::write_line(told, connections.line(*line))?;
-    }
-    Ok(())
-}
-
-/// Tells the lines of a table.
-fn show_table_lines(told: &mut String, alloc: Global, terms: &Terms) -> Result<(), Failure> {
-    let found = terms.lines(alloc)?;
-    for line in found.as_slice() {
-        let t = TermId::Line(*line);
-        show_row(told, t, terms.get(t))?;
-    }
-    Ok(())
-}
-
-/// Tells the ephemerals of a table.
-fn show_table_ephemerals(told: &mut String, alloc: Global, terms: &Terms) -> Result<(), Failure> {
-    let found = terms.ephemerals(alloc)?;
-    for ephemeral in found.as_slice() {
-        let t = TermId::Eph(*ephemeral);
-        show_row(told, t, terms.get(t))?;
-    }
-    Ok(())
-}
-
-/// Tells a table of terminations.
-pub(crate) fn show_terms(told: &mut String, alloc: Global, terms: &Terms) -> Result<(), Failure> {
-    let word = if terms.is_full() { "full" } else { "not full" };
-    write!(told, "; {word}")?;
-    show_table_lines(told, alloc, terms)?;
-    show_table_ephemerals(told, alloc, terms)
 }

@@ -11,7 +11,7 @@ const ROOM: usize = 0x2_0000;
 const ROOM_AROUND: usize = 0x4000;
 
 /// What makes the calls of a layer.
-pub(crate) trait Layer {
+pub trait Layer {
     /// Makes the call that the words of a row name, and writes its answer. Where memory runs out all is as it was before.
     fn answer(&mut self, told: &mut String, words: &mut Words<'_>) -> Result<(), Failure>;
 
@@ -21,7 +21,7 @@ pub(crate) trait Layer {
 
 /// Rows with their answers, and what is told around the call of one.
 #[derive(Drop)]
-pub(crate) struct Page {
+pub struct Page {
     told: String,
     answer: String,
     before: String,
@@ -32,7 +32,7 @@ pub(crate) struct Page {
 
 impl Page {
     /// No row yet.
-    pub(crate) fn new(alloc: Global, is_watched: bool) -> Result<Page, Failure> {
+    pub fn new(alloc: Global, is_watched: bool) -> Result<Page, Failure> {
         Ok(Page {
             told: String::with_capacity(alloc, ROOM)?,
             answer: String::with_capacity(alloc, ROOM_AROUND)?,
@@ -43,12 +43,12 @@ impl Page {
     }
 
     /// The rows with their answers.
-    pub(crate) fn told(&self) -> &str {
+    pub fn told(&self) -> &str {
         self.told.as_str()
     }
 
     /// The rows with their answers were written.
-    pub(crate) fn clear(&mut self) {
+    pub fn clear(&mut self) {
         self.told.clear();
     }
 
@@ -113,7 +113,7 @@ impl Page {
     }
 
     /// Writes each row of a text with the answer of its call.
-    pub(crate) fn play<L: Layer>(&mut self, layer: &mut L, rows: &str) -> Result<(), Failure> {
+    pub fn play<L: Layer>(&mut self, layer: &mut L, rows: &str) -> Result<(), Failure> {
         for line in rows.lines() {
             if let Some(call) = row_in(line) {
                 self.row(layer, call)?;
@@ -124,13 +124,13 @@ impl Page {
 }
 
 /// The answer to a call that has none of its own.
-pub(crate) fn done(told: &mut String) -> Result<(), Failure> {
+pub fn done(told: &mut String) -> Result<(), Failure> {
     write!(told, "done")?;
     Ok(())
 }
 
 /// The answer to a question.
-pub(crate) fn yes_or_no(told: &mut String, answer: bool) -> Result<(), Failure> {
+pub fn yes_or_no(told: &mut String, answer: bool) -> Result<(), Failure> {
     write!(told, "{}", if answer { "yes" } else { "no" })?;
     Ok(())
 }

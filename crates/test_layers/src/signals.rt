@@ -17,7 +17,7 @@ fn with(set: SignalSet, signal: Signal) -> SignalSet {
 }
 
 /// The signals that a text names; `none` for an empty descriptor.
-pub(crate) fn read(text: &str) -> Option<SignalSet> {
+pub fn read(text: &str) -> Option<SignalSet> {
     let mut set = SignalSet::SILENT;
     if text == "none" {
         return Some(set);
@@ -29,7 +29,7 @@ pub(crate) fn read(text: &str) -> Option<SignalSet> {
 }
 
 /// Writes the signals that play.
-pub(crate) fn write(told: &mut String, playing: SignalSet) -> Result<(), Failure> {
+pub fn write(told: &mut String, playing: SignalSet) -> Result<(), Failure> {
     let all = [
         (playing.ring, Signal::Ring),
         (playing.dial_tone, Signal::DialTone),

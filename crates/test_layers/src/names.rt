@@ -8,19 +8,19 @@ use test_words::words::number;
 
 /// The contexts and ephemerals that were given.
 #[derive(Clone, Copy)]
-pub(crate) struct Names {
+pub struct Names {
     contexts: Given,
     ephemerals: Given,
 }
 
 /// Nothing was given.
-pub(crate) const NO_NAMES: Names = Names {
+pub const NO_NAMES: Names = Names {
     contexts: NOTHING_GIVEN,
     ephemerals: NOTHING_GIVEN,
 };
 
 /// The line that a word names.
-pub(crate) fn line(word: &str) -> Option<LineNo> {
+pub fn line(word: &str) -> Option<LineNo> {
     Some(LineNo(number(word.strip_prefix("l/")?)?))
 }
 
@@ -31,17 +31,17 @@ fn given(given: &Given, word: &str, sign: char) -> Option<u32> {
 
 impl Names {
     /// A context is given.
-    pub(crate) fn give_context(&mut self, context: ContextId) {
+    pub fn give_context(&mut self, context: ContextId) {
         self.contexts.give(context.0);
     }
 
     /// An ephemeral is given.
-    pub(crate) fn give_ephemeral(&mut self, ephemeral: u32) {
+    pub fn give_ephemeral(&mut self, ephemeral: u32) {
         self.ephemerals.give(ephemeral);
     }
 
     /// Tells the numbers of contexts and of ephemerals that were given.
-    pub(crate) fn show(&self, told: &mut String) -> Result<(), Failure> {
+    pub fn show(&self, told: &mut String) -> Result<(), Failure> {
         write!(told, "contexts")?;
         self.contexts.show(told)?;
         write!(told, ", ephemerals")?;
@@ -49,7 +49,7 @@ impl Names {
     }
 
     /// The context that a word names.
-    pub(crate) fn context(&self, word: &str) -> Option<ContextId> {
+    pub fn context(&self, word: &str) -> Option<ContextId> {
         match word {
             "$" => Some(ContextId::CHOOSE),
             "-" => Some(ContextId::NULL),
@@ -62,7 +62,7 @@ impl Names {
     }
 
     /// The ephemeral that a word names.
-    pub(crate) fn ephemeral(&self, word: &str) -> Option<u32> {
+    pub fn ephemeral(&self, word: &str) -> Option<u32> {
         match word.strip_prefix("e/") {
             Some(text) => number(text),
             None => given(&self.ephemerals, word, 'e'),
@@ -70,7 +70,7 @@ impl Names {
     }
 
     /// The termination that a word names.
-    pub(crate) fn termination(&self, word: &str) -> Option<TermId> {
+    pub fn termination(&self, word: &str) -> Option<TermId> {
         match line(word) {
             Some(line) => Some(TermId::Line(line)),
             None => Some(TermId::Eph(self.ephemeral(word)?)),
@@ -78,11 +78,7 @@ impl Names {
     }
 
     /// Writes the name of a context.
-    pub(crate) fn write_context(
-        &self,
-        told: &mut String,
-        context: ContextId,
-    ) -> Result<(), Failure> {
+    pub fn write_context(&self, told: &mut String, context: ContextId) -> Result<(), Failure> {
         match self.contexts.place(context.0) {
             0 if context == ContextId::NULL => write!(told, "-")?,
             0 => write!(told, "{}", context.0)?,
@@ -92,7 +88,7 @@ impl Names {
     }
 
     /// Writes the name of an ephemeral.
-    pub(crate) fn write_ephemeral(&self, told: &mut String, ephemeral: u32) -> Result<(), Failure> {
+    pub fn write_ephemeral(&self, told: &mut String, ephemeral: u32) -> Result<(), Failure> {
         match self.ephemerals.place(ephemeral) {
             0 => write!(told, "e/{ephemeral}")?,
             place => write!(told, "e{place}")?,
@@ -101,7 +97,7 @@ impl Names {
     }
 
     /// Writes what is kept of a termination.
-    pub(crate) fn write_row(&self, told: &mut String, row: Option<Row>) -> Result<(), Failure> {
+    pub fn write_row(&self, told: &mut String, row: Option<Row>) -> Result<(), Failure> {
         let Some(row) = row else {
             write!(told, "unknown")?;
             return Ok(());
@@ -118,7 +114,7 @@ impl Names {
 }
 
 /// Reads the lines that the words of a text name.
-pub(crate) fn read_lines(lines: &mut Vec<LineNo>, text: &str) -> Result<(), Failure> {
+pub fn read_lines(lines: &mut Vec<LineNo>, text: &str) -> Result<(), Failure> {
     lines.clear();
     for word in text.split(' ') {
         if let Some(line) = line(word) {

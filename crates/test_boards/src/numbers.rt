@@ -1,12 +1,11 @@
 //! The layer `identifiers`: values under numbers that are given, freed and given again. A row names a number by its place in the order in
 //! which each was given first, as `n1`; `5` is that very number.
-use crate::given::{Given, NOTHING_GIVEN};
-use crate::links;
-use crate::rows::{self, Layer};
 use identifiers::{CreateFault, Identifiers};
 use std::alloc::Global;
 use std::mem;
-use test_words::failure::Failure;
+use test_layers::given::{Given, NOTHING_GIVEN};
+use test_layers::rows::{self, Layer};
+use test_words::failure::{Failure, wanted};
 use test_words::words::{self, Words};
 
 /// Values under numbers, with others that are kept beside them.
@@ -127,7 +126,7 @@ impl Numbers {
     ) -> Result<(), Failure> {
         match verb {
             "get" => write_value(told, self.values.get(number).copied()),
-            "replace" => write_value(told, self.values.replace(number, links::number(words)?)),
+            "replace" => write_value(told, self.values.replace(number, wanted(words.number())?)),
             "free" => write_value(told, self.values.free(number)),
             "number" => Ok(write!(told, "{number}")?),
             "withdraw" => {
@@ -143,7 +142,7 @@ impl Numbers {
         match verb {
             "new" => {
                 let class = words.class();
-                self.anew(class, links::number(words)?)?;
+                self.anew(class, wanted(words.number())?)?;
             }
             "settle" => self.values.settle(),
             "clear" => self.values.clear(),
@@ -165,7 +164,7 @@ impl Layer for Numbers {
     fn answer(&mut self, told: &mut String, words: &mut Words<'_>) -> Result<(), Failure> {
         let verb = words.next();
         match verb {
-            "create" => self.create(told, links::number(words)?),
+            "create" => self.create(told, wanted(words.number())?),
             "next" => self.write_next(told),
             "full" => rows::yes_or_no(told, self.values.is_full()),
             "numbers" => self.write_in_use(told),

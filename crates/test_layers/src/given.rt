@@ -8,14 +8,14 @@ const MOST: usize = 24;
 
 /// Numbers in the order in which each was given first, and then free places.
 #[derive(Clone, Copy)]
-pub(crate) struct Given([Option<u32>; MOST]);
+pub struct Given([Option<u32>; MOST]);
 
 /// No number was given.
-pub(crate) const NOTHING_GIVEN: Given = Given([None; MOST]);
+pub const NOTHING_GIVEN: Given = Given([None; MOST]);
 
 impl Given {
     /// The number at a place, from 1.
-    pub(crate) fn number(&self, place: u32) -> Option<u32> {
+    pub fn number(&self, place: u32) -> Option<u32> {
         *self.0.get((place as usize).checked_sub(1)?)?
     }
 
@@ -28,7 +28,7 @@ impl Given {
     }
 
     /// The place of a number that was given, from 1; 0 where it wasn't.
-    pub(crate) fn place(&self, number: u32) -> usize {
+    pub fn place(&self, number: u32) -> usize {
         match self.place_or_free(number) {
             Some(place) if matches!(self.0.get(place), Some(Some(_))) => place.saturating_add(1),
             _ => 0,
@@ -36,7 +36,7 @@ impl Given {
     }
 
     /// Tells the numbers that were given.
-    pub(crate) fn show(&self, told: &mut String) -> Result<(), Failure> {
+    pub fn show(&self, told: &mut String) -> Result<(), Failure> {
         for number in self.0 {
             if let Some(number) = number {
                 write!(told, " {number}")?;
@@ -46,7 +46,7 @@ impl Given {
     }
 
     /// A number is given.
-    pub(crate) fn give(&mut self, number: u32) {
+    pub fn give(&mut self, number: u32) {
         if let Some(place) = self.place_or_free(number) {
             if let Some(known) = self.0.get_mut(place) {
                 *known = Some(number);
