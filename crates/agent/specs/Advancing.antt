@@ -5,6 +5,7 @@ use Rattle.mg_model.specs.declared.events.CallEvent.{CallEvent}
 use Rattle.mg_model.specs.declared.events.CallEvent.TheVariants as to_call
 use Rattle.mg_model.specs.declared.events.Event.TheVariants.{OfCall}
 use Rattle.mg_model.specs.Agent.{Agent}
+use Rattle.mg_model.specs.Numbers.{the_call}
 use Rattle.agent.specs.AgentValue.{agent_of}
 use Rattle.agent.specs.CallValue.{CallValue, Kind, rests, waits}
 use Rattle.agent.specs.Calls.{IsNext, IsLonger, value_of, variant_of}
@@ -48,7 +49,7 @@ advancing next delivery =
 abbrev pub IsAdvanced : Next → Delivery → Next → Result (Unit {0}) Refusal → Type 0
 IsAdvanced old delivery new (Ok _) =
     IsNext new × (advancing old delivery ≡ Some (agent_of (value_of new).agent))
-    × IsLonger (OfCall (record { 0 = (value_of old).agent.call }) (event_of delivery)) (value_of old) (value_of new)
+    × IsLonger (OfCall (the_call (value_of old).agent.call) (event_of delivery)) (value_of old) (value_of new)
 IsAdvanced old delivery new (Err NotEnabled) = (advancing old delivery ≡ None) × (new ≡ old)
 IsAdvanced old delivery new (Err NoMemory) = new ≡ old
 IsAdvanced old delivery new (Err (Behind slot_count)) = ⊥

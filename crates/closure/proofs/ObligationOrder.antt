@@ -8,9 +8,9 @@ use Rattle.mg_model.specs.Script.{Script}
 use Rattle.mg_model.specs.Configuration.{Configuration}
 use Rattle.mg_model.specs.Steps.{Step, steps_of, opening, reset}
 use Rattle.mg_model.specs.Entries.{Entry, IsPointOf, IsCovered, numbered}
-use Rattle.mg_model.specs.Obligations.{JoinedAreMarked, EndedIsCleared, CreatedAreUnbound, NamesAreLive, Claim, OpeningCovered, ResetCovered, Marked, Cleared, Unbound, Live, StepCovered, AtPoint, Holds, KeyBefore, ComesBefore, key_of, NoneBroken, IsFirstFault}
+use Rattle.mg_model.specs.Obligations.{JoinedAreMarked, EndedIsCleared, CreatedAreUnbound, NamesAreLive, Claim, OpeningCovered, ResetCovered, OfPoint, Duty, JoinedMarked, EndedCleared, CreatedUnbound, NamesLive, StepCovered, Asks, AtPoint, Holds, rank, step_place, KeyBefore, ComesBefore, key_of, NoneBroken, IsFirstFault}
 use Rattle.closure.specs.declared.broken.Broken.{Broken}
-use Rattle.closure.specs.declared.broken.Broken.TheVariants.{JoinedLines, EndedCall, CreatedNames, DeadNames, UncoveredStep}
+use Rattle.closure.specs.declared.broken.Broken.TheVariants.{JoinedMarked, EndedCleared, CreatedUnbound, NamesLive, StepsCovered}
 use Rattle.closure.specs.Answer.{IsAnswer}
 use Rattle.closure.specs.Findings.{AreCoveredBelow, AreKeptBelow, EntriesAreKeptBelow, IsFirstBroken, IsFirstEntry, IsKept, PointsFinding, fault_at, whole_fault}
 
@@ -28,11 +28,7 @@ later_part x y more (inr same) = omega (arith, same.0, more)
 none_before_opening : (o : Claim) → ComesBefore o OpeningCovered → ⊥
 none_before_opening OpeningCovered h = not_before_itself (key_of OpeningCovered) h
 none_before_opening ResetCovered h = later_part 1 0 (omega arith) h
-none_before_opening (Marked e p) h = later_part 2 0 (omega arith) h
-none_before_opening (Cleared e p) h = later_part 2 0 (omega arith) h
-none_before_opening (Unbound e p) h = later_part 2 0 (omega arith) h
-none_before_opening (Live e p) h = later_part 2 0 (omega arith) h
-none_before_opening (StepCovered e p s) h = later_part 2 0 (omega arith) h
+none_before_opening (OfPoint e p duty) h = later_part 2 0 (omega arith) h
 
 pub opening_broken : (script : Script) (entries : List Entry) → (IsCovered entries (opening script) → ⊥)
     → IsFirstFault script entries (whole_fault obligation.OpeningCovered)
@@ -50,11 +46,7 @@ opening_before_reset : (script : Script) (entries : List Entry) → IsCovered en
     → (o : Claim) → ComesBefore o ResetCovered → Holds script entries o
 opening_before_reset script entries opened OpeningCovered h = opened
 opening_before_reset script entries opened ResetCovered h = absurd (not_before_itself (key_of ResetCovered) h)
-opening_before_reset script entries opened (Marked e p) h = absurd (later_part 2 1 (omega arith) h)
-opening_before_reset script entries opened (Cleared e p) h = absurd (later_part 2 1 (omega arith) h)
-opening_before_reset script entries opened (Unbound e p) h = absurd (later_part 2 1 (omega arith) h)
-opening_before_reset script entries opened (Live e p) h = absurd (later_part 2 1 (omega arith) h)
-opening_before_reset script entries opened (StepCovered e p s) h = absurd (later_part 2 1 (omega arith) h)
+opening_before_reset script entries opened (OfPoint e p duty) h = absurd (later_part 2 1 (omega arith) h)
 
 pub reset_broken : (script : Script) (entries : List Entry) → IsCovered entries (opening script)
     → (IsCovered entries (reset script) → ⊥) → IsFirstFault script entries (whole_fault obligation.ResetCovered)
@@ -70,16 +62,20 @@ reset_broken script entries opened broken = record {
 
 -- ---- no obligation is broken
 
+-- what is kept meets each duty
+kept_asks : (script : Script) (entries : List Entry) (c : Configuration) → IsKept script entries c → (duty : Duty) → Asks script entries duty c
+kept_asks script entries c kept JoinedMarked = kept.marked
+kept_asks script entries c kept EndedCleared = kept.cleared
+kept_asks script entries c kept CreatedUnbound = kept.unbound
+kept_asks script entries c kept NamesLive = kept.live
+kept_asks script entries c kept (StepCovered s) = kept.covered s
+
 module _ (script : Script) (entries : List Entry) (opened : IsCovered entries (opening script))
     (restarted : IsCovered entries (reset script)) where
   none_broken : PointsFinding script entries None → NoneBroken script entries
   none_broken kept OpeningCovered = opened
   none_broken kept ResetCovered = restarted
-  none_broken kept (Marked e p) = λ entry at c is. (kept e entry at p c is).marked
-  none_broken kept (Cleared e p) = λ entry at c is. (kept e entry at p c is).cleared
-  none_broken kept (Unbound e p) = λ entry at c is. (kept e entry at p c is).unbound
-  none_broken kept (Live e p) = λ entry at c is. (kept e entry at p c is).live
-  none_broken kept (StepCovered e p s) = λ entry at c is. (kept e entry at p c is).covered s
+  none_broken kept (OfPoint e p duty) = λ entry at c is. kept_asks script entries c (kept e entry at p c is) duty
 
 -- ---- the first that is broken
 
@@ -136,86 +132,69 @@ module _ (script : Script) (entries : List Entry) (opened : IsCovered entries (o
   here P e p holds same_place same_number other at d is =
       subst P (sym (is.1 ∙ ap₂ numbered (same_entry e other same_place at) same_number ∙ sym is_point.1)) holds
 
-  -- what comes before the obligation of this rank and step holds
-  earlier_hold : (r s : ℕ) → r ≤ 4 → (r < 4 → s ≡ 0)
+  -- the duties of a lower rank, or of an earlier step, are met
+  lower_duties : (r s : ℕ) → r ≤ 4 → (r < 4 → s ≡ 0)
       → (0 < r → JoinedAreMarked script c) → (1 < r → EndedIsCleared script c) → (2 < r → CreatedAreUnbound script c) → (3 < r → NamesAreLive c)
       → AreCoveredBelow entries (steps_of script c) s
+      → (duty : Duty) → IsEarlierRank (rank duty) (step_place duty) r s → Asks script entries duty c
+  lower_duties r s small alone marked cleared unbound live covered JoinedMarked h = marked (lower_rank 0 r s (omega arith) alone h)
+  lower_duties r s small alone marked cleared unbound live covered EndedCleared h = cleared (lower_rank 1 r s (omega arith) alone h)
+  lower_duties r s small alone marked cleared unbound live covered CreatedUnbound h = unbound (lower_rank 2 r s (omega arith) alone h)
+  lower_duties r s small alone marked cleared unbound live covered NamesLive h = live (lower_rank 3 r s (omega arith) alone h)
+  lower_duties r s small alone marked cleared unbound live covered (StepCovered t) h = covered t (earlier_step t r s small h)
+
+  -- so what comes before the obligation of this rank and step holds
+  earlier_hold : (r s : ℕ) → ((duty : Duty) → IsEarlierRank (rank duty) (step_place duty) r s → Asks script entries duty c)
       → (o : Claim) → KeyBefore (key_of o) (2 ∷ place ∷ number ∷ r ∷ s ∷ []) → Holds script entries o
-  earlier_hold r s small alone marked cleared unbound live covered OpeningCovered h = opened
-  earlier_hold r s small alone marked cleared unbound live covered ResetCovered h = restarted
-  earlier_hold r s small alone marked cleared unbound live covered (Marked e p) h =
-      by_point e p 0 0 place number r s h
-      (λ earlier other at d is. (earlier_is_kept e p earlier other at d is).marked)
-      (λ same_place same_number rank.
-      here (JoinedAreMarked script) e p (marked (lower_rank 0 r s (omega arith) alone rank)) same_place same_number)
-  earlier_hold r s small alone marked cleared unbound live covered (Cleared e p) h =
-      by_point e p 1 0 place number r s h
-      (λ earlier other at d is. (earlier_is_kept e p earlier other at d is).cleared)
-      (λ same_place same_number rank.
-      here (EndedIsCleared script) e p (cleared (lower_rank 1 r s (omega arith) alone rank)) same_place same_number)
-  earlier_hold r s small alone marked cleared unbound live covered (Unbound e p) h =
-      by_point e p 2 0 place number r s h
-      (λ earlier other at d is. (earlier_is_kept e p earlier other at d is).unbound)
-      (λ same_place same_number rank.
-      here (CreatedAreUnbound script) e p (unbound (lower_rank 2 r s (omega arith) alone rank)) same_place same_number)
-  earlier_hold r s small alone marked cleared unbound live covered (Live e p) h =
-      by_point e p 3 0 place number r s h
-      (λ earlier other at d is. (earlier_is_kept e p earlier other at d is).live)
-      (λ same_place same_number rank.
-      here NamesAreLive e p (live (lower_rank 3 r s (omega arith) alone rank)) same_place same_number)
-  earlier_hold r s small alone marked cleared unbound live covered (StepCovered e p t) h =
-      by_point e p 4 t place number r s h
-      (λ earlier other at d is. (earlier_is_kept e p earlier other at d is).covered t)
-      (λ same_place same_number rank.
-      here (λ (d : Configuration). (step : Step) → slice_get (steps_of script d) t ≡ Some step → IsCovered entries step.1)
-      e p (covered t (earlier_step t r s small rank)) same_place same_number)
+  earlier_hold r s lower OpeningCovered h = opened
+  earlier_hold r s lower ResetCovered h = restarted
+  earlier_hold r s lower (OfPoint e p duty) h =
+      by_point e p (rank duty) (step_place duty) place number r s h
+      (λ earlier other at d is. kept_asks script entries d (earlier_is_kept e p earlier other at d is) duty)
+      (λ same_place same_number ranked. here (Asks script entries duty) e p (lower duty ranked) same_place same_number)
 
   point_broken : (broken : Broken) → IsFirstBroken script entries c broken
       → IsFirstFault script entries (fault_at place number broken)
-  point_broken JoinedLines h = record {
-    claim = Marked place number;
+  point_broken JoinedMarked h = record {
+    claim = OfPoint place number JoinedMarked;
     broken = λ holds. h (holds entry at_place c is_point);
-    before = earlier_hold 0 0 (omega arith) (λ l. refl) (λ l. absurd (omega arith)) (λ l. absurd (omega arith)) (λ l. absurd (omega arith)) (λ l. absurd (omega arith))
-        (λ t l. absurd (omega arith));
+    before = earlier_hold 0 0 (lower_duties 0 0 (omega arith) (λ l. refl) (λ l. absurd (omega arith)) (λ l. absurd (omega arith)) (λ l. absurd (omega arith)) (λ l. absurd (omega arith)) (λ t l. absurd (omega arith)));
     obligation = refl;
     entry = refl;
     point = refl;
     step = refl;
   }
-  point_broken EndedCall h = record {
-    claim = Cleared place number;
+  point_broken EndedCleared h = record {
+    claim = OfPoint place number EndedCleared;
     broken = λ holds. h.1 (holds entry at_place c is_point);
-    before = earlier_hold 1 0 (omega arith) (λ l. refl) (λ l. h.0) (λ l. absurd (omega arith)) (λ l. absurd (omega arith)) (λ l. absurd (omega arith))
-        (λ t l. absurd (omega arith));
+    before = earlier_hold 1 0 (lower_duties 1 0 (omega arith) (λ l. refl) (λ l. h.0) (λ l. absurd (omega arith)) (λ l. absurd (omega arith)) (λ l. absurd (omega arith)) (λ t l. absurd (omega arith)));
     obligation = refl;
     entry = refl;
     point = refl;
     step = refl;
   }
-  point_broken CreatedNames h = record {
-    claim = Unbound place number;
+  point_broken CreatedUnbound h = record {
+    claim = OfPoint place number CreatedUnbound;
     broken = λ holds. h.2 (holds entry at_place c is_point);
-    before = earlier_hold 2 0 (omega arith) (λ l. refl) (λ l. h.0) (λ l. h.1) (λ l. absurd (omega arith)) (λ l. absurd (omega arith))
-        (λ t l. absurd (omega arith));
+    before = earlier_hold 2 0 (lower_duties 2 0 (omega arith) (λ l. refl) (λ l. h.0) (λ l. h.1) (λ l. absurd (omega arith)) (λ l. absurd (omega arith)) (λ t l. absurd (omega arith)));
     obligation = refl;
     entry = refl;
     point = refl;
     step = refl;
   }
-  point_broken DeadNames h = record {
-    claim = Live place number;
+  point_broken NamesLive h = record {
+    claim = OfPoint place number NamesLive;
     broken = λ holds. h.3 (holds entry at_place c is_point);
-    before = earlier_hold 3 0 (omega arith) (λ l. refl) (λ l. h.0) (λ l. h.1) (λ l. h.2) (λ l. absurd (omega arith))
-        (λ t l. absurd (omega arith));
+    before = earlier_hold 3 0 (lower_duties 3 0 (omega arith) (λ l. refl) (λ l. h.0) (λ l. h.1) (λ l. h.2) (λ l. absurd (omega arith)) (λ t l. absurd (omega arith)));
     obligation = refl;
     entry = refl;
     point = refl;
     step = refl;
   }
-  point_broken (UncoveredStep name) h = record {
-    claim = StepCovered place number h.4.place;
+  point_broken (StepsCovered name) h = record {
+    claim = OfPoint place number (StepCovered h.4.place);
     broken = λ holds. h.4.uncovered (holds entry at_place c is_point h.4.step h.4.at_place);
-    before = earlier_hold 4 h.4.place (omega arith) (λ l. absurd (omega arith)) (λ l. h.0) (λ l. h.1) (λ l. h.2) (λ l. h.3) h.4.before;
+    before = earlier_hold 4 h.4.place (lower_duties 4 h.4.place (omega arith) (λ l. absurd (omega arith)) (λ l. h.0) (λ l. h.1) (λ l. h.2) (λ l. h.3) h.4.before);
     obligation = refl;
     entry = refl;
     point = refl;

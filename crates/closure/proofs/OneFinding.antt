@@ -10,7 +10,7 @@ use Rattle.mg_model.specs.Script.{Script}
 use Rattle.mg_model.specs.Configuration.{Configuration}
 use Rattle.mg_model.specs.Steps.{Step, steps_of}
 use Rattle.mg_model.specs.Entries.{Entry, HasPoints, HasPointsBelow, HavePoints, IsPointOf, numbered, size_of}
-use Rattle.mg_model.specs.Obligations.{Claim, OpeningCovered, ResetCovered, Marked, Cleared, Unbound, Live, StepCovered, IsFirstFault, KeyBefore, NamesStep, entry_named, key_of, obligation_of, point_named}
+use Rattle.mg_model.specs.Obligations.{Claim, OpeningCovered, ResetCovered, OfPoint, JoinedMarked, EndedCleared, CreatedUnbound, NamesLive, StepCovered, IsFirstFault, ComesBefore, KeyBefore, NamesStep, entry_named, key_of, obligation_of, point_named}
 use Rattle.closure.specs.declared.first_fault.Finding.{Finding}
 use Rattle.closure.specs.declared.first_fault.Finding.TheVariants as finding
 use Rattle.closure.specs.Answer.{IsAnswer, IsFinding}
@@ -36,26 +36,37 @@ key_order (x ∷ xs) (y ∷ ys) same = elim (cases_lt x y) [
   ]
 ]
 
+claim_order : (one other : Claim) → ComesBefore one other ⊎ ((key_of one ≡ key_of other) ⊎ ComesBefore other one)
+claim_order OpeningCovered OpeningCovered = inr (inl refl)
+claim_order OpeningCovered ResetCovered = inl (inl (omega arith))
+claim_order OpeningCovered (OfPoint e p duty) = inl (inl (omega arith))
+claim_order ResetCovered OpeningCovered = inr (inr (inl (omega arith)))
+claim_order ResetCovered ResetCovered = inr (inl refl)
+claim_order ResetCovered (OfPoint e p duty) = inl (inl (omega arith))
+claim_order (OfPoint e p duty) OpeningCovered = inr (inr (inl (omega arith)))
+claim_order (OfPoint e p duty) ResetCovered = inr (inr (inl (omega arith)))
+claim_order (OfPoint e p duty) (OfPoint f q other) = key_order (key_of (OfPoint e p duty)) (key_of (OfPoint f q other)) refl
+
 -- the claim of a key
 claim_with : List ℕ → Claim
 claim_with (zero ∷ more) = OpeningCovered
 claim_with (suc zero ∷ more) = ResetCovered
-claim_with (part ∷ e ∷ p ∷ zero ∷ more) = Marked e p
-claim_with (part ∷ e ∷ p ∷ suc zero ∷ more) = Cleared e p
-claim_with (part ∷ e ∷ p ∷ suc (suc zero) ∷ more) = Unbound e p
-claim_with (part ∷ e ∷ p ∷ suc (suc (suc zero)) ∷ more) = Live e p
-claim_with (part ∷ e ∷ p ∷ rank ∷ s ∷ more) = StepCovered e p s
+claim_with (part ∷ e ∷ p ∷ zero ∷ more) = OfPoint e p JoinedMarked
+claim_with (part ∷ e ∷ p ∷ suc zero ∷ more) = OfPoint e p EndedCleared
+claim_with (part ∷ e ∷ p ∷ suc (suc zero) ∷ more) = OfPoint e p CreatedUnbound
+claim_with (part ∷ e ∷ p ∷ suc (suc (suc zero)) ∷ more) = OfPoint e p NamesLive
+claim_with (part ∷ e ∷ p ∷ rank ∷ s ∷ more) = OfPoint e p (StepCovered s)
 claim_with _ = OpeningCovered
 
 claim_back : (claim : Claim) → claim_with (key_of claim) ≡ claim
 unfolding claim_with
 claim_back OpeningCovered = refl
 claim_back ResetCovered = refl
-claim_back (Marked e p) = refl
-claim_back (Cleared e p) = refl
-claim_back (Unbound e p) = refl
-claim_back (Live e p) = refl
-claim_back (StepCovered e p s) = refl
+claim_back (OfPoint e p JoinedMarked) = refl
+claim_back (OfPoint e p EndedCleared) = refl
+claim_back (OfPoint e p CreatedUnbound) = refl
+claim_back (OfPoint e p NamesLive) = refl
+claim_back (OfPoint e p (StepCovered s)) = refl
 
 -- ---- the first fault is one
 
@@ -73,7 +84,7 @@ same_parts fault other obligation entry point step =
 module _ (script : Script) (entries : List Entry) where
   one_claim : (fault other : Fault) (is : IsFirstFault script entries fault) (other_is : IsFirstFault script entries other)
       → is.claim ≡ other_is.claim
-  one_claim fault other is other_is = elim (key_order (key_of is.claim) (key_of other_is.claim) refl) [
+  one_claim fault other is other_is = elim (claim_order is.claim other_is.claim) [
     | inl before ↦ absurd (is.broken (other_is.before is.claim before))
     | inr rest ↦ elim rest [
       | inl same ↦ sym (claim_back is.claim) ∙ ap claim_with same ∙ claim_back other_is.claim
@@ -84,11 +95,11 @@ module _ (script : Script) (entries : List Entry) where
   one_step : (claim : Claim) (name other : Option StepName) → NamesStep script entries claim name → NamesStep script entries claim other → name ≡ other
   one_step OpeningCovered name other h k = h ∙ sym k
   one_step ResetCovered name other h k = h ∙ sym k
-  one_step (Marked e p) name other h k = h ∙ sym k
-  one_step (Cleared e p) name other h k = h ∙ sym k
-  one_step (Unbound e p) name other h k = h ∙ sym k
-  one_step (Live e p) name other h k = h ∙ sym k
-  one_step (StepCovered e p s) name other one another =
+  one_step (OfPoint e p JoinedMarked) name other h k = h ∙ sym k
+  one_step (OfPoint e p EndedCleared) name other h k = h ∙ sym k
+  one_step (OfPoint e p CreatedUnbound) name other h k = h ∙ sym k
+  one_step (OfPoint e p NamesLive) name other h k = h ∙ sym k
+  one_step (OfPoint e p (StepCovered s)) name other one another =
       let same_entry : one.0 ≡ another.0 = same_Some one.0 another.0 (sym one.1 ∙ another.1) in
       let same_point : one.2.0 ≡ another.2.0 = one.2.1.1 ∙ ap (λ (entry : Entry). numbered entry p) same_entry ∙ sym another.2.1.1 in
       let same_step : one.2.2.0 ≡ another.2.2.0 = same_Some one.2.2.0 another.2.2.0

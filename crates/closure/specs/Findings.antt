@@ -1,7 +1,7 @@
 -- What is found at one configuration, at one entry and at the entries together. No public clause speaks of these words.
 use Rattle.std.specs.Prelude.{◌≡◌, ℕ, ◌<◌, List, Option, Some, None, slice_get}
 use Rattle.mg_names.specs.declared.obligations.Obligation.{Obligation}
-use Rattle.mg_names.specs.declared.obligations.Obligation.TheVariants.{JoinedMarked, EndedCleared, CreatedUnbound, NamesLive, StepsCovered}
+use Rattle.mg_names.specs.declared.obligations.Obligation.TheVariants as obligation
 use Rattle.mg_model.specs.declared.faults.Fault.{Fault}
 use Rattle.mg_model.specs.declared.steps.StepName.{StepName}
 use Rattle.mg_model.specs.Script.{Script}
@@ -10,7 +10,7 @@ use Rattle.mg_model.specs.Steps.{Step, steps_of}
 use Rattle.mg_model.specs.Entries.{Entry, IsPointOf, IsCovered, Includes}
 use Rattle.mg_model.specs.Obligations.{JoinedAreMarked, EndedIsCleared, CreatedAreUnbound, NamesAreLive}
 use Rattle.closure.specs.declared.broken.Broken.{Broken}
-use Rattle.closure.specs.declared.broken.Broken.TheVariants.{JoinedLines, EndedCall, CreatedNames, DeadNames, UncoveredStep}
+use Rattle.closure.specs.declared.broken.Broken.TheVariants.{JoinedMarked, EndedCleared, CreatedUnbound, NamesLive, StepsCovered}
 
 -- the entry at a place has the configuration
 abbrev pub PlaceIncludes : List Entry → Configuration → ℕ → Type 0
@@ -52,13 +52,13 @@ pub record IsKept (script : Script) (entries : List Entry) (c : Configuration) :
 
 -- this obligation of a configuration is broken, and those before it hold
 abbrev pub IsFirstBroken : Script → List Entry → Configuration → Broken → Type 0
-IsFirstBroken script entries c JoinedLines = JoinedAreMarked script c → ⊥
-IsFirstBroken script entries c EndedCall = JoinedAreMarked script c × (EndedIsCleared script c → ⊥)
-IsFirstBroken script entries c CreatedNames =
+IsFirstBroken script entries c JoinedMarked = JoinedAreMarked script c → ⊥
+IsFirstBroken script entries c EndedCleared = JoinedAreMarked script c × (EndedIsCleared script c → ⊥)
+IsFirstBroken script entries c CreatedUnbound =
     JoinedAreMarked script c × EndedIsCleared script c × (CreatedAreUnbound script c → ⊥)
-IsFirstBroken script entries c DeadNames =
+IsFirstBroken script entries c NamesLive =
     JoinedAreMarked script c × EndedIsCleared script c × CreatedAreUnbound script c × (NamesAreLive c → ⊥)
-IsFirstBroken script entries c (UncoveredStep name) =
+IsFirstBroken script entries c (StepsCovered name) =
     JoinedAreMarked script c × EndedIsCleared script c × CreatedAreUnbound script c × NamesAreLive c
     × IsFirstUncovered entries (steps_of script c) name
 
@@ -96,14 +96,14 @@ EntryFinding script entries entry (Some found) = IsFirstPoint script entries ent
 
 -- the fault of an obligation of a point
 abbrev pub obligation_broken : Broken → Obligation
-obligation_broken JoinedLines = JoinedMarked
-obligation_broken EndedCall = EndedCleared
-obligation_broken CreatedNames = CreatedUnbound
-obligation_broken DeadNames = NamesLive
-obligation_broken (UncoveredStep name) = StepsCovered
+obligation_broken JoinedMarked = obligation.JoinedMarked
+obligation_broken EndedCleared = obligation.EndedCleared
+obligation_broken CreatedUnbound = obligation.CreatedUnbound
+obligation_broken NamesLive = obligation.NamesLive
+obligation_broken (StepsCovered name) = obligation.StepsCovered
 
 abbrev pub step_broken : Broken → Option StepName
-step_broken (UncoveredStep name) = Some name
+step_broken (StepsCovered name) = Some name
 step_broken _ = None
 
 abbrev pub fault_at : ℕ → ℕ → Broken → Fault

@@ -5,15 +5,15 @@ use mg_model::steps::StepName;
 #[derive(Clone, Copy, Debug)]
 pub(crate) enum Broken {
     /// Lines are joined that the state doesn't mark.
-    JoinedLines,
+    JoinedMarked,
     /// A call has ended, and is not cleared.
-    EndedCall,
+    EndedCleared,
     /// A name that the state creates is bound.
-    CreatedNames,
+    CreatedUnbound,
     /// A name stands for what has been deleted or destroyed.
-    DeadNames,
+    NamesLive,
     /// The result of this step is in no entry.
-    UncoveredStep(StepName),
+    StepsCovered(StepName),
 }
 
 /// A point of an entry that breaks an obligation.

@@ -28,11 +28,11 @@ fn fault_at(place: usize, number: u32, broken: &Broken) -> Fault
     ensures { result ≡ fault_at place number broken.now }
 {
     let (obligation, step) = match *broken {
-        Broken::JoinedLines => (Obligation::JoinedMarked, None),
-        Broken::EndedCall => (Obligation::EndedCleared, None),
-        Broken::CreatedNames => (Obligation::CreatedUnbound, None),
-        Broken::DeadNames => (Obligation::NamesLive, None),
-        Broken::UncoveredStep(step) => (Obligation::StepsCovered, Some(step)),
+        Broken::JoinedMarked => (Obligation::JoinedMarked, None),
+        Broken::EndedCleared => (Obligation::EndedCleared, None),
+        Broken::CreatedUnbound => (Obligation::CreatedUnbound, None),
+        Broken::NamesLive => (Obligation::NamesLive, None),
+        Broken::StepsCovered(step) => (Obligation::StepsCovered, Some(step)),
     };
     Fault {
         obligation,

@@ -7,7 +7,7 @@ use Rattle.mg_model.specs.declared.items.Settings.{Settings}
 use Rattle.mg_model.specs.declared.items.Added.{Added}
 use Rattle.mg_model.specs.declared.items.Added.TheVariants as added
 use Rattle.mg_model.specs.Board.{Board, ContextExists, exists, place_of, same_term}
-use Rattle.mg_model.specs.Numbers.{null, choose}
+use Rattle.mg_model.specs.Numbers.{null, choose, the_line}
 use Rattle.mg_model.specs.Items.{Done, Lists, is_ephemeral_number, with_ephemeral, given, NoContextLeft, NoEphemeralLeft, EphemeralsUsedUp, placed}
 use Rattle.contexts.specs.Rows.{fits}
 use Rattle.contexts.specs.BoardValue.{stands_in}
@@ -51,12 +51,12 @@ IsAdded old new c added.NewEphemeral settings (Some number) = IsEntered old new 
 pub record IsTakenOut (group : List TermId) (done : Done) : Type 0 where
   pub context : done.context ≡ None
   pub ephemeral : done.ephemeral ≡ None
-  pub lines : Lists (λ n. list_any (same_term (Line (record { 0 = n }))) group) done.lines
+  pub lines : Lists (λ n. list_any (same_term (Line (the_line n))) group) done.lines
   pub ephemerals : Lists (λ n. list_any (same_term (Eph n)) group) done.ephemerals
 
 -- what a command tells that takes all terminations out of a context
 pub record IsEmptied (b : Board) (c : ℕ) (done : Done) : Type 0 where
   pub context : done.context ≡ None
   pub ephemeral : done.ephemeral ≡ None
-  pub lines : Lists (λ n. stands_in b.row c (Line (record { 0 = n }))) done.lines
+  pub lines : Lists (λ n. stands_in b.row c (Line (the_line n))) done.lines
   pub ephemerals : Lists (λ n. stands_in b.row c (Eph n)) done.ephemerals

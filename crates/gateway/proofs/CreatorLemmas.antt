@@ -149,7 +149,7 @@ module _ (number : ℕ) (refusal : Option ChosenRefusal) (start : Running) (comm
 
   pub creator_put : (settled : Board) → IsSettled end.board settled → ((k : ℕ) → start.board.used_ephemeral k ≡ exists start.board (Eph k)) → (call : ℕ) (creators after : List (ℕ × ℕ)) →
       ((k : ℕ) → creator_at after k ≡ (if any_created end.results k then Some call else creator_at creators k)) → (k : ℕ) →
-      creator_on settled after k ≡ (if exists end.board (Eph k) then (if start.board.used_ephemeral k then creator_on start.board creators k else Some call) else None)
+      creator_on settled after k ≡ (if exists end.board (Eph k) then (if exists start.board (Eph k) then creator_on start.board creators k else Some call) else None)
   creator_put settled is_settled tied call creators after noted k =
       ap (λ (rows : TermId → Option Row). if is_some (rows (Eph k)) then creator_at after k else None) is_settled.row
       ∙ by_value (exists end.board (Eph k)) stands (λ gone. rw gone refl)
@@ -159,10 +159,10 @@ module _ (number : ℕ) (refusal : Option ChosenRefusal) (start : Running) (comm
       stood_there (inr made) none = let bad : false ≡ true = sym none ∙ made in absurd (search rules)
 
       stands : exists end.board (Eph k) ≡ true →
-          (if exists end.board (Eph k) then creator_at after k else None) ≡ (if exists end.board (Eph k) then (if start.board.used_ephemeral k then creator_on start.board creators k else Some call) else None)
+          (if exists end.board (Eph k) then creator_at after k else None) ≡ (if exists end.board (Eph k) then (if exists start.board (Eph k) then creator_on start.board creators k else Some call) else None)
       stands there = by_value (any_created end.results k)
-          (λ made. rw (there, noted k, made, new_ones k made) refl)
-          (λ none. let before = stood_there (stood_or_created number refusal start 0 commands end failure k runs there) none in rw (there, noted k, none, tied k, before) refl)
+          (λ made. rw (there, noted k, made, sym (tied k) ∙ new_ones k made) refl)
+          (λ none. let before = stood_there (stood_or_created number refusal start 0 commands end failure k runs there) none in rw (there, noted k, none, before) refl)
 
 -- ---- what is noted, result by result
 

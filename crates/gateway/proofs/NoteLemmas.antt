@@ -7,7 +7,7 @@ use Rattle.mg_model.specs.declared.failures.Failure.{Failure}
 use Rattle.mg_model.specs.Gateway.{sent_notes}
 use Rattle.mg_model.specs.LineEvents.{Note}
 use Rattle.mg_model.specs.Messages.{RequestCommand, SentNote}
-use Rattle.mg_model.specs.RequestRun.{LineDescriptors, RaisedNote, Running, RunsFrom, Succeeds, described, raised, standing, note_from, item_at}
+use Rattle.mg_model.specs.RequestRun.{LineDescriptors, RaisedNote, Running, RunsFrom, Succeeds, descriptors_for, raised, standing, note_from, item_at}
 use Rattle.mg_model.specs.declared.items.Item.{Item}
 use Rattle.requests.specs.declared.outcome.LineNote.{LineNote}
 use Rattle.requests.specs.Connected.{has_line}
@@ -50,10 +50,10 @@ notes_after : (number : ℕ) (refusal : Option ChosenRefusal) (r : Running) (pla
     → Succeeds r command place refusal number next → length next.notes ≤ length r.notes + 1
 notes_after number refusal r place command next e =
     let item : Item = item_at r.results command in
-    let one : length (raised r (described command) number) ≤ 1 = raised_at_most r (described command) number in
+    let one : length (raised r (descriptors_for command) number) ≤ 1 = raised_at_most r (descriptors_for command) number in
     let some : length (standing r command item) ≤ length r.notes = rw (length-filter) (count_by-le-length _ r.notes) in
-    let both : length next.notes ≡ length (standing r command item) + length (raised r (described command) number) =
-    ap (λ (x : Running). length x.notes) e.next_is ∙ length-append (standing r command item) (raised r (described command) number) in
+    let both : length next.notes ≡ length (standing r command item) + length (raised r (descriptors_for command) number) =
+    ap (λ (x : Running). length x.notes) e.next_is ∙ length-append (standing r command item) (raised r (descriptors_for command) number) in
     omega arith
 
 pub notes_at_most : (number : ℕ) (refusal : Option ChosenRefusal) (r : Running) (place : ℕ) (commands : List RequestCommand) (end : Running) (failure : Option Failure)

@@ -16,7 +16,7 @@ use Rattle.mg_model.specs.declared.components.Spot.TheVariants.{Null}
 use Rattle.mg_model.specs.Accepted.{IsScript, IsStateOf, IsCommandOf, IsEntryOf}
 use Rattle.mg_model.specs.Configuration.{Configuration}
 use Rattle.mg_model.specs.Entries.{Entry, numbered, IsCovered}
-use Rattle.mg_model.specs.Obligations.{OpeningCovered, ResetCovered, Marked, Cleared, Unbound, Live as LiveAt, StepCovered, NoneBroken, NamesAreLive, IsCleared, JoinedAreMarked, EndedIsCleared, CreatedAreUnbound}
+use Rattle.mg_model.specs.Obligations.{OpeningCovered, ResetCovered, OfPoint, JoinedMarked, EndedCleared, CreatedUnbound, NamesLive, StepCovered, NoneBroken, NamesAreLive, IsCleared, JoinedAreMarked, EndedIsCleared, CreatedAreUnbound}
 use Rattle.mg_model.specs.Steps.{steps_of, opening, reset, with_link}
 use Rattle.mg_model.specs.Tables.{state_of, is_armed_list, items_of}
 use Rattle.mg_examples.specs.BegunTalk.{renewing, restarting, ended, renewing_entries}
@@ -254,8 +254,8 @@ all_live =
 pub none_broken : NoneBroken renewing renewing_entries
 none_broken OpeningCovered = opening_covered
 none_broken ResetCovered = reset_covered
-none_broken (Marked e p) = at_points (JoinedAreMarked renewing) renewing_entries all_marked e p
-none_broken (Cleared e p) = at_points (EndedIsCleared renewing) renewing_entries all_cleared e p
-none_broken (Unbound e p) = at_points (CreatedAreUnbound renewing) renewing_entries all_unbound e p
-none_broken (LiveAt e p) = at_points NamesAreLive renewing_entries all_live e p
-none_broken (StepCovered e p s) = steps_covered renewing renewing_entries all_stepped e p s
+none_broken (OfPoint e p JoinedMarked) = at_points (JoinedAreMarked renewing) renewing_entries all_marked e p
+none_broken (OfPoint e p EndedCleared) = at_points (EndedIsCleared renewing) renewing_entries all_cleared e p
+none_broken (OfPoint e p CreatedUnbound) = at_points (CreatedAreUnbound renewing) renewing_entries all_unbound e p
+none_broken (OfPoint e p NamesLive) = at_points NamesAreLive renewing_entries all_live e p
+none_broken (OfPoint e p (StepCovered s)) = steps_covered renewing renewing_entries all_stepped e p s

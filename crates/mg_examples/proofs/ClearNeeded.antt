@@ -11,7 +11,7 @@ use Rattle.mg_model.specs.Entries.{numbered, IsCovered}
 use Rattle.mg_model.specs.Gateway.{restarted}
 use Rattle.mg_model.specs.LineEvents.{ListItem}
 use Rattle.mg_names.specs.declared.obligations.Obligation.TheVariants as obligation
-use Rattle.mg_model.specs.Obligations.{Claim, OpeningCovered, ResetCovered, Marked, Cleared, Unbound, Live, StepCovered, Holds, obligation_of, JoinedAreMarked, CreatedAreUnbound, NamesAreLive, ComesBefore, EndedIsCleared}
+use Rattle.mg_model.specs.Obligations.{Claim, OpeningCovered, ResetCovered, OfPoint, JoinedMarked, EndedCleared, CreatedUnbound, NamesLive, StepCovered, Holds, obligation_of, JoinedAreMarked, CreatedAreUnbound, NamesAreLive, ComesBefore, EndedIsCleared}
 use Rattle.mg_model.specs.Steps.{opening, reset, with_link, steps_of}
 use Rattle.mg_model.specs.Tables.{is_empty}
 use Rattle.mg_model.specs.declared.events.Event.{Event}
@@ -110,22 +110,22 @@ is_answered : Answered ≡ Resting → ⊥
 is_answered e = true≢false (sym (ap is_resting e))
 
 -- every claim of another obligation holds, and so does every one that comes before the first that is broken
-others : (other : Claim) → (obligation_of other ≡ obligation.EndedCleared → ⊥) ⊎ ComesBefore other (Cleared 1 1) → Holds unarmed unarmed_entries other
+others : (other : Claim) → (obligation_of other ≡ obligation.EndedCleared → ⊥) ⊎ ComesBefore other (OfPoint 1 1 EndedCleared) → Holds unarmed unarmed_entries other
 unfolding Below EachPoint
 others OpeningCovered h = opening_covered
 others ResetCovered h = reset_covered
-others (Marked e p) h = at_points (JoinedAreMarked unarmed) unarmed_entries marked e p
-others (Cleared e p) (inl differs) = absurd (differs refl)
-others (Cleared e p) (inr before) =
+others (OfPoint e p JoinedMarked) h = at_points (JoinedAreMarked unarmed) unarmed_entries marked e p
+others (OfPoint e p EndedCleared) (inl differs) = absurd (differs refl)
+others (OfPoint e p EndedCleared) (inr before) =
     holds_before (EndedIsCleared unarmed) (resting_idle ∷ []) ended [] 1 (((λ formed rests ends. absurd (true≢false (sym ends))), tt), tt)
     ((λ formed rests ends. absurd (is_answered rests)), tt) e p (place_before e p 1 0 1 1 before)
-others (Unbound e p) h = at_points (CreatedAreUnbound unarmed) unarmed_entries unbound e p
-others (Live e p) h = at_points NamesAreLive unarmed_entries live e p
-others (StepCovered e p s) h = steps_covered unarmed unarmed_entries all_covered e p s
+others (OfPoint e p CreatedUnbound) h = at_points (CreatedAreUnbound unarmed) unarmed_entries unbound e p
+others (OfPoint e p NamesLive) h = at_points NamesAreLive unarmed_entries live e p
+others (OfPoint e p (StepCovered s)) h = steps_covered unarmed unarmed_entries all_covered e p s
 
 -- ---- the one that is broken
 
-broken : Holds unarmed unarmed_entries (Cleared 1 1) → ⊥
+broken : Holds unarmed unarmed_entries (OfPoint 1 1 EndedCleared) → ⊥
 broken holds =
     let cleared = holds ended refl (numbered ended 1) (omega (arith), refl, point_formed 1 Resting Empty null null None (λ j. refl)) refl refl in
     true≢false (sym (cleared.armed 0 (omega (arith))))
@@ -181,7 +181,7 @@ clear_needed = record {
   listed = listed;
   breaks = record {
     first = record {
-      claim = Cleared 1 1;
+      claim = OfPoint 1 1 EndedCleared;
       broken = broken;
       before = λ earlier before. others earlier (inr before);
       obligation = refl;

@@ -12,7 +12,7 @@ use Rattle.mg_model.specs.Configuration.{Configuration}
 use Rattle.mg_model.specs.Effects as effects
 use Rattle.mg_model.specs.Entries.{numbered, IsCovered}
 use Rattle.mg_names.specs.declared.obligations.Obligation.TheVariants as obligation
-use Rattle.mg_model.specs.Obligations.{Claim, OpeningCovered, ResetCovered, Marked, Cleared, Unbound, Live, StepCovered, Holds, obligation_of, JoinedAreMarked, EndedIsCleared, NamesAreLive, ComesBefore, CreatedAreUnbound}
+use Rattle.mg_model.specs.Obligations.{Claim, OpeningCovered, ResetCovered, OfPoint, JoinedMarked, EndedCleared, CreatedUnbound, NamesLive, StepCovered, Holds, obligation_of, JoinedAreMarked, EndedIsCleared, NamesAreLive, ComesBefore, CreatedAreUnbound}
 use Rattle.mg_model.specs.Steps.{opening, reset, with_link, steps_of}
 use Rattle.mg_examples.specs.Needed.{BreaksOnly, fault_at}
 use Rattle.mg_model.specs.Accepted.{IsScript, IsStateOf, IsCommandOf, IsEntryOf}
@@ -154,31 +154,31 @@ live =
     (first_stands (numbered at_lost 0) Free refl (λ j. refl) (λ k. refl)) (first_stands (numbered at_lost 1) Free refl (λ j. refl) (λ k. refl))
 
 -- every claim of another obligation holds, and so does every one that comes before the first that is broken
-others : (other : Claim) → (obligation_of other ≡ obligation.CreatedUnbound → ⊥) ⊎ ComesBefore other (Unbound 3 0) → Holds created_twice created_twice_entries other
+others : (other : Claim) → (obligation_of other ≡ obligation.CreatedUnbound → ⊥) ⊎ ComesBefore other (OfPoint 3 0 CreatedUnbound) → Holds created_twice created_twice_entries other
 unfolding Below EachPoint
 others OpeningCovered h = opening_covered
 others ResetCovered h = reset_covered
-others (Marked e p) h = at_points (JoinedAreMarked created_twice) created_twice_entries marked e p
-others (Cleared e p) h = at_points (EndedIsCleared created_twice) created_twice_entries cleared e p
-others (Unbound e p) (inl differs) = absurd (differs refl)
-others (Unbound e p) (inr before) =
+others (OfPoint e p JoinedMarked) h = at_points (JoinedAreMarked created_twice) created_twice_entries marked e p
+others (OfPoint e p EndedCleared) h = at_points (EndedIsCleared created_twice) created_twice_entries cleared e p
+others (OfPoint e p CreatedUnbound) (inl differs) = absurd (differs refl)
+others (OfPoint e p CreatedUnbound) (inr before) =
     holds_before (CreatedAreUnbound created_twice) (at_idle ∷ before_first ∷ after_first ∷ []) before_second (at_lost ∷ []) 0 (
       ((λ formed sent. refl), ((λ formed sent. refl), tt)),
       (((λ formed sent. refl), ((λ formed sent. refl), tt)), (((λ formed. not_sent created_twice (numbered after_first 0) refl), tt), tt)),
     ) tt e p (place_before e p 2 0 3 0 before)
-others (Live e p) h = at_points NamesAreLive created_twice_entries live e p
-others (StepCovered e p s) h = steps_covered created_twice created_twice_entries all_covered e p s
+others (OfPoint e p NamesLive) h = at_points NamesAreLive created_twice_entries live e p
+others (OfPoint e p (StepCovered s)) h = steps_covered created_twice created_twice_entries all_covered e p s
 
 -- ---- the one that is broken
 
-broken : Holds created_twice created_twice_entries (Unbound 3 0) → ⊥
+broken : Holds created_twice created_twice_entries (OfPoint 3 0 CreatedUnbound) → ⊥
 broken holds =
     true≢false (sym (holds before_second refl (numbered before_second 0) (omega (arith), refl, point_formed 2 Sent Armed alone null (Some Live) is_first_live) refl))
 
 pub breaks : BreaksOnly created_twice created_twice_entries (fault_at obligation.CreatedUnbound 3 0 None)
 breaks = record {
   first = record {
-    claim = Unbound 3 0;
+    claim = OfPoint 3 0 CreatedUnbound;
     broken = broken;
     before = λ earlier before. others earlier (inr before);
     obligation = refl;

@@ -5,7 +5,7 @@ use Rattle.std.proofs.Common.{◌≡◌, [], refl, sym, ap, arith, true≢false,
 use Rattle.std.specs.Prelude.{◌==◌, ◌⊎◌}
 use Rattle.mg_model.specs.Entries.{numbered}
 use Rattle.mg_names.specs.declared.obligations.Obligation.TheVariants as obligation
-use Rattle.mg_model.specs.Obligations.{Claim, OpeningCovered, ResetCovered, Marked, Cleared, Unbound, Live, StepCovered, Holds, obligation_of, CreatedAreUnbound, NamesAreLive, ComesBefore, JoinedAreMarked}
+use Rattle.mg_model.specs.Obligations.{Claim, OpeningCovered, ResetCovered, OfPoint, JoinedMarked, EndedCleared, CreatedUnbound, NamesLive, StepCovered, Holds, obligation_of, CreatedAreUnbound, NamesAreLive, ComesBefore, JoinedAreMarked}
 use Rattle.mg_examples.specs.Needed.{IsNeeded, fault_at}
 use Rattle.mg_examples.specs.TwoLines.{to_talk_off_hook, calling}
 use Rattle.mg_examples.proofs.CallingRun.{calling_ends_badly}
@@ -17,7 +17,7 @@ use Rattle.mg_examples.proofs.TwoLines.{is_script, none_ends}
 use Rattle.mg_examples.proofs.FirstFaults.{holds_before, place_before}
 
 -- at rest in `talk` the two lines are joined, and no pair is marked
-not_marked : Holds (calling []) reachable (Marked 4 0) → ⊥
+not_marked : Holds (calling []) reachable (OfPoint 4 0 JoinedMarked) → ⊥
 not_marked h =
     let marked =
     h both refl (numbered both 0) (omega (arith), refl, both_formed) 0 1 (omega (arith)) (omega (arith))
@@ -25,12 +25,12 @@ not_marked h =
     true≢false (sym marked)
 
 -- every claim of another obligation holds, and so does every one that comes before the first that is broken
-others_hold : (other : Claim) → (obligation_of other ≡ obligation.JoinedMarked → ⊥) ⊎ ComesBefore other (Marked 4 0) → Holds (calling []) reachable other
+others_hold : (other : Claim) → (obligation_of other ≡ obligation.JoinedMarked → ⊥) ⊎ ComesBefore other (OfPoint 4 0 JoinedMarked) → Holds (calling []) reachable other
 unfolding Below EachPoint
 others_hold OpeningCovered h = opening_covered [] to_talk_off_hook 0 reachable (1, omega (arith), refl)
 others_hold ResetCovered h = reset_covered [] to_talk_off_hook reachable (0, omega (arith), refl)
-others_hold (Marked e p) (inl differ) = absurd (differ refl)
-others_hold (Marked e p) (inr before) =
+others_hold (OfPoint e p JoinedMarked) (inl differ) = absurd (differ refl)
+others_hold (OfPoint e p JoinedMarked) (inr before) =
     holds_before (JoinedAreMarked (calling [])) (idle_unarmed ∷ idle_armed ∷ sent ∷ half ∷ []) both (stopped_at_once ∷ stopped_half ∷ []) 0 (
       unarmed_marked [] to_talk_off_hook 0,
       (
@@ -41,10 +41,10 @@ others_hold (Marked e p) (inr before) =
         ),
       ),
     ) tt e p (place_before e p 0 0 4 0 before)
-others_hold (Cleared e p) h = nothing_ends (calling []) reachable (none_ends [] to_talk_off_hook 0) e p
-others_hold (Unbound e p) h = at_points (CreatedAreUnbound (calling [])) reachable (all_unbound []) e p
-others_hold (Live e p) h = at_points NamesAreLive reachable all_live e p
-others_hold (StepCovered e p s) h = steps_covered (calling []) reachable (all_stepped []) e p s
+others_hold (OfPoint e p EndedCleared) h = nothing_ends (calling []) reachable (none_ends [] to_talk_off_hook 0) e p
+others_hold (OfPoint e p CreatedUnbound) h = at_points (CreatedAreUnbound (calling [])) reachable (all_unbound []) e p
+others_hold (OfPoint e p NamesLive) h = at_points NamesAreLive reachable all_live e p
+others_hold (OfPoint e p (StepCovered s)) h = steps_covered (calling []) reachable (all_stepped []) e p s
 
 pub mark_needed : IsNeeded (calling []) reachable (fault_at obligation.JoinedMarked 4 0 None)
 mark_needed = record {
@@ -52,7 +52,7 @@ mark_needed = record {
   listed = all_listed [];
   breaks = record {
     first = record {
-      claim = Marked 4 0;
+      claim = OfPoint 4 0 JoinedMarked;
       broken = not_marked;
       before = λ earlier before. others_hold earlier (inr before);
       obligation = refl;

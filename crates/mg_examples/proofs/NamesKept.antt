@@ -19,7 +19,7 @@ use Rattle.mg_model.specs.Accepted.{IsScript, IsStateOf, IsCommandOf, IsEntryOf}
 use Rattle.mg_model.specs.Configuration.{Configuration, IsWellFormed, is_live, is_same, value_of}
 use Rattle.mg_model.specs.Effects as effects
 use Rattle.mg_model.specs.Entries.{Entry, numbered, IsCovered}
-use Rattle.mg_model.specs.Obligations.{Claim, OpeningCovered, ResetCovered, Marked, Cleared, Unbound, Live, StepCovered, Holds, obligation_of, JoinedAreMarked, CreatedAreUnbound, ComesBefore, NamesAreLive}
+use Rattle.mg_model.specs.Obligations.{Claim, OpeningCovered, ResetCovered, OfPoint, JoinedMarked, EndedCleared, CreatedUnbound, NamesLive, StepCovered, Holds, obligation_of, JoinedAreMarked, CreatedAreUnbound, ComesBefore, NamesAreLive}
 use Rattle.mg_model.specs.Steps.{opening, reset, with_link, steps_of}
 use Rattle.mg_model.specs.Tables.{state_of}
 use Rattle.mg_examples.specs.Needed.{BreaksOnly, fault_at}
@@ -246,15 +246,15 @@ not_asked (inl e) = true≢false (ap is_answered e)
 not_asked (inr e) = true≢false (ap is_answered e)
 
 -- every claim of another obligation holds, and so does every one that comes before the first that is broken
-others : (other : Claim) → (obligation_of other ≡ obligation.NamesLive → ⊥) ⊎ ComesBefore other (Live 5 0) → Holds name_kept name_kept_entries other
+others : (other : Claim) → (obligation_of other ≡ obligation.NamesLive → ⊥) ⊎ ComesBefore other (OfPoint 5 0 NamesLive) → Holds name_kept name_kept_entries other
 unfolding Below EachPoint
 others OpeningCovered h = opening_covered
 others ResetCovered h = reset_covered
-others (Marked e p) h = at_points (JoinedAreMarked name_kept) name_kept_entries marked e p
-others (Cleared e p) h = nothing_ends name_kept name_kept_entries none_ends e p
-others (Unbound e p) h = at_points (CreatedAreUnbound name_kept) name_kept_entries unbound e p
-others (Live e p) (inl differs) = absurd (differs refl)
-others (Live e p) (inr before) =
+others (OfPoint e p JoinedMarked) h = at_points (JoinedAreMarked name_kept) name_kept_entries marked e p
+others (OfPoint e p EndedCleared) h = nothing_ends name_kept name_kept_entries none_ends e p
+others (OfPoint e p CreatedUnbound) h = at_points (CreatedAreUnbound name_kept) name_kept_entries unbound e p
+others (OfPoint e p NamesLive) (inl differs) = absurd (differs refl)
+others (OfPoint e p NamesLive) (inr before) =
     holds_before NamesAreLive (at_idle ∷ before_make ∷ after_make ∷ before_leave ∷ after_leave ∷ []) before_again (at_lost ∷ []) 0 (
       (first_in at_idle 0 Free refl (λ j. refl) (λ k. refl), tt),
       (
@@ -268,11 +268,11 @@ others (Live e p) (inr before) =
         ),
       ),
     ) tt e p (place_before e p 3 0 5 0 before)
-others (StepCovered e p s) h = steps_covered name_kept name_kept_entries all_covered e p s
+others (OfPoint e p (StepCovered s)) h = steps_covered name_kept name_kept_entries all_covered e p s
 
 -- ---- the one that is broken
 
-broken : Holds name_kept name_kept_entries (Live 5 0) → ⊥
+broken : Holds name_kept name_kept_entries (OfPoint 5 0 NamesLive) → ⊥
 broken holds =
     let formed = point_formed 3 Sent Armed subtracted null (Some Stale) (λ j. is_stale_live (j == 0)) in
     (holds before_again refl (numbered before_again 0) (omega (arith), refl, formed) (inl refl)).contexts 0 refl
@@ -280,7 +280,7 @@ broken holds =
 pub breaks : BreaksOnly name_kept name_kept_entries (fault_at obligation.NamesLive 5 0 None)
 breaks = record {
   first = record {
-    claim = Live 5 0;
+    claim = OfPoint 5 0 NamesLive;
     broken = broken;
     before = λ earlier before. others earlier (inr before);
     obligation = refl;

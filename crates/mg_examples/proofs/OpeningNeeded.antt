@@ -8,7 +8,7 @@ use Rattle.mg_model.specs.declared.commands.EventsName.{EventsName}
 use Rattle.mg_model.specs.declared.commands.EventsName.TheVariants.{Empty, Armed, Own}
 use Rattle.mg_model.specs.Entries.{links, IsCovered}
 use Rattle.mg_names.specs.declared.obligations.Obligation.TheVariants as obligation
-use Rattle.mg_model.specs.Obligations.{Claim, OpeningCovered, ResetCovered, Marked, Cleared, Unbound, Live, StepCovered, Holds, obligation_of, JoinedAreMarked, CreatedAreUnbound, NamesAreLive, ComesBefore, key_of}
+use Rattle.mg_model.specs.Obligations.{Claim, OpeningCovered, ResetCovered, OfPoint, JoinedMarked, EndedCleared, CreatedUnbound, NamesLive, StepCovered, Holds, obligation_of, JoinedAreMarked, CreatedAreUnbound, NamesAreLive, ComesBefore, key_of}
 use Rattle.mg_model.specs.Steps.{opening}
 use Rattle.mg_examples.specs.Needed.{IsNeeded, whole_fault}
 use Rattle.mg_model.specs.Accepted.{IsEntryOf}
@@ -41,11 +41,11 @@ unfolding Below EachPoint
 others_hold OpeningCovered (inl differ) = absurd (differ refl)
 others_hold OpeningCovered (inr before) = absurd (not_before_itself (key_of OpeningCovered) before)
 others_hold ResetCovered h = reset_covered [] to_talk_off_hook after_a_restart (0, omega (arith), refl)
-others_hold (Marked e p) h = at_points (JoinedAreMarked (calling [])) after_a_restart (unarmed_marked [] to_talk_off_hook 0, tt) e p
-others_hold (Cleared e p) h = nothing_ends (calling []) after_a_restart (none_ends [] to_talk_off_hook 0) e p
-others_hold (Unbound e p) h = at_points (CreatedAreUnbound (calling [])) after_a_restart (unarmed_unbound [] to_talk_off_hook 0, tt) e p
-others_hold (Live e p) h = at_points NamesAreLive after_a_restart (unarmed_live, tt) e p
-others_hold (StepCovered e p s) h =
+others_hold (OfPoint e p JoinedMarked) h = at_points (JoinedAreMarked (calling [])) after_a_restart (unarmed_marked [] to_talk_off_hook 0, tt) e p
+others_hold (OfPoint e p EndedCleared) h = nothing_ends (calling []) after_a_restart (none_ends [] to_talk_off_hook 0) e p
+others_hold (OfPoint e p CreatedUnbound) h = at_points (CreatedAreUnbound (calling [])) after_a_restart (unarmed_unbound [] to_talk_off_hook 0, tt) e p
+others_hold (OfPoint e p NamesLive) h = at_points NamesAreLive after_a_restart (unarmed_live, tt) e p
+others_hold (OfPoint e p (StepCovered s)) h =
     steps_covered (calling []) after_a_restart (unarmed_steps [] to_talk_off_hook 0 after_a_restart (0, omega (arith), refl), tt) e p s
 
 pub opening_needed : IsNeeded (calling []) after_a_restart (whole_fault obligation.OpeningCovered)

@@ -16,7 +16,7 @@ use Rattle.mg_model.specs.declared.components.Spot.TheVariants.{Absent, Null, In
 use Rattle.mg_model.specs.Configuration.{Configuration, IsWellFormed, is_same, is_live, is_in, stands_in}
 use Rattle.mg_model.specs.Entries.{Entry, IsCovered, numbered, size_of}
 use Rattle.mg_model.specs.Effects.{with_pair}
-use Rattle.mg_model.specs.Obligations.{AtPoint, JoinedAreMarked, NamesAreLive, Holds, Cleared, StepCovered}
+use Rattle.mg_model.specs.Obligations.{AtPoint, JoinedAreMarked, NamesAreLive, Holds, OfPoint, EndedCleared, StepCovered}
 use Rattle.mg_model.specs.Steps.{Step, steps_of}
 use Rattle.mg_model.specs.Tables.{state_of}
 use Rattle.mg_model.specs.Paths.{hops, goes_over, is_shared, passes_in, passes_out, crosses, HasPath}
@@ -194,13 +194,13 @@ step_covered entries (first ∷ more) h zero step there =
 step_covered entries (first ∷ more) h (suc s) step there = step_covered entries more h.1 s step there
 
 pub steps_covered : (script : Script) (entries : List Entry) → EachPoint (λ c. EachCovered entries (steps_of script c)) entries → (e p s : ℕ)
-    → Holds script entries (StepCovered e p s)
+    → Holds script entries (OfPoint e p (StepCovered s))
 steps_covered script entries h e p s entry there c point step is =
     step_covered entries (steps_of script c) (at_points (λ c. EachCovered entries (steps_of script c)) entries h e p entry there c point) s step is
 
 -- a script with no end state leaves nothing to be cleared
 pub nothing_ends : (script : Script) (entries : List Entry) → ((n : ℕ) → (state_of script n).is_end ≡ false) → (e p : ℕ)
-    → Holds script entries (Cleared e p)
+    → Holds script entries (OfPoint e p EndedCleared)
 nothing_ends script entries none e p entry there c point resting ends = absurd (true≢false (sym ends ∙ none c.state))
 
 -- the state and the link have no part in it

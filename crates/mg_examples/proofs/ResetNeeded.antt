@@ -8,7 +8,7 @@ use Rattle.mg_names.specs.declared.phases.LinkPhase.TheVariants.{Resting}
 use Rattle.mg_model.specs.declared.commands.EventsName.TheVariants.{Armed}
 use Rattle.mg_model.specs.Entries.{IsCovered}
 use Rattle.mg_names.specs.declared.obligations.Obligation.TheVariants as obligation
-use Rattle.mg_model.specs.Obligations.{Claim, OpeningCovered, ResetCovered, Marked, Cleared, Unbound, Live, StepCovered, Holds, obligation_of, JoinedAreMarked, CreatedAreUnbound, NamesAreLive, ComesBefore, key_of}
+use Rattle.mg_model.specs.Obligations.{Claim, OpeningCovered, ResetCovered, OfPoint, JoinedMarked, EndedCleared, CreatedUnbound, NamesLive, StepCovered, Holds, obligation_of, JoinedAreMarked, CreatedAreUnbound, NamesAreLive, ComesBefore, key_of}
 use Rattle.mg_model.specs.Steps.{reset}
 use Rattle.mg_examples.specs.Needed.{IsNeeded, whole_fault}
 use Rattle.mg_model.specs.Accepted.{IsEntryOf}
@@ -32,11 +32,11 @@ unfolding Below EachPoint
 others_hold OpeningCovered h = opening_covered [] [] 1 at_rest (0, omega (arith), refl)
 others_hold ResetCovered (inl differ) = absurd (differ refl)
 others_hold ResetCovered (inr before) = absurd (not_before_itself (key_of ResetCovered) before)
-others_hold (Marked e p) h = at_points (JoinedAreMarked recovering) at_rest (armed_marked [] [] 1, tt) e p
-others_hold (Cleared e p) h = nothing_ends recovering at_rest (none_ends [] [] 1) e p
-others_hold (Unbound e p) h = at_points (CreatedAreUnbound recovering) at_rest (armed_unbound [] [] 1, tt) e p
-others_hold (Live e p) h = at_points NamesAreLive at_rest (armed_live, tt) e p
-others_hold (StepCovered e p s) h = steps_covered recovering at_rest (armed_stays [] 1 at_rest, tt) e p s
+others_hold (OfPoint e p JoinedMarked) h = at_points (JoinedAreMarked recovering) at_rest (armed_marked [] [] 1, tt) e p
+others_hold (OfPoint e p EndedCleared) h = nothing_ends recovering at_rest (none_ends [] [] 1) e p
+others_hold (OfPoint e p CreatedUnbound) h = at_points (CreatedAreUnbound recovering) at_rest (armed_unbound [] [] 1, tt) e p
+others_hold (OfPoint e p NamesLive) h = at_points NamesAreLive at_rest (armed_live, tt) e p
+others_hold (OfPoint e p (StepCovered s)) h = steps_covered recovering at_rest (armed_stays [] 1 at_rest, tt) e p s
 
 pub reset_needed : IsNeeded recovering at_rest (whole_fault obligation.ResetCovered)
 reset_needed = record {

@@ -10,7 +10,7 @@ use Rattle.mg_model.specs.declared.commands.EventsName.TheVariants.{Empty, Armed
 use Rattle.mg_model.specs.declared.steps.StepName.TheVariants.{Observe}
 use Rattle.mg_model.specs.Entries.{Entry, numbered}
 use Rattle.mg_names.specs.declared.obligations.Obligation.TheVariants as obligation
-use Rattle.mg_model.specs.Obligations.{Claim, OpeningCovered, ResetCovered, Marked, Cleared, Unbound, Live, StepCovered, Holds, obligation_of, JoinedAreMarked, CreatedAreUnbound, NamesAreLive, ComesBefore}
+use Rattle.mg_model.specs.Obligations.{Claim, OpeningCovered, ResetCovered, OfPoint, JoinedMarked, EndedCleared, CreatedUnbound, NamesLive, StepCovered, Holds, obligation_of, JoinedAreMarked, CreatedAreUnbound, NamesAreLive, ComesBefore}
 use Rattle.mg_model.specs.Steps.{with_state, Step, steps_of}
 use Rattle.mg_examples.specs.Needed.{IsNeeded, fault_at}
 use Rattle.mg_model.specs.Accepted.{IsEntryOf}
@@ -33,25 +33,25 @@ all_idle entry among =
 abbrev to_talk : Step
 to_talk = (Observe 0 Of, with_state (calling []) (numbered idle_armed 0) 1)
 
-not_covered : Holds (calling []) in_idle (StepCovered 1 0 0) → ⊥
+not_covered : Holds (calling []) in_idle (OfPoint 1 0 (StepCovered 0)) → ⊥
 not_covered h =
     let covered =
     h idle_armed refl (numbered idle_armed 0) (omega (arith), refl, armed_formed) to_talk refl in
     true≢false (ap (λ state. state == 1) (covered.1.1.0 ∙ all_idle covered.0 covered.1.0))
 
 -- every claim of another obligation holds, and so does every one that comes before the first that is broken
-others_hold : (other : Claim) → (obligation_of other ≡ obligation.StepsCovered → ⊥) ⊎ ComesBefore other (StepCovered 1 0 0) → Holds (calling []) in_idle other
+others_hold : (other : Claim) → (obligation_of other ≡ obligation.StepsCovered → ⊥) ⊎ ComesBefore other (OfPoint 1 0 (StepCovered 0)) → Holds (calling []) in_idle other
 unfolding Below EachPoint
 others_hold OpeningCovered h = opening_covered [] to_talk_off_hook 0 in_idle (1, omega (arith), refl)
 others_hold ResetCovered h = reset_covered [] to_talk_off_hook in_idle (0, omega (arith), refl)
-others_hold (Marked e p) h =
+others_hold (OfPoint e p JoinedMarked) h =
     at_points (JoinedAreMarked (calling [])) in_idle (unarmed_marked [] to_talk_off_hook 0, (armed_marked [] to_talk_off_hook 0, tt)) e p
-others_hold (Cleared e p) h = nothing_ends (calling []) in_idle (none_ends [] to_talk_off_hook 0) e p
-others_hold (Unbound e p) h =
+others_hold (OfPoint e p EndedCleared) h = nothing_ends (calling []) in_idle (none_ends [] to_talk_off_hook 0) e p
+others_hold (OfPoint e p CreatedUnbound) h =
     at_points (CreatedAreUnbound (calling [])) in_idle (unarmed_unbound [] to_talk_off_hook 0, (armed_unbound [] to_talk_off_hook 0, tt)) e p
-others_hold (Live e p) h = at_points NamesAreLive in_idle (unarmed_live, (armed_live, tt)) e p
-others_hold (StepCovered e p s) (inl differ) = absurd (differ refl)
-others_hold (StepCovered e p s) (inr before) = λ entry there c point.
+others_hold (OfPoint e p NamesLive) h = at_points NamesAreLive in_idle (unarmed_live, (armed_live, tt)) e p
+others_hold (OfPoint e p (StepCovered s)) (inl differ) = absurd (differ refl)
+others_hold (OfPoint e p (StepCovered s)) (inr before) = λ entry there c point.
     step_covered in_idle (steps_of (calling []) c)
     (holds_before (λ c. EachCovered in_idle (steps_of (calling []) c)) (idle_unarmed ∷ []) idle_armed [] 0
     (unarmed_steps [] to_talk_off_hook 0 in_idle (0, omega (arith), refl), tt) tt e p (place_before e p 4 s 1 0 before) entry there c point)
@@ -64,7 +64,7 @@ step_needed = record {
       (is_entry [] to_talk_off_hook 0 0 (Answered ∷ Resting ∷ []) Empty null null Free, (is_entry [] to_talk_off_hook 0 0 (Resting ∷ []) Armed null null Free, tt));
   breaks = record {
     first = record {
-      claim = StepCovered 1 0 0;
+      claim = OfPoint 1 0 (StepCovered 0);
       broken = not_covered;
       before = λ earlier before. others_hold earlier (inr before);
       obligation = refl;

@@ -4,7 +4,7 @@ use Rattle.std.proofs.Common.{◌≡◌, ◌∙◌, ◌<◌, ℕ, zero, suc, tru
 use Rattle.mg_model.specs.declared.transitions.Pair.{Pair}
 use Rattle.mg_model.specs.Configuration.{Configuration}
 use Rattle.mg_model.specs.Entries.{numbered}
-use Rattle.mg_model.specs.Obligations.{OpeningCovered, ResetCovered, Marked, Cleared, Unbound, Live, StepCovered, JoinedAreMarked, CreatedAreUnbound, NamesAreLive, NoneBroken}
+use Rattle.mg_model.specs.Obligations.{OpeningCovered, ResetCovered, OfPoint, JoinedMarked, EndedCleared, CreatedUnbound, NamesLive, StepCovered, JoinedAreMarked, CreatedAreUnbound, NamesAreLive, NoneBroken}
 use Rattle.mg_model.specs.Paths.{AreJoined}
 use Rattle.mg_model.specs.Script.{Script}
 use Rattle.mg_model.specs.Tables.{is_marked, state_of}
@@ -74,8 +74,8 @@ all_marked = (
 pub none_broken : NoneBroken (calling both_lines) reachable
 none_broken OpeningCovered = opening_covered both_lines to_talk_off_hook 0 reachable (1, omega (arith), refl)
 none_broken ResetCovered = reset_covered both_lines to_talk_off_hook reachable (0, omega (arith), refl)
-none_broken (Marked e p) = at_points (JoinedAreMarked (calling both_lines)) reachable all_marked e p
-none_broken (Cleared e p) = nothing_ends (calling both_lines) reachable (none_ends both_lines to_talk_off_hook 0) e p
-none_broken (Unbound e p) = at_points (CreatedAreUnbound (calling both_lines)) reachable (all_unbound both_lines) e p
-none_broken (Live e p) = at_points NamesAreLive reachable all_live e p
-none_broken (StepCovered e p s) = steps_covered (calling both_lines) reachable (all_stepped both_lines) e p s
+none_broken (OfPoint e p JoinedMarked) = at_points (JoinedAreMarked (calling both_lines)) reachable all_marked e p
+none_broken (OfPoint e p EndedCleared) = nothing_ends (calling both_lines) reachable (none_ends both_lines to_talk_off_hook 0) e p
+none_broken (OfPoint e p CreatedUnbound) = at_points (CreatedAreUnbound (calling both_lines)) reachable (all_unbound both_lines) e p
+none_broken (OfPoint e p NamesLive) = at_points NamesAreLive reachable all_live e p
+none_broken (OfPoint e p (StepCovered s)) = steps_covered (calling both_lines) reachable (all_stepped both_lines) e p s

@@ -15,10 +15,11 @@ use Rattle.mg_model.specs.declared.line_events.LineEvent.TheVariants as event
 use Rattle.mg_model.specs.Gateway.{Gateway, with_line, with_notes, outcome_of, row_restarted, board_restarted}
 use Rattle.mg_model.specs.LineEvents.{LineRow, new_line}
 use Rattle.mg_model.specs.Script.{Script}
-use Rattle.mg_model.specs.World.{World, LineOccurs, Opened, IsOpening, AreDistinct, armed_line, with_gateway}
+use Rattle.mg_model.specs.World.{World, IsLineOf, LineOccurs, Opened, IsOpening, AreDistinct, armed_line, with_gateway}
 use Rattle.mg_examples.specs.Talk.{call, off_hook}
 use Rattle.mg_model.proofs.Cases.{none_is_some, the_some}
 use Rattle.mg_model.proofs.Single.{only_one}
+use Rattle.mg_model.proofs.OpenedLines.{opened_lines}
 use Rattle.mg_examples.proofs.Finding.{found_in, finds_only}
 use Rattle.mg_examples.proofs.PointFacts.{below_two}
 
@@ -151,16 +152,13 @@ module _ (script : Script) (two : length script.lines ≡ 2) (calls : List Opene
   by_number one there = finds_only (is_call one.call) one (eq-eqb one.call one.call refl) calls there
       (λ other too is. distinct.calls_differ other one too there (sym (eqb-true one.call other.call is)))
 
-  abbrev IsHeld : ℕ → ℕ → Type 0
-  IsHeld l number = (who : Opened) × (i : ℕ) × Contains calls who × (who.call ≡ number) × (i < length script.lines) × (who.lines i ≡ l)
-
-  held_by : (l number : ℕ) → (gateway calls).holder l ≡ Some number → IsHeld l number
+  held_by : (l number : ℕ) → (gateway calls).holder l ≡ Some number → IsLineOf script calls l number
   held_by l number e =
       let user = read_of (λ (one : Opened). one.call) (user_of calls l) number e in
       let found = found_in (is_its l) user.0 calls user.1 in
       let at = place_of_its user.0 l found.1 in
       let inside : at.0 < 2 = at.1 in
-      (user.0, at.0, found.0, user.2, omega (arith, inside, two), at.2)
+      record { one = user.0; i = at.0; among = found.0; is_call = user.2; within = omega (arith, inside, two); is_line = at.2 }
 
   open_by : (number : ℕ) (a : Agent) → (opened_world script calls).agent number ≡ Some a → (one : Opened) × Contains calls one × (one.call ≡ number)
   open_by number a e =
@@ -171,13 +169,12 @@ module _ (script : Script) (two : length script.lines ≡ 2) (calls : List Opene
   pub opens : IsOpening script calls (opened_world script calls)
   opens = record {
     distinct = distinct;
-    lines = record {
-      stand = λ one there i within. ap row_if (by_line one there i within);
-      armed = λ one there i within. ap line_if (by_line one there i within);
-      held = λ one there i within. ap (option_map (λ (who : Opened). who.call)) (by_line one there i within);
-      others_null = λ l row e. null_or_none (user_of calls l) row e;
-      held_alone = held_by;
-    };
+    lines = opened_lines script calls (gateway calls)
+        (λ one there i within. ap row_if (by_line one there i within))
+        (λ one there i within. ap line_if (by_line one there i within))
+        (λ one there i within. ap (option_map (λ (who : Opened). who.call)) (by_line one there i within))
+        (λ l row e. null_or_none (user_of calls l) row e)
+        held_by;
     gateway = record {
       association = refl;
       no_ephemeral = λ k. refl;

@@ -9,7 +9,7 @@ use Rattle.mg_model.specs.declared.line_events.Hook.TheVariants as hooks
 use Rattle.mg_model.specs.declared.transitions.Pair.{Pair}
 use Rattle.mg_model.specs.declared.line_events.LineEvent.TheVariants as event
 use Rattle.mg_model.specs.LineEvents.{ListItem}
-use Rattle.mg_model.specs.Numbers.{choose}
+use Rattle.mg_model.specs.Numbers.{choose, the_context}
 use Rattle.mg_model.specs.declared.transitions.EventItem.TheVariants.{OnHook}
 use Rattle.mg_model.specs.Media.{AreJoined}
 use Rattle.mg_model.specs.declared.references.ContextRef.TheVariants.{Number, MadeAt}
@@ -41,7 +41,7 @@ to_talk one events = record {
   association = 1;
   number = 1;
   commands =
-      add_line (Number (record { 0 = choose })) (one.lines 0) record { mode = Some SendReceive; remote = None; events = events; signals = None }
+      add_line (Number (the_context choose)) (one.lines 0) record { mode = Some SendReceive; remote = None; events = events; signals = None }
       ∷ add_line (MadeAt 0) (one.lines 1) record { mode = Some SendReceive; remote = None; events = None; signals = None } ∷ [];
 }
 

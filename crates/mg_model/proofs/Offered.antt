@@ -4,12 +4,12 @@ use Rattle.std.proofs.Common.{◌≡◌, ◌∙◌, ℕ, Bool, true, false, ◌<
 use Rattle.std.specs.Prelude.{if◌then◌else◌}
 use Rattle.mg_model.proofs.OfferLemmas.{fresh_offer, is_fresh_offer, kept_offer, pair}
 use Rattle.mg_model.specs.Delivery.{Offer, fresh, kept, discard, offer, last_of}
-use Rattle.mg_model.specs.Gateway.{Gateway, link_in, last_executed, number_of, numbered, offer_to}
+use Rattle.mg_model.specs.Gateway.{Gateway, link_in, last_executed, numbered, offer_to}
 use Rattle.mg_model.specs.Messages.{Request, Reply}
 
-last_is : (last : Option Reply) → last_of (numbered last) ≡ number_of last
-last_is None = refl
-last_is (Some reply) = refl
+-- the number of the reply that a link keeps
+abbrev pub number_of : Option Reply → ℕ
+number_of last = last_of (numbered last)
 
 -- what is offered otherwise than discarded is offered by the link
 not_discarded : (retired : Bool) (o p : Offer Reply) → (discard ≡ p → ⊥) → (if retired then discard else o) ≡ p → (retired ≡ false) × (o ≡ p)
@@ -34,14 +34,14 @@ pub fresh_at : (g : Gateway) (request : Request) → offer_to g request ≡ fres
 fresh_at g request e =
     let offered = fresh_offer (link_in g request.call) request.association request.number
     (not_discarded (g.retired request.call) (offer (link_in g request.call) request.association request.number) fresh fresh_differs e).1 in
-    (offered.0, subst (λ (n : ℕ). n < request.number) (last_is (g.link request.call).last) offered.1)
+    (offered.0, offered.1)
 
 pub is_fresh_at : (g : Gateway) (request : Request) → g.retired request.call ≡ false → request.association ≡ g.association → last_executed g request.call < request.number
     → offer_to g request ≡ fresh
 is_fresh_at g request open_call current newer =
     ap (λ (retired : Bool). if retired then discard else offer (link_in g request.call) request.association request.number) open_call
     ∙ is_fresh_offer (link_in g request.call) request.association request.number
-    (current, subst (λ (n : ℕ). n < request.number) (sym (last_is (g.link request.call).last)) newer)
+    (current, newer)
 
 kept_reply : (last : Option Reply) (number : ℕ) (reply : Reply) → numbered last ≡ pair number reply → last ≡ Some reply
 kept_reply None number reply e = ap (option_map (λ (p : ℕ × Reply). p.1)) e

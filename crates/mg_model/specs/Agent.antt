@@ -27,7 +27,7 @@ use Rattle.mg_model.specs.Items.{Done}
 use Rattle.mg_model.specs.LineEvents.{Note}
 use Rattle.mg_model.specs.ListContents.{list_of, set_of}
 use Rattle.mg_model.specs.Messages.{Descriptors, RequestCommand, add_line, add_ephemeral, modify, move, subtract, subtract_all, set_topology, Request, Reply, SentNote}
-use Rattle.mg_model.specs.Numbers.{null, choose, all, no_ephemeral, first_association, first_number, opening_request, last_number}
+use Rattle.mg_model.specs.Numbers.{null, choose, all, no_ephemeral, first_association, first_number, opening_request, last_number, the_context, the_line}
 use Rattle.mg_model.specs.Request.{Names, built, created_context, created_ephemeral}
 use Rattle.mg_model.specs.Script.{Script}
 use Rattle.mg_model.specs.Tables.{state_of, target_in, is_empty}
@@ -79,7 +79,7 @@ made_after made command place = record {
 -- a name that the request created means what it created, and else what it is bound to
 abbrev pub context_or : Option ℕ → Option ℕ → ContextRef
 context_or (Some place) bound = MadeAt place
-context_or None bound = Number (record { 0 = unwrap_or bound all })
+context_or None bound = Number (the_context (unwrap_or bound all))
 
 abbrev pub ephemeral_or : Option ℕ → Option ℕ → EphemeralRef
 ephemeral_or (Some place) bound = ephemeral.MadeAt place
@@ -92,14 +92,14 @@ abbrev pub ephemeral_ref : Agent → Made → ℕ → EphemeralRef
 ephemeral_ref a made k = ephemeral_or (made.ephemerals k) (a.ephemerals k)
 
 abbrev pub added_to : Agent → Made → Bool → ℕ → ContextRef
-added_to a made create j = if create then Number (record { 0 = choose }) else context_ref a made j
+added_to a made create j = if create then Number (the_context choose) else context_ref a made j
 
 abbrev pub place_ref : Agent → Made → Place → ContextRef
-place_ref a made NullContext = Number (record { 0 = null })
+place_ref a made NullContext = Number (the_context null)
 place_ref a made (Context j) = context_ref a made j
 
 abbrev pub termination_ref : Agent → Made → Termination → TerminationRef
-termination_ref a made (termination.Line i) = Line (record { 0 = a.lines i })
+termination_ref a made (termination.Line i) = Line (the_line (a.lines i))
 termination_ref a made (termination.Ephemeral k) = Ephemeral (ephemeral_ref a made k)
 
 abbrev pub remote_ref : Agent → Made → RemoteOption → RemoteRef
@@ -120,10 +120,10 @@ ephemeral_descriptors a made o = record { mode = o.mode; remote = option_map (re
 abbrev pub command_of : Script → Agent → Made → Command → RequestCommand
 command_of script a made (AddLine create j i o) = add_line (added_to a made create j) (a.lines i) (line_descriptors script o)
 command_of script a made (AddEphemeral create j k o) = add_ephemeral (added_to a made create j) (ephemeral_descriptors a made o)
-command_of script a made (ModifyLine place i o) = modify (place_ref a made place) (Line (record { 0 = a.lines i })) (line_descriptors script o)
+command_of script a made (ModifyLine place i o) = modify (place_ref a made place) (Line (the_line (a.lines i))) (line_descriptors script o)
 command_of script a made (ModifyEphemeral place k o) =
     modify (place_ref a made place) (Ephemeral (ephemeral_ref a made k)) (ephemeral_descriptors a made o)
-command_of script a made (MoveLine j i o) = move (context_ref a made j) (Line (record { 0 = a.lines i })) (line_descriptors script o)
+command_of script a made (MoveLine j i o) = move (context_ref a made j) (Line (the_line (a.lines i))) (line_descriptors script o)
 command_of script a made (MoveEphemeral j k o) =
     move (context_ref a made j) (Ephemeral (ephemeral_ref a made k)) (ephemeral_descriptors a made o)
 command_of script a made (Subtract j t) = subtract (context_ref a made j) (termination_ref a made t)

@@ -8,7 +8,7 @@ use Rattle.mg_names.specs.declared.identifiers.TermId.TheVariants.{Line, Eph}
 use Rattle.mg_names.specs.declared.modes.Mode.{Mode}
 use Rattle.mg_names.specs.declared.modes.Mode.TheVariants.{Inactive}
 use Rattle.mg_model.specs.declared.rows.Row.{Row}
-use Rattle.mg_model.specs.Numbers.{null}
+use Rattle.mg_model.specs.Numbers.{null, the_context}
 
 pub record Board : Type 0 where
   -- the row of a termination; nothing where it doesn't exist
@@ -35,7 +35,7 @@ row_with rows t row u = if same_term u t then row else rows u
 
 -- the row of a termination in the null context on which nothing is set
 abbrev pub null_row : Row
-null_row = record { place = record { 0 = null }; mode = Inactive; remote = None }
+null_row = record { place = the_context null; mode = Inactive; remote = None }
 
 -- whether a termination exists
 abbrev pub exists : Board → TermId → Bool

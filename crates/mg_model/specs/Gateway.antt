@@ -12,11 +12,11 @@ use Rattle.mg_model.specs.declared.rows.Row.{Row}
 use Rattle.mg_names.specs.declared.strictness.Strict.TheVariants.{Exact}
 use Rattle.mg_model.specs.declared.transitions.EventItem.TheVariants.{OffHook}
 use Rattle.mg_model.specs.Board.{Board, exists, null_row, IsSettled}
-use Rattle.mg_model.specs.Delivery.{Link, Offer, fresh, kept, discard, offer}
+use Rattle.mg_model.specs.Delivery.{Link, Offer, fresh, kept, discard, offer, last_of}
 use Rattle.mg_model.specs.Items.{subtracted}
 use Rattle.mg_model.specs.LineEvents.{LineRow, silent, Note, Outcome, cleared, hooked, flashed, dialled, paused, signal_ended}
 use Rattle.mg_model.specs.Messages.{Request, Reply, SentNote}
-use Rattle.mg_model.specs.Numbers.{last_number}
+use Rattle.mg_model.specs.Numbers.{last_number, the_line}
 use Rattle.mg_model.specs.RequestRun.{Running, RaisedNote, RunsFrom}
 
 -- the link of a call: the reply to the last request that was executed, if there is one, and how many notes were sent
@@ -48,12 +48,8 @@ abbrev pub link_in : Gateway → ℕ → Link Reply
 link_in g call = record { association = g.association; last = numbered (g.link call).last }
 
 -- the number of the last request of a call that was executed, 0 where there is none
-abbrev pub number_of : Option Reply → ℕ
-number_of None = 0
-number_of (Some reply) = reply.number
-
 abbrev pub last_executed : Gateway → ℕ → ℕ
-last_executed g call = number_of (g.link call).last
+last_executed g call = last_of (link_in g call).last
 
 -- what that link says of a request that arrives
 abbrev pub offer_to : Gateway → Request → Offer Reply
@@ -75,10 +71,10 @@ abbrev pub reply_of : Request → Running → Option Failure → Reply
 reply_of request end failure =
     record { call = request.call; association = request.association; number = request.number; results = end.results; failure = failure }
 
--- whose an ephemeral is after a request: one that the request created is of its call. What doesn't exist is nobody's
+-- whose an ephemeral is after a request: whose it was, where it existed before, and else the request's call's. What doesn't exist is nobody's
 abbrev pub creator_after : Gateway → Request → Running → ℕ → Option ℕ
 creator_after g request end k =
-    if exists end.board (Eph k) then (if g.board.used_ephemeral k then g.creator k else Some request.call) else None
+    if exists end.board (Eph k) then (if exists g.board (Eph k) then g.creator k else Some request.call) else None
 
 abbrev pub after_request : Gateway → Request → Running → Board → Option Failure → Gateway
 after_request g request end settled failure =
@@ -142,7 +138,7 @@ pub record Happens (g : Gateway) (l : ℕ) (event : LineEvent) (after : Gateway)
 -- each line that the old call holds is in the null context, Inactive, silent and armed by `al/of` with `strict=exact` alone, and no
 -- ephemeral exists that it created (this profile's own)
 pub record MayBegin (g : Gateway) (old : ℕ) : Type 0 where
-  pub rows : (l : ℕ) → g.holder l ≡ Some old → g.board.row (Line (record { 0 = l })) ≡ Some null_row
+  pub rows : (l : ℕ) → g.holder l ≡ Some old → g.board.row (Line (the_line l)) ≡ Some null_row
   pub playing : (l : ℕ) → g.holder l ≡ Some old → (g.line l).playing ≡ silent
   pub list : (l : ℕ) → g.holder l ≡ Some old → (g.line l).list ≡ OffHook Exact ∷ []
   pub no_ephemeral : (k : ℕ) → g.creator k ≡ Some old → ⊥

@@ -21,7 +21,7 @@ use Rattle.mg_model.specs.declared.items.RemoteSetting.TheVariants.{Nothing, Eph
 use Rattle.mg_model.specs.declared.items.Settings.{Settings}
 use Rattle.mg_model.specs.declared.rows.Row.{Row}
 use Rattle.mg_model.specs.Board.{Board, row_with, null_row, same_term, exists, place_of, mode_of, remote_of, ContextExists}
-use Rattle.mg_model.specs.Numbers.{null, choose, last_ephemeral}
+use Rattle.mg_model.specs.Numbers.{null, choose, last_ephemeral, the_context, the_line}
 
 -- ---- when a code applies
 
@@ -148,7 +148,7 @@ remote_set (Some (Ephemeral k)) was = Some k
 -- a row with a place, and what a command sets; what it leaves out stays
 abbrev pub row_at : ℕ → Settings → Mode → Option ℕ → Row
 row_at c settings mode remote =
-    record { place = record { 0 = c }; mode = unwrap_or settings.mode mode; remote = remote_set settings.remote remote }
+    record { place = the_context c; mode = unwrap_or settings.mode mode; remote = remote_set settings.remote remote }
 
 abbrev pub with_row : Board → TermId → Option Row → Board
 with_row b t row = record b { row = row_with b.row t row }
@@ -214,17 +214,18 @@ subtracts b (Subtract context t) u = same_term u t
 subtracts b (SubtractAll context) u = place_of b u == context.0
 subtracts b item u = false
 
-abbrev pub moved : Board → Item → Chosen → Board
-moved b (Add context what settings) chosen = with_added b what chosen (target context chosen) settings
-moved b (Modify context t settings) chosen = placed b t context.0 settings
-moved b (Move context t settings) chosen = placed (record b { cut = without_cuts (same_term t) b.cut }) t context.0 settings
-moved b (SetTopology context t u topology) chosen =
-    record b { cut = with_topology b.cut t u topology }
-moved b item chosen = without b (subtracts b item)
+-- rows and cuts after a command
+abbrev pub rearranged : Board → Item → Chosen → Board
+rearranged b (Add context what settings) chosen = with_added b what chosen (target context chosen) settings
+rearranged b (Modify context t settings) chosen = placed b t context.0 settings
+rearranged b (Move context t settings) chosen = placed (record b { cut = without_cuts (same_term t) b.cut }) t context.0 settings
+rearranged b (Subtract context t) chosen = without b (λ u. same_term u t)
+rearranged b (SubtractAll context) chosen = without b (λ u. place_of b u == context.0)
+rearranged b (SetTopology context t u topology) chosen = record b { cut = with_topology b.cut t u topology }
 
 -- the board after a command that is legal
 abbrev pub effect : Board → Item → Chosen → Board
-effect b item chosen = record (moved b item chosen) {
+effect b item chosen = record (rearranged b item chosen) {
   used_context = given (creates_context item) chosen.context b.used_context;
   used_ephemeral = given (creates_ephemeral item) chosen.ephemeral b.used_ephemeral;
 }
@@ -254,7 +255,7 @@ only_if test n = if test then Some n else None
 pub record IsResult (b : Board) (item : Item) (chosen : Chosen) (done : Done) : Type 0 where
   pub context : done.context ≡ only_if (creates_context item) chosen.context
   pub ephemeral : done.ephemeral ≡ only_if (creates_ephemeral item) chosen.ephemeral
-  pub lines : Lists (λ n. subtracts b item (Line (record { 0 = n })) && exists b (Line (record { 0 = n }))) done.lines
+  pub lines : Lists (λ n. subtracts b item (Line (the_line n)) && exists b (Line (the_line n))) done.lines
   pub ephemerals : Lists (λ n. subtracts b item (Eph n) && exists b (Eph n)) done.ephemerals
 
 -- the command is executed: some fresh numbers were chosen, and the board and the result are those of the command

@@ -8,7 +8,7 @@ use Rattle.mg_names.specs.declared.identifiers.TermId.TheVariants.{Line, Eph}
 use Rattle.mg_names.specs.declared.modes.Mode.{Mode}
 use Rattle.mg_names.specs.declared.modes.Mode.TheVariants.{Inactive, SendOnly, ReceiveOnly, SendReceive}
 use Rattle.mg_model.specs.Board.{Board, same_term, exists, place_of, mode_of, remote_of}
-use Rattle.mg_model.specs.Numbers.{null}
+use Rattle.mg_model.specs.Numbers.{null, the_line}
 
 -- what each mode lets through, seen from outside the context (H.248.1 section 7.1.7): a termination receives from outside, for its
 -- context, in ReceiveOnly and SendReceive, and sends what its context has to the outside in SendOnly and SendReceive
@@ -52,7 +52,7 @@ goes_over b from (crossing ∷ more) to =
 pub record HasPath (b : Board) (i j : ℕ) : Type 0 where
   pub another : i ≡ j → ⊥
   pub crossings : List (ℕ × ℕ)
-  pub goes : IsTrue (goes_over b (Line (record { 0 = i })) crossings (Line (record { 0 = j })))
+  pub goes : IsTrue (goes_over b (Line (the_line i)) crossings (Line (the_line j)))
 
 -- two lines are joined if there is a path either way
 abbrev pub AreJoined : Board → ℕ → ℕ → Type 0

@@ -1,6 +1,23 @@
 -- The numbers that mean something by themselves: the ContextIDs that are the number of no context (H.248.1 section 8.1.2 and Annex A), and where
 -- the numbers of associations, of transactions and notes, and of ephemerals begin and end (this profile's own).
 use Rattle.std.specs.Prelude.{ℕ}
+use Rattle.mg_names.specs.declared.identifiers.Assoc.{Assoc}
+use Rattle.mg_names.specs.declared.identifiers.CallNo.{CallNo}
+use Rattle.mg_names.specs.declared.identifiers.ContextId.{ContextId}
+use Rattle.mg_names.specs.declared.identifiers.LineNo.{LineNo}
+
+-- the line, the call, the context and the association with a number
+abbrev pub the_line : ℕ → LineNo
+the_line n = record { 0 = n }
+
+abbrev pub the_call : ℕ → CallNo
+the_call n = record { 0 = n }
+
+abbrev pub the_context : ℕ → ContextId
+the_context n = record { 0 = n }
+
+abbrev pub the_association : ℕ → Assoc
+the_association n = record { 0 = n }
 
 -- the null context, CHOOSE and ALL
 abbrev pub null : ℕ

@@ -49,15 +49,27 @@ pub record IsLive (c : Configuration) : Type 0 where
 abbrev pub NamesAreLive : Configuration → Type 0
 NamesAreLive c = (c.link ≡ Sent) ⊎ (c.link ≡ Resting) → IsLive c
 
--- what an obligation asks, place by place: of the certificate as a whole, of a point of an entry, or of a step of a point
+-- what is asked of each point of an entry: four duties of its configuration, and one for each of its steps
+pub data Duty : Type 0 where
+  JoinedMarked : Duty
+  EndedCleared : Duty
+  CreatedUnbound : Duty
+  NamesLive : Duty
+  StepCovered : (step : ℕ) → Duty
+
+-- what a certificate claims: that the opening is covered, and the reset, and each duty of each point
 pub data Claim : Type 0 where
   OpeningCovered : Claim
   ResetCovered : Claim
-  Marked : (entry point : ℕ) → Claim
-  Cleared : (entry point : ℕ) → Claim
-  Unbound : (entry point : ℕ) → Claim
-  Live : (entry point : ℕ) → Claim
-  StepCovered : (entry point step : ℕ) → Claim
+  OfPoint : (entry point : ℕ) → Duty → Claim
+
+-- what a duty asks of a configuration
+abbrev pub Asks : Script → List Entry → Duty → Configuration → Type 0
+Asks script entries JoinedMarked c = JoinedAreMarked script c
+Asks script entries EndedCleared c = EndedIsCleared script c
+Asks script entries CreatedUnbound c = CreatedAreUnbound script c
+Asks script entries NamesLive c = NamesAreLive c
+Asks script entries (StepCovered s) c = (step : Step) → slice_get (steps_of script c) s ≡ Some step → IsCovered entries step.1
 
 -- a fact of the point with this number in the entry at this place, where there is such a point
 abbrev pub AtPoint : List Entry → ℕ → ℕ → (Configuration → Type 0) → Type 0
@@ -67,48 +79,25 @@ AtPoint entries e p P =
 abbrev pub Holds : Script → List Entry → Claim → Type 0
 Holds script entries OpeningCovered = IsCovered entries (opening script)
 Holds script entries ResetCovered = IsCovered entries (reset script)
-Holds script entries (Marked e p) = AtPoint entries e p (JoinedAreMarked script)
-Holds script entries (Cleared e p) = AtPoint entries e p (EndedIsCleared script)
-Holds script entries (Unbound e p) = AtPoint entries e p (CreatedAreUnbound script)
-Holds script entries (Live e p) = AtPoint entries e p NamesAreLive
-Holds script entries (StepCovered e p s) =
-    AtPoint entries e p (λ c. (step : Step) → slice_get (steps_of script c) s ≡ Some step → IsCovered entries step.1)
+Holds script entries (OfPoint e p duty) = AtPoint entries e p (Asks script entries duty)
 
 -- the order in which obligations are named: the opening, the reset, then by entry and point, and in a point joined
 -- lines, ended calls, created names, names that are live, then the steps in their order
-abbrev pub rank_in_point : Claim → ℕ
-rank_in_point OpeningCovered = 0
-rank_in_point ResetCovered = 0
-rank_in_point (Marked e p) = 0
-rank_in_point (Cleared e p) = 1
-rank_in_point (Unbound e p) = 2
-rank_in_point (Live e p) = 3
-rank_in_point (StepCovered e p s) = 4
+abbrev pub rank : Duty → ℕ
+rank JoinedMarked = 0
+rank EndedCleared = 1
+rank CreatedUnbound = 2
+rank NamesLive = 3
+rank (StepCovered s) = 4
 
-abbrev pub step_in_point : Claim → ℕ
-step_in_point (StepCovered e p s) = s
-step_in_point _ = 0
-
-abbrev pub point_of : Claim → ℕ × ℕ
-point_of (Marked e p) = (e, p)
-point_of (Cleared e p) = (e, p)
-point_of (Unbound e p) = (e, p)
-point_of (Live e p) = (e, p)
-point_of (StepCovered e p s) = (e, p)
-point_of _ = (0, 0)
-
--- 0 for the opening, 1 for the reset, 2 for what belongs to a point
-abbrev pub part_of : Claim → ℕ
-part_of OpeningCovered = 0
-part_of ResetCovered = 1
-part_of (Marked e p) = 2
-part_of (Cleared e p) = 2
-part_of (Unbound e p) = 2
-part_of (Live e p) = 2
-part_of (StepCovered e p s) = 2
+abbrev pub step_place : Duty → ℕ
+step_place (StepCovered s) = s
+step_place _ = 0
 
 abbrev pub key_of : Claim → List ℕ
-key_of o = part_of o ∷ (point_of o).0 ∷ (point_of o).1 ∷ rank_in_point o ∷ step_in_point o ∷ []
+key_of OpeningCovered = 0 ∷ []
+key_of ResetCovered = 1 ∷ []
+key_of (OfPoint e p duty) = 2 ∷ e ∷ p ∷ rank duty ∷ step_place duty ∷ []
 
 -- the first difference of two lists of numbers decides
 abbrev pub KeyBefore : List ℕ → List ℕ → Type 0
@@ -120,36 +109,29 @@ abbrev pub ComesBefore : Claim → Claim → Type 0
 ComesBefore a b = KeyBefore (key_of a) (key_of b)
 
 -- what the answer `no` says of a claim: the obligation that it is of, and its entry and point where there are such
+abbrev pub obligation_of_duty : Duty → Obligation
+obligation_of_duty JoinedMarked = obligation.JoinedMarked
+obligation_of_duty EndedCleared = obligation.EndedCleared
+obligation_of_duty CreatedUnbound = obligation.CreatedUnbound
+obligation_of_duty NamesLive = obligation.NamesLive
+obligation_of_duty (StepCovered s) = obligation.StepsCovered
+
 abbrev pub obligation_of : Claim → Obligation
 obligation_of OpeningCovered = obligation.OpeningCovered
 obligation_of ResetCovered = obligation.ResetCovered
-obligation_of (Marked e p) = obligation.JoinedMarked
-obligation_of (Cleared e p) = obligation.EndedCleared
-obligation_of (Unbound e p) = obligation.CreatedUnbound
-obligation_of (Live e p) = obligation.NamesLive
-obligation_of (StepCovered e p s) = obligation.StepsCovered
+obligation_of (OfPoint e p duty) = obligation_of_duty duty
 
 abbrev pub entry_named : Claim → Option ℕ
-entry_named OpeningCovered = None
-entry_named ResetCovered = None
-entry_named (Marked e p) = Some e
-entry_named (Cleared e p) = Some e
-entry_named (Unbound e p) = Some e
-entry_named (Live e p) = Some e
-entry_named (StepCovered e p s) = Some e
+entry_named (OfPoint e p duty) = Some e
+entry_named _ = None
 
 abbrev pub point_named : Claim → Option ℕ
-point_named OpeningCovered = None
-point_named ResetCovered = None
-point_named (Marked e p) = Some p
-point_named (Cleared e p) = Some p
-point_named (Unbound e p) = Some p
-point_named (Live e p) = Some p
-point_named (StepCovered e p s) = Some p
+point_named (OfPoint e p duty) = Some p
+point_named _ = None
 
 -- the fault names the step that breaks its obligation, and none for the other obligations
 abbrev pub NamesStep : Script → List Entry → Claim → Option StepName → Type 0
-NamesStep script entries (StepCovered e p s) named =
+NamesStep script entries (OfPoint e p (StepCovered s)) named =
     (entry : Entry) × (slice_get entries e ≡ Some entry) × ((c : Configuration) × IsPointOf entry p c
     × ((step : Step) × (slice_get (steps_of script c) s ≡ Some step) × (named ≡ Some step.0)))
 NamesStep script entries _ named = named ≡ None

@@ -29,7 +29,7 @@ use Rattle.mg_model.specs.Board.{Board}
 use Rattle.mg_model.specs.Failures.{code_of}
 use Rattle.mg_model.specs.Items.{Done, Applies, IsExecuted, rank, subtracts}
 use Rattle.mg_model.specs.LineEvents.{ListItem, LineRow, Note, Outcome, armed, signalled, cleared, stays}
-use Rattle.mg_model.specs.Numbers.{all, no_ephemeral}
+use Rattle.mg_model.specs.Numbers.{all, no_ephemeral, the_context, the_line}
 use Rattle.mg_model.specs.Messages.{Descriptors, RequestCommand, add_line, add_ephemeral, modify, move, subtract, subtract_all, set_topology}
 
 -- ---- names, by what the earlier commands created
@@ -57,14 +57,14 @@ settings_at results d = record { mode = d.mode; remote = option_map (remote_at r
 
 -- the command on the connection model
 abbrev pub item_at : List Done → RequestCommand → Item
-item_at results (add_line c l d) = Add (record { 0 = context_at results c }) (added.Line (record { 0 = l })) (settings_at results d)
-item_at results (add_ephemeral c d) = Add (record { 0 = context_at results c }) added.NewEphemeral (settings_at results d)
-item_at results (modify c t d) = Modify (record { 0 = context_at results c }) (termination_at results t) (settings_at results d)
-item_at results (move c t d) = Move (record { 0 = context_at results c }) (termination_at results t) (settings_at results d)
-item_at results (subtract c t) = Subtract (record { 0 = context_at results c }) (termination_at results t)
-item_at results (subtract_all c) = SubtractAll (record { 0 = context_at results c })
+item_at results (add_line c l d) = Add (the_context (context_at results c)) (added.Line (the_line l)) (settings_at results d)
+item_at results (add_ephemeral c d) = Add (the_context (context_at results c)) added.NewEphemeral (settings_at results d)
+item_at results (modify c t d) = Modify (the_context (context_at results c)) (termination_at results t) (settings_at results d)
+item_at results (move c t d) = Move (the_context (context_at results c)) (termination_at results t) (settings_at results d)
+item_at results (subtract c t) = Subtract (the_context (context_at results c)) (termination_at results t)
+item_at results (subtract_all c) = SubtractAll (the_context (context_at results c))
 item_at results (set_topology c t u topology) =
-    SetTopology (record { 0 = context_at results c }) (termination_at results t) (termination_at results u) topology
+    SetTopology (the_context (context_at results c)) (termination_at results t) (termination_at results u) topology
 
 -- ---- descriptors of a line
 
@@ -81,11 +81,11 @@ of_termination (on.Line l) d = Some (on_line l.0 d)
 of_termination (on.Ephemeral e) d = None
 
 -- the line that a command's descriptors are for, with them
-abbrev pub described : RequestCommand → Option LineDescriptors
-described (add_line c l d) = Some (on_line l d)
-described (modify c t d) = of_termination t d
-described (move c t d) = of_termination t d
-described command = None
+abbrev pub descriptors_for : RequestCommand → Option LineDescriptors
+descriptors_for (add_line c l d) = Some (on_line l d)
+descriptors_for (modify c t d) = of_termination t d
+descriptors_for (move c t d) = of_termination t d
+descriptors_for command = None
 
 abbrev pub with_signals : LineRow → Option SignalSet → LineRow
 with_signals row None = row
@@ -104,9 +104,9 @@ is_line None l = false
 is_line (Some on) l = on.line == l
 
 -- the command replaces the line's Events descriptor
-abbrev pub rearms : Option LineDescriptors → ℕ → Bool
-rearms None l = false
-rearms (Some on) l = (on.line == l) && is_some on.descriptors.events
+abbrev pub has_new_events : Option LineDescriptors → ℕ → Bool
+has_new_events None l = false
+has_new_events (Some on) l = (on.line == l) && is_some on.descriptors.events
 
 -- ---- the run
 
@@ -132,7 +132,7 @@ described_row (Some on) row l number = if on.line == l then (with_descriptors ro
 
 abbrev pub line_after : Running → RequestCommand → Item → ℕ → ℕ → LineRow
 line_after r command item number l =
-    if subtracts r.board item (Line (record { 0 = l })) then cleared (r.line l) else described_row (described command) (r.line l) l number
+    if subtracts r.board item (Line (the_line l)) then cleared (r.line l) else described_row (descriptors_for command) (r.line l) l number
 
 -- the note that a command raises
 abbrev pub note_from : ℕ → Option Note → List RaisedNote
@@ -146,7 +146,7 @@ raised r (Some on) number = note_from on.line (with_descriptors (r.line on.line)
 -- the notes whose descriptor still stands
 abbrev pub standing : Running → RequestCommand → Item → List RaisedNote
 standing r command item =
-    filter (λ (n : RaisedNote). not (subtracts r.board item (Line (record { 0 = n.line })) || rearms (described command) n.line)) r.notes
+    filter (λ (n : RaisedNote). not (subtracts r.board item (Line (the_line n.line)) || has_new_events (descriptors_for command) n.line)) r.notes
 
 -- after a command that was executed
 abbrev pub after_command : Running → RequestCommand → Item → Board → Done → ℕ → Running
@@ -154,7 +154,7 @@ after_command r command item board done number = record {
   board = board;
   line = line_after r command item number;
   results = r.results ++ done ∷ [];
-  notes = standing r command item ++ raised r (described command) number;
+  notes = standing r command item ++ raised r (descriptors_for command) number;
 }
 
 -- the refusal that is chosen for a place

@@ -1,7 +1,7 @@
 -- The whole: a gateway, the agents of the calls, and the set of all messages that were ever sent; what can happen to it; and
 -- when it is good. Any message may be delivered at any time, any number of times, or never. A reader should check that no
 -- event is missing, that each says of everything else that it stays, and what a good world is: that is the promise.
-use Rattle.std.specs.Prelude.{◌≡◌, ℕ, ◌<◌, ◌≤◌, ◌==◌, Bool, false, IsTrue, if◌then◌else◌, List, [], ◌∷◌, ◌++◌, length, Contains, Option, Some, None, ◌⊎◌}
+use Rattle.std.specs.Prelude.{◌≡◌, ℕ, ◌<◌, ◌≤◌, ◌==◌, Bool, false, IsTrue, if◌then◌else◌, List, [], ◌∷◌, ◌++◌, length, Contains, Option, Some, None, ◌⊎◌, ◌↔◌}
 use Rattle.mg_names.specs.declared.identifiers.TermId.TheVariants.{Line, Eph}
 use Rattle.mg_names.specs.declared.strictness.Strict.TheVariants.{Exact}
 use Rattle.mg_model.specs.declared.events.CallEvent.{CallEvent}
@@ -19,7 +19,7 @@ use Rattle.mg_model.specs.declared.transitions.EventItem.TheVariants.{OffHook}
 use Rattle.mg_model.specs.LineEvents.{LineRow, new_line, silent}
 use Rattle.mg_model.specs.Media.{AreJoined}
 use Rattle.mg_model.specs.Messages.{Request, Reply, SentNote}
-use Rattle.mg_model.specs.Numbers.{null, first_association, last_association, opening_request}
+use Rattle.mg_model.specs.Numbers.{null, first_association, last_association, opening_request, the_association, the_call, the_line}
 use Rattle.mg_model.specs.Script.{Script}
 use Rattle.mg_model.specs.Tables.{state_of, is_marked, line_places}
 
@@ -36,30 +36,30 @@ pub record World : Type 0 where
 
 -- an event of a line names the call that holds it: any of hook, flash, digit, pause, and the end of a signal
 abbrev pub on_a_line : (call line : ℕ) → LineEvent → Event
-on_a_line call line happens = OfCall (record { 0 = call }) (to_call.OnLine (record { 0 = line }) happens)
+on_a_line call line happens = OfCall (the_call call) (to_call.OnLine (the_line line) happens)
 
 -- a request, a reply and a note are named by their numbers
 abbrev pub execute : (call number : ℕ) → Option ChosenRefusal → Event
-execute call number chosen = OfCall (record { 0 = call }) (to_call.Execute number chosen)
+execute call number chosen = OfCall (the_call call) (to_call.Execute number chosen)
 
 abbrev pub reply : (call number : ℕ) → Event
-reply call number = OfCall (record { 0 = call }) (to_call.Reply number)
+reply call number = OfCall (the_call call) (to_call.Reply number)
 
 abbrev pub pass : (call : ℕ) → Event
-pass call = OfCall (record { 0 = call }) to_call.Pass
+pass call = OfCall (the_call call) to_call.Pass
 
 abbrev pub note : (call number : ℕ) → Event
-note call number = OfCall (record { 0 = call }) (to_call.Note number)
+note call number = OfCall (the_call call) (to_call.Note number)
 
 abbrev pub timer : (call : ℕ) → Event
-timer call = OfCall (record { 0 = call }) to_call.Timer
+timer call = OfCall (the_call call) to_call.Timer
 
 -- a call begins on the lines of one that has ended
 abbrev pub begin : (call old : ℕ) → Event
-begin call old = OfCall (record { 0 = call }) (to_call.Begin (record { 0 = old }))
+begin call old = OfCall (the_call call) (to_call.Begin (the_call old))
 
 abbrev pub hear : (call association : ℕ) → Event
-hear call association = OfCall (record { 0 = call }) (to_call.Hear (record { 0 = association }))
+hear call association = OfCall (the_call call) (to_call.Hear (the_association association))
 
 -- whether an event is one of a call
 abbrev pub is_of_call : ℕ → Event → Bool
@@ -187,16 +187,22 @@ pub record AreDistinct (script : Script) (calls : List Opened) : Type 0 where
 abbrev pub armed_line : LineRow
 armed_line = record new_line { list = OffHook Exact ∷ []; request = Some opening_request }
 
--- the lines of calls that open: each in the null context, Inactive, silent, armed and on hook, and held by its call. Any other line stands
--- in the null context, held by no call
+-- a line of the gateway is a line of one of these calls, which has this number
+pub record IsLineOf (script : Script) (calls : List Opened) (l call : ℕ) : Type 0 where
+  pub one : Opened
+  pub i : ℕ
+  pub among : Contains calls one
+  pub is_call : one.call ≡ call
+  pub within : i < length script.lines
+  pub is_line : one.lines i ≡ l
+
+-- the lines of calls that open are held by them, and no other line is held; each of them is armed, on hook and silent, and each line,
+-- held or not, stands in the null context and is Inactive. A line of a call exists
 pub record AreOpenedLines (script : Script) (calls : List Opened) (g : Gateway) : Type 0 where
-  pub stand : (one : Opened) → Contains calls one → (i : ℕ) → i < length script.lines
-      → g.board.row (Line (record { 0 = one.lines i })) ≡ Some null_row
-  pub armed : (one : Opened) → Contains calls one → (i : ℕ) → i < length script.lines → g.line (one.lines i) ≡ armed_line
-  pub held : (one : Opened) → Contains calls one → (i : ℕ) → i < length script.lines → g.holder (one.lines i) ≡ Some one.call
-  pub others_null : (l : ℕ) (row : Row) → g.board.row (Line (record { 0 = l })) ≡ Some row → row ≡ null_row
-  pub held_alone : (l call : ℕ) → g.holder l ≡ Some call
-      → (one : Opened) × (i : ℕ) × Contains calls one × (one.call ≡ call) × (i < length script.lines) × (one.lines i ≡ l)
+  pub held : (l call : ℕ) → (g.holder l ≡ Some call) ↔ IsLineOf script calls l call
+  pub stand : (l call : ℕ) → g.holder l ≡ Some call → g.board.row (Line (the_line l)) ≡ Some null_row
+  pub armed : (l call : ℕ) → g.holder l ≡ Some call → g.line l ≡ armed_line
+  pub others_null : (l : ℕ) (row : Row) → g.board.row (Line (the_line l)) ≡ Some row → row ≡ null_row
 
 -- association 1, in which no identifier was given out, nothing was cut and no reply is kept
 pub record IsNewGateway (g : Gateway) : Type 0 where
@@ -245,7 +251,7 @@ pub record IsMarkedPair (script : Script) (w : World) (l m : ℕ) : Type 0 where
 -- list that is exactly `al/of` with `strict=exact`
 pub record IsReleased (script : Script) (w : World) (call : ℕ) (a : Agent) : Type 0 where
   pub no_ephemeral : (k : ℕ) → w.gateway.creator k ≡ Some call → exists w.gateway.board (Eph k) ≡ false
-  pub in_null : (i : ℕ) → i < length script.lines → (row : Row) × (w.gateway.board.row (Line (record { 0 = a.lines i })) ≡ Some row) × (row.place.0 ≡ null)
+  pub in_null : (i : ℕ) → i < length script.lines → (row : Row) × (w.gateway.board.row (Line (the_line (a.lines i))) ≡ Some row) × (row.place.0 ≡ null)
   pub is_silent : (i : ℕ) → i < length script.lines → (w.gateway.line (a.lines i)).playing ≡ silent
   pub is_armed : (i : ℕ) → i < length script.lines → (w.gateway.line (a.lines i)).list ≡ OffHook Exact ∷ []
 

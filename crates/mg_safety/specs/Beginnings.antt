@@ -12,6 +12,7 @@ use Rattle.mg_model.specs.Gateway.{MayBegin}
 use Rattle.mg_model.specs.Obligations.{NoneBroken}
 use Rattle.mg_model.specs.Script.{Script}
 use Rattle.mg_model.specs.World.{World, Opened, IsOpening, Runs, HasEnded}
+use Rattle.mg_model.specs.Numbers.{the_line}
 
 -- what holds of each call that is open in the last world of a run, where no obligation is broken
 abbrev pub OfCallsInRuns : (Script → World → ℕ → Agent → Type 0) → Type 0
@@ -22,7 +23,7 @@ OfCallsInRuns Holds =
 
 -- nothing is set on the call's lines, which stand in the null context
 abbrev pub LinesAreIdle : Script → World → Agent → Type 0
-LinesAreIdle script w a = (i : ℕ) → i < length script.lines → w.gateway.board.row (Line (record { 0 = a.lines i })) ≡ Some null_row
+LinesAreIdle script w a = (i : ℕ) → i < length script.lines → w.gateway.board.row (Line (the_line (a.lines i))) ≡ Some null_row
 
 abbrev pub EndedCallsMayBegin : Type 0
 EndedCallsMayBegin = OfCallsInRuns (λ script w call a. HasEnded script w a → LinesAreIdle script w a → MayBegin w.gateway call)

@@ -25,6 +25,7 @@ use Rattle.mg_model.specs.declared.events.Event.{Event}
 use Rattle.mg_model.specs.declared.events.Event.TheVariants.{Restart}
 use Rattle.mg_model.specs.World.{World, execute, OccursTo, Occurs, Runs, Opened, IsOpening, IsGood}
 use Rattle.mg_model.specs.Board.{null_row}
+use Rattle.mg_model.specs.Numbers.{the_line}
 
 -- nothing but the replies that were sent
 pub record IsSameButReplies (w after : World) : Type 0 where
@@ -39,7 +40,7 @@ OldRequestsDoNothing =
     → number ≤ last_executed w.gateway call → IsSameButReplies w after
 
 pub record IsLineRestarted (w after : World) (l : ℕ) : Type 0 where
-  pub row : after.gateway.board.row (Line (record { 0 = l })) ≡ Some null_row
+  pub row : after.gateway.board.row (Line (the_line l)) ≡ Some null_row
   pub list : (after.gateway.line l).list ≡ []
   pub request : (after.gateway.line l).request ≡ None
   pub playing : (after.gateway.line l).playing ≡ silent
@@ -48,7 +49,7 @@ pub record IsLineRestarted (w after : World) (l : ℕ) : Type 0 where
 abbrev pub RestartsClearLines : Type 0
 RestartsClearLines =
     (script : Script) (w after : World) → Occurs script w Restart after → (l : ℕ) (row : Row)
-    → w.gateway.board.row (Line (record { 0 = l })) ≡ Some row → IsLineRestarted w after l
+    → w.gateway.board.row (Line (the_line l)) ≡ Some row → IsLineRestarted w after l
 
 -- ---- other calls
 

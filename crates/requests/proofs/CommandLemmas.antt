@@ -15,7 +15,7 @@ use Rattle.mg_model.specs.Items.{Chosen, Done, IsLegal, IsExecuted, effect, subt
 use Rattle.mg_model.specs.LineEvents.{LineRow, cleared}
 use Rattle.mg_model.specs.declared.references.TerminationRef.TheVariants as on
 use Rattle.mg_model.specs.Messages.{RequestCommand, add_line, add_ephemeral, modify, move, subtract, subtract_all, set_topology}
-use Rattle.mg_model.specs.RequestRun.{LineDescriptors, RaisedNote, Running, item_at, described, described_row, rearms, raised, line_after, after_command}
+use Rattle.mg_model.specs.RequestRun.{LineDescriptors, RaisedNote, Running, item_at, descriptors_for, described_row, has_new_events, raised, line_after, after_command}
 use Rattle.contexts.proofs.ExecLemmas.{both_known, is_true_from, not_null}
 use Rattle.context_tables.proofs.TermLemmas.{same_is, split_and}
 use Rattle.requests.specs.Commands.{IsThere, raised_on, row_in, finished, without_settings, described_line}
@@ -65,7 +65,7 @@ there_stays : (b after : Board) → ((l : ℕ) → has_line after l ≡ has_line
 there_stays b after stays None there = tt
 there_stays b after stays (Some on) there = stays on.line ∙ there
 
-there_before : (b : Board) (results : List Done) (command : RequestCommand) → IsLegal b (item_at results command) → IsThere b (described command)
+there_before : (b : Board) (results : List Done) (command : RequestCommand) → IsLegal b (item_at results command) → IsThere b (descriptors_for command)
 there_before b results (add_line c l d) legal = (both_known _ _ (legal UnknownTermination)).0
 there_before b results (add_ephemeral c d) legal = tt
 there_before b results (modify c (on.Line l) d) legal = (both_known _ _ (legal UnknownTermination)).0
@@ -77,8 +77,8 @@ there_before b results (subtract_all c) legal = tt
 there_before b results (set_topology c t u topology) legal = tt
 
 -- the line that a command describes is there after it
-pub there_after : (b : Board) (results : List Done) (command : RequestCommand) (after : Board) (done : Done) → IsExecuted b (item_at results command) after done → IsThere after (described command)
-there_after b results command after done e = there_stays b after (lines_stay b _ after done e) (described command) (there_before b results command e.legal)
+pub there_after : (b : Board) (results : List Done) (command : RequestCommand) (after : Board) (done : Done) → IsExecuted b (item_at results command) after done → IsThere after (descriptors_for command)
+there_after b results command after done e = there_stays b after (lines_stay b _ after done e) (descriptors_for command) (there_before b results command e.legal)
 
 -- ---- lines that leave
 
@@ -111,7 +111,7 @@ among_leaves b item after done e l = equal_tests (is_among done.lines l) (subtra
 
 -- ---- the rest of a command
 
-described_none : (b : Board) (results : List Done) (command : RequestCommand) (u : TermId) → subtracts b (item_at results command) u ≡ true → described command ≡ None
+described_none : (b : Board) (results : List Done) (command : RequestCommand) (u : TermId) → subtracts b (item_at results command) u ≡ true → descriptors_for command ≡ None
 described_none b results (add_line c l d) u h = absurd (search rules)
 described_none b results (add_ephemeral c d) u h = refl
 described_none b results (modify c t d) u h = absurd (search rules)
@@ -130,10 +130,10 @@ raised_same r None number = refl
 raised_same r (Some on) number = refl
 
 line_same : (r : Running) (command : RequestCommand) (gone : List ℕ) (number : ℕ) → ((l : ℕ) → is_among gone l ≡ subtracts r.board (item_at r.results command) (line l)) →
-    (l : ℕ) → row_in gone (described command) r.line number l ≡ line_after r command (item_at r.results command) number l
+    (l : ℕ) → row_in gone (descriptors_for command) r.line number l ≡ line_after r command (item_at r.results command) number l
 line_same r command gone number same l =
-    ap (λ (g : Bool). if g then cleared (described_row (described command) (r.line l) l number) else described_row (described command) (r.line l) l number) (same l)
-    ∙ row_either (described command) (r.line l) l number _ (λ h. described_none r.board r.results command (line l) h)
+    ap (λ (g : Bool). if g then cleared (described_row (descriptors_for command) (r.line l) l number) else described_row (descriptors_for command) (r.line l) l number) (same l)
+    ∙ row_either (descriptors_for command) (r.line l) l number _ (λ h. described_none r.board r.results command (line l) h)
 
 -- the settings make no difference to it
 finished_by_line : (r : Running) (d : Option LineDescriptors) (done : Done) (number : ℕ) → finished r (option_map without_settings d) done number ≡ finished r d done number
@@ -145,10 +145,10 @@ pub finished_is : (r : Running) (command : RequestCommand) (after : Board) (done
     finished (record r { board = after }) (described_line command) done number ≡ after_command r command (item_at r.results command) after done number
 finished_is r command after done number e =
     let same : (l : ℕ) → is_among done.lines l ≡ subtracts r.board (item_at r.results command) (line l) = among_leaves r.board (item_at r.results command) after done e in
-    finished_by_line (record r { board = after }) (described command) done number
+    finished_by_line (record r { board = after }) (descriptors_for command) done number
     ∙ (λ i. record {
       board = after;
       line = λ l. line_same r command done.lines number same l i;
       results = r.results ++ done ∷ [];
-      notes = filter (λ (n : RaisedNote). not (same n.line i || rearms (described command) n.line)) r.notes ++ raised_same r (described command) number i;
+      notes = filter (λ (n : RaisedNote). not (same n.line i || has_new_events (descriptors_for command) n.line)) r.notes ++ raised_same r (descriptors_for command) number i;
     })

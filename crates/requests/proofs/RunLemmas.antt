@@ -9,7 +9,7 @@ use Rattle.mg_model.specs.Board.{Board}
 use Rattle.mg_model.specs.Items.{Done, IsExecuted}
 use Rattle.mg_model.specs.LineEvents.{LineRow}
 use Rattle.mg_model.specs.Messages as model
-use Rattle.mg_model.specs.RequestRun.{Running, RunsFrom, Succeeds, Fails, chosen_at, item_at, described}
+use Rattle.mg_model.specs.RequestRun.{Running, RunsFrom, Succeeds, Fails, chosen_at, item_at, descriptors_for}
 use Rattle.requests.specs.declared.command.RequestCommand.{RequestCommand}
 use Rattle.requests.specs.Commands.{finished, described_line, IsThere}
 use Rattle.requests.specs.Views.{command_of}
@@ -33,7 +33,7 @@ succeeds r next command item after line done place refusal number item_is none e
     }
 
 pub there : (b : Board) (results : List Done) (command : model.RequestCommand) (item : Item) (after : Board) (done : Done) →
-    item ≡ item_at results command → IsExecuted b item after done → IsThere after (described command)
+    item ≡ item_at results command → IsExecuted b item after done → IsThere after (descriptors_for command)
 there b results command item after done item_is e = there_after b results command after done (subst (λ (i : Item). IsExecuted b i after done) item_is e)
 
 -- the commands from a place on are the one there and those from the next place on

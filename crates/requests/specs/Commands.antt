@@ -11,7 +11,7 @@ use Rattle.mg_model.specs.Items.{Done}
 use Rattle.mg_model.specs.LineEvents.{LineRow, new_line, cleared}
 use Rattle.mg_model.specs.Members.{is_among}
 use Rattle.mg_model.specs.Messages.{RequestCommand}
-use Rattle.mg_model.specs.RequestRun.{LineDescriptors, RaisedNote, Running, Succeeds, Fails, on_line, described, described_row, note_from, with_descriptors, rearms}
+use Rattle.mg_model.specs.RequestRun.{LineDescriptors, RaisedNote, Running, Succeeds, Fails, on_line, descriptors_for, described_row, note_from, with_descriptors, has_new_events}
 use Rattle.requests.specs.declared.outcome.LineNote.{LineNote}
 use Rattle.requests.specs.declared.progress.Progress.{Progress}
 use Rattle.requests.specs.Connected.{has_line, end_in}
@@ -34,9 +34,9 @@ abbrev pub without_settings : LineDescriptors → LineDescriptors
 without_settings on = on_line on.line (record on.descriptors { mode = None; remote = None })
 
 abbrev pub described_line : RequestCommand → Option LineDescriptors
-described_line command = option_map without_settings (described command)
+described_line command = option_map without_settings (descriptors_for command)
 
--- the line that is described is there
+-- the line that is descriptors_for is there
 abbrev pub IsThere : Board → Option LineDescriptors → Type 0
 IsThere b None = Unit {0}
 IsThere b (Some on) = has_line b on.line ≡ true
@@ -47,7 +47,7 @@ row_in gone d rows number l = if is_among gone l then cleared (described_row d (
 
 -- the notes whose descriptor still stands
 abbrev pub notes_left : List ℕ → Option LineDescriptors → List RaisedNote → List RaisedNote
-notes_left gone d notes = filter (λ (n : RaisedNote). not (is_among gone n.line || rearms d n.line)) notes
+notes_left gone d notes = filter (λ (n : RaisedNote). not (is_among gone n.line || has_new_events d n.line)) notes
 
 abbrev pub noted : Option LineNote → List RaisedNote
 noted None = []

@@ -11,6 +11,7 @@ use Rattle.mg_model.specs.LineEvents.{LineRow, Outcome, new_line}
 use Rattle.mg_model.specs.Messages.{Request}
 use Rattle.mg_model.specs.RequestRun.{RaisedNote, Running, RunsFrom}
 use Rattle.mg_model.specs.World.{armed_line}
+use Rattle.mg_model.specs.Numbers.{the_line}
 use Rattle.contexts.specs.BoardValue.{BoardValue, board_of}
 use Rattle.line_events.specs.declared.fault.LineFault.TheVariants.{UnknownLine}
 use Rattle.line_events.specs.Answers.{Answer, row_after, answer}
@@ -29,7 +30,7 @@ line_in c l = unwrap_or (row_of c.lines l) new_line
 
 -- whether a line is there
 abbrev pub has_line : Board → ℕ → Bool
-has_line b l = exists b (Line (record { 0 = l }))
+has_line b l = exists b (Line (the_line l))
 
 -- the row of a line that is there
 abbrev pub line_there : Connected → ℕ → Option LineRow
@@ -37,7 +38,7 @@ line_there c l = if has_line (board_in c) l then Some (line_in c l) else None
 
 -- whether a line is there, in the null context
 abbrev pub is_idle : Board → ℕ → Bool
-is_idle b l = has_line b l && (place_of b (Line (record { 0 = l })) == 0)
+is_idle b l = has_line b l && (place_of b (Line (the_line l)) == 0)
 
 -- the lines of the board are those that have rows
 abbrev pub IsMatched : Board → (ℕ → Option LineRow) → Type 0

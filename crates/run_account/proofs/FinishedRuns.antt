@@ -69,11 +69,13 @@ opens_too : (script : Script) (calls others : List Opened) (w : World) → ((one
 opens_too script calls others w here there is = record {
   distinct = distinct_too script calls others there is.distinct;
   lines = record {
-    stand = λ one among. is.lines.stand one (there one among);
-    armed = λ one among. is.lines.armed one (there one among);
-    held = λ one among. is.lines.held one (there one among);
+    held = λ l call. (
+      (λ held. let it = (is.lines.held l call).0 held in record { one = it.one; i = it.i; among = here it.one it.among; is_call = it.is_call; within = it.within; is_line = it.is_line }),
+      (λ it. (is.lines.held l call).1 record { one = it.one; i = it.i; among = there it.one it.among; is_call = it.is_call; within = it.within; is_line = it.is_line }),
+    );
+    stand = is.lines.stand;
+    armed = is.lines.armed;
     others_null = is.lines.others_null;
-    held_alone = λ l call held. let it = is.lines.held_alone l call held in (it.0, it.1, here it.0 it.2, it.3, it.4, it.5);
   };
   gateway = is.gateway;
   agents = record {

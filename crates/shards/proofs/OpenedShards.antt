@@ -131,11 +131,13 @@ module _ (script : Script) (xs ys : List Opened) (w : World) (has : (o : Opened)
       lines_differ = λ a b in_a in_b. is.distinct.lines_differ a b (each a in_a) (each b in_b);
     };
     lines = record {
-      stand = λ o among. is.lines.stand o (each o among);
-      armed = λ o among. is.lines.armed o (each o among);
-      held = λ o among. is.lines.held o (each o among);
+      held = λ l c. (
+        (λ holds. let by = (is.lines.held l c).0 holds in record { one = by.one; i = by.i; among = has by.one by.among; is_call = by.is_call; within = by.within; is_line = by.is_line }),
+        (λ by. (is.lines.held l c).1 record { one = by.one; i = by.i; among = each by.one by.among; is_call = by.is_call; within = by.within; is_line = by.is_line }),
+      );
+      stand = is.lines.stand;
+      armed = is.lines.armed;
       others_null = is.lines.others_null;
-      held_alone = λ l c holds. let by = is.lines.held_alone l c holds in (by.0, by.1, has by.0 by.2, by.3, by.4, by.5);
     };
     gateway = is.gateway;
     agents = record {

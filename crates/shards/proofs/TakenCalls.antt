@@ -190,10 +190,10 @@ module _ (script : Script) (calls : List OpenedCall) (first stride : ℕ) (g : G
       by_holder : (holder : Option ℕ) → (gateway_of g).holder line ≡ holder → not (is_some ((gateway_of g).holder line)) ≡ false → Taken
       by_holder None at held = absurd (true≢false (sym (ap (λ (h : Option ℕ). not (is_some h)) at) ∙ held))
       by_holder (Some c) at held =
-          let by = o.is_opening.lines.held_alone line c at in
-          let earlier = is_before by.0 by.2 in
-          let same : line_at earlier.0.lines.items by.1 ≡ line = ap (λ (of : Opened). of.lines by.1) earlier.1.1 ∙ by.5 in
-          let within : by.1 < length earlier.0.lines.items = subst (λ n. by.1 < n) (sym (have earlier.0 earlier.1.0)) by.4 in
+          let by = (o.is_opening.lines.held line c).0 at in
+          let earlier = is_before by.one by.among in
+          let same : line_at earlier.0.lines.items by.i ≡ line = ap (λ (of : Opened). of.lines by.i) earlier.1.1 ∙ by.is_line in
+          let within : by.i < length earlier.0.lines.items = subst (λ n. by.i < n) (sym (have earlier.0 earlier.1.0)) by.within in
           inl (
             earlier.0,
             earlier.1.0,

@@ -14,6 +14,7 @@ use Rattle.mg_model.specs.Gateway.{CallLink, Gateway}
 use Rattle.mg_model.specs.LineEvents.{LineRow, new_line}
 use Rattle.mg_model.specs.Script.{Script}
 use Rattle.mg_model.specs.World.{AreDistinct, AreOpenedAgents, AreOpenedLines, IsNewGateway, IsOpening, Opened, World}
+use Rattle.mg_model.proofs.OpenedLines.{line_held}
 use Rattle.contexts.specs.BoardValue.{names_line}
 use Rattle.gateway.specs.declared.fault.OpenFault.{OpenFault}
 use Rattle.gateway.specs.declared.fault.OpenFault.TheVariants.{UnknownLine, Taken}
@@ -113,7 +114,7 @@ module _ (script : Script) (calls : List Opened) (one : Opened) (s t : System) (
   -- a line of an earlier call isn't among those of this one
   apart : (o : Opened) → Contains calls o → (i j : ℕ) → i < length script.lines → j < length script.lines → line_at d.lines i ≡ o.lines j → ⊥
   apart o among i j within other same =
-      let held = before.is_opening.lines.held o among j other in
+      let held = line_held script calls g before.is_opening.lines o among j other in
       not_held script g calls one.call d.lines frees (o.lines j) o.call held
       (subst (λ (n : ℕ). names_line d.lines n ≡ true) same (named_at i within))
     where
@@ -231,11 +232,10 @@ module _ (script : Script) (s : System) (d : Starts s) where
 
   first_lines : AreOpenedLines script [] first
   first_lines = record {
-    stand = λ o among. absurd (nothing_in o among);
-    armed = λ o among. absurd (nothing_in o among);
-    held = λ o among. absurd (nothing_in o among);
+    held = λ l c. ((λ is. absurd (true≢false (sym (ap is_some is)))), (λ its. absurd (nothing_in its.one its.among)));
+    stand = λ l c is. absurd (true≢false (sym (ap is_some is)));
+    armed = λ l c is. absurd (true≢false (sym (ap is_some is)));
     others_null = λ l row. started_row l row (names_line d.lines l);
-    held_alone = λ l c is. absurd (true≢false (sym (ap is_some is)));
   }
 
   first_new : IsNewGateway first

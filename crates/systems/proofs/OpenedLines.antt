@@ -11,7 +11,8 @@ use Rattle.mg_model.specs.Board.{Board, exists, null_row}
 use Rattle.mg_model.specs.Gateway.{Gateway}
 use Rattle.mg_model.specs.LineEvents.{LineRow, new_line}
 use Rattle.mg_model.specs.Script.{Script}
-use Rattle.mg_model.specs.World.{AreOpenedLines, Opened, armed_line}
+use Rattle.mg_model.specs.World.{AreOpenedLines, IsLineOf, Opened, armed_line}
+use Rattle.mg_model.proofs.OpenedLines.{line_armed, line_held, line_stands, opened_lines}
 use Rattle.contexts.specs.BoardValue.{names_line}
 use Rattle.requests.specs.Connected.{is_idle, has_line, opened_line}
 use Rattle.gateway.specs.Openings.{are_free, has_twice, inactive_row, is_free, opened}
@@ -103,24 +104,9 @@ module _ (script : Script) (g : Gateway) (calls : List Opened) (call : ℕ) (lin
       no_number c (g.holder n) (subst (λ (l : ℕ). g.holder l ≡ None) place.1.1 none) held
 
   pub lines_opened : AreOpenedLines script calls g → ((l : ℕ) → (g.line l).hook ≡ new_line.hook) → AreOpenedLines script (one ∷ calls) (opened g call lines)
-  lines_opened before hooks = record {
-    stand = λ other contains i within. elim (latest_or_earlier one calls other contains) [
-      | inl same ↦ subst (λ (o : Opened). (opened g call lines).board.row (Line (record { 0 = o.lines i })) ≡ Some null_row) same (stands i within)
-      | inr later ↦ still_null (names_line lines (other.lines i)) (g.board.row (Line (record { 0 = other.lines i }))) (before.stand other later i within)
-    ];
-    armed = λ other contains i within. elim (latest_or_earlier one calls other contains) [
-      | inl same ↦ subst (λ (o : Opened). (opened g call lines).line (o.lines i) ≡ armed_line) same
-          (now_armed (names_line lines (line_at lines i)) (g.line (line_at lines i)) (among i within) (hooks (line_at lines i)))
-      | inr later ↦ still_armed (names_line lines (other.lines i)) (g.line (other.lines i)) (before.armed other later i within)
-    ];
-    held = λ other contains i within. elim (latest_or_earlier one calls other contains) [
-      | inl same ↦ subst (λ (o : Opened). (opened g call lines).holder (o.lines i) ≡ Some o.call) same
-          (now_held (names_line lines (line_at lines i)) call (g.holder (line_at lines i)) (among i within))
-      | inr later ↦ still_held (other.lines i) other.call (before.held other later i within) (names_line lines (other.lines i)) refl
-    ];
-    others_null = λ l row is. null_after (names_line lines l) (g.board.row (Line (record { 0 = l }))) (before.others_null l) row is;
-    held_alone = λ l c is. held_by l c (names_line lines l) refl is;
-  }
+  lines_opened before hooks = opened_lines script (one ∷ calls) (opened g call lines) stand armed held
+      (λ l row is. null_after (names_line lines l) (g.board.row (Line (record { 0 = l }))) (before.others_null l) row is)
+      (λ l c is. held_by l c (names_line lines l) refl is)
     where
       stands : (i : ℕ) → i < length script.lines → (opened g call lines).board.row (Line (record { 0 = line_at lines i })) ≡ Some null_row
       stands i within =
@@ -133,10 +119,31 @@ module _ (script : Script) (g : Gateway) (calls : List Opened) (call : ℕ) (lin
       still_held n c held true is = absurd (not_held n c held is)
       still_held n c held false is = held
 
-      held_by : (l c : ℕ) (is : Bool) → names_line lines l ≡ is → (if is then Some call else g.holder l) ≡ Some c
-          → (o : Opened) × (i : ℕ) × Contains (one ∷ calls) o × (o.call ≡ c) × (i < length script.lines) × (o.lines i ≡ l)
+      held_by : (l c : ℕ) (is : Bool) → names_line lines l ≡ is → (if is then Some call else g.holder l) ≡ Some c → IsLineOf script (one ∷ calls) l c
       held_by l c true is held =
           let place = place_of_named lines l is in
-          (one, place.0, first_in one calls, same_Some call c held, omega (arith, place.1.0, may.all_lines), place.1.1)
+          record { one = one; i = place.0; among = first_in one calls; is_call = same_Some call c held; within = omega (arith, place.1.0, may.all_lines); is_line = place.1.1 }
       held_by l c false is held =
-          let by = before.held_alone l c held in (by.0, by.1, later_in one calls by.0 by.2, by.3, by.4, by.5)
+          let by = (before.held l c).0 held in
+          record { one = by.one; i = by.i; among = later_in one calls by.one by.among; is_call = by.is_call; within = by.within; is_line = by.is_line }
+
+      stand : (other : Opened) → Contains (one ∷ calls) other → (i : ℕ) → i < length script.lines
+          → (opened g call lines).board.row (Line (record { 0 = other.lines i })) ≡ Some null_row
+      stand other contains i within = elim (latest_or_earlier one calls other contains) [
+        | inl same ↦ subst (λ (o : Opened). (opened g call lines).board.row (Line (record { 0 = o.lines i })) ≡ Some null_row) same (stands i within)
+        | inr later ↦ still_null (names_line lines (other.lines i)) (g.board.row (Line (record { 0 = other.lines i }))) (line_stands script calls g before other later i within)
+      ]
+
+      armed : (other : Opened) → Contains (one ∷ calls) other → (i : ℕ) → i < length script.lines → (opened g call lines).line (other.lines i) ≡ armed_line
+      armed other contains i within = elim (latest_or_earlier one calls other contains) [
+        | inl same ↦ subst (λ (o : Opened). (opened g call lines).line (o.lines i) ≡ armed_line) same
+            (now_armed (names_line lines (line_at lines i)) (g.line (line_at lines i)) (among i within) (hooks (line_at lines i)))
+        | inr later ↦ still_armed (names_line lines (other.lines i)) (g.line (other.lines i)) (line_armed script calls g before other later i within)
+      ]
+
+      held : (other : Opened) → Contains (one ∷ calls) other → (i : ℕ) → i < length script.lines → (opened g call lines).holder (other.lines i) ≡ Some other.call
+      held other contains i within = elim (latest_or_earlier one calls other contains) [
+        | inl same ↦ subst (λ (o : Opened). (opened g call lines).holder (o.lines i) ≡ Some o.call) same
+            (now_held (names_line lines (line_at lines i)) call (g.holder (line_at lines i)) (among i within))
+        | inr later ↦ still_held (other.lines i) other.call (line_held script calls g before other later i within) (names_line lines (other.lines i)) refl
+      ]

@@ -14,6 +14,7 @@ use Rattle.mg_model.specs.Messages.{Request, Reply, SentNote}
 use Rattle.mg_model.specs.Script.{Script}
 use Rattle.mg_model.specs.Tables.{line_places}
 use Rattle.mg_model.specs.World.{World, HasEnded, sent_in}
+use Rattle.mg_model.specs.Numbers.{the_call}
 use Rattle.gateway.specs.declared.answer.Answer.{Answer}
 use Rattle.gateway.specs.declared.answer.Answer.TheVariants as answer
 use Rattle.gateway.specs.declared.fault.CannotHappen as fault
@@ -134,7 +135,7 @@ pub record Steps (s t : System) : Type 0 where
   pub taken : Option Agent
   pub open_call : s.call number ≡ Some old
   pub takes : Takes old.script s number (agent_in old) happens taken
-  pub done : calls.IsDone taken (OfCall (record { 0 = number }) happens) old new (Ok tt)
+  pub done : calls.IsDone taken (OfCall (the_call number) happens) old new (Ok tt)
   pub calls : t.call ≡ with_call s.call number new
   pub gateway : t.gateway ≡ s.gateway
   pub requests : t.requests ≡ sent_in (agent_in new).phase ++ s.requests

@@ -11,7 +11,7 @@ use Rattle.mg_names.specs.declared.identifiers.TermId.{TermId}
 use Rattle.mg_names.specs.declared.identifiers.TermId.TheVariants.{Line, Eph}
 use Rattle.mg_names.specs.declared.modes.Mode.{Mode}
 use Rattle.mg_model.specs.declared.rows.Row.{Row}
-use Rattle.mg_model.specs.Numbers.{null, last_ephemeral}
+use Rattle.mg_model.specs.Numbers.{null, last_ephemeral, the_context}
 use Rattle.mg_model.specs.Board.{row_with, null_row}
 use Rattle.mg_model.specs.Items.{given, is_ephemeral_number}
 use Rattle.identifiers.specs.Class.{is_of_class}
@@ -59,7 +59,7 @@ put context (Some row) = Some (put_in context row)
 
 abbrev pub left : Option Row → Option Row
 left None = None
-left (Some row) = Some (record row { place = record { 0 = 0 } })
+left (Some row) = Some (record row { place = the_context 0 })
 
 -- an ephemeral is no more; a line stays
 abbrev pub destroyed : TermId → Option Row → Option Row

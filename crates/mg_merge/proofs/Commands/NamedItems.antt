@@ -14,7 +14,7 @@ use Rattle.mg_model.specs.declared.references.TerminationRef.TheVariants as on
 use Rattle.mg_model.specs.Items.{Done}
 use Rattle.mg_model.specs.Messages.{Descriptors, RequestCommand, add_line, add_ephemeral, modify, move, subtract, subtract_all, set_topology}
 use Rattle.mg_model.specs.Numbers.{all, no_ephemeral}
-use Rattle.mg_model.specs.RequestRun.{context_at, ephemeral_at, termination_at, remote_at, item_at, LineDescriptors, on_line, of_termination, described}
+use Rattle.mg_model.specs.RequestRun.{context_at, ephemeral_at, termination_at, remote_at, item_at, LineDescriptors, on_line, of_termination, descriptors_for}
 use Rattle.mg_model.proofs.Cases.{none_is_some, the_some}
 use Rattle.mg_merge.proofs.Scopes.{Scope, NamesContext, NamesEphemeral, NamesTerm, NamesRemote, NamesItem, IsContextOf, IsEphemeralOf}
 
@@ -114,7 +114,7 @@ described_term : (s : Scope) (t : TerminationRef) (d : Descriptors) → NamesTer
 described_term s (on.Line l) d names with_it e = subst (λ (x : LineDescriptors). s.lines x.line ≡ true) (the_some (on_line l.0 d) with_it e) names
 described_term s (on.Ephemeral k) d names with_it e = absurd (none_is_some with_it e)
 
-pub described_mine : (s : Scope) (command : RequestCommand) → NamesCommand s command → (with_it : LineDescriptors) → described command ≡ Some with_it
+pub described_mine : (s : Scope) (command : RequestCommand) → NamesCommand s command → (with_it : LineDescriptors) → descriptors_for command ≡ Some with_it
     → s.lines with_it.line ≡ true
 described_mine s (add_line c l d) names with_it e = subst (λ (x : LineDescriptors). s.lines x.line ≡ true) (the_some (on_line l d) with_it e) names.1
 described_mine s (add_ephemeral c d) names with_it e = absurd (none_is_some with_it e)

@@ -13,7 +13,7 @@ use Rattle.mg_model.specs.Board.{Board}
 use Rattle.mg_model.specs.Items.{Chosen, Done, IsExecuted, IsLegal, IsResult, IsFresh, IsUsedUp, only_if, creates_context, creates_ephemeral, subtracts}
 use Rattle.mg_model.specs.LineEvents.{LineRow, cleared}
 use Rattle.mg_model.specs.Messages.{RequestCommand}
-use Rattle.mg_model.specs.RequestRun.{Running, RaisedNote, RunsFrom, Succeeds, Fails, IsRefusedWith, MayRefuse, LineDescriptors, after_command, chosen_at, described, described_row, item_at, line_after, note_from, raised, rearms, standing, with_descriptors}
+use Rattle.mg_model.specs.RequestRun.{Running, RaisedNote, RunsFrom, Succeeds, Fails, IsRefusedWith, MayRefuse, LineDescriptors, after_command, chosen_at, descriptors_for, described_row, item_at, line_after, note_from, raised, has_new_events, standing, with_descriptors}
 use Rattle.mg_model.proofs.Cases.{different, none_is_some, not_both, the_some, where_false}
 use Rattle.mg_merge.proofs.Commands.SameCodes.{leaves_same, applies_on, applies_back}
 use Rattle.mg_merge.proofs.Commands.Changes.{not_leaving, fresh_context, fresh_ephemeral}
@@ -59,7 +59,7 @@ outside_on s m between after first second = record {
 
 -- the row of a line after a command, by whether it leaves
 abbrev row_by : Bool → RequestCommand → LineRow → ℕ → ℕ → LineRow
-row_by leaves command row l number = if leaves then cleared row else described_row (described command) row l number
+row_by leaves command row l number = if leaves then cleared row else described_row (descriptors_for command) row l number
 
 -- the shard's results are the shard's
 done_by : (s : Scope) (b : Board) (within : IsWithin s b) (item : Item) (names : NamesItem s item) (legal : IsLegal b item) (chosen : Chosen)
@@ -106,27 +106,27 @@ module _ (s : Scope) (r m : Running) (along : RunsBeside s r m) (command : Reque
   line_stays legal l other =
       ap (λ leaves. row_by leaves command (m.line l) l number)
       (leaves_too legal l ∙ not_leaving s r.board along.within item item_names legal (Line (record { 0 = l })) other)
-      ∙ go (described command) refl
+      ∙ go (descriptors_for command) refl
     where
-      go : (o : Option LineDescriptors) → described command ≡ o → described_row o (m.line l) l number ≡ m.line l
+      go : (o : Option LineDescriptors) → descriptors_for command ≡ o → described_row o (m.line l) l number ≡ m.line l
       go None e = refl
       go (Some with_it) e = where_false (with_it.line == l) (with_descriptors (m.line l) with_it.descriptors number).row (m.line l)
           (different with_it.line l (λ is. not_both (sym (ap s.lines is) ∙ described_mine s command names with_it e) other))
 
-  raised_same : raised m (described command) number ≡ raised r (described command) number
-  raised_same = go (described command) refl
+  raised_same : raised m (descriptors_for command) number ≡ raised r (descriptors_for command) number
+  raised_same = go (descriptors_for command) refl
     where
-      go : (o : Option LineDescriptors) → described command ≡ o → raised m o number ≡ raised r o number
+      go : (o : Option LineDescriptors) → descriptors_for command ≡ o → raised m o number ≡ raised r o number
       go None e = refl
       go (Some with_it) e = ap (λ row. note_from with_it.line (with_descriptors row with_it.descriptors number).note)
           (along.line with_it.line (described_mine s command names with_it e))
 
   standing_same : IsLegal r.board item → standing m command (item_at m.results command) ≡ standing r command item
   standing_same legal =
-      filter_agree (λ (n : RaisedNote). not (subtracts m.board (item_at m.results command) (Line (record { 0 = n.line })) || rearms (described command) n.line))
-      (λ (n : RaisedNote). not (subtracts r.board item (Line (record { 0 = n.line })) || rearms (described command) n.line))
-      (λ n. ap (λ leaves. not (leaves || rearms (described command) n.line)) (leaves_too legal n.line)) m.notes
-      ∙ ap (λ notes. filter (λ (n : RaisedNote). not (subtracts r.board item (Line (record { 0 = n.line })) || rearms (described command) n.line)) notes) along.notes
+      filter_agree (λ (n : RaisedNote). not (subtracts m.board (item_at m.results command) (Line (record { 0 = n.line })) || has_new_events (descriptors_for command) n.line))
+      (λ (n : RaisedNote). not (subtracts r.board item (Line (record { 0 = n.line })) || has_new_events (descriptors_for command) n.line))
+      (λ n. ap (λ leaves. not (leaves || has_new_events (descriptors_for command) n.line)) (leaves_too legal n.line)) m.notes
+      ∙ ap (λ notes. filter (λ (n : RaisedNote). not (subtracts r.board item (Line (record { 0 = n.line })) || has_new_events (descriptors_for command) n.line)) notes) along.notes
 
   -- what becomes of the request in the merge
   pub record SucceedsBeside (place : ℕ) (refusal : Option ChosenRefusal) (next : Running) : Type 0 where
@@ -151,7 +151,7 @@ module _ (s : Scope) (r m : Running) (along : RunsBeside s r m) (command : Reque
         whole = there.whole;
         line = line_same ran.legal;
         results = ap (λ results. results ++ x.done ∷ []) along.results;
-        notes = ap (λ notes. notes ++ raised m (described command) number) (standing_same ran.legal)
+        notes = ap (λ notes. notes ++ raised m (descriptors_for command) number) (standing_same ran.legal)
             ∙ ap (λ notes. standing r command item ++ notes) raised_same;
         made = All-push (IsDoneBy s) r.results x.done along.made
             (done_by s r.board along.within item item_names ran.legal ran.chosen ran.fresh x.done ran.result);

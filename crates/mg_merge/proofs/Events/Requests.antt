@@ -66,7 +66,7 @@ module _ (script : Script) (s : Scope) (w m : World) (contained : IsContained sc
   -- ---- whose an ephemeral is
 
   created_from : (k c : ℕ) → creator_after w.gateway request end k ≡ Some c → (s.class k ≡ true) × (s.numbers c ≡ true)
-  created_from k c = go (exists end.board (Eph k)) (w.gateway.board.used_ephemeral k) refl
+  created_from k c = go (exists end.board (Eph k)) (exists w.gateway.board (Eph k)) refl
     where
       go : (stands used : Bool) → exists end.board (Eph k) ≡ stands
           → (if stands then (if used then w.gateway.creator k else Some request.call) else None) ≡ Some c → (s.class k ≡ true) × (s.numbers c ≡ true)
@@ -76,19 +76,17 @@ module _ (script : Script) (s : Scope) (w m : World) (contained : IsContained sc
 
   created_same : (k : ℕ) → s.class k ≡ true → creator_after m.gateway request ends.merged k ≡ creator_after w.gateway request end k
   created_same k its =
-      ap (λ (stands : Bool). if stands then (if m.gateway.board.used_ephemeral k then m.gateway.creator k else Some request.call) else None)
+      ap (λ (stands : Bool). if stands then (if exists m.gateway.board (Eph k) then m.gateway.creator k else Some request.call) else None)
       (ap is_some (ends.beside_it.part.row (Eph k) its))
-      ∙ ap (λ (used : Bool). if exists end.board (Eph k) then (if used then m.gateway.creator k else Some request.call) else None)
-      (along.board.used_ephemeral k its)
-      ∙ ap (λ (was : Option ℕ). if exists end.board (Eph k) then (if w.gateway.board.used_ephemeral k then was else Some request.call) else None)
+      ∙ ap (λ (stood : Bool). if exists end.board (Eph k) then (if stood then m.gateway.creator k else Some request.call) else None)
+      (ap is_some (along.board.row (Eph k) its))
+      ∙ ap (λ (was : Option ℕ). if exists end.board (Eph k) then (if exists w.gateway.board (Eph k) then was else Some request.call) else None)
       (along.creator k its)
 
   created_other : (k : ℕ) → s.class k ≡ false → creator_after m.gateway request ends.merged k ≡ m.gateway.creator k
   created_other k other =
-      ap (λ (stands : Bool). if stands then (if m.gateway.board.used_ephemeral k then m.gateway.creator k else Some request.call) else None)
+      ap (λ (stands : Bool). if stands then (if exists m.gateway.board (Eph k) then m.gateway.creator k else Some request.call) else None)
       (ap is_some (ends.others.board.row (Eph k) other))
-      ∙ ap (λ (used : Bool). if exists m.gateway.board (Eph k) then (if used then m.gateway.creator k else Some request.call) else None)
-      (merge.ephemerals k)
       ∙ go (exists m.gateway.board (Eph k)) refl
     where
       go : (stands : Bool) → exists m.gateway.board (Eph k) ≡ stands
@@ -104,7 +102,7 @@ module _ (script : Script) (s : Scope) (w m : World) (contained : IsContained sc
       go false e = along.own_creator k c (sym (created_other k e) ∙ is) its
 
   created_none : (k : ℕ) → exists ends.merged.board (Eph k) ≡ false → creator_after m.gateway request ends.merged k ≡ None
-  created_none k e = ap (λ (stands : Bool). if stands then (if m.gateway.board.used_ephemeral k then m.gateway.creator k else Some request.call) else None) e
+  created_none k e = ap (λ (stands : Bool). if stands then (if exists m.gateway.board (Eph k) then m.gateway.creator k else Some request.call) else None) e
 
   -- ---- links
 

@@ -10,8 +10,9 @@ use Rattle.mg_model.specs.Gateway.{CallLink}
 use Rattle.mg_model.specs.Numbers.{first_association}
 use Rattle.mg_model.specs.Script.{Script}
 use Rattle.mg_model.specs.Shards.{Shard, IsShardRun, AreAllApart, all_calls}
-use Rattle.mg_model.specs.World.{World, Opened, IsOpening, AreDistinct, AreOpenedLines, armed_line}
+use Rattle.mg_model.specs.World.{World, Opened, IsOpening, AreDistinct, AreOpenedLines, IsLineOf, armed_line}
 use Rattle.mg_model.proofs.Cases.{false_not_true, none_is_some, the_some}
+use Rattle.mg_model.proofs.OpenedLines.{line_armed, line_held, line_stands, opened_lines}
 use Rattle.mg_merge.proofs.Shards.Choosing.{first_with, only_with, from_first, class_of, in_class, two_of}
 use Rattle.mg_merge.proofs.Lists.{in_joined, from_joined}
 use Rattle.mg_merge.proofs.Shards.Opening.{line_of_call, call_line, start_contained, nothing_in, separate}
@@ -90,13 +91,13 @@ module _ (script : Script) (shards : List Shard) (runs : (shard : Shard) → Con
     row_by : (t : TermId) → mine (scope_of shard) t ≡ true → opened_row t ≡ shard.start.gateway.board.row t
     row_by (Line l) own =
         let one = line_of_call script shard (runs shard there) l.0 own in
-        sym ((runs shard there).opens.lines.stand one.0 one.2 one.1 one.3) ∙ ap (λ (n : ℕ). shard.start.gateway.board.row (Line (record { 0 = n }))) one.4
+        sym (line_stands script shard.calls shard.start.gateway (runs shard there).opens.lines one.0 one.2 one.1 one.3) ∙ ap (λ (n : ℕ). shard.start.gateway.board.row (Line (record { 0 = n }))) one.4
     row_by (Eph k) own = sym ((runs shard there).opens.gateway.no_ephemeral k)
 
     line_by : (l : ℕ) → (scope_of shard).lines l ≡ true → armed_line ≡ shard.start.gateway.line l
     line_by l own =
         let one = line_of_call script shard (runs shard there) l own in
-        sym ((runs shard there).opens.lines.armed one.0 one.2 one.1 one.3) ∙ ap shard.start.gateway.line one.4
+        sym (line_armed script shard.calls shard.start.gateway (runs shard there).opens.lines one.0 one.2 one.1 one.3) ∙ ap shard.start.gateway.line one.4
 
     own_holder : (l c : ℕ) → first_with (holder_of l) shards ≡ Some c → shard.numbers c ≡ true → (scope_of shard).lines l ≡ true
     own_holder l c held own =
@@ -155,24 +156,34 @@ module _ (script : Script) (shards : List Shard) (runs : (shard : Shard) → Con
         ];
   }
 
-  opened_lines : AreOpenedLines script (all_calls shards) (merged_start shards).gateway
-  opened_lines = record {
-    stand = λ one here i within. refl;
-    armed = λ one here i within. refl;
-    held = λ one here i within.
-        let a = whose one here in
-        held_by a.0 a.1 (one.lines i) (call_line script a.0 (runs a.0 a.1) one a.2 i within) ∙ (runs a.0 a.1).opens.lines.held one a.2 i within;
-    others_null = λ l row e. sym (the_some null_row row e);
-    held_alone = λ l c held.
-        let it = from_first (holder_of l) shards c held in
-        let one = (runs it.0 it.1).opens.lines.held_alone l c it.2 in
-        (one.0, one.1, in_joined (λ (shard : Shard). shard.calls) shards it.0 one.0 it.1 one.2, one.3, one.4, one.5);
-  }
+  merged_lines : AreOpenedLines script (all_calls shards) (merged_start shards).gateway
+  merged_lines = opened_lines script (all_calls shards) (merged_start shards).gateway (λ one here i within. refl) (λ one here i within. refl) held
+      (λ l row e. sym (the_some null_row row e)) alone
+    where
+      held : (one : Opened) → Contains (all_calls shards) one → (i : ℕ) → i < length script.lines
+          → (merged_start shards).gateway.holder (one.lines i) ≡ Some one.call
+      held one here i within =
+          let a = whose one here in
+          held_by a.0 a.1 (one.lines i) (call_line script a.0 (runs a.0 a.1) one a.2 i within)
+          ∙ line_held script a.0.calls a.0.start.gateway (runs a.0 a.1).opens.lines one a.2 i within
+
+      alone : (l c : ℕ) → (merged_start shards).gateway.holder l ≡ Some c → IsLineOf script (all_calls shards) l c
+      alone l c held =
+          let it = from_first (holder_of l) shards c held in
+          let its = ((runs it.0 it.1).opens.lines.held l c).0 it.2 in
+          record {
+            one = its.one;
+            i = its.i;
+            among = in_joined (λ (shard : Shard). shard.calls) shards it.0 its.one it.1 its.among;
+            is_call = its.is_call;
+            within = its.within;
+            is_line = its.is_line;
+          }
 
   pub opens : IsOpening script (all_calls shards) (merged_start shards)
   opens = record {
     distinct = distinct;
-    lines = opened_lines;
+    lines = merged_lines;
     gateway = record {
       association = refl;
       no_ephemeral = λ k. refl;

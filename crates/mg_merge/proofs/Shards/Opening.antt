@@ -12,6 +12,7 @@ use Rattle.mg_model.specs.Shards.{Shard, IsShardRun, AreApart}
 use Rattle.mg_model.specs.World.{World, Opened, IsOpening}
 use Rattle.mg_model.proofs.Cases.{false_not_true, none_is_some, some_of, the_some}
 use Rattle.mg_model.proofs.Single.{none_in}
+use Rattle.mg_model.proofs.OpenedLines.{line_held}
 use Rattle.mg_merge.proofs.Events.AgentNames.{IsAgentWithin, opened_within}
 use Rattle.mg_merge.proofs.Scopes.{Scope, scope_of, AreSeparate, IsWithin}
 use Rattle.mg_merge.proofs.Events.Worlds.{IsContained}
@@ -34,17 +35,17 @@ module _ (script : Script) (shard : Shard) (run : IsShardRun script shard) where
       → (one : Opened) × (i : ℕ) × Contains shard.calls one × (i < length script.lines) × (one.lines i ≡ l)
   line_of_call l own =
       let held = some_of (shard.start.gateway.holder l) own in
-      let one = run.opens.lines.held_alone l held.0 held.1 in
-      (one.0, one.1, one.2, one.4, one.5)
+      let its = (run.opens.lines.held l held.0).0 held.1 in
+      (its.one, its.i, its.among, its.within, its.is_line)
 
   -- and a line of such a call is the shard's
   pub call_line : (one : Opened) → Contains shard.calls one → (i : ℕ) → i < length script.lines → (scope_of shard).lines (one.lines i) ≡ true
-  call_line one there i within = ap is_some (run.opens.lines.held one there i within)
+  call_line one there i within = ap is_some (line_held script shard.calls shard.start.gateway run.opens.lines one there i within)
 
   start_holder : (l c : ℕ) → shard.start.gateway.holder l ≡ Some c → ((scope_of shard).lines l ≡ true) × (shard.numbers c ≡ true)
   start_holder l c held =
-      let one = run.opens.lines.held_alone l c held in
-      (ap is_some held, ap shard.numbers (sym one.3) ∙ run.calls one.0 one.2)
+      let its = (run.opens.lines.held l c).0 held in
+      (ap is_some held, ap shard.numbers (sym its.is_call) ∙ run.calls its.one its.among)
 
   start_agents : (c : ℕ) (a : Agent) → shard.start.agent c ≡ Some a → (shard.numbers c ≡ true) × IsAgentWithin script (scope_of shard) a
   start_agents c a there =

@@ -9,7 +9,8 @@ use Rattle.mg_model.specs.declared.steps.StepName.TheVariants as names
 use Rattle.mg_model.specs.Agent.{answers, Agent, Phase, awaits_reply, awaits_pass, resting, built_by, after_results, leads_on, replied_to, replied}
 use Rattle.mg_model.specs.Configuration.{Configuration}
 use Rattle.mg_model.specs.Entries.{Entry}
-use Rattle.mg_model.specs.Gateway.{Gateway, last_executed, number_of}
+use Rattle.mg_model.specs.Gateway.{Gateway, last_executed}
+use Rattle.mg_model.proofs.Offered.{number_of}
 use Rattle.mg_model.specs.Messages.{Request, Reply}
 use Rattle.mg_model.specs.Script.{Script}
 use Rattle.mg_model.specs.Steps as steps

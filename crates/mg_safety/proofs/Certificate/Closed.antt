@@ -6,7 +6,7 @@ use Rattle.std.proofs.lemmas.List.Elements.{All-contains}
 use Rattle.std.proofs.lemmas.Option.{slice_get-get_or}
 use Rattle.mg_model.specs.Configuration.{Configuration}
 use Rattle.mg_model.specs.Entries.{Entry, IsPointOf}
-use Rattle.mg_model.specs.Obligations.{OpeningCovered, ResetCovered, Marked, Cleared, Unbound, Live, StepCovered}
+use Rattle.mg_model.specs.Obligations.{OpeningCovered, ResetCovered, OfPoint, JoinedMarked, EndedCleared, CreatedUnbound, NamesLive, StepCovered}
 use Rattle.mg_model.specs.Script.{Script}
 use Rattle.mg_model.specs.Steps.{steps_of}
 use Rattle.mg_model.specs.Accepted.{IsEntryOf}
@@ -44,14 +44,14 @@ pub closed : NoneBrokenIsClosed
 closed script entries is of_entries none = record {
   opening = record { of_script = of_opening script; covered = none OpeningCovered };
   reset = record { of_script = of_reset script; covered = none ResetCovered };
-  marked = λ c stands. let p = point_in script entries of_entries c stands in none (Marked p.place p.number) p.entry p.at c p.point;
-  cleared = λ c stands. let p = point_in script entries of_entries c stands in none (Cleared p.place p.number) p.entry p.at c p.point;
-  unbound = λ c stands. let p = point_in script entries of_entries c stands in none (Unbound p.place p.number) p.entry p.at c p.point;
-  live = λ c stands. let p = point_in script entries of_entries c stands in none (Live p.place p.number) p.entry p.at c p.point;
+  marked = λ c stands. let p = point_in script entries of_entries c stands in none (OfPoint p.place p.number JoinedMarked) p.entry p.at c p.point;
+  cleared = λ c stands. let p = point_in script entries of_entries c stands in none (OfPoint p.place p.number EndedCleared) p.entry p.at c p.point;
+  unbound = λ c stands. let p = point_in script entries of_entries c stands in none (OfPoint p.place p.number CreatedUnbound) p.entry p.at c p.point;
+  live = λ c stands. let p = point_in script entries of_entries c stands in none (OfPoint p.place p.number NamesLive) p.entry p.at c p.point;
   steps = λ c step stands among.
       let p = point_in script entries of_entries c stands in
       record {
         of_script = All-contains (LeadsToOne script) (steps_of script c) step (of_steps script is c stands.of_script) among;
-        covered = none (StepCovered p.place p.number among.0) p.entry p.at c p.point step (contained_at (steps_of script c) step among);
+        covered = none (OfPoint p.place p.number (StepCovered among.0)) p.entry p.at c p.point step (contained_at (steps_of script c) step among);
       };
 }

@@ -11,7 +11,8 @@ use Rattle.mg_model.specs.declared.rows.Row.{Row}
 use Rattle.mg_model.specs.Agent.{Agent, after_results, built_by}
 use Rattle.mg_model.specs.Board.{Board, exists, place_of, place_in, remote_of, remote_in, IsSettled}
 use Rattle.mg_model.specs.Entries.{Entry}
-use Rattle.mg_model.specs.Gateway.{CallLink, last_executed, number_of, reply_of, after_request, creator_after, sent_notes}
+use Rattle.mg_model.specs.Gateway.{CallLink, last_executed, reply_of, after_request, creator_after, sent_notes}
+use Rattle.mg_model.proofs.Offered.{number_of}
 use Rattle.mg_model.specs.LineEvents.{LineRow, Note}
 use Rattle.mg_model.specs.Messages.{Request, Reply, SentNote}
 use Rattle.mg_model.specs.RequestRun.{Running, RaisedNote, note_on}
@@ -24,7 +25,7 @@ use Rattle.mg_model.proofs.Cases.{none_is_some}
 use Rattle.mg_safety.proofs.Invariant.Shown.{naming, IsAccounted, list_raises}
 use Rattle.mg_safety.proofs.Invariant.Sound.{is_call, IsKnown, IsOpen, IsReached, IsReplySound, IsNoteStanding, IsNoteSound, GatewayIsSound, IsSound}
 use Rattle.mg_safety.proofs.Invariant.Statements.{IsOwnChange, LineGoes}
-use Rattle.mg_safety.proofs.Events.Executing.{not_call_of, HasRun, link_own, link_other, executed_own, executed_other, executed_more, run_changes}
+use Rattle.mg_safety.proofs.Events.Executing.{not_call_of, HasRun, link_own, link_other, executed_own, executed_other, executed_more, run_changes, unused_absent}
 use Rattle.mg_safety.proofs.Events.ExecutedCalls.{world_after}
 
 -- ---- notes that a request sends
@@ -117,21 +118,21 @@ module _ (script : Script) (entries : List Entry) (w : World) (request : Request
 
   creator_stands : (x call : ℕ) → creator_after w.gateway request end x ≡ Some call → exists settled (Eph x) ≡ true
   creator_stands x call is = settled_stands (Eph x)
-      ∙ stands_if (exists end.board (Eph x)) (w.gateway.board.used_ephemeral x) (w.gateway.creator x) request.call call is
+      ∙ stands_if (exists end.board (Eph x)) (exists w.gateway.board (Eph x)) (w.gateway.creator x) request.call call is
 
   created : (x : ℕ) → exists settled (Eph x) ≡ true → (call : ℕ) × (a : Agent) × (creator_after w.gateway request end x ≡ Some call) × (w.agent call ≡ Some a)
   created x there = let stands : exists end.board (Eph x) ≡ true = sym (settled_stands (Eph x)) ∙ there in elim (h.run.changes.ephemeral x stands) [
     | inl before ↦ (let was = sound.gateway.created x before in (
       was.0,
       was.1,
-      creator_old (exists end.board (Eph x)) (w.gateway.board.used_ephemeral x) (w.gateway.creator x) request.call was.0 stands
-          (sound.gateway.accounted.ephemerals x before) was.2,
+      creator_old (exists end.board (Eph x)) (exists w.gateway.board (Eph x)) (w.gateway.creator x) request.call was.0 stands before was.2,
       was.3,
     ))
     | inr fresh ↦ (
       request.call,
       h.agent,
-      creator_new (exists end.board (Eph x)) (w.gateway.board.used_ephemeral x) (w.gateway.creator x) request.call stands fresh,
+      creator_new (exists end.board (Eph x)) (exists w.gateway.board (Eph x)) (w.gateway.creator x) request.call stands
+          (unused_absent (exists w.gateway.board (Eph x)) (w.gateway.board.used_ephemeral x) (sound.gateway.accounted.ephemerals x) fresh),
       h.open_call,
     )
   ]

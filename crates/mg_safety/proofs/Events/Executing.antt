@@ -1,14 +1,16 @@
 -- A request that is executed: it is the outstanding one of a current call, and what the gateway is after it, link by link and owner by owner.
-use Rattle.std.proofs.Common.{◌≡◌, ◌∙◌, ◌<◌, ◌≤◌, ℕ, Bool, true, false, List, Option, Some, refl, sym, ap, subst, arith, inl, inr}
+use Rattle.std.proofs.Common.{◌≡◌, ◌∙◌, ◌<◌, ◌≤◌, ℕ, Bool, true, false, List, Option, Some, None, refl, sym, ap, subst, arith, inl, inr, true≢false}
 use Rattle.std.proofs.lemmas.Bool.{eqb-true, eqb-false}
-use Rattle.std.specs.Prelude.{◌==◌, ◌+◌, length, ◌⊎◌}
+use Rattle.std.specs.Prelude.{◌==◌, ◌+◌, if◌then◌else◌, length, ◌⊎◌}
+use Rattle.mg_names.specs.declared.identifiers.TermId.TheVariants.{Eph}
 use Rattle.mg_model.specs.declared.failures.ChosenRefusal.{ChosenRefusal}
 use Rattle.mg_model.specs.declared.failures.Failure.{Failure}
 use Rattle.mg_names.specs.declared.phases.LinkPhase.TheVariants.{Sent}
 use Rattle.mg_model.specs.Agent.{Agent, awaits_reply}
-use Rattle.mg_model.specs.Board.{Board, IsSettled}
+use Rattle.mg_model.specs.Board.{Board, IsSettled, exists}
 use Rattle.mg_model.specs.Entries.{Entry}
-use Rattle.mg_model.specs.Gateway.{Gateway, CallLink, last_executed, number_of, start_of, reply_of, after_request}
+use Rattle.mg_model.specs.Gateway.{Gateway, CallLink, last_executed, start_of, reply_of, after_request}
+use Rattle.mg_model.proofs.Offered.{number_of}
 use Rattle.mg_model.specs.Messages.{Request, RequestCommand}
 use Rattle.mg_model.specs.RequestRun.{Running, RunsFrom}
 use Rattle.mg_model.specs.Script.{Script}
@@ -130,6 +132,23 @@ module _ (g : Gateway) (request : Request) (end : Running) (settled : Board) (fa
       go false e =
           let other = executed_other call (eqb-false call request.call e) in omega (arith, other)
 
+-- a number that isn't used is no ephemeral's
+pub unused_absent : (stood used : Bool) → (stood ≡ true → used ≡ true) → used ≡ false → stood ≡ false
+unused_absent true used given free = absurd (true≢false (sym (given refl) ∙ free))
+unused_absent false used given free = refl
+
+-- what stands after a request stood before it, or its number wasn't used
+creator_same : (stands stood used : Bool) (was : Option ℕ) (call : ℕ) → (stood ≡ true → used ≡ true) → (stands ≡ true → (stood ≡ true) ⊎ (used ≡ false))
+    → (if stands then (if stood then was else Some call) else None) ≡ (if stands then (if used then was else Some call) else None)
+creator_same false stood used was call given either = refl
+creator_same true true true was call given either = refl
+creator_same true true false was call given either = absurd (true≢false (sym (given refl)))
+creator_same true false true was call given either = elim (either refl) [
+  | inl there ↦ absurd (true≢false (sym there))
+  | inr free ↦ absurd (true≢false free)
+]
+creator_same true false false was call given either = refl
+
 -- only what the call owns was changed
 pub run_changes : (script : Script) (entries : List Entry) (w : World) (request : Request) (end : Running) (settled : Board) (failure : Option Failure)
     → (floor : ℕ → ℕ) → GatewayIsSound script floor w → HasRun script entries w request end failure → IsSettled end.board settled
@@ -138,7 +157,8 @@ run_changes script entries w request end settled failure floor sound h is_settle
   changes = subst (λ n. ChangesOwned (owner_of w.gateway n) w.gateway.board end.board) h.call h.run.changes;
   settled = is_settled;
   holder = refl;
-  creator = λ x. refl;
+  creator = λ x. creator_same (exists end.board (Eph x)) (exists w.gateway.board (Eph x)) (w.gateway.board.used_ephemeral x) (w.gateway.creator x) request.call
+      (sound.accounted.ephemerals x) (h.run.changes.ephemeral x);
   accounted = sound.accounted;
   creator_stands = sound.creator_stands;
 }

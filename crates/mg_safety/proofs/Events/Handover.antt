@@ -7,7 +7,8 @@ use Rattle.mg_names.specs.declared.identifiers.TermId.{TermId}
 use Rattle.mg_names.specs.declared.identifiers.TermId.TheVariants.{Line, Eph}
 use Rattle.mg_model.specs.Agent.{Agent, begun}
 use Rattle.mg_model.specs.Gateway as gateway
-use Rattle.mg_model.specs.Gateway.{Gateway, CallLink, handed_over, last_executed, number_of}
+use Rattle.mg_model.specs.Gateway.{Gateway, CallLink, handed_over, last_executed}
+use Rattle.mg_model.proofs.Offered.{number_of}
 use Rattle.mg_model.specs.Messages.{Reply}
 use Rattle.mg_model.specs.Script.{Script}
 use Rattle.mg_model.specs.World.{World}

@@ -9,7 +9,8 @@ use Rattle.mg_model.specs.Agent.{Agent, awaits_reply}
 use Rattle.mg_model.specs.Configuration.{Configuration}
 use Rattle.mg_model.specs.Entries.{Entry}
 use Rattle.mg_model.specs.declared.line_events.LineEvent.{LineEvent}
-use Rattle.mg_model.specs.Gateway.{Gateway, last_executed, number_of, with_line, with_notes, notes_from}
+use Rattle.mg_model.specs.Gateway.{Gateway, last_executed, with_line, with_notes, notes_from}
+use Rattle.mg_model.proofs.Offered.{number_of}
 use Rattle.mg_model.specs.LineEvents.{LineRow, Note, Outcome, silent}
 use Rattle.mg_model.specs.Messages.{Request, Reply, SentNote}
 use Rattle.mg_model.specs.Script.{Script}

@@ -8,7 +8,8 @@ use Rattle.mg_model.specs.declared.rows.Row.{Row}
 use Rattle.mg_model.specs.Agent.{Agent, opened}
 use Rattle.mg_model.specs.ListContents.{list_of}
 use Rattle.mg_model.specs.Entries.{Entry}
-use Rattle.mg_model.specs.Gateway.{CallLink, last_executed, number_of}
+use Rattle.mg_model.specs.Gateway.{CallLink, last_executed}
+use Rattle.mg_model.proofs.Offered.{number_of}
 use Rattle.mg_model.specs.LineEvents.{LineRow}
 use Rattle.mg_model.specs.Messages.{Reply}
 use Rattle.mg_model.specs.Script.{Script}
@@ -16,6 +17,7 @@ use Rattle.mg_model.specs.Steps.{opening}
 use Rattle.mg_model.specs.World.{World, Opened, IsOpening, armed_line}
 use Rattle.mg_safety.proofs.Agents.Entering.{not_resting}
 use Rattle.mg_model.proofs.Cases.{none_is_some}
+use Rattle.mg_model.proofs.OpenedLines.{line_armed, line_held, line_stands}
 use Rattle.mg_safety.proofs.SmallLaws.OpeningLaws.{all_in_null}
 use Rattle.mg_safety.proofs.Invariant.Shown.{LinesShown}
 use Rattle.mg_safety.proofs.Invariant.OpeningShown.{AreCleared, events_armed, opening_shown}
@@ -31,16 +33,16 @@ module _ (script : Script) (entries : List Entry) (closed : IsClosed script entr
   module _ (one : Opened) (there : Contains calls one) where
     cleared : AreCleared script (owned_in w.gateway one.call) w.gateway.board one.lines
     cleared = record {
-      rows = λ i within. o.lines.stand one there i within;
+      rows = λ i within. line_stands script calls w.gateway o.lines one there i within;
       no_cut = λ i j first second. ap (λ (is_cut : TermId → TermId → Bool). is_cut (Line (record { 0 = one.lines i })) (Line (record { 0 = one.lines j })))
           o.gateway.nothing_cut;
-      own = λ i within. ap (λ h. is_call h one.call) (o.lines.held one there i within) ∙ eq-eqb one.call one.call refl;
+      own = λ i within. ap (λ h. is_call h one.call) (line_held script calls w.gateway o.lines one there i within) ∙ eq-eqb one.call one.call refl;
       once = λ i j first second e. (o.distinct.lines_differ one one there there i j first second e).1;
       no_ephemeral = λ x is standing. true≢false (sym standing ∙ ap is_some (o.gateway.no_ephemeral x));
     }
 
     armed : (i : ℕ) → i < length script.lines → w.gateway.line (one.lines i) ≡ armed_line
-    armed i within = o.lines.armed one there i within
+    armed i within = line_armed script calls w.gateway o.lines one there i within
 
     expects_zero : (test : Bool) (q : ℕ) → (if test then Some 0 else None) ≡ Some q → q ≡ 0
     expects_zero true q e = ap (λ (x : Option ℕ). unwrap_or x 0) (sym e)
@@ -76,7 +78,7 @@ module _ (script : Script) (entries : List Entry) (closed : IsClosed script entr
           numbered = refl;
           first = omega (arith);
           next = omega (arith, none);
-          held = λ i within. o.lines.held one there i within;
+          held = λ i within. line_held script calls w.gateway o.lines one there i within;
           once = λ i j first second e. (o.distinct.lines_differ one one there there i j first second e).1;
           requests = λ request among of. absurd (none_among request w.requests o.messages.no_request among);
           outstanding = λ request awaiting. absurd (not_resting request awaiting);
@@ -94,13 +96,12 @@ module _ (script : Script) (entries : List Entry) (closed : IsClosed script entr
   held : (l call : ℕ) → w.gateway.holder l ≡ Some call
       → (a : Agent) × (i : ℕ) × (w.agent call ≡ Some a) × (i < length script.lines) × (a.lines i ≡ l)
   held l call e =
-      let one = o.lines.held_alone l call e in
-      (opened script one.0.call one.0.lines, one.1, ap w.agent (sym one.3) ∙ o.agents.opened one.0 one.2, one.4, one.5)
+      let own = (o.lines.held l call).0 e in
+      (opened script own.one.call own.one.lines, own.i, ap w.agent (sym own.is_call) ∙ o.agents.opened own.one own.among, own.within, own.is_line)
 
   request_ids : (l call q : ℕ) → w.gateway.holder l ≡ Some call → (w.gateway.line l).request ≡ Some q → IsReached (λ (one : ℕ). 0) w.gateway call q
   request_ids l call q e stands =
-      let one = o.lines.held_alone l call e in
-      let is_armed : w.gateway.line l ≡ armed_line = ap w.gateway.line (sym one.5) ∙ o.lines.armed one.0 one.2 one.1 one.4 in
+      let is_armed : w.gateway.line l ≡ armed_line = o.lines.armed l call e in
       let zero_is : q ≡ 0 = ap (λ (x : Option ℕ). unwrap_or x 0) (sym stands ∙ ap (λ (row : LineRow). row.request) is_armed) in
       inl (omega (arith, zero_is))
 

@@ -8,7 +8,8 @@ use Rattle.mg_model.specs.declared.events.Event.{Event}
 use Rattle.mg_model.specs.declared.events.Event.TheVariants.{OfCall, Restart}
 use Rattle.mg_model.specs.Agent.{Agent, begun, opened, replied, passed, noted, timed, heard}
 use Rattle.mg_model.specs.Gateway as gateway
-use Rattle.mg_model.specs.Gateway.{Gateway, CallLink, number_of, restarted}
+use Rattle.mg_model.specs.Gateway.{Gateway, CallLink, restarted}
+use Rattle.mg_model.proofs.Offered.{number_of}
 use Rattle.mg_model.specs.Messages.{Request, Reply, SentNote}
 use Rattle.mg_model.specs.Script.{Script}
 use Rattle.mg_model.specs.Tables.{line_places}
@@ -152,8 +153,8 @@ opening_numbered script calls w opens = record {
   agents = λ c b is. let its = opens.agents.no_other c b is in
       ap (λ (x : Agent). x.call) (the_some b (opened script its.0.call its.0.lines) (sym is ∙ ap w.agent (sym its.2) ∙ opens.agents.opened its.0 its.1)) ∙ its.2;
   open_calls = λ c b is. ap (λ (retired : ℕ → Bool). retired c) opens.gateway.none_retired;
-  held = λ l c is. let its = opens.lines.held_alone l c is in
-      (opened script its.0.call its.0.lines, ap w.agent (sym its.3) ∙ opens.agents.opened its.0 its.2);
+  held = λ l c is. let its = (opens.lines.held l c).0 is in
+      (opened script its.one.call its.one.lines, ap w.agent (sym its.is_call) ∙ opens.agents.opened its.one its.among);
   requests = record {
     each_known = λ r among. absurd (no_request r among);
     below = λ r b among. absurd (no_request r among);

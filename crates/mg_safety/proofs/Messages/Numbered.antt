@@ -5,7 +5,8 @@ use Rattle.std.specs.Prelude.{Contains}
 use Rattle.std.proofs.lemmas.Bool.{eqb-true, eqb-false}
 use Rattle.std.proofs.lemmas.List.Elements.{Contains-append_cases}
 use Rattle.mg_model.specs.Agent.{Agent}
-use Rattle.mg_model.specs.Gateway.{CallLink, number_of, sent_notes, notes_from, Gateway}
+use Rattle.mg_model.specs.Gateway.{CallLink, sent_notes, notes_from, Gateway}
+use Rattle.mg_model.proofs.Offered.{number_of}
 use Rattle.mg_model.specs.LineEvents.{Note}
 use Rattle.mg_model.specs.Messages.{Request, Reply, SentNote}
 use Rattle.mg_model.specs.RequestRun.{RaisedNote}

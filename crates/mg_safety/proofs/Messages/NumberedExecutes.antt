@@ -4,11 +4,11 @@ use Rattle.std.specs.Prelude.{Contains}
 use Rattle.std.proofs.lemmas.Bool.{eqb-true, eqb-false}
 use Rattle.std.proofs.lemmas.List.Elements.{Contains-append_cases}
 use Rattle.mg_model.specs.declared.failures.ChosenRefusal.{ChosenRefusal}
-use Rattle.mg_model.specs.Gateway.{Gateway, CallLink, IsExecutedBy, number_of, last_executed, after_request, reply_of}
+use Rattle.mg_model.specs.Gateway.{Gateway, CallLink, IsExecutedBy, last_executed, after_request, reply_of}
 use Rattle.mg_model.specs.Messages.{Request, Reply, SentNote}
 use Rattle.mg_model.specs.World.{World, with_gateway, IsFirst, IsRepeat, Executes}
 use Rattle.mg_model.proofs.Cases.{the_some, at_one, at_another}
-use Rattle.mg_model.proofs.Offered.{fresh_is_open, fresh_at, kept_at}
+use Rattle.mg_model.proofs.Offered.{fresh_is_open, fresh_at, kept_at, number_of}
 use Rattle.mg_model.proofs.Single.{only_one}
 use Rattle.mg_safety.proofs.Invariant.Sound.{IsKnown}
 use Rattle.mg_safety.proofs.Messages.Numbered.{one_once, both_once, AreNumberedOn, sent_on, notes_added, IsAnswered, RepliesAreNumbered, one_association, reply_again}

@@ -20,7 +20,7 @@ use Rattle.mg_model.specs.Entries.{Entry}
 use Rattle.mg_model.specs.Gateway.{Gateway, start_of}
 use Rattle.mg_model.specs.Items.{Done, IsExecuted}
 use Rattle.mg_model.specs.Request.{Names, built}
-use Rattle.mg_model.specs.RequestRun.{Running, Succeeds, RunsFrom, after_command, line_after, described, is_line}
+use Rattle.mg_model.specs.RequestRun.{Running, Succeeds, RunsFrom, after_command, line_after, descriptors_for, is_line}
 use Rattle.mg_model.specs.Script.{Script}
 use Rattle.mg_model.specs.Steps.{Step, creates_unbound, executed, execution, refusals, steps_by_link, with_link, names_unbound, bound_names}
 use Rattle.mg_model.specs.Tables.{state_of}
@@ -129,7 +129,7 @@ module _ (script : Script) (is_script : IsScript script) (entries : List Entry) 
     names_on = subst (λ p. naming_at a (made_after made command p) (r.results ++ done ∷ []) ≡ built_after (naming_at a made r.results) command done) u.count
         (built_on r.results done a made (subst (IsMadeBelow made) (sym u.count) u.made_below) command)
 
-    describing : (l : ℕ) → is_line (described (command_of script a made command)) l ≡ true → (owner_of g a.call).held l ≡ true
+    describing : (l : ℕ) → is_line (descriptors_for (command_of script a made command)) l ≡ true → (owner_of g a.call).held l ≡ true
     describing = described_held script (owner_of g a.call) e a made r.results r.board c u.shown u.built command declared_next
 
     taken_on : (later : List Done) → after_results a (built_by script a a.state) ((r.results ++ done ∷ []) ++ later) number

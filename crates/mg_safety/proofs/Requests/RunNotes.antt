@@ -19,7 +19,7 @@ use Rattle.mg_model.specs.Items.{Done, subtracts}
 use Rattle.mg_model.specs.declared.transitions.EventItem.TheVariants.{OnHook, OffHook, Flash, Digits}
 use Rattle.mg_model.specs.LineEvents.{ListItem, LineRow, Note, Outcome, armed, cleared, is_standing, kind_of}
 use Rattle.mg_model.specs.Messages.{RequestCommand}
-use Rattle.mg_model.specs.RequestRun.{LineDescriptors, RaisedNote, Running, note_on, with_signals, with_events, with_descriptors, described, described_row, line_after, is_line, rearms, note_from, raised, standing}
+use Rattle.mg_model.specs.RequestRun.{LineDescriptors, RaisedNote, Running, note_on, with_signals, with_events, with_descriptors, descriptors_for, described_row, line_after, is_line, has_new_events, note_from, raised, standing}
 use Rattle.mg_model.specs.Script.{Script}
 use Rattle.mg_model.specs.Accepted.{IsCommandOf}
 use Rattle.mg_model.proofs.Single.{any_too, only_one}
@@ -55,8 +55,8 @@ goes_described row (Some on) l number = by_test (LineGoes number row) (with_desc
     (λ e. goes_by_descriptors row on.descriptors.signals on.descriptors.events number) (λ e. inr (inr (refl, refl)))
 
 pub line_goes : (r : Running) (command : RequestCommand) (item : Item) (number l : ℕ) → LineGoes number (r.line l) (line_after r command item number l)
-line_goes r command item number l = by_test (LineGoes number (r.line l)) (cleared (r.line l)) (described_row (described command) (r.line l) l number)
-    (subtracts r.board item (term.Line (record { 0 = l }))) (λ e. inr (inl refl)) (λ e. goes_described (r.line l) (described command) l number)
+line_goes r command item number l = by_test (LineGoes number (r.line l)) (cleared (r.line l)) (described_row (descriptors_for command) (r.line l) l number)
+    (subtracts r.board item (term.Line (record { 0 = l }))) (λ e. inr (inl refl)) (λ e. goes_described (r.line l) (descriptors_for command) l number)
 
 pub goes_on : (number : ℕ) (row mid after : LineRow) → LineGoes number row mid → LineGoes number mid after → LineGoes number row after
 goes_on number row mid after first (inl e) = inl e
@@ -77,7 +77,7 @@ module _ (script : Script) (own : Owner) (e a : Agent) (made : Made) (results : 
   no_line : {P : Type 0} → false ≡ true → P
   no_line e = absurd (true≢false (sym e))
 
-  pub described_held : (command : Command) → IsCommandOf script command → (l : ℕ) → is_line (described (command_of script a made command)) l ≡ true
+  pub described_held : (command : Command) → IsCommandOf script command → (l : ℕ) → is_line (descriptors_for (command_of script a made command)) l ≡ true
       → own.held l ≡ true
   described_held (AddLine create j x o) declared l same = line_held x l declared.1 same
   described_held (AddEphemeral create j k o) declared l same = no_line same
@@ -95,12 +95,12 @@ undescribed (Some on) row l number e = rw e refl
 
 pub other_line : (held : ℕ → Bool) (r : Running) (command : RequestCommand) (item : Item) (number : ℕ)
     → ((l : ℕ) → subtracts r.board item (term.Line (record { 0 = l })) ≡ true → held l ≡ true)
-    → ((l : ℕ) → is_line (described command) l ≡ true → held l ≡ true)
+    → ((l : ℕ) → is_line (descriptors_for command) l ≡ true → held l ≡ true)
     → (l : ℕ) → held l ≡ false → line_after r command item number l ≡ r.line l
 other_line held r command item number leaving describing l other =
-    by_test (λ (row : LineRow). row ≡ r.line l) (cleared (r.line l)) (described_row (described command) (r.line l) l number)
+    by_test (λ (row : LineRow). row ≡ r.line l) (cleared (r.line l)) (described_row (descriptors_for command) (r.line l) l number)
     (subtracts r.board item (term.Line (record { 0 = l }))) (λ e. absurd (true≢false (sym (leaving l e) ∙ other)))
-    (λ e. undescribed (described command) (r.line l) l number (false_from_ne_true (is_line (described command) l) (λ is. true≢false (sym (describing l is) ∙ other))))
+    (λ e. undescribed (descriptors_for command) (r.line l) l number (false_from_ne_true (is_line (descriptors_for command) l) (λ is. true≢false (sym (describing l is) ∙ other))))
 
 -- ---- the notes
 
@@ -156,7 +156,7 @@ kept_by test (x ∷ notes) n = by_test (λ (kept : List RaisedNote). Contains ke
     (λ fails among. let rest = kept_by test notes n among in (Contains-append_right (x ∷ []) notes n rest.0, rest.1))
 
 -- the notes whose descriptor still stands
-kept_rows : (d : Option LineDescriptors) (row : LineRow) (l number : ℕ) → rearms d l ≡ false
+kept_rows : (d : Option LineDescriptors) (row : LineRow) (l number : ℕ) → has_new_events d l ≡ false
     → ((described_row d row l number).list ≡ row.list) × ((described_row d row l number).request ≡ row.request)
 kept_rows None row l number e = (refl, refl)
 kept_rows (Some on) row l number e = at_line (on.line == l) e
@@ -186,9 +186,9 @@ new_note line (Some one) l note among =
 module _ (held : ℕ → Bool) (r : Running) (command : RequestCommand) (item : Item) (number : ℕ) where
   -- a line that leaves has no RequestID
   on_row : (l : ℕ) (note : Note) → note.request ≡ number
-      → (subtracts r.board item (term.Line (record { 0 = l })) ≡ false → IsRaised number (described_row (described command) (r.line l) l number) note)
+      → (subtracts r.board item (term.Line (record { 0 = l })) ≡ false → IsRaised number (described_row (descriptors_for command) (r.line l) l number) note)
       → IsRaised number (line_after r command item number l) note
-  on_row l note is stays = by_test (λ (row : LineRow). IsRaised number row note) (cleared (r.line l)) (described_row (described command) (r.line l) l number)
+  on_row l note is stays = by_test (λ (row : LineRow). IsRaised number row note) (cleared (r.line l)) (described_row (descriptors_for command) (r.line l) l number)
       (subtracts r.board item (term.Line (record { 0 = l }))) (λ e. (is, λ armed. absurd (true≢false (sym (ap is_some armed))))) stays
 
   raised_on : (d : Option LineDescriptors) → ((l : ℕ) → is_line d l ≡ true → held l ≡ true) → (l : ℕ) (note : Note)
@@ -202,18 +202,18 @@ module _ (held : ℕ → Bool) (r : Running) (command : RequestCommand) (item : 
             (ap (λ (n : ℕ). (with_descriptors (r.line n) on.descriptors number).note) (sym is.0) ∙ is.1)),
       )
 
-  pub notes_carried : ((l : ℕ) → is_line (described command) l ≡ true → held l ≡ true) → AreNotes held number r.line r.notes
-      → AreNotes held number (line_after r command item number) (standing r command item ++ raised r (described command) number)
+  pub notes_carried : ((l : ℕ) → is_line (descriptors_for command) l ≡ true → held l ≡ true) → AreNotes held number r.line r.notes
+      → AreNotes held number (line_after r command item number) (standing r command item ++ raised r (descriptors_for command) number)
   notes_carried describing before l note among =
-      elim (Contains-append_cases (standing r command item) (raised r (described command) number) (note_on l note) among) [
+      elim (Contains-append_cases (standing r command item) (raised r (descriptors_for command) number) (note_on l note) among) [
         | inl stands ↦
-            let kept = kept_by (λ (n : RaisedNote). not (subtracts r.board item (term.Line (record { 0 = n.line })) || rearms (described command) n.line)) r.notes (note_on l note) stands in
-            let tests = neither (subtracts r.board item (term.Line (record { 0 = l }))) (rearms (described command) l) kept.1 in
+            let kept = kept_by (λ (n : RaisedNote). not (subtracts r.board item (term.Line (record { 0 = n.line })) || has_new_events (descriptors_for command) n.line)) r.notes (note_on l note) stands in
+            let tests = neither (subtracts r.board item (term.Line (record { 0 = l }))) (has_new_events (descriptors_for command) l) kept.1 in
             let was = before l note kept.0 in (
               was.0,
-              on_row l note was.1.0 (λ e. still_raised number (r.line l) (described_row (described command) (r.line l) l number) note
-                  (kept_rows (described command) (r.line l) l number tests.1) was.1),
+              on_row l note was.1.0 (λ e. still_raised number (r.line l) (described_row (descriptors_for command) (r.line l) l number) note
+                  (kept_rows (descriptors_for command) (r.line l) l number tests.1) was.1),
             )
         | inr new ↦
-            let is = raised_on (described command) describing l note new in (is.0, on_row l note is.1.0 (λ e. is.1))
+            let is = raised_on (descriptors_for command) describing l note new in (is.0, on_row l note is.1.0 (λ e. is.1))
       ]

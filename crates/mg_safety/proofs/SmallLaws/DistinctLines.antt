@@ -11,6 +11,7 @@ use Rattle.mg_model.specs.Script.{Script}
 use Rattle.mg_model.specs.Tables.{line_places}
 use Rattle.mg_model.specs.World.{World, Opened, IsOpening, AgentSteps, agent_steps, Begins, OccursTo, Occurs, Runs}
 use Rattle.mg_model.proofs.Cases.{the_some}
+use Rattle.mg_model.proofs.OpenedLines.{line_held}
 use Rattle.mg_safety.specs.Laws.{LinesStayDistinct}
 use Rattle.mg_safety.proofs.Events.Handover.{handed_own, handed_other, world_begun, agent_from}
 use Rattle.mg_safety.proofs.Messages.AgentNumbers.{GivesNext, replied_next, passed_next, noted_next, timed_next, heard_next}
@@ -85,7 +86,7 @@ opening_held script calls w opens call a there i within =
     let its = opens.agents.no_other call a there in
     let is : a ≡ opened script its.0.call its.0.lines = the_some a (opened script its.0.call its.0.lines)
     (sym there ∙ ap w.agent (sym its.2) ∙ opens.agents.opened its.0 its.1) in
-    ap (λ (b : Agent). w.gateway.holder (b.lines i)) is ∙ opens.lines.held its.0 its.1 i within ∙ ap (λ (n : ℕ). Some n) its.2
+    ap (λ (b : Agent). w.gateway.holder (b.lines i)) is ∙ line_held script calls w.gateway opens.lines its.0 its.1 i within ∙ ap (λ (n : ℕ). Some n) its.2
 
 pub lines_distinct : LinesStayDistinct
 lines_distinct script calls events opening end opens runs call other a b i j there too within inside same =

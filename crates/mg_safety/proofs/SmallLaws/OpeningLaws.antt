@@ -15,6 +15,7 @@ use Rattle.mg_model.specs.World.{World, Opened, IsOpening, IsReleased}
 use Rattle.mg_model.specs.Board.{null_row}
 use Rattle.mg_safety.specs.Laws.{OpeningsAreGood, CallsStayApart, LostCallsAreNotJoined}
 use Rattle.mg_model.proofs.Cases.{the_some, three_parts}
+use Rattle.mg_model.proofs.OpenedLines.{line_armed, line_stands}
 
 -- ---- nothing is joined where all stands in the null context
 
@@ -53,9 +54,9 @@ module _ (script : Script) (calls : List Opened) (w : World) (o : IsOpening scri
       let lines : (i : ℕ) → a.lines i ≡ one.0.lines i = λ i. ap (λ (x : Agent). x.lines i) same in
       record {
         no_ephemeral = λ k of. ap is_some (o.gateway.no_ephemeral k);
-        in_null = λ i within. (null_row, ap (λ l. w.gateway.board.row (Line (record { 0 = l }))) (lines i) ∙ o.lines.stand one.0 one.1 i within, refl);
-        is_silent = λ i within. ap (λ l. (w.gateway.line l).playing) (lines i) ∙ ap (λ (r : LineRow). r.playing) (o.lines.armed one.0 one.1 i within);
-        is_armed = λ i within. ap (λ l. (w.gateway.line l).list) (lines i) ∙ ap (λ (r : LineRow). r.list) (o.lines.armed one.0 one.1 i within);
+        in_null = λ i within. (null_row, ap (λ l. w.gateway.board.row (Line (record { 0 = l }))) (lines i) ∙ line_stands script calls w.gateway o.lines one.0 one.1 i within, refl);
+        is_silent = λ i within. ap (λ l. (w.gateway.line l).playing) (lines i) ∙ ap (λ (r : LineRow). r.playing) (line_armed script calls w.gateway o.lines one.0 one.1 i within);
+        is_armed = λ i within. ap (λ l. (w.gateway.line l).list) (lines i) ∙ ap (λ (r : LineRow). r.list) (line_armed script calls w.gateway o.lines one.0 one.1 i within);
       }
 
 pub openings_good : OpeningsAreGood
