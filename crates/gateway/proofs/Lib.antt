@@ -15,3 +15,4 @@ pub mod CreatorLemmas
 pub mod CreatedLemmas
 pub mod NotedLemmas
 pub mod ListLemmas
+pub mod Entries

@@ -56,6 +56,10 @@ different a b never = false_from_ne_true (a == b) (λ e. never (eqb-true a b e))
 
 -- ---- what a test chooses
 
+pub false_either_way : (p : Bool) → (if p then false else false) ≡ false
+false_either_way true = refl
+false_either_way false = refl
+
 pub where_true : {A : Type 0} (p : Bool) (x y : A) → p ≡ true → (if p then x else y) ≡ x
 where_true true x y e = refl
 where_true false x y e = absurd (true≢false (sym e))
