@@ -28,8 +28,3 @@ results_bound a b (command ∷ more) [] number = refl
 results_bound a b (command ∷ more) (done ∷ results) number =
     ap (λ (x : Agent). after_results x more results number) (result_bound a b command done number)
     ∙ results_bound a (after_result b command done number) more results number
-
--- no result changes nothing
-pub no_results : (a : Agent) (commands : List Command) (number : ℕ) → after_results a commands [] number ≡ a
-no_results a [] number = refl
-no_results a (command ∷ more) number = refl

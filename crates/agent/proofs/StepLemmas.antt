@@ -8,6 +8,7 @@ use Rattle.mg_model.specs.Messages.{Reply, SentNote}
 use Rattle.mg_model.specs.Script.{Script}
 use Rattle.mg_model.specs.Tables.{state_of}
 use Rattle.mg_model.specs.declared.failures.Failure.{Failure}
+use Rattle.mg_model.proofs.Agents.{at_rest}
 use Rattle.agent.specs.declared.entering.Entered.{Entered}
 use Rattle.agent.specs.declared.entering.Start.{Start}
 use Rattle.agent.specs.declared.fault.PlainFault.{PlainFault}
@@ -98,12 +99,6 @@ starts_accepting start a number s = record {
   bound = λ i. record (s.bound i) { accepted = (accepting a number).accepted };
 }
 
--- a note that leads nowhere leaves the agent at rest, which it is
-at_rest : (phase : Phase) → is_resting phase ≡ true → phase ≡ resting
-at_rest (awaits_reply request) e = absurd (true≢false (sym e))
-at_rest awaits_pass e = absurd (true≢false (sym e))
-at_rest resting e = refl
-
 stays : (script : Script) (a : Agent) (target : Option ℕ) → a.phase ≡ resting → entered_or_stays script a target ≡ entered_or_rests script a target
 stays script a None e = λ i. Some (record a { phase = e i })
 stays script a (Some state) e = refl
@@ -148,3 +143,9 @@ hears script a association state newer same = rw (sym same) (chosen _ _ (newer_t
 
     chosen : (test : Bool) (x : Option Agent) → test ≡ true → (if test then x else None) ≡ x
     chosen test x e = rw e refl
+
+-- ---- what is prepared over an agent that gave up what it awaited
+
+pub newer_given_up : (a : Agent) (newer : Option ℕ) → in_newer (given_up a) newer ≡ given_up (in_newer a newer)
+newer_given_up a None = refl
+newer_given_up a (Some association) = refl

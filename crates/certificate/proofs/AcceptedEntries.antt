@@ -8,6 +8,7 @@ use Rattle.mg_model.specs.Script.{Script}
 use Rattle.script_table.specs.Table.{state_named}
 use Rattle.certificate.specs.Certificate.{are_known, listed_meant, checked_or, resolved_or, unless_old, has_empty, has_crowd, is_large}
 use Rattle.mg_model.specs.Entries.{Component}
+use Rattle.mg_model.proofs.Cases.{none_is_some, the_some}
 use Rattle.certificate_components.specs.Components.{component_meant, keys_of}
 use Rattle.certificate_document.specs.Document.{document_meant}
 use Rattle.certificate.specs.Laws.{AcceptedCertificates}
@@ -17,7 +18,7 @@ use Rattle.certificate_document.specs.Written as written
 use Rattle.certificate.specs.declared.fault.CertFault.{CertFault}
 use Rattle.certificate.specs.declared.fault.CertFault.TheVariants.{EmptySet, TooManyEntries, TooManyPoints}
 use Rattle.certificate_components.specs.declared.key.Key.{Key}
-use Rattle.certificate.proofs.Members.{some_is, none_is_some, each_read, each_is}
+use Rattle.certificate.proofs.Members.{each_read, each_is}
 use Rattle.certificate.proofs.DeclaredKeys.{link_key, spot_key, mode_key, events_key, plays_key, context_key, remote_key, cut_key}
 use Rattle.certificate.proofs.MeantComponents.{is_of, meant_passes}
 use Rattle.certificate_components.specs.declared.key.Key.TheVariants as key
@@ -41,7 +42,7 @@ made script false named meant entry e = absurd (none_is_some entry e)
 made script true None meant entry e = absurd (none_is_some entry e)
 made script true (Some state) None entry e = absurd (none_is_some entry e)
 made script true (Some state) (Some components) entry e =
-    record { state = state; components = components; given = refl; is = some_is (listed_as script state components) entry e }
+    record { state = state; components = components; given = refl; is = the_some (listed_as script state components) entry e }
 
 module _ (script : Script) (accepted : IsScript script) (written_entry : written.Entry) (state : ℕ) (components : List Component)
     (given : each (component_meant script written_entry) (keys_of script) ≡ Some components) where

@@ -9,7 +9,6 @@ use Rattle.mg_model.specs.declared.commands.Termination.TheVariants.{Line, Ephem
 use Rattle.mg_model.specs.Entries.{Component}
 use Rattle.mg_model.specs.Script.{Script}
 use Rattle.entry_table.specs.Listed.{choices_of, size_of}
-use Rattle.entry_table.proofs.Products.{at}
 use Rattle.typed_values.specs.Shape.{each, only_if, ◌>>=◌}
 use Rattle.script_table.specs.Table.{state_named}
 use Rattle.certificate.specs.Certificate.{are_known}
@@ -19,6 +18,7 @@ use Rattle.certificate_document.specs.Written as written
 use Rattle.certificate_components.specs.declared.key.Key.{Key}
 use Rattle.certificate_components.specs.declared.key.Key.TheVariants as key
 use Rattle.certificate.specs.declared.outline.Outline.{Outline}
+use Rattle.configuration.proofs.NumberLemmas.{at}
 
 nothing : (n : ℕ) → (n == 0) ≡ true → n ≡ 0
 nothing n h = grind (arith, nat_tests, h)

@@ -2,6 +2,7 @@
 use Rattle.std.proofs.Common.{◌≡◌, ℕ, ◌<◌, ◌≤◌, nat_lt, Bool, true, false, not, ◌&&◌, [], ◌∷◌, length, refl, arith, IsTrue}
 use Rattle.std.specs.List.{list_all}
 use Rattle.std.proofs.lemmas.Grind.{common_steps}
+use Rattle.std.proofs.lemmas.Bool.{and_parts, not-true}
 use Rattle.mg_model.specs.declared.commands.Termination.TheVariants.{Line, Ephemeral}
 use Rattle.mg_model.specs.declared.components.Spot.{Spot}
 use Rattle.mg_model.specs.declared.components.Spot.TheVariants.{Absent, Null, In}
@@ -10,7 +11,6 @@ use Rattle.mg_model.specs.Tables.{items_of, is_armed_list}
 use Rattle.mg_model.specs.Configuration.{Configuration, is_null, is_present}
 use Rattle.mg_model.specs.Obligations.{IsCleared}
 use Rattle.configuration.specs.Places.{AbsentPastEight}
-use Rattle.configuration.proofs.PathLemmas.{split_and}
 use Rattle.configuration.proofs.WellFormedLemmas.{at_slot, at_all_slots, slot_cases}
 use Rattle.closure.specs.Tests.{line_is_cleared, ephemeral_is_absent}
 
@@ -24,10 +24,6 @@ absent_is Absent h = refl
 absent_is Null h = cc
 absent_is (In j) h = cc
 
-pub not_is : (b : Bool) → not b ≡ true → b ≡ false
-not_is true h = cc
-not_is false h = refl
-
 -- what the test says of a line of the script
 pub line_cleared : (script : Script) (c : Configuration) (i : ℕ) → i < length script.lines →
     line_is_cleared script c (length script.lines) i ≡ true →
@@ -35,9 +31,9 @@ pub line_cleared : (script : Script) (c : Configuration) (i : ℕ) → i < lengt
 line_cleared script c i l h =
     let within : nat_lt i (length script.lines) ≡ true = grind (arith, common_steps) in
     let rest : (is_null (c.spot (Line i)) && not (c.plays i) && is_armed_list (items_of script (c.events i))) ≡ true = rw within at h in
-    let outer = split_and (is_null (c.spot (Line i)) && not (c.plays i)) (is_armed_list (items_of script (c.events i))) rest in
-    let inner = split_and (is_null (c.spot (Line i))) (not (c.plays i)) outer.0 in
-    (null_is (c.spot (Line i)) inner.0, (not_is (c.plays i) inner.1, outer.1))
+    let outer = and_parts (is_null (c.spot (Line i)) && not (c.plays i)) (is_armed_list (items_of script (c.events i))) rest in
+    let inner = and_parts (is_null (c.spot (Line i))) (not (c.plays i)) outer.0 in
+    (null_is (c.spot (Line i)) inner.0, (not-true (c.plays i) inner.1, outer.1))
 
 pub tests_cleared : (script : Script) (c : Configuration) → length script.lines ≤ 4 → AbsentPastEight c →
     list_all (line_is_cleared script c (length script.lines)) (0 ∷ 1 ∷ 2 ∷ 3 ∷ []) ≡ true →

@@ -10,7 +10,7 @@ use Rattle.mg_model.specs.Steps as model
 use Rattle.mg_model.specs.Entries.{Entry, IsPointOf, IsCovered, HasPoints, HavePoints}
 use Rattle.configuration.specs.Config.{configuration_of}
 use Rattle.configuration.specs.declared.step.Step.{Step}
-use Rattle.entry_table.proofs.Products.{at}
+use Rattle.configuration.proofs.NumberLemmas.{at}
 use Rattle.closure.specs.declared.broken.Broken.{Broken}
 use Rattle.closure.specs.Findings.{AreCovered, AreCoveredBelow, EntriesAreKeptBelow, ConfigurationFinding, IsEntryKept, IsFirstUncovered, IsKept, NumberFinding, PointsFinding}
 use Rattle.closure.specs.Shown.{shown}

@@ -6,20 +6,16 @@ use Rattle.mg_names.specs.declared.obligations.Obligation.TheVariants as obligat
 use Rattle.mg_model.specs.declared.faults.Fault.{Fault}
 use Rattle.mg_model.specs.Script.{Script}
 use Rattle.mg_model.specs.Configuration.{Configuration}
-use Rattle.mg_model.specs.Steps.{Step, steps_of, opening, reset}
+use Rattle.mg_model.specs.Steps.{steps_of, opening, reset}
 use Rattle.mg_model.specs.Entries.{Entry, IsPointOf, IsCovered, numbered}
 use Rattle.mg_model.specs.Obligations.{JoinedAreMarked, EndedIsCleared, CreatedAreUnbound, NamesAreLive, Claim, OpeningCovered, ResetCovered, OfPoint, Duty, JoinedMarked, EndedCleared, CreatedUnbound, NamesLive, StepCovered, Asks, AtPoint, Holds, rank, step_place, KeyBefore, ComesBefore, key_of, NoneBroken, IsFirstFault}
+use Rattle.mg_model.proofs.Claims.{not_before_itself}
 use Rattle.closure.specs.declared.broken.Broken.{Broken}
 use Rattle.closure.specs.declared.broken.Broken.TheVariants.{JoinedMarked, EndedCleared, CreatedUnbound, NamesLive, StepsCovered}
 use Rattle.closure.specs.Answer.{IsAnswer}
 use Rattle.closure.specs.Findings.{AreCoveredBelow, AreKeptBelow, EntriesAreKeptBelow, IsFirstBroken, IsFirstEntry, IsKept, PointsFinding, fault_at, whole_fault}
 
 -- ---- the opening and the reset
-
-not_before_itself : (xs : List ℕ) → KeyBefore xs xs → ⊥
-not_before_itself [] h = h
-not_before_itself (x ∷ xs) (inl less) = omega (arith, less)
-not_before_itself (x ∷ xs) (inr same) = not_before_itself xs same.1
 
 later_part : {X : Type 0} (x y : ℕ) → y < x → (x < y) ⊎ ((x ≡ y) × X) → ⊥
 later_part x y more (inl less) = omega (arith, less, more)

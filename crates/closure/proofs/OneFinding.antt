@@ -9,7 +9,7 @@ use Rattle.mg_model.specs.declared.steps.StepName.{StepName}
 use Rattle.mg_model.specs.Script.{Script}
 use Rattle.mg_model.specs.Configuration.{Configuration}
 use Rattle.mg_model.specs.Steps.{Step, steps_of}
-use Rattle.mg_model.specs.Entries.{Entry, HasPoints, HasPointsBelow, HavePoints, IsPointOf, numbered, size_of}
+use Rattle.mg_model.specs.Entries.{Entry, HasPointsBelow, HavePoints, numbered, size_of}
 use Rattle.mg_model.specs.Obligations.{Claim, OpeningCovered, ResetCovered, OfPoint, JoinedMarked, EndedCleared, CreatedUnbound, NamesLive, StepCovered, IsFirstFault, ComesBefore, KeyBefore, NamesStep, entry_named, key_of, obligation_of, point_named}
 use Rattle.closure.specs.declared.first_fault.Finding.{Finding}
 use Rattle.closure.specs.declared.first_fault.Finding.TheVariants as finding

@@ -1,6 +1,5 @@
 -- The names that are bound.
 use Rattle.std.proofs.Common.{◌≡◌, ℕ, ◌≤◌, suc, zero, Bool, false, [], ◌∷◌, slice_index_or, sym, arith}
-use Rattle.mg_model.specs.Request.{Names}
 
 -- a table of four that has a function's values, which is false past the fourth
 pub four_of : (f : ℕ → Bool) (b₀ b₁ b₂ b₃ : Bool) → b₀ ≡ f 0 → b₁ ≡ f 1 → b₂ ≡ f 2 → b₃ ≡ f 3 →
@@ -13,6 +12,3 @@ four_of f b₀ b₁ b₂ b₃ e₀ e₁ e₂ e₃ none = λ i j. at j i
     at (suc (suc zero)) = e₂
     at (suc (suc (suc zero))) = e₃
     at (suc (suc (suc (suc j)))) = sym (none (suc (suc (suc (suc j)))) (omega arith))
-
-pub same_names : (m n : Names) → m.contexts ≡ n.contexts → m.ephemerals ≡ n.ephemerals → m ≡ n
-same_names m n e f = λ i. record { contexts = e i; ephemerals = f i }

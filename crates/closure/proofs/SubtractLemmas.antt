@@ -13,6 +13,8 @@ use Rattle.mg_model.proofs.ConfigurationLemmas.{same_configurations}
 use Rattle.mg_names.specs.declared.modes.Mode.TheVariants.{Inactive}
 use Rattle.mg_model.specs.declared.components.Spot.TheVariants.{Absent}
 use Rattle.mg_model.specs.declared.commands.EventsName.TheVariants.{Empty}
+use Rattle.mg_model.proofs.Cases.{false_either_way}
+use Rattle.mg_model.proofs.Terminations.{is_same_turned, is_same_self, is_same_is}
 use Rattle.configuration.specs.Places.{index_of, AbsentPastEight, NoCutsPastEight}
 use Rattle.configuration.proofs.WellFormedLemmas.{some_termination}
 use Rattle.closure.specs.Elementwise.{forget_pair, forget_pairs, lost_at, remote_lost, without_remotes_to, subtracted_from, subtracted_each}
@@ -30,16 +32,6 @@ lost_all k c unset = ap (λ (f : ℕ → Remote). record c { remote = f }) (same
     at (suc (suc zero)) = refl
     at (suc (suc (suc zero))) = refl
     at (suc (suc (suc (suc n)))) = let none : c.remote (suc (suc (suc (suc n)))) ≡ Unset = unset (suc (suc (suc (suc n)))) (omega arith) in grind (arith, common_steps)
-
-pub is_same-comm : (t u : Termination) → is_same t u ≡ is_same u t
-is_same-comm (Line i) (Line j) = grind (arith, common_steps)
-is_same-comm (Line i) (Ephemeral j) = refl
-is_same-comm (Ephemeral i) (Line j) = refl
-is_same-comm (Ephemeral i) (Ephemeral j) = grind (arith, common_steps)
-
-pub is_same-self : (t : Termination) → is_same t t ≡ true
-is_same-self (Line i) = grind (arith, common_steps)
-is_same-self (Ephemeral i) = grind (arith, common_steps)
 
 -- one turn, and the turns after it
 pub one_turn : (a b y x d f v : Bool) →
@@ -78,11 +70,7 @@ forget_pairs-else c t [] = refl
 forget_pairs-else c t (u ∷ us) = forget_pairs-else (forget_pair c t u) t us
 
 pub among_terminations : (y : Termination) → index_of y < 8 → list_any (is_same y) terminations ≡ true
-among_terminations y l = some_termination (is_same y) y l (is_same-self y)
-
-pub either_false : (b : Bool) → (if b then false else false) ≡ false
-either_false true = refl
-either_false false = refl
+among_terminations y l = some_termination (is_same y) y l (is_same_self y)
 
 pub with_true : (a b v : Bool) → (if (a && true) || (true && b) then false else v) ≡ (if a || b then false else v)
 with_true true b v = refl
@@ -97,13 +85,13 @@ cut-forget_all c small t x y = cut-forget_pairs c t terminations x y ∙ by_cut 
         ≡ (if is_same t x || is_same t y then false else c.cut x y)
     by_cut false e =
         rw e
-        (either_false ((is_same x t && list_any (is_same y) terminations) || (list_any (is_same x) terminations && is_same y t))
-        ∙ sym (either_false (is_same t x || is_same t y)))
+        (false_either_way ((is_same x t && list_any (is_same y) terminations) || (list_any (is_same x) terminations && is_same y t))
+        ∙ sym (false_either_way (is_same t x || is_same t y)))
     by_cut true e =
         let places = small x y e in
         let here : list_any (is_same x) terminations ≡ true = among_terminations x places.0 in
         let there : list_any (is_same y) terminations ≡ true = among_terminations y places.1 in
-        rw (here, there, is_same-comm t x, is_same-comm t y) (with_true (is_same x t) (is_same y t) (c.cut x y))
+        rw (here, there, is_same_turned t x, is_same_turned t y) (with_true (is_same x t) (is_same y t) (c.cut x y))
 
 pub forget_all : (c : Configuration) → NoCutsPastEight c → (t : Termination) →
     forget_pairs c t terminations ≡ record c { cut = without_cuts_of (is_same t) c.cut }
@@ -199,12 +187,6 @@ turn_is j c t = by_test (is_in (c.spot t) j)
         and_false true = refl
         and_false false = refl
 
-pub same_termination : (t u : Termination) → is_same t u ≡ true → t ≡ u
-same_termination (Line i) (Line j) h = let e : i ≡ j = grind (arith, common_steps) in ap Line e
-same_termination (Line i) (Ephemeral j) h = cc
-same_termination (Ephemeral i) (Line j) h = cc
-same_termination (Ephemeral i) (Ephemeral j) h = let e : i ≡ j = grind (arith, common_steps) in ap Ephemeral e
-
 pub subtracted_each_is : (j : ℕ) (c : Configuration) (ts : List Termination) →
     subtracted_each j c ts ≡ without_terminations c (λ u. list_any (is_same u) ts && is_in (c.spot u) j)
 subtracted_each_is j c [] = sym (subtracted_none c)
@@ -222,9 +204,9 @@ subtracted_each_is j c (t ∷ ts) =
         ((is_same t u && is_in (c.spot t) j) || (list_any (is_same u) ts && is_in (if is_same t u && is_in (c.spot t) j then spot_after u else c.spot u) j))
         ≡ ((is_same u t || list_any (is_same u) ts) && is_in (c.spot u) j)
     leaves u true e =
-        let one : t ≡ u = same_termination t u e in
+        let one : t ≡ u = is_same_is t u e in
         let spot : is_in (c.spot t) j ≡ is_in (c.spot u) j = ap (λ (v : Termination). is_in (c.spot v) j) one in
-        let back : is_same u t ≡ true = is_same-comm u t ∙ e in
+        let back : is_same u t ≡ true = is_same_turned u t ∙ e in
         rw (e, back, spot) (by_place (is_in (c.spot u) j) (list_any (is_same u) ts) refl)
       where
         by_place : (p a : Bool) → is_in (c.spot u) j ≡ p → (p || (a && is_in (if p then spot_after u else c.spot u) j)) ≡ p
@@ -232,7 +214,7 @@ subtracted_each_is j c (t ∷ ts) =
         by_place false true q = q
         by_place false false q = refl
     leaves u false e =
-        let back : is_same u t ≡ false = is_same-comm u t ∙ e in
+        let back : is_same u t ≡ false = is_same_turned u t ∙ e in
         rw (e, back) refl
 
 -- all terminations that stand in the context

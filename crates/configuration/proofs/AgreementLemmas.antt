@@ -11,6 +11,7 @@ use Rattle.configuration.specs.Bits.{has}
 use Rattle.configuration.specs.Regions.{agrees}
 use Rattle.configuration.proofs.BitLemmas.{has_bit, has_and, has_or, has_none, has_field, has_xor, xor_none}
 use Rattle.configuration.proofs.PutLemmas.{AreApart, kept}
+use Rattle.mg_model.proofs.Cases.{and_first, and_second, same_test}
 
 pub and_true : (b : Bool) → (b && true) ≡ b
 and_true true = refl
@@ -19,19 +20,6 @@ and_true false = refl
 pub and_false : (b : Bool) → (b && false) ≡ false
 and_false true = refl
 and_false false = refl
-
-pub both_ways : (a b : Bool) → (a ≡ true → b ≡ true) → (b ≡ true → a ≡ true) → a ≡ b
-both_ways true b f g = sym (f refl)
-both_ways false true f g = g refl
-both_ways false false f g = refl
-
-and_left : (a b : Bool) → (a && b) ≡ true → a ≡ true
-and_left true b h = refl
-and_left false b h = h
-
-and_right : (a b : Bool) → (a && b) ≡ true → b ≡ true
-and_right true b h = h
-and_right false b h = absurd (cc)
 
 -- numbers with the same bits are one
 pub same_bits : (a b : ℕ) → ((p : ℕ) → has a p ≡ has b p) → a ≡ b
@@ -52,7 +40,7 @@ or_right true b h = absurd (cc)
 or_right false b h = h
 
 pub or_zero : (a b : ℕ) → (bit_or a b == 0) ≡ (a == 0 && b == 0)
-or_zero a b = both_ways _ _ apart together
+or_zero a b = same_test _ _ apart together
   where
     clear : bit_or a b ≡ 0 → (p : ℕ) → (has a p || has b p) ≡ false
     clear e p = sym (has_or a b p) ∙ ap (λ n. has n p) e ∙ has_none p
@@ -72,13 +60,6 @@ or_zero a b = both_ways _ _ apart together
 
 pub or_zeros : (a b c : ℕ) → (bit_or a (bit_or b c) == 0) ≡ (a == 0 && (b == 0 && c == 0))
 or_zeros a b c = or_zero a (bit_or b c) ∙ ap (λ d. a == 0 && d) (or_zero b c)
-
--- nothing is in any field
-pub field_none : (at bits : ℕ) → field_of 0 at bits ≡ 0
-field_none at bits = same_bits (field_of 0 at bits) 0 (λ p. has_field 0 at bits p ∙ none p ∙ sym (has_none p))
-  where
-    none : (p : ℕ) → (nat_lt p bits && has 0 (at + p)) ≡ false
-    none p = ap (λ b. nat_lt p bits && b) (has_none (at + p)) ∙ and_false (nat_lt p bits)
 
 -- ---- agreement by bits
 
@@ -172,7 +153,7 @@ module _ (x b m b' m' at bits n : ℕ) (base : IsPut b' b at bits n) (mask : IsP
           ∙ ap (has b') (sym is)
 
   pub narrowed_word : agrees x b' m' ≡ (agrees x b m && field_of x at bits == n)
-  narrowed_word = both_ways _ _ to from
+  narrowed_word = same_test _ _ to from
     where
       to : agrees x b' m' ≡ true → (agrees x b m && field_of x at bits == n) ≡ true
       to e =
@@ -182,5 +163,5 @@ module _ (x b m b' m' at bits n : ℕ) (base : IsPut b' b at bits n) (mask : IsP
 
       from : (agrees x b m && field_of x at bits == n) ≡ true → agrees x b' m' ≡ true
       from h =
-          let test : (field_of x at bits == n) ≡ true = and_right (agrees x b m) (field_of x at bits == n) h in
-          narrower (and_left (agrees x b m) (field_of x at bits == n) h) (grind (arith, common_steps))
+          let test : (field_of x at bits == n) ≡ true = and_second (agrees x b m) (field_of x at bits == n) h in
+          narrower (and_first (agrees x b m) (field_of x at bits == n) h) (grind (arith, common_steps))

@@ -2,6 +2,7 @@
 -- from holds every path.
 use Rattle.std.proofs.Common.{◌≡◌, ℕ, suc, zero, ◌<◌, ◌≤◌, Bool, true, false, ◌&&◌, ◌||◌, List, [], ◌∷◌, ◌++◌, slice_index_or, refl, arith, rules, IsTrue, nat_lt}
 use Rattle.std.proofs.lemmas.Grind.{common_steps}
+use Rattle.std.proofs.lemmas.Bool.{and_parts, and_from}
 use Rattle.std.specs.List.{list_any}
 use Rattle.mg_model.specs.declared.commands.Termination.{Termination}
 use Rattle.mg_model.specs.declared.commands.Termination.TheVariants.{Line, Ephemeral}
@@ -31,23 +32,15 @@ AllArrived c line arrived = (k : ℕ) → arrived k ≡ true → IsArrival c lin
 abbrev pub IsClosed : Configuration → ℕ → (ℕ → Bool) → Type 0
 IsClosed c line arrived = (k : ℕ) → k < 4 → arrives_at c line arrived k ≡ true → arrived k ≡ true
 
-pub split_and : (a b : Bool) → IsTrue (a && b) → IsTrue a × IsTrue b
-split_and true b h = (search rules, h)
-split_and false b h = absurd (search rules)
-
-pub both : (a b : Bool) → IsTrue a → IsTrue b → IsTrue (a && b)
-both true b h k = k
-both false b h k = absurd (search rules)
-
 -- a path may be extended by a crossing and a hop
 pub goes_over-append : (c : Configuration) (source : Termination) (crossings : List (ℕ × ℕ)) (e k : ℕ) (sink : Termination) →
     IsTrue (goes_over c source crossings (Ephemeral e)) → IsTrue (crosses c e k) → IsTrue (hops c (Ephemeral k) sink) →
     IsTrue (goes_over c source (crossings ++ (e, k) ∷ []) sink)
 goes_over-append c source [] e k sink g x h = grind (arith, common_steps)
 goes_over-append c source (crossing ∷ more) e k sink g x h =
-    let first = split_and (hops c source (Ephemeral crossing.0) && crosses c crossing.0 crossing.1) (goes_over c (Ephemeral crossing.1) more (Ephemeral e)) g in
+    let first = and_parts (hops c source (Ephemeral crossing.0) && crosses c crossing.0 crossing.1) (goes_over c (Ephemeral crossing.1) more (Ephemeral e)) g in
     let rest : IsTrue (goes_over c (Ephemeral crossing.1) (more ++ (e, k) ∷ []) sink) = goes_over-append c (Ephemeral crossing.1) more e k sink first.1 x h in
-    both (hops c source (Ephemeral crossing.0) && crosses c crossing.0 crossing.1) _ first.0 rest
+    and_from (hops c source (Ephemeral crossing.0) && crosses c crossing.0 crossing.1) _ first.0 rest
 
 -- some slot passes
 pub any_slot : (p : ℕ → Bool) → list_any p (0 ∷ 1 ∷ 2 ∷ 3 ∷ []) ≡ true → (k : ℕ) × (p k ≡ true)
@@ -85,7 +78,7 @@ reached_goes c line arrived sink all h = by_test (hops c (Line line) sink) refl 
     by_test true e h = ([], search rules)
     by_test false e h =
         let some = any_slot (hops_from c arrived sink) h in
-        let parts = split_and (arrived some.0) (hops c (Ephemeral some.0) sink) some.1 in
+        let parts = and_parts (arrived some.0) (hops c (Ephemeral some.0) sink) some.1 in
         let arrival = all some.0 parts.0 in
         (arrival.0, arrival.1 sink parts.1)
 
@@ -93,7 +86,7 @@ pub arrives_goes : (c : Configuration) (line : ℕ) (arrived : ℕ → Bool) (k 
     arrives_at c line arrived k ≡ true → IsArrival c line k
 arrives_goes c line arrived k all h =
     let some = any_slot (crosses_from c line arrived k) h in
-    let parts = split_and (is_reached c line arrived (Ephemeral some.0)) (crosses c some.0 k) some.1 in
+    let parts = and_parts (is_reached c line arrived (Ephemeral some.0)) (crosses c some.0 k) some.1 in
     let way = reached_goes c line arrived (Ephemeral some.0) all parts.0 in
     (way.0 ++ (some.0, k) ∷ [], λ sink hop. goes_over-append c (Line line) way.0 some.0 k sink way.1 parts.1 hop)
 
@@ -102,7 +95,7 @@ pub goes_on_arrived : (c : Configuration) (line : ℕ) (arrived : ℕ → Bool) 
     (t : Termination) → IsTrue (hops c (Ephemeral k) t) → IsTrue (is_reached c line arrived t)
 goes_on_arrived c line arrived k l h t hop =
     let some : list_any (hops_from c arrived t) (0 ∷ 1 ∷ 2 ∷ 3 ∷ []) ≡ true =
-    any_slot_from (hops_from c arrived t) k l (both (arrived k) (hops c (Ephemeral k) t) h hop) in
+    any_slot_from (hops_from c arrived t) k l (and_from (arrived k) (hops c (Ephemeral k) t) h hop) in
     by_test (hops c (Line line) t) some
   where
     by_test : (b : Bool) → list_any (hops_from c arrived t) (0 ∷ 1 ∷ 2 ∷ 3 ∷ []) ≡ true → IsTrue (b || list_any (hops_from c arrived t) (0 ∷ 1 ∷ 2 ∷ 3 ∷ []))
@@ -135,11 +128,11 @@ pub closed_reaches : (c : Configuration) (line : ℕ) (arrived : ℕ → Bool) �
     IsTrue (goes_over c source crossings sink) → IsTrue (is_reached c line arrived sink)
 closed_reaches c line arrived small closed source [] sink on g = on sink g
 closed_reaches c line arrived small closed source (crossing ∷ more) sink on g =
-    let outer = split_and (hops c source (Ephemeral crossing.0) && crosses c crossing.0 crossing.1) (goes_over c (Ephemeral crossing.1) more sink) g in
-    let inner = split_and (hops c source (Ephemeral crossing.0)) (crosses c crossing.0 crossing.1) outer.0 in
+    let outer = and_parts (hops c source (Ephemeral crossing.0) && crosses c crossing.0 crossing.1) (goes_over c (Ephemeral crossing.1) more sink) g in
+    let inner = and_parts (hops c source (Ephemeral crossing.0)) (crosses c crossing.0 crossing.1) outer.0 in
     let sizes = crosses_small c crossing.0 crossing.1 small inner.1 in
     let reached : IsTrue (is_reached c line arrived (Ephemeral crossing.0)) = on (Ephemeral crossing.0) inner.0 in
     let arrives : arrives_at c line arrived crossing.1 ≡ true =
-    any_slot_from (crosses_from c line arrived crossing.1) crossing.0 sizes.0 (both (is_reached c line arrived (Ephemeral crossing.0)) _ reached inner.1) in
+    any_slot_from (crosses_from c line arrived crossing.1) crossing.0 sizes.0 (and_from (is_reached c line arrived (Ephemeral crossing.0)) _ reached inner.1) in
     let here : arrived crossing.1 ≡ true = closed crossing.1 sizes.1 arrives in
     closed_reaches c line arrived small closed (Ephemeral crossing.1) more sink (goes_on_arrived c line arrived crossing.1 sizes.1 here) outer.1

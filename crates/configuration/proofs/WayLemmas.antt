@@ -1,15 +1,16 @@
 -- Where media goes from lines that let none in, and from lines that it doesn't leave for an ephemeral.
-use Rattle.std.proofs.Common.{◌≡◌, ℕ, zero, suc, ◌+◌, ◌*◌, ◌/◌, ◌<◌, ◌≤◌, ◌==◌, Bool, true, false, nat_lt, not, ◌&&◌, List, [], ◌∷◌, refl, sym, ap, subst, ◌∙◌, arith, rules, IsTrue, ◌↔◌, inl, inr}
+use Rattle.std.proofs.Common.{◌≡◌, ℕ, zero, suc, ◌+◌, ◌*◌, ◌/◌, ◌<◌, ◌≤◌, ◌==◌, Bool, true, false, nat_lt, not, ◌&&◌, [], ◌∷◌, refl, sym, ap, ◌∙◌, arith, rules, IsTrue, ◌↔◌, inl, inr}
 use Rattle.std.proofs.lemmas.Grind.{common_steps}
 use Rattle.std.specs.Int.RustNames.{bit_or}
 use Rattle.std.specs.Int.Bits.{or_add_and}
 use Rattle.std.proofs.lemmas.Nat.{and_le_l}
+use Rattle.std.proofs.lemmas.Bool.{and_parts, lt-ltb}
 use Rattle.mg_model.specs.declared.commands.Termination.{Termination}
 use Rattle.mg_model.specs.declared.commands.Termination.TheVariants.{Line, Ephemeral}
 use Rattle.mg_model.specs.declared.components.Spot.{Spot}
 use Rattle.mg_model.specs.declared.components.Spot.TheVariants.{Absent, Null, In}
 use Rattle.mg_model.specs.Configuration.{Configuration, is_same}
-use Rattle.mg_model.specs.Paths.{AreJoined, hops, crosses, goes_over, passes_in, passes_out, is_shared}
+use Rattle.mg_model.specs.Paths.{AreJoined, hops, passes_in, passes_out, is_shared}
 use Rattle.configuration.specs.Bits.{has}
 use Rattle.configuration.specs.Fields.{field_of}
 use Rattle.configuration.specs.Words.{termination_at}
@@ -17,10 +18,7 @@ use Rattle.configuration.specs.Places.{AbsentPastEight}
 use Rattle.configuration.specs.Search.{IsLineRows, IsCrossings, IsWays, Goes}
 use Rattle.configuration.proofs.BitLemmas.{has_none, has_field}
 use Rattle.configuration.proofs.SearchLemmas.{more_or}
-use Rattle.configuration.proofs.PathLemmas.{split_and, past, crosses_small}
-
-lt_is : (i n : ℕ) → i < n → nat_lt i n ≡ true
-lt_is i n h = grind (arith, common_steps)
+use Rattle.configuration.proofs.PathLemmas.{past, crosses_small}
 
 more_or_r : (a b : ℕ) → b ≤ bit_or a b
 more_or_r a b = omega (arith, or_add_and a b, and_le_l a b)
@@ -43,7 +41,7 @@ no_hop c t u none holds = let bad : true ≡ false = sym (hop_parts c t u holds)
 no_way : (c : Configuration) (i j : ℕ) → passes_in (c.mode (Line i)) ≡ false → Goes c i j → ⊥
 no_way c i j none ([], way) = no_hop c (Line i) (Line j) none way
 no_way c i j none (crossing ∷ more, way) =
-    no_hop c (Line i) (Ephemeral crossing.0) none (split_and _ _ (split_and _ _ way).0).0
+    no_hop c (Line i) (Ephemeral crossing.0) none (and_parts _ _ (and_parts _ _ way).0).0
 
 no_bit : (p : ℕ) → IsTrue (has 0 p) → ⊥
 no_bit p holds = let bad : true ≡ false = sym holds ∙ has_none p in cc
@@ -66,7 +64,7 @@ no_hop_to c t u gone holds =
     let bad : true ≡ false = sym (hop_parts c t u holds).0 ∙ not_shared (c.spot t) (c.spot u) gone in cc
 
 line_at : (i : ℕ) → i < 4 → termination_at i ≡ Line i
-line_at i h = rw (lt_is i 4 h) refl
+line_at i h = rw (lt-ltb i 4 h) refl
 
 ephemeral_at : (k : ℕ) → k < 4 → termination_at (4 + k) ≡ Ephemeral k
 ephemeral_at zero h = refl
@@ -100,7 +98,7 @@ module _ (c : Configuration) (rows : ℕ) (is_rows : IsLineRows c rows) (small :
   stays : (i j : ℕ) → i < 4 → Stays i → Goes c i j → IsTrue (hops c (Line i) (Line j))
   stays i j hi none ([], way) = way
   stays i j hi none (crossing ∷ more, way) =
-      absurd (no_ephemeral i crossing.0 hi none (split_and _ _ (split_and _ _ way).0).0)
+      absurd (no_ephemeral i crossing.0 hi none (and_parts _ _ (and_parts _ _ way).0).0)
 
   pub rows_are_ways : ((i : ℕ) → i < 4 → Stays i) → IsWays c rows
   rows_are_ways none i j hi hj = (
@@ -112,7 +110,7 @@ module _ (c : Configuration) (rows : ℕ) (is_rows : IsLineRows c rows) (small :
   uncrossed : (crossings i j : ℕ) → IsCrossings c crossings → crossings ≡ 0 → Goes c i j → IsTrue (hops c (Line i) (Line j))
   uncrossed crossings i j are none ([], way) = way
   uncrossed crossings i j are none (crossing ∷ more, way) =
-      let crossed = (split_and _ _ (split_and _ _ way).0).1 in
+      let crossed = (and_parts _ _ (and_parts _ _ way).0).1 in
       let sizes = crosses_small c crossing.0 crossing.1 small crossed in
       absurd (no_bit (8 * crossing.0 + crossing.1) (sym (ap (λ n. has n (8 * crossing.0 + crossing.1)) none) ∙ are crossing.0 crossing.1 sizes.0 sizes.1 ∙ crossed))
 
@@ -125,7 +123,7 @@ module _ (c : Configuration) (rows : ℕ) (is_rows : IsLineRows c rows) (small :
 -- ---- bytes
 
 byte : (w v a j : ℕ) → field_of w a 8 ≡ v → j < 4 → has w (a + j) ≡ has v j
-byte w v a j e h = sym (has_field w a 8 j ∙ rw (lt_is j 8 (omega (arith, h))) refl) ∙ ap (λ n. has n j) e
+byte w v a j e h = sym (has_field w a 8 j ∙ rw (lt-ltb j 8 (omega (arith, h))) refl) ∙ ap (λ n. has n j) e
 
 abbrev pub AreHeard : Configuration → ℕ → ℕ → Type 0
 AreHeard c i v = (j : ℕ) → j < 4 → IsTrue (has v j) ↔ Goes c i j
@@ -146,7 +144,7 @@ four_ways c w a b d e fa fb fd fe ha hb hd he (suc (suc (suc (suc i)))) j hi hj 
 -- a field that is nothing has no bit
 pub no_bits : (w a k : ℕ) → k < 4 → field_of w a 4 ≡ 0 → has w (a + k) ≡ false
 no_bits w a k h e =
-    sym (has_field w a 4 k ∙ rw (lt_is k 4 h) refl) ∙ ap (λ n. has n k) e ∙ has_none k
+    sym (has_field w a 4 k ∙ rw (lt-ltb k 4 h) refl) ∙ ap (λ n. has n k) e ∙ has_none k
 
 pub none_of_four : (a b d e : ℕ) → bit_or (bit_or a b) (bit_or d e) ≡ 0 → (a ≡ 0) × (b ≡ 0) × (d ≡ 0) × (e ≡ 0)
 none_of_four a b d e h = (

@@ -2,6 +2,7 @@
 use Rattle.std.proofs.Common.{◌≡◌, ℕ, ◌<◌, ◌≤◌, suc, zero, nat_lt, Bool, true, false, ◌&&◌, [], ◌∷◌, refl, subst, sym, ◌∙◌, arith, IsTrue}
 use Rattle.std.specs.List.{list_all, list_any}
 use Rattle.std.proofs.lemmas.Grind.{common_steps}
+use Rattle.std.proofs.lemmas.Bool.{and_parts}
 use Rattle.mg_names.specs.declared.modes.Mode.{Mode}
 use Rattle.mg_names.specs.declared.modes.Mode.TheVariants.{Inactive, SendOnly, ReceiveOnly, SendReceive}
 use Rattle.mg_model.specs.declared.commands.Termination.{Termination}
@@ -13,7 +14,6 @@ use Rattle.mg_model.specs.declared.components.Remote.TheVariants.{Unset, Gone, T
 use Rattle.mg_model.specs.Configuration.{Configuration, IsWellFormed, terminations, is_in, is_present}
 use Rattle.mg_model.specs.Paths.{is_shared}
 use Rattle.configuration.specs.Places.{index_of}
-use Rattle.configuration.proofs.PathLemmas.{split_and}
 use Rattle.configuration.specs.Tests.{AreContextsRight, AreCutsRight, is_inactive, remote_is_right, is_ephemeral_right}
 
 -- a test that all eight terminations pass
@@ -88,7 +88,7 @@ pub named_is : (c : Configuration) (k i : ℕ) → is_ephemeral_right c k ≡ tr
     IsTrue (is_present (c.spot (Ephemeral i)))
 named_is c k i h e =
     let right : (is_present (c.spot (Ephemeral k)) && is_present (c.spot (Ephemeral i))) ≡ true = rw e at h in
-    (split_and (is_present (c.spot (Ephemeral k))) (is_present (c.spot (Ephemeral i))) right).1
+    (and_parts (is_present (c.spot (Ephemeral k))) (is_present (c.spot (Ephemeral i))) right).1
 
 pub shared_is : (s r : Spot) → is_shared s r ≡ true → (j : ℕ) × (IsTrue (is_in s j) × IsTrue (is_in r j))
 shared_is Absent r h = cc

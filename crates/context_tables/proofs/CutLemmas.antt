@@ -3,15 +3,17 @@ use Rattle.std.proofs.Common.{◌≡◌, ℕ, ◌==◌, Bool, true, false, not, 
 use Rattle.std.proofs.lemmas.Grind.{common_steps}
 use Rattle.std.proofs.lemmas.List.Folds.{list_any-append}
 use Rattle.std.proofs.lemmas.Map.Views.{any-filter_same}
+use Rattle.std.proofs.lemmas.Bool.{and_parts}
 use Rattle.std.specs.List.{list_any}
 use Rattle.mg_names.specs.declared.identifiers.TermId.{TermId}
 use Rattle.mg_model.specs.declared.rows.Row.{Row}
 use Rattle.mg_model.specs.Board.{same_term, place_in}
 use Rattle.mg_model.specs.Items.{with_cut, without_cuts}
+use Rattle.mg_model.proofs.Terminations.{same_term_is as same_is, same_term_turned}
 use Rattle.context_tables.specs.declared.cuts.Cut.{Cut}
 use Rattle.context_tables.specs.Groups.{listed, has_cut, is_of, is_between, cut_if, set_between}
 use Rattle.context_tables.specs.BoardValue.{cut_of, stands_in, IsTied}
-use Rattle.context_tables.proofs.TermLemmas.{same_is, same_back, split_and, by_value, not_both}
+use Rattle.context_tables.proofs.TermLemmas.{by_value, not_both}
 use Rattle.context_tables.proofs.TieLemmas.{not_cut, stands_not, stands_from}
 
 pub cut_if_has : (wanted : Bool) (t u x y : TermId) (cs : List Cut) → list_any (is_of x y) (cut_if wanted t u cs) ≡ (list_any (is_of x y) cs || (wanted && (same_term t x && same_term u y)))
@@ -33,14 +35,14 @@ others_have t u x y cs = any-filter_same (is_of x y) (λ cut. not (is_between t 
   where
     of_pair : (cut : Cut) → is_of x y cut ≡ true → not (is_between t u cut) ≡ not ((same_term x t && same_term y u) || (same_term x u && same_term y t))
     of_pair cut e =
-        let parts = split_and (same_term cut.source x) (same_term cut.sink y) e in
+        let parts = and_parts (same_term cut.source x) (same_term cut.sink y) e in
         rw (same_is cut.source x parts.0, same_is cut.sink y parts.1) refl
 
 -- both pairs are one only where the terminations are
 pub apart : (t u x y : TermId) → same_term t u ≡ false → (same_term x t && same_term y u) ≡ true → (same_term x u && same_term y t) ≡ true → ⊥
 apart t u x y differ one two =
-    let first = split_and (same_term x t) (same_term y u) one in
-    let second = split_and (same_term x u) (same_term y t) two in
+    let first = and_parts (same_term x t) (same_term y u) one in
+    let second = and_parts (same_term x u) (same_term y t) two in
     let is = same_is x t first.0 in
     let same : same_term t u ≡ true = rw is at second.0 in not_both (same_term t u) same differ
 
@@ -74,7 +76,7 @@ set_has t u forward backward g x y differ =
     let B = same_term x u && same_term y t in
     cut_if_has backward u t x y (cut_if forward t u inner)
     ∙ ap (λ (q : Bool). q || (backward && (same_term u x && same_term t y))) (cut_if_has forward t u x y inner ∙ ap (λ (q : Bool). q || (forward && (same_term t x && same_term u y))) (others_have t u x y (listed g)))
-    ∙ rw (same_back t x, same_back u y, same_back u x, same_back t y) (by_pairs (has_cut g x y) forward backward A B (λ one two. apart t u x y differ one two))
+    ∙ rw (same_term_turned t x, same_term_turned u y, same_term_turned u x, same_term_turned t y) (by_pairs (has_cut g x y) forward backward A B (λ one two. apart t u x y differ one two))
 
 -- ---- in the rows
 
@@ -130,9 +132,9 @@ tied_set rows m k j t u forward backward c sets tied = record {
         let here : has_cut (Some (set_between t u forward backward (listed (k c)))) x y ≡ true = rw e at at in
         let set : with_cut (with_cut (has_cut (k c)) t u forward) u t backward x y ≡ true = sym (set_has t u forward backward (k c) x y sets.differ) ∙ here in
         by_value (same_term x u && same_term y t)
-        (λ two. let parts = split_and (same_term x u) (same_term y t) two in (stands u x d sets.second parts.0 same, stands t y d sets.first parts.1 same))
+        (λ two. let parts = and_parts (same_term x u) (same_term y t) two in (stands u x d sets.second parts.0 same, stands t y d sets.first parts.1 same))
         (λ not_two. by_value (same_term x t && same_term y u)
-        (λ one. let parts = split_and (same_term x t) (same_term y u) one in (stands t x d sets.first parts.0 same, stands u y d sets.second parts.1 same))
+        (λ one. let parts = and_parts (same_term x t) (same_term y u) one in (stands t x d sets.first parts.0 same, stands u y d sets.second parts.1 same))
         (λ not_one. let old : has_cut (k c) x y ≡ true = rw (not_two, not_one) at set in rw same (tied.inside c x y old))))
         (λ e. let here : has_cut (k d) x y ≡ true = rw e at at in tied.inside d x y here)
 

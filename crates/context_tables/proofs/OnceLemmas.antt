@@ -1,14 +1,12 @@
 -- Lists in which no termination stands twice.
-use Rattle.std.proofs.Common.{◌≡◌, ◌∙◌, Bool, true, false, not, ◌||◌, refl, rules, List, [], ◌∷◌, ◌++◌, Option, Some, None, filter}
+use Rattle.std.proofs.Common.{◌≡◌, ◌∙◌, Bool, false, not, ◌||◌, List, [], ◌∷◌, ◌++◌, Option, Some, None, filter}
+use Rattle.std.proofs.lemmas.Bool.{or_parts}
 use Rattle.std.specs.List.{list_any, AllByRecursion, IsDistinct}
 use Rattle.mg_names.specs.declared.identifiers.TermId.{TermId}
 use Rattle.mg_model.specs.Board.{same_term}
+use Rattle.mg_model.proofs.Terminations.{same_term_turned}
 use Rattle.context_tables.specs.Groups.{listed, kept, with_member, without_member}
-use Rattle.context_tables.proofs.TermLemmas.{same_back, by_value}
-
-or_none : (a b : Bool) → (a || b) ≡ false → (a ≡ false) × (b ≡ false)
-or_none true b h = absurd (search rules)
-or_none false b h = (refl, h)
+use Rattle.context_tables.proofs.TermLemmas.{by_value}
 
 -- none of a list is another one, and so none of it with that one at its end
 all_with : (x t : TermId) (xs : List TermId) → same_term x t ≡ false → AllByRecursion (λ y. same_term x y ≡ false) xs →
@@ -20,8 +18,8 @@ distinct_with : (t : TermId) (xs : List TermId) → list_any (same_term t) xs �
 unfolding IsDistinct
 distinct_with t [] absent once = (tt, tt)
 distinct_with t (x ∷ xs) absent once =
-    let parts = or_none (same_term t x) (list_any (same_term t) xs) absent in
-    (all_with x t xs (same_back x t ∙ parts.0) once.0, distinct_with t xs parts.1 once.1)
+    let parts = or_parts (same_term t x) (list_any (same_term t) xs) absent in
+    (all_with x t xs (same_term_turned x t ∙ parts.0) once.0, distinct_with t xs parts.1 once.1)
 
 all_filter : (x : TermId) (p : TermId → Bool) (xs : List TermId) → AllByRecursion (λ y. same_term x y ≡ false) xs →
     AllByRecursion (λ y. same_term x y ≡ false) (filter p xs)

@@ -3,6 +3,7 @@ use Rattle.std.proofs.Common.{◌≡◌, ℕ, ◌<◌, ◌==◌, Bool, true, fal
 use Rattle.std.proofs.lemmas.Grind.{common_steps}
 use Rattle.std.proofs.lemmas.List.Folds.{list_any-append}
 use Rattle.std.proofs.lemmas.Map.Views.{any-filter_same}
+use Rattle.std.proofs.lemmas.Bool.{and_parts}
 use Rattle.std.specs.BTreeMap.{is_at}
 use Rattle.std.specs.List.{list_any, IsDistinct}
 use Rattle.std.specs.Map.{lookup}
@@ -11,10 +12,11 @@ use Rattle.mg_model.specs.declared.rows.Row.{Row}
 use Rattle.mg_model.specs.Board.{Board, same_term, place_in}
 use Rattle.mg_model.specs.Items.{without_cuts}
 use Rattle.mg_model.specs.Board.{row_with}
+use Rattle.mg_model.proofs.Terminations.{same_term_is as same_is, same_term_self}
 use Rattle.context_tables.specs.declared.cuts.Cut.{Cut}
 use Rattle.context_tables.specs.Groups.{items_in, group_at, listed, kept, has_member, has_cut, with_member, without_member, without_cuts_of, touches, is_of}
 use Rattle.context_tables.specs.BoardValue.{cuts_at, cut_of, stands_in, IsTied}
-use Rattle.context_tables.proofs.TermLemmas.{same_itself, same_is, split_and, by_value, not_both}
+use Rattle.context_tables.proofs.TermLemmas.{by_value, not_both}
 use Rattle.context_tables.proofs.OnceLemmas.{once_none, once_with, once_without}
 
 -- the cuts that the view lists are those of the fields
@@ -37,7 +39,7 @@ cut_of_same rows k j same = λ i t u. has_cut (same (place_in (rows t)) i) t u
 
 pub stands_splits : (rows : TermId → Option Row) (c : ℕ) (t : TermId) → stands_in rows c t ≡ true → (c ≡ 0 → ⊥) × (place_in (rows t) ≡ c)
 stands_splits rows c t h =
-    let parts = split_and (not (c == 0)) (place_in (rows t) == c) h in
+    let parts = and_parts (not (c == 0)) (place_in (rows t) == c) h in
     (λ zero_is. not_null c zero_is parts.0, at_place (place_in (rows t)) c parts.1)
   where
     not_null : (n : ℕ) → n ≡ 0 → not (n == 0) ≡ true → ⊥
@@ -63,7 +65,7 @@ exists_iff rows m k tied c = (λ h. go (m c) refl h, λ there. back (m c) refl t
     go None e h = absurd (search rules)
     go (Some []) e h = absurd (tied.not_empty c e)
     go (Some (t ∷ ts)) e h =
-        let first : has_member (m c) t ≡ true = rw (e, same_itself t) refl in
+        let first : has_member (m c) t ≡ true = rw (e, same_term_self t) refl in
         let parts = stands_splits rows c t (sym (tied.stands c t) ∙ first) in
         (parts.0, (t, parts.1))
 
@@ -223,7 +225,7 @@ cut_without t x y (Some cs) = listed_kept (filter (λ cut. not (touches t cut)) 
 
     of_pair : (cut : Cut) → is_of x y cut ≡ true → not (touches t cut) ≡ not (same_term x t || same_term y t)
     of_pair cut e =
-        let parts = split_and (same_term cut.source x) (same_term cut.sink y) e in
+        let parts = and_parts (same_term cut.source x) (same_term cut.sink y) e in
         rw (same_is cut.source x parts.0, same_is cut.sink y parts.1) refl
 
 pub stands_left : (rows : TermId → Option Row) (t : TermId) (row : Option Row) (d : ℕ) (u : TermId) → place_in row ≡ 0 →
@@ -283,7 +285,7 @@ tied_left rows after m n k j t row c leaves tied = rw leaves.rows_are record {
         (λ e. let same : d ≡ c = grind (arith, common_steps) in
         let at : has_cut (if d == c then without_cuts_of t (k c) else k d) x y ≡ true = ap (λ (g : Option (List Cut)). has_cut g x y) (sym (leaves.cuts d)) ∙ h in
         let here : has_cut (without_cuts_of t (k c)) x y ≡ true = rw e at at in
-        let parts = split_and (not (same_term x t || same_term y t)) (has_cut (k c) x y) (sym (cut_without t x y (k c)) ∙ here) in
+        let parts = and_parts (not (same_term x t || same_term y t)) (has_cut (k c) x y) (sym (cut_without t x y (k c)) ∙ here) in
         let apart = neither (same_term x t) (same_term y t) parts.0 in
         let both = tied.inside c x y parts.1 in
         (stays d x apart.0 (ap (λ (i : ℕ). stands_in rows i x) same ∙ both.0), stays d y apart.1 (ap (λ (i : ℕ). stands_in rows i y) same ∙ both.1)))

@@ -1,6 +1,7 @@
 -- Terminations taken out of their context one after the other, or all at once.
 use Rattle.std.proofs.Common.{◌≡◌, ◌≢◌, ℕ, ◌==◌, Bool, true, false, not, ◌&&◌, if◌then◌else◌, refl, ap, sym, ◌∙◌, arith, rules, List, [], ◌∷◌, Option, Some, None}
 use Rattle.std.proofs.lemmas.Grind.{common_steps}
+use Rattle.std.proofs.lemmas.Bool.{eqb-true}
 use Rattle.std.specs.List.{list_any}
 use Rattle.mg_names.specs.declared.identifiers.TermId.{TermId}
 use Rattle.mg_names.specs.declared.identifiers.TermId.TheVariants.{Line, Eph}
@@ -9,14 +10,15 @@ use Rattle.mg_model.specs.Board.{same_term, place_in}
 use Rattle.mg_model.specs.Items.{without_cuts, subtracted}
 use Rattle.terminations.specs.Table.{cleared}
 use Rattle.mg_model.specs.Board.{row_with}
+use Rattle.mg_model.proofs.Terminations.{same_term_is}
 use Rattle.context_tables.specs.declared.cuts.Cut.{Cut}
 use Rattle.context_tables.specs.Groups.{listed, has_cut}
 use Rattle.contexts.specs.BoardValue.{cut_of, stands_in, IsTied}
-use Rattle.context_tables.proofs.TermLemmas.{same_is, by_value, not_both}
+use Rattle.context_tables.proofs.TermLemmas.{by_value, not_both}
 use Rattle.context_tables.proofs.OnceLemmas.{once_none}
 use Rattle.context_tables.proofs.TieLemmas.{not_cut, stands_splits}
 use Rattle.contexts.proofs.RowLemmas.{cleared_place}
-use Rattle.contexts.proofs.MoveLemmas.{is_number, is_not}
+use Rattle.contexts.proofs.MoveLemmas.{is_not}
 
 abbrev pub cleared_by : List TermId → (TermId → Option Row) → TermId → Option Row
 cleared_by group rows u = if list_any (same_term u) group then cleared u (rows u) else rows u
@@ -29,7 +31,7 @@ cleared_twice (Eph k) row = refl
 pub one_cleared : (t : TermId) (group : List TermId) (rows : TermId → Option Row) (u : TermId) →
     cleared_by group (row_with rows t (cleared t (rows t))) u ≡ cleared_by (t ∷ group) rows u
 one_cleared t group rows u = by_value (same_term u t)
-    (λ e. let is = same_is u t e in rw (e, is) (same (list_any (same_term t) group)))
+    (λ e. let is = same_term_is u t e in rw (e, is) (same (list_any (same_term t) group)))
     (λ e. rw e refl)
   where
     same : (b : Bool) → (if b then cleared t (cleared t (rows t)) else cleared t (rows t)) ≡ cleared t (rows t)
@@ -58,7 +60,7 @@ pub subtracted_all : (rows after : TermId → Option Row) (c : ℕ) → c ≢ 0 
 subtracted_all rows after c not_null clears = λ i u. at u i
   where
     some : (u : TermId) (row : Option Row) → (place_in row == c) ≡ true → cleared u row ≡ subtracted u
-    some u None e = let same : 0 ≡ c = is_number 0 c e in absurd (not_null (sym same))
+    some u None e = let same : 0 ≡ c = eqb-true 0 c e in absurd (not_null (sym same))
     some (Line l) (Some row) e = refl
     some (Eph k) (Some row) e = refl
 
@@ -69,7 +71,7 @@ subtracted_all rows after c not_null clears = λ i u. at u i
 
 pub stands_cleared : (rows after : TermId → Option Row) (c d : ℕ) (u : TermId) → c ≢ 0 → ClearsRows rows after c → stands_in after d u ≡ (not (d == c) && stands_in rows d u)
 stands_cleared rows after c d u not_null clears = by_value (place_in (rows u) == c)
-    (λ e. let is = is_number (place_in (rows u)) c e in rw (clears.there u e, cleared_place u (rows u), is) (number d c))
+    (λ e. let is = eqb-true (place_in (rows u)) c e in rw (clears.there u e, cleared_place u (rows u), is) (number d c))
     (λ e. rw (clears.elsewhere u e) (other d c (place_in (rows u)) e))
   where
     number : (d c : ℕ) → (not (d == 0) && 0 == d) ≡ (not (d == c) && (not (d == 0) && c == d))

@@ -66,14 +66,6 @@ fits_from b (Eph k) remote h = refl
 pub not_null : (b : Board) (c : ℕ) → ((ContextExists b c → ⊥) → ⊥) → c ≢ 0
 not_null b c h e = h (λ there. there.0 e)
 
-pub either_false : (a b : Bool) → (a || b) ≡ false → (a ≡ false) × (b ≡ false)
-either_false true b h = absurd (search rules)
-either_false false b h = (refl, h)
-
-pub is_true_from : (a : Bool) → (IsTrue (not a) → ⊥) → a ≡ true
-is_true_from true h = refl
-is_true_from false h = absurd (h (search rules))
-
 -- a command that creates nothing
 pub executed_out : (b : Board) (item : Item) (after : Board) (done : Done) → creates_context item ≡ false → creates_ephemeral item ≡ false →
     IsLegal b item → after ≡ effect b item none_chosen → done.context ≡ None → done.ephemeral ≡ None →

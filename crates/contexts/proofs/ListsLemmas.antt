@@ -3,14 +3,16 @@ use Rattle.std.proofs.Common.{◌≡◌, ◌≢◌, ℕ, ◌==◌, Bool, true, f
 use Rattle.std.proofs.lemmas.Cmp.{nat_cmp_total}
 use Rattle.std.proofs.lemmas.Map.Views.{btree_set_contains_iff}
 use Rattle.std.proofs.lemmas.Map.Lookups.{exact_unsigned}
+use Rattle.std.proofs.lemmas.Bool.{eqb-true}
 use Rattle.std.specs.BTreeSet.{IsOrdered, contains}
 use Rattle.mg_names.specs.declared.identifiers.TermId.{TermId}
 use Rattle.mg_model.specs.declared.rows.Row.{Row}
 use Rattle.mg_model.specs.Board.{Board, same_term, exists, place_of, place_in}
 use Rattle.mg_model.specs.Items.{Lists}
+use Rattle.mg_model.proofs.Terminations.{same_term_is as same_is}
 use Rattle.contexts.specs.BoardValue.{stands_in}
-use Rattle.context_tables.proofs.TermLemmas.{same_is, by_value}
-use Rattle.contexts.proofs.MoveLemmas.{is_number, is_not}
+use Rattle.context_tables.proofs.TermLemmas.{by_value}
+use Rattle.contexts.proofs.MoveLemmas.{is_not}
 use Rattle.rising_keys.proofs.KeyLemmas.{rising}
 
 pub lists_keys : (s : BTreeSet ℕ) → IsOrdered nat_cmp s → Lists (λ n. contains nat_cmp s n) s.keys
@@ -31,5 +33,5 @@ pub all_leave : (b : Board) (c : ℕ) (u : TermId) → c ≢ 0 → stands_in b.r
 all_leave b c u not_null = rw (is_not c 0 not_null) (go (b.row u))
   where
     go : (row : Option Row) → (place_in row == c) ≡ ((place_in row == c) && is_some row)
-    go None = by_value (0 == c) (λ e. absurd (not_null (sym (is_number 0 c e)))) (λ e. rw e refl)
+    go None = by_value (0 == c) (λ e. absurd (not_null (sym (eqb-true 0 c e)))) (λ e. rw e refl)
     go (Some row) = by_value (row.place.0 == c) (λ e. rw e refl) (λ e. rw e refl)

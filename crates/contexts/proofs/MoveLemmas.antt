@@ -1,6 +1,7 @@
 -- A termination leaves one context and enters another.
 use Rattle.std.proofs.Common.{◌≡◌, ◌≢◌, ℕ, ◌==◌, Bool, true, false, IsTrue, is_some, if◌then◌else◌, refl, ap, sym, ◌∙◌, arith, rules, List, Option, Some, None}
 use Rattle.std.proofs.lemmas.Grind.{common_steps}
+use Rattle.std.proofs.lemmas.Bool.{eqb-true}
 use Rattle.mg_names.specs.declared.identifiers.TermId.{TermId}
 use Rattle.mg_names.specs.declared.identifiers.TermId.TheVariants.{Eph}
 use Rattle.mg_model.specs.declared.items.Settings.{Settings}
@@ -9,11 +10,13 @@ use Rattle.mg_model.specs.Board.{same_term, place_in}
 use Rattle.mg_model.specs.Items.{without_cuts, is_ephemeral_number, given}
 use Rattle.terminations.specs.Table.{Table, row_of, used_of, class_of, left, IsCreated}
 use Rattle.mg_model.specs.Board.{row_with, null_row}
+use Rattle.mg_model.proofs.Terminations.{same_term_is, same_term_turned}
+use Rattle.mg_model.proofs.Cases.{same_itself}
 use Rattle.context_tables.specs.declared.cuts.Cut.{Cut}
 use Rattle.context_tables.specs.Groups.{with_member, without_member, without_cuts_of}
 use Rattle.contexts.specs.Rows.{row_in}
 use Rattle.contexts.specs.BoardValue.{cut_of, IsTied}
-use Rattle.context_tables.proofs.TermLemmas.{same_back, same_is, by_value}
+use Rattle.context_tables.proofs.TermLemmas.{by_value}
 use Rattle.context_tables.proofs.TieLemmas.{Leaves, tied_left, cut_left, Enters, tied_entered, cut_entered}
 use Rattle.contexts.proofs.RowLemmas.{row_with_here, changes_twice}
 
@@ -44,14 +47,8 @@ pub record Moves (rows between after : TermId → Option Row) (m e n : ℕ → O
 abbrev pub members_between : (ℕ → Option (List TermId)) → TermId → ℕ → ℕ → Option (List TermId)
 members_between m t from d = if d == from then without_member t (m from) else m d
 
-pub is_number : (n m : ℕ) → (n == m) ≡ true → n ≡ m
-is_number n m e = grind (arith, common_steps)
-
 pub is_not : (n m : ℕ) → n ≢ m → (n == m) ≡ false
 is_not n m e = grind (arith, common_steps)
-
-pub is_same_number : (n : ℕ) → (n == n) ≡ true
-is_same_number n = grind (arith, common_steps)
 
 pub moves_leaves : (rows between after : TermId → Option Row) (m e n : ℕ → Option (List TermId)) (k j : ℕ → Option (List Cut)) (t : TermId) (one two : Option Row) (from to : ℕ) →
     Moves rows between after m e n k j t one two from to → Leaves rows between m (members_between m t from) k j t one from
@@ -81,7 +78,7 @@ moves_enters rows between after m e n k j t one two from to moves = record {
 
     at : (d : ℕ) → n d ≡ (if d == to then with_member t (members_between m t from to) else members_between m t from d)
     at d = moves.left d ∙ by_value (d == from)
-        (λ here. let is = is_number d from here in rw (is, from_not, is_same_number from, moves.entered from, from_not) refl)
+        (λ here. let is = eqb-true d from here in rw (is, from_not, same_itself from, moves.entered from, from_not) refl)
         (λ there. by_value (d == to)
         (λ here. rw (there, moves.entered d, here, to_not) refl)
         (λ other. rw (there, moves.entered d, other) refl))
@@ -93,7 +90,7 @@ tied_moved rows between after m e n k j t one two from to moves tied =
     (tied_left _ _ _ _ _ _ _ _ _ (moves_leaves rows between after m e n k j t one two from to moves) tied)
 
 pub same_turned : (t : TermId) → (λ (u : TermId). same_term u t) ≡ same_term t
-same_turned t = λ i u. same_back u t i
+same_turned t = λ i u. same_term_turned u t i
 
 pub cut_moved : (rows between after : TermId → Option Row) (m e n : ℕ → Option (List TermId)) (k j : ℕ → Option (List Cut)) (t : TermId) (one two : Option Row) (from to : ℕ) →
     Moves rows between after m e n k j t one two from to → IsTied rows m k → cut_of after j ≡ without_cuts (same_term t) (cut_of rows k)
@@ -139,7 +136,7 @@ rows_back rows created back k absent made taken = taken ∙ (λ i t. (at t) i)
   where
     at : (t : TermId) → row_with created (Eph k) None t ≡ rows t
     at t = by_value (same_term t (Eph k))
-        (λ e. let is = same_is t (Eph k) e in rw (e, is) (sym absent))
+        (λ e. let is = same_term_is t (Eph k) e in rw (e, is) (sym absent))
         (λ e. rw (e, made, e) refl)
 
 pub used_back : (used created back : ℕ → Bool) (k : ℕ) → used k ≡ false → created ≡ given true k used → back ≡ (λ n. if n == k then false else created n) → back ≡ used

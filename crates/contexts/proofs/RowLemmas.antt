@@ -11,17 +11,18 @@ use Rattle.mg_model.specs.Board.{same_term, place_in}
 use Rattle.mg_model.specs.Items.{subtracted}
 use Rattle.terminations.specs.Table.{cleared}
 use Rattle.mg_model.specs.Board.{row_with}
+use Rattle.mg_model.proofs.Terminations.{same_term_is, same_term_self}
 use Rattle.contexts.specs.Rows.{mode_applied, remote_applied, fits, row_in}
-use Rattle.context_tables.proofs.TermLemmas.{same_itself, same_is, by_value}
+use Rattle.context_tables.proofs.TermLemmas.{by_value}
 
 pub row_with_same : (rows : TermId → Option Row) (t : TermId) → rows ≡ row_with rows t (rows t)
 row_with_same rows t = λ i u. at u i
   where
     at : (u : TermId) → rows u ≡ row_with rows t (rows t) u
-    at u = by_value (same_term u t) (λ e. rw e (ap rows (same_is u t e))) (λ e. rw e refl)
+    at u = by_value (same_term u t) (λ e. rw e (ap rows (same_term_is u t e))) (λ e. rw e refl)
 
 pub row_with_here : (rows : TermId → Option Row) (t : TermId) (row : Option Row) → row_with rows t row t ≡ row
-row_with_here rows t row = rw (same_itself t) refl
+row_with_here rows t row = rw (same_term_self t) refl
 
 pub row_with_twice : (rows : TermId → Option Row) (t : TermId) (one two : Option Row) → row_with (row_with rows t one) t two ≡ row_with rows t two
 row_with_twice rows t one two = λ i u. at u i
@@ -73,4 +74,4 @@ pub subtracted_one : (rows : TermId → Option Row) (t : TermId) → IsTrue (is_
 subtracted_one rows t there = λ i u. at u i
   where
     at : (u : TermId) → row_with rows t (cleared t (rows t)) u ≡ (if same_term u t then subtracted u else rows u)
-    at u = by_value (same_term u t) (λ e. let is = same_is u t e in rw (e, is) (cleared_is t (rows t) there)) (λ e. rw e refl)
+    at u = by_value (same_term u t) (λ e. let is = same_term_is u t e in rw (e, is) (cleared_is t (rows t) there)) (λ e. rw e refl)

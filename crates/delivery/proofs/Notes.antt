@@ -2,13 +2,10 @@
 use Rattle.std.proofs.Common.{arith, ◌≡◌, ◌∙◌, ℕ, Bool, true, false, List, [], ◌∷◌, refl, ap}
 use Rattle.std.specs.Prelude.{◌==◌, ◌&&◌, ◌||◌, if◌then◌else◌}
 use Rattle.std.specs.List.{list_any}
-use Rattle.std.proofs.lemmas.Bool.{eq-eqb}
 use Rattle.std.proofs.lemmas.Bool.Decides.{nat_tests}
 use Rattle.mg_model.specs.Delivery.{Inbox, new_inbox, Arrival, arrival, after_arrival, arrives_new, was_seen, is_old}
+use Rattle.mg_model.proofs.Cases.{same_itself}
 use Rattle.delivery.specs.Laws.{after_notes, is_note, NewExactlyOnce, SeenOnceAccepted}
-
-same : (n : ℕ) → (n == n) ≡ true
-same n = eq-eqb n n refl
 
 keeps_association : (inbox : Inbox) (association number : ℕ) → (after_arrival inbox association number).association ≡ inbox.association
 keeps_association inbox association number = by_test (association == inbox.association)
@@ -67,11 +64,11 @@ arrival_by ours seen = if ours then (if seen then was_seen else arrives_new) els
 pub new_once : NewExactlyOnce
 new_once association number notes =
     ap (λ a. arrival_by (association == a) ((after_notes (new_inbox association) notes).accepted number)) (all_keep_association (new_inbox association) notes)
-    ∙ ap (λ ours. arrival_by ours ((after_notes (new_inbox association) notes).accepted number)) (same association)
+    ∙ ap (λ ours. arrival_by ours ((after_notes (new_inbox association) notes).accepted number)) (same_itself association)
     ∙ ap (arrival_by true) (accepted_among (new_inbox association) notes number)
 
 pub seen_again : SeenOnceAccepted
 seen_again inbox number =
-    ap (λ ours. arrival (if ours then record inbox { accepted = λ n. if n == number then true else inbox.accepted n } else inbox) inbox.association number) (same inbox.association)
-    ∙ ap (λ ours. arrival_by ours (if number == number then true else inbox.accepted number)) (same inbox.association)
-    ∙ ap (λ it. arrival_by true (if it then true else inbox.accepted number)) (same number)
+    ap (λ ours. arrival (if ours then record inbox { accepted = λ n. if n == number then true else inbox.accepted n } else inbox) inbox.association number) (same_itself inbox.association)
+    ∙ ap (λ ours. arrival_by ours (if number == number then true else inbox.accepted number)) (same_itself inbox.association)
+    ∙ ap (λ it. arrival_by true (if it then true else inbox.accepted number)) (same_itself number)

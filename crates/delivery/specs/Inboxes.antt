@@ -1,18 +1,15 @@
 -- The inbox that a list of numbers is.
-use Rattle.std.specs.Prelude.{ℕ, ◌==◌, Bool, List}
-use Rattle.std.specs.List.{list_any}
+use Rattle.std.specs.Prelude.{ℕ, ◌==◌, List}
 use Rattle.delivery.specs.declared.inbox.Arrival.{Arrival}
 use Rattle.delivery.specs.declared.inbox.Arrival.TheVariants.{New, Seen, Old}
 use Rattle.mg_model.specs.Delivery as model
 use Rattle.mg_model.specs.Delivery.{arrives_new, was_seen, is_old}
+use Rattle.mg_model.specs.Members.{is_among}
 
 -- the numbers of the notes that were accepted, and their association
 pub record Accepted : Type 0 where
   pub association : ℕ
   pub numbers : List ℕ
-
-unfoldable pub is_among : List ℕ → ℕ → Bool
-is_among numbers n = list_any (λ m. n == m) numbers
 
 abbrev pub inbox_of : Accepted → model.Inbox
 inbox_of a = record { association = a.association; accepted = is_among a.numbers }

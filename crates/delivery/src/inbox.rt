@@ -38,7 +38,6 @@ impl Inbox {
     ghost use Rattle.delivery.specs.Inboxes.{inbox_of, arrived};
 
     /// The inbox of a new association: no note was accepted.
-    #[tactic(auto, unfolding(crate::specs::Inboxes::is_among))]
     pub fn new(alloc: Global, association: Assoc) -> Inbox
         ensures { inbox_of result ≡ new_inbox association.0 }
     {
@@ -105,7 +104,6 @@ impl Inbox {
     }
 
     /// A new association begins: no note was accepted.
-    #[tactic(auto, unfolding(crate::specs::Inboxes::is_among))]
     pub fn restart(&mut self, association: Assoc)
         ensures { inbox_of self.new ≡ new_inbox association.0 }
     {

@@ -1,7 +1,7 @@
 -- Choices of different components may be made in either order.
-use Rattle.std.proofs.Common.{◌≡◌, ◌∙◌, ℕ, ◌+◌, ◌*◌, ◌==◌, zero, suc, Bool, true, false, ◌&&◌, if◌then◌else◌, List, [], ◌∷◌, map, refl, sym, ap, arith}
-use Rattle.std.proofs.lemmas.Grind.{common_steps}
+use Rattle.std.proofs.Common.{◌≡◌, ◌∙◌, ℕ, ◌+◌, ◌*◌, ◌==◌, zero, suc, Bool, true, false, ◌&&◌, if◌then◌else◌, List, [], ◌∷◌, map, refl, sym, ap}
 use Rattle.std.proofs.Math.Path.{fun_ext}
+use Rattle.std.proofs.lemmas.Bool.{and_parts, eqb-true}
 use Rattle.std.specs.List.{slice_index_or}
 use Rattle.mg_model.specs.declared.commands.Termination.{Termination}
 use Rattle.mg_model.specs.declared.commands.Termination.TheVariants.{Line, Ephemeral}
@@ -11,6 +11,7 @@ use Rattle.mg_model.specs.Configuration.{Configuration, is_same, with_of}
 use Rattle.mg_model.specs.Updates.{with_at}
 use Rattle.mg_model.specs.Effects.{with_pair}
 use Rattle.mg_model.specs.Entries.{Component, Choice, links, spots, modes, events, plays, contexts, remotes, cuts, choices_of, same_choice, link_choice, spot_choice, mode_choice, events_choice, plays_choice, context_choice, remote_choice, cut_choice}
+use Rattle.mg_model.proofs.Terminations.{is_same_is}
 use Rattle.entry_table.specs.Numbers.{number_of, termination_number}
 
 -- ---- two changes of a function, at different places
@@ -21,34 +22,20 @@ swap true false v w a apart = refl
 swap false true v w a apart = refl
 swap false false v w a apart = refl
 
-same_number : (k i : ℕ) → (k == i) ≡ true → k ≡ i
-same_number k i e = grind (arith, common_steps)
-
-same_termination : (t u : Termination) → is_same t u ≡ true → t ≡ u
-same_termination (Line i) (Line j) e = ap Line (same_number i j e)
-same_termination (Line i) (Ephemeral j) e = absurd cc
-same_termination (Ephemeral i) (Line j) e = absurd cc
-same_termination (Ephemeral i) (Ephemeral j) e = ap Ephemeral (same_number i j e)
-
 at_swapped : {A : Type 0} (i j : ℕ) (v w : A) (f : ℕ → A) → (i ≡ j → ⊥) → with_at (with_at f j w) i v ≡ with_at (with_at f i v) j w
 at_swapped i j v w f apart =
-    fun_ext (λ k. swap (k == i) (k == j) v w (f k) (λ e g. apart (sym (same_number k i e) ∙ same_number k j g)))
+    fun_ext (λ k. swap (k == i) (k == j) v w (f k) (λ e g. apart (sym (eqb-true k i e) ∙ eqb-true k j g)))
 
 of_swapped : {A : Type 0} (t u : Termination) (v w : A) (f : Termination → A) → (t ≡ u → ⊥) → with_of (with_of f u w) t v ≡ with_of (with_of f t v) u w
 of_swapped t u v w f apart =
-    fun_ext (λ x. swap (is_same x t) (is_same x u) v w (f x) (λ e g. apart (sym (same_termination x t e) ∙ same_termination x u g)))
-
-both_true : (p q : Bool) → (p && q) ≡ true → (p ≡ true) × (q ≡ true)
-both_true true true e = (refl, refl)
-both_true true false e = absurd cc
-both_true false q e = absurd cc
+    fun_ext (λ x. swap (is_same x t) (is_same x u) v w (f x) (λ e g. apart (sym (is_same_is x t e) ∙ is_same_is x u g)))
 
 pair_swapped : (t u t' u' : Termination) (v w : Bool) (f : Termination → Termination → Bool) → (t ≡ t' → u ≡ u' → ⊥)
     → with_pair (with_pair f t' u' w) t u v ≡ with_pair (with_pair f t u v) t' u' w
 pair_swapped t u t' u' v w f apart =
     fun_ext (λ x. fun_ext (λ y. swap (is_same x t && is_same y u) (is_same x t' && is_same y u') v w (f x y)
-    (λ e g. let one = both_true (is_same x t) (is_same y u) e in let two = both_true (is_same x t') (is_same y u') g in
-    apart (sym (same_termination x t one.0) ∙ same_termination x t' two.0) (sym (same_termination y u one.1) ∙ same_termination y u' two.1))))
+    (λ e g. let one = and_parts (is_same x t) (is_same y u) e in let two = and_parts (is_same x t') (is_same y u') g in
+    apart (sym (is_same_is x t one.0) ∙ is_same_is x t' two.0) (sym (is_same_is y u one.1) ∙ is_same_is y u' two.1))))
 
 -- ---- components with different numbers are different
 

@@ -1,14 +1,9 @@
 -- Choices by their places, and products.
 use Rattle.std.proofs.Common.{◌≡◌, ◌∙◌, ◌-◌, ◌*◌, ◌/◌, ◌^◌, ◌<◌, ◌≤◌, ℕ, zero, suc, List, [], ◌∷◌, length, map, refl, sym, ap, arith, min}
-use Rattle.std.proofs.Common.{◌+◌, drop, drop-cons, add-one, inl, inr, mul-zero, zero-mul}
+use Rattle.std.proofs.Common.{◌+◌, inl, inr, mul-zero, zero-mul}
 use Rattle.std.proofs.lemmas.Bool.{cases_lt}
 use Rattle.std.proofs.Math.Nat.{mul-div_cancel_left, mul-le-mul_left, mul_assoc}
 use Rattle.std.specs.List.{slice_index_or}
-
--- what is left begins with the element at the place
-pub at : {X : Type 0} (xs : List X) (i : ℕ) (x : X) → i < length xs → x ≡ slice_index_or xs i x → drop i xs ≡ x ∷ drop (i + 1) xs
-at xs i x lt is =
-    drop-cons xs i x lt ∙ ap (λ y. y ∷ drop (suc i) xs) (sym is) ∙ ap (λ k. x ∷ drop k xs) (sym (add-one i))
 
 module _ {A B : Type 0} (f : A → B) where
   pub choice_at : (values : List A) (i : ℕ) (v : A) (d : B) → i < length values → v ≡ slice_index_or values i v

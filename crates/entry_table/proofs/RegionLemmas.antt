@@ -1,21 +1,12 @@
 -- A region that one set more narrows.
-use Rattle.std.proofs.Common.{◌≡◌, ◌∙◌, ◌↔◌, ◌+◌, ◌<◌, ℕ, zero, suc, Bool, true, false, ◌&&◌, List, [], ◌∷◌, ◌++◌, length, refl, sym, ap, subst, arith, IsTrue, rules}
-use Rattle.std.specs.List.{All, slice_index_or}
+use Rattle.std.proofs.Common.{◌≡◌, ◌∙◌, ◌↔◌, ◌+◌, ◌<◌, ℕ, zero, suc, ◌&&◌, List, [], ◌∷◌, ◌++◌, sym, arith, IsTrue}
+use Rattle.std.proofs.lemmas.Bool.{and_parts, and_from}
+use Rattle.std.specs.List.{All}
 use Rattle.mg_model.specs.Entries.{Component, Allows}
 use Rattle.configuration.specs.Config.{configuration_of}
 use Rattle.configuration.specs.Packed.{Words, IsPacked}
 use Rattle.configuration.specs.Regions.{Region, ValueSet, is_in, is_within}
 use Rattle.entry_table.specs.Regions.{IsRegion}
-
-both_true : (p q : Bool) → IsTrue (p && q) → IsTrue p × IsTrue q
-both_true true true e = (refl, refl)
-both_true true false e = absurd cc
-both_true false q e = absurd cc
-
-and_true : (p q : Bool) → IsTrue p → IsTrue q → IsTrue (p && q)
-and_true true true e g = refl
-and_true true false e g = absurd cc
-and_true false q e g = absurd cc
 
 module _ {X : Type 0} (P : X → Type 0) where
   pub all_before : (xs : List X) (x : X) → All P (xs ++ x ∷ []) → All P xs
@@ -45,10 +36,10 @@ narrowed old new set state components component same is before w packed =
     let asked = is w packed in
     let P = Allows (configuration_of w) in (
       λ holds.
-          let parts = both_true (is_within old w) (is_in set w) (sym (same w) ∙ holds) in
+          let parts = and_parts (is_within old w) (is_in set w) (sym (same w) ∙ holds) in
           let all = here.0 parts.0 in
           (all.0, all_more P components component all.1 (asked.0 parts.1)),
-      λ all. same w ∙ and_true (is_within old w) (is_in set w) (here.1 (all.0, all_before P components component all.1)) (asked.1 (all_last P components component all.1)),
+      λ all. same w ∙ and_from (is_within old w) (is_in set w) (here.1 (all.0, all_before P components component all.1)) (asked.1 (all_last P components component all.1)),
     )
 
 pub of_state : (region : Region) (state : ℕ) → ((w : Words) → IsPacked w → IsTrue (is_within region w) ↔ ((configuration_of w).state ≡ state))

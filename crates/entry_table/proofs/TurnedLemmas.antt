@@ -1,18 +1,13 @@
 -- A component of one value may be given it at once, and needn't be turned.
-use Rattle.std.proofs.Common.{◌≡◌, ◌∙◌, ℕ, ◌+◌, ◌*◌, ◌/◌, ◌%◌, ◌<◌, ◌≤◌, zero, suc, nat_lt, Bool, true, false, ◌&&◌, List, [], ◌∷◌, ◌++◌, map, length, refl, sym, ap, subst, arith}
+use Rattle.std.proofs.Common.{◌≡◌, ◌∙◌, ℕ, ◌+◌, ◌*◌, ◌/◌, ◌%◌, ◌<◌, ◌≤◌, zero, suc, nat_lt, true, ◌&&◌, List, [], ◌∷◌, ◌++◌, map, length, refl, sym, ap, subst, arith}
 use Rattle.std.proofs.lemmas.Grind.{common_steps}
 use Rattle.std.proofs.Math.Nat.{mod-lt, mod-eq_of_lt, div-eq_of_lt, mul-zero}
-use Rattle.std.specs.List.{list_all, slice_index_or}
+use Rattle.std.proofs.lemmas.Bool.{and_parts}
 use Rattle.mg_model.specs.Configuration.{Configuration}
-use Rattle.mg_model.specs.Entries.{Component, choices_of, chosen, product, same_choice, size_of}
+use Rattle.mg_model.specs.Entries.{Component, choices_of, chosen, size_of}
 use Rattle.entry_table.specs.Numbers.{number_of}
 use Rattle.entry_table.specs.Turned.{IsTurned, IsParted, are_below}
 use Rattle.entry_table.proofs.ChoiceLemmas.{at_place, commute}
-
-both_true : (p q : Bool) → (p && q) ≡ true → (p ≡ true) × (q ≡ true)
-both_true true true e = (refl, refl)
-both_true true false e = absurd cc
-both_true false q e = absurd cc
 
 positive : (n p k : ℕ) → k < n * p → 0 < p
 positive n zero k h = let none : n * 0 ≡ 0 = mul-zero n in absurd (omega (arith, h, none))
@@ -36,7 +31,7 @@ module _ (single : Component) (one : length (choices_of single) ≡ 1) (above : 
       let same : k % size_of rest ≡ k = mod-eq_of_lt small in
       ap (λ n. chosen (map choices_of rest) (k % size_of rest) (at_place single n c)) first ∙ ap (λ n. chosen (map choices_of rest) n (at_place single 0 c)) same
   without (component ∷ kept) below k lt c =
-      let tests = both_true (nat_lt (number_of component) above) (are_below above kept) below in
+      let tests = and_parts (nat_lt (number_of component) above) (are_below above kept) below in
       let whole = size_of (kept ++ single ∷ rest) in
       let size : whole ≡ size_of (kept ++ rest) = size_without kept rest single one in
       let some : 0 < whole = positive (length (choices_of component)) whole k lt in
@@ -49,7 +44,7 @@ module _ (single : Component) (one : length (choices_of single) ≡ 1) (above : 
 pub below_more : (above more : ℕ) → above ≤ more → (kept : List Component) → are_below above kept ≡ true → are_below more kept ≡ true
 below_more above more h [] e = refl
 below_more above more h (component ∷ kept) e =
-    let tests = both_true (nat_lt (number_of component) above) (are_below above kept) e in
+    let tests = and_parts (nat_lt (number_of component) above) (are_below above kept) e in
     let first : nat_lt (number_of component) more ≡ true = below (number_of component) tests.0 in
     rw first (below_more above more h kept tests.1)
   where
@@ -60,7 +55,7 @@ pub below_last : (above : ℕ) (kept : List Component) (component : Component) �
     → are_below above (kept ++ component ∷ []) ≡ true
 below_last above [] component e h = let last : nat_lt (number_of component) above ≡ true = grind (arith, common_steps) in rw last refl
 below_last above (other ∷ kept) component e h =
-    let tests = both_true (nat_lt (number_of other) above) (are_below above kept) e in
+    let tests = and_parts (nat_lt (number_of other) above) (are_below above kept) e in
     rw tests.0 (below_last above kept component tests.1 h)
 
 pub one_given : (all kept rest : List Component) (single : Component) (above : ℕ) (first base : Configuration)

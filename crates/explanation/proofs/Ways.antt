@@ -1,6 +1,6 @@
 -- The search for a path, crossing by crossing.
 use Rattle.std.proofs.Common.{◌≡◌, ◌∙◌, ◌+◌, ◌-◌, ◌<◌, ℕ, zero, suc, true, false, ◌&&◌, List, [], ◌∷◌, inl, inr, sym, ap, subst, arith}
-use Rattle.std.proofs.lemmas.Bool.{cases_lt}
+use Rattle.std.proofs.lemmas.Bool.{cases_lt, and_parts, and_from}
 use Rattle.std.proofs.lemmas.Grind.{common_steps}
 use Rattle.mg_model.specs.Configuration.{Configuration, is_to}
 use Rattle.mg_model.specs.Paths.{crosses, goes_over, hops}
@@ -9,7 +9,7 @@ use Rattle.mg_model.specs.declared.commands.Termination.TheVariants.{Line, Ephem
 use Rattle.mg_model.specs.declared.components.Remote.{Remote}
 use Rattle.mg_model.specs.declared.components.Remote.TheVariants.{Unset, Gone, To}
 use Rattle.configuration.specs.Places.{AbsentPastEight}
-use Rattle.configuration.proofs.PathLemmas.{both, crosses_small, split_and}
+use Rattle.configuration.proofs.PathLemmas.{crosses_small}
 use Rattle.explanation.specs.Paths.{GoesNowhere, GoesNowhereOver, GoesOver, GoesWithin, HasNoCrossing, IsCrossingOver, IsShortest}
 use Rattle.explanation.specs.declared.paths.Crossing.{Crossing}
 
@@ -24,13 +24,13 @@ crosses_once : (c : Configuration) (k i j : ℕ) → crosses c k i ≡ true → 
 crosses_once c k i j p q = to_once (c.remote k) i j (named i p) (named j q)
   where
     named : (n : ℕ) → crosses c k n ≡ true → is_to (c.remote k) n ≡ true
-    named n h = (split_and _ (is_to (c.remote k) n) (split_and _ (is_to (c.remote n) k) h).0).1
+    named n h = (and_parts _ (is_to (c.remote k) n) (and_parts _ (is_to (c.remote n) k) h).0).1
 
 module _ (c : Configuration) (from : Termination) (j : ℕ) where
   -- the parts of a path with a crossing
   parts : (k i : ℕ) (more : List (ℕ × ℕ)) → GoesOver c from ((k, i) ∷ more) j
       → ((hops c from (Ephemeral k) && crosses c k i) ≡ true) × GoesOver c (Ephemeral i) more j
-  parts k i more goes = split_and (hops c from (Ephemeral k) && crosses c k i) (goes_over c (Ephemeral i) more (Line j)) goes
+  parts k i more goes = and_parts (hops c from (Ephemeral k) && crosses c k i) (goes_over c (Ephemeral i) more (Line j)) goes
 
   pub none_over : (k most : ℕ) → HasNoCrossing c from k → GoesNowhereOver c from k j most
   none_over k most none i more few goes =
@@ -40,7 +40,7 @@ module _ (c : Configuration) (from : Termination) (j : ℕ) where
       → GoesNowhere c (Ephemeral crossing.to) j most → GoesNowhereOver c from k j most
   nowhere_over k most crossing is none i more few goes =
       let whole = parts k i more goes in
-      let first = split_and (hops c from (Ephemeral k)) (crosses c k i) whole.0 in
+      let first = and_parts (hops c from (Ephemeral k)) (crosses c k i) whole.0 in
       let same : i ≡ crossing.to = crosses_once c k i crossing.to first.1 is.2 in
       none more few (subst (λ (n : ℕ). GoesOver c (Ephemeral n) more j) same whole.1)
 
@@ -50,8 +50,8 @@ module _ (c : Configuration) (from : Termination) (j : ℕ) where
       let here : (k, crossing.to) ∷ rest ≡ whole =
       ap (λ (n : ℕ). (n, crossing.to) ∷ rest) (sym is.0) ∙ sym same in
       let path : GoesOver c from ((k, crossing.to) ∷ rest) j =
-      both (hops c from (Ephemeral k) && crosses c k crossing.to) (goes_over c (Ephemeral crossing.to) rest (Line j))
-      (both (hops c from (Ephemeral k)) (crosses c k crossing.to) is.1 is.2) goes.0 in
+      and_from (hops c from (Ephemeral k) && crosses c k crossing.to) (goes_over c (Ephemeral crossing.to) rest (Line j))
+      (and_from (hops c from (Ephemeral k)) (crosses c k crossing.to) is.1 is.2) goes.0 in
       subst (λ (crossings : List (ℕ × ℕ)). GoesWithin c from crossings j (most + 1)) here (path, omega (arith, goes.1))
 
   -- one ephemeral more
@@ -74,7 +74,7 @@ module _ (c : Configuration) (from : Termination) (j : ℕ) where
   nowhere most absent here none [] few goes = let bad : true ≡ false = sym goes ∙ here in absurd cc
   nowhere most absent here none (crossing ∷ more) few goes =
       let whole = parts crossing.0 crossing.1 more goes in
-      let first = split_and (hops c from (Ephemeral crossing.0)) (crosses c crossing.0 crossing.1) whole.0 in
+      let first = and_parts (hops c from (Ephemeral crossing.0)) (crosses c crossing.0 crossing.1) whole.0 in
       none crossing.0 (crosses_small c crossing.0 crossing.1 absent first.1).0 crossing.1 more (omega (arith, few)) goes
 
   -- a path over so many crossings at most is a shortest one where none goes over fewer

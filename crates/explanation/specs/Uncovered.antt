@@ -3,10 +3,6 @@ use Rattle.std.specs.Prelude.{◌≡◌, ℕ, ◌<◌, List, Some, slice_get}
 use Rattle.mg_model.specs.Entries.{Entry, IsCovered}
 use Rattle.mg_model.specs.Steps.{Step}
 
--- the result of each step is in some entry
-abbrev pub AreCovered : List Entry → List Step → Type 0
-AreCovered entries steps = (s : ℕ) (step : Step) → slice_get steps s ≡ Some step → IsCovered entries step.1
-
 -- the step is one of these, its result is in no entry, and those of the steps before it are
 pub record IsFirstUncovered (entries : List Entry) (steps : List Step) (step : Step) : Type 0 where
   pub place : ℕ

@@ -3,7 +3,8 @@ ghost use Rattle.std.specs.Prelude.{IfOk, IfSome, IfNone};
 ghost use Rattle.mg_model.specs.Steps.{steps_of};
 ghost use Rattle.configuration.specs.Config.{configuration_of};
 ghost use Rattle.closure.specs.Shown.{shown};
-ghost use Rattle.explanation.specs.Uncovered.{AreCovered, IsFirstUncovered};
+ghost use Rattle.closure.specs.Findings.{AreCovered};
+ghost use Rattle.explanation.specs.Uncovered.{IsFirstUncovered};
 
 use closure::cover::covers;
 use closure::steps::steps;

@@ -2,13 +2,14 @@
 use Rattle.std.proofs.Common.{◌≡◌, ◌∙◌, ℕ, ◌==◌, ◌&&◌, ◌||◌, Bool, true, false, not, if◌then◌else◌, Option, Some, None, is_some, refl, sym, ap, subst, rules, true≢false}
 use Rattle.std.proofs.lemmas.Bool.{eqb-true}
 use Rattle.mg_model.specs.Gateway.{CallLink, begun, handed_over}
+use Rattle.mg_model.proofs.Cases.{same_turned, same_itself}
 use Rattle.contexts.specs.BoardValue.{names_line}
 use Rattle.gateway.specs.Beginnings.{OpenBegun}
 use Rattle.gateway.specs.Calls.{OpenCall, call_entry, call_in, open_entry, is_retired_entry, line_entry, link_of, holder_of, new_call, without_call}
 use Rattle.gateway.specs.Creators.{creator_at}
 use Rattle.gateway.specs.GatewayValue.{GatewayValue, AreTied, IsCreatedBy, is_held_by, has_line_among, holder_in, gateway_of, is_open}
-use Rattle.gateway.proofs.OpenTieLemmas.{other_way, still_listed}
-use Rattle.gateway.proofs.TieLemmas.{Entry, same_number}
+use Rattle.gateway.proofs.OpenTieLemmas.{still_listed}
+use Rattle.gateway.proofs.TieLemmas.{Entry}
 
 -- the entries after the old call was retired and the new one has the lines
 abbrev pub entries_begun : (ℕ → Entry) → (old new : ℕ) → OpenCall → ℕ → Entry
@@ -69,10 +70,10 @@ module _ (entries first second third : ℕ → Entry) (old new : ℕ) (before st
   old_first = reserved old ∙ rw apart was
 
   new_first : first new ≡ Some None
-  new_first = reserved new ∙ rw (same_number new) refl
+  new_first = reserved new ∙ rw (same_itself new) refl
 
   new_second : second new ≡ Some None
-  new_second = retired new ∙ rw (other_way new old, apart) new_first
+  new_second = retired new ∙ rw (same_turned new old, apart) new_first
 
   second_is : (n : ℕ) (is_old is_new : Bool) → (n == old) ≡ is_old → (n == new) ≡ is_new → is_new ≡ false → second n ≡ (if is_old then Some None else entries n)
   second_is n true is_new e f g = retired n ∙ rw (e, old_first) refl
@@ -100,7 +101,7 @@ module _ (w after : GatewayValue) (old new : ℕ) (tied : AreTied w) (done : IsH
       none_not x e = cc
 
   not_one : (n : ℕ) → (n == new) ≡ true → (n == old) ≡ true → ⊥
-  not_one n e f = true≢false (sym (same_number old) ∙ ap (λ (m : ℕ). old == m) (sym (eqb-true n old f) ∙ eqb-true n new e) ∙ two (old == new) refl)
+  not_one n e f = true≢false (sym (same_itself old) ∙ ap (λ (m : ℕ). old == m) (sym (eqb-true n old f) ∙ eqb-true n new e) ∙ two (old == new) refl)
 
   had : (l : ℕ) → is_held_by (holder_in w l) old ≡ names_line done.before.lines l
   had l = tied.holders l old ∙ ap (λ (e : Entry). has_line_among (open_entry e) l) done.was
@@ -175,15 +176,15 @@ module _ (w after : GatewayValue) (old new : ℕ) (tied : AreTied w) (done : IsH
       by_test false false h = tied.links n c h
 
   to_new : (holder n : ℕ) (was_old : Bool) → (holder == old) ≡ was_old → is_held_by (Some holder) new ≡ false → ((if was_old then new else holder) == new) ≡ was_old
-  to_new holder n true e f = same_number new
+  to_new holder n true e f = same_itself new
   to_new holder n false e f = f
 
   not_old : (holder : ℕ) (was_old : Bool) → (holder == old) ≡ was_old → ((if was_old then new else holder) == old) ≡ false
-  not_old holder true e = other_way new old ∙ two (old == new) refl
+  not_old holder true e = same_turned new old ∙ two (old == new) refl
   not_old holder false e = e
 
   as_before : (holder n : ℕ) (was_old : Bool) → (holder == old) ≡ was_old → (n == new) ≡ false → (n == old) ≡ false → ((if was_old then new else holder) == n) ≡ (holder == n)
-  as_before holder n true e f g = other_way new n ∙ f ∙ sym (ap (λ (m : ℕ). m == n) (eqb-true holder old e) ∙ other_way old n ∙ g)
+  as_before holder n true e f g = same_turned new n ∙ f ∙ sym (ap (λ (m : ℕ). m == n) (eqb-true holder old e) ∙ same_turned old n ∙ g)
   as_before holder n false e f g = refl
 
   held : (l n : ℕ) (o : Option ℕ) → o ≡ holder_in w l → (is_new is_old : Bool) → (n == new) ≡ is_new → (n == old) ≡ is_old

@@ -1,25 +1,12 @@
 -- The numbers of what a call created: sets of them, and what is noted of a call.
-use Rattle.std.proofs.Common.{◌≡◌, ◌∙◌, ℕ, true, Option, Some, None, option_map, Result, OnOk, List, [], ◌∷◌, refl, sym, ap, arith}
+use Rattle.std.proofs.Common.{◌≡◌, ◌∙◌, ℕ, true, Option, Some, None, option_map, Result, OnOk, List, [], ◌∷◌, refl, sym, ap}
 use Rattle.std.specs.Prelude.{◌==◌, ◌||◌}
-use Rattle.std.specs.List.{list_any}
-use Rattle.std.specs.Ordering.{nat_cmp}
-use Rattle.std.specs.BTreeMap.{is_at}
 use Rattle.std.specs.declared.alloc.AllocError.{AllocError}
-use Rattle.std.proofs.lemmas.Bool.Decides.{nat_tests}
 use Rattle.mg_model.specs.Items.{Done}
-use Rattle.gateway.specs.Calls.{OpenCall, is_among, open_entry, with_call, creating}
+use Rattle.gateway.specs.Calls.{OpenCall, open_entry, with_call, creating}
+use Rattle.mg_model.specs.Members.{is_among}
 use Rattle.gateway.specs.Creators.{any_created}
 use Rattle.gateway.specs.Execution.{HasNoted, HasCreated}
-
-equal_by_order : (n m : ℕ) → (n == m) ≡ is_at (nat_cmp n) m
-equal_by_order n m = grind (arith, nat_tests)
-
--- a number is among others exactly where a set of them finds it
-pub among_by_order : (numbers : List ℕ) (n : ℕ) → is_among numbers n ≡ list_any (is_at (nat_cmp n)) numbers
-unfolding is_among
-among_by_order [] n = refl
-among_by_order (m ∷ ms) n =
-    ap (λ b. b || list_any (λ x. n == x) ms) (equal_by_order n m) ∙ ap (λ b. is_at (nat_cmp n) m || b) (among_by_order ms n)
 
 -- ---- of a call that isn't open nothing is noted
 

@@ -3,7 +3,7 @@ use Rattle.std.proofs.Common.{◌≡◌, ◌∙◌, ℕ, ◌+◌, ◌==◌, Bool
 use Rattle.std.proofs.Common.{IsTrue, Result, Ok, Err, OnOk, true≢false, ◌<◌, ◌≤◌, take, drop, length, get_or}
 use Rattle.std.proofs.lemmas.List.{take_more, take_all, take-append-drop}
 use Rattle.std.specs.declared.alloc.AllocError.{AllocError}
-use Rattle.std.proofs.lemmas.Bool.{eqb-true}
+use Rattle.std.proofs.lemmas.Bool.{eqb-true, or_right, or_left, or_cases}
 use Rattle.std.proofs.lemmas.List.Folds.{list_any-append}
 use Rattle.mg_names.specs.declared.codes.Code.TheVariants.{UnknownTermination}
 use Rattle.mg_names.specs.declared.identifiers.TermId.{TermId}
@@ -18,19 +18,16 @@ use Rattle.mg_model.specs.Board.{Board, IsSettled, exists, same_term}
 use Rattle.mg_model.specs.Items.{Chosen, Done, IsLegal, IsExecuted, effect, creates_ephemeral, only_if, subtracts}
 use Rattle.mg_model.specs.Messages.{RequestCommand}
 use Rattle.mg_model.specs.RequestRun.{Running, RunsFrom, Succeeds, item_at}
+use Rattle.mg_model.proofs.Terminations.{same_term_is}
 use Rattle.contexts.proofs.ExecLemmas.{both_known}
-use Rattle.context_tables.proofs.TermLemmas.{same_is, by_value}
+use Rattle.context_tables.proofs.TermLemmas.{by_value}
 use Rattle.gateway.specs.Creators.{creator_at, creator_on, is_that, is_created, any_created, IsKeptOrNoted}
-
-either : (a b : Bool) → (a || b) ≡ true → (a ≡ true) ⊎ (b ≡ true)
-either true b h = inl refl
-either false b h = inr h
 
 -- ---- one command
 
 set_stood : (b : Board) (t : TermId) (row : Row) (k : ℕ) (same : Bool) → same_term (Eph k) t ≡ same → exists b t ≡ true → is_some (if same then Some row else b.row (Eph k)) ≡ true →
     exists b (Eph k) ≡ true
-set_stood b t row k true e there h = ap (λ (u : TermId). exists b u) (same_is (Eph k) t e) ∙ there
+set_stood b t row k true e there h = ap (λ (u : TermId). exists b u) (same_term_is (Eph k) t e) ∙ there
 set_stood b t row k false e there h = h
 
 out_stood : (row : Option Row) (gone : Bool) → is_some (if gone then None else row) ≡ true → is_some row ≡ true
@@ -81,14 +78,6 @@ unused_before b item after done k e h = second_false (creates_ephemeral item && 
 one_more : (results : List Done) (done : Done) (k : ℕ) → any_created (results ++ done ∷ []) k ≡ (any_created results k || (is_created done k || false))
 one_more results done k = list_any-append (λ (d : Done). is_created d k) results (done ∷ [])
 
-first_true : (a b : Bool) → a ≡ true → (a || b) ≡ true
-first_true true b h = refl
-first_true false b h = absurd (search rules)
-
-second_true : (a b : Bool) → b ≡ true → (a || b) ≡ true
-second_true true b h = refl
-second_true false b h = h
-
 after_step : (r next : Running) (command : RequestCommand) (place : ℕ) (refusal : Option ChosenRefusal) (number k : ℕ) → (e : Succeeds r command place refusal number next) →
     any_created next.results k ≡ (any_created r.results k || (is_created e.done k || false))
 after_step r next command place refusal number k e = ap (λ (q : Running). any_created q.results k) e.next_is ∙ one_more r.results e.done k
@@ -98,7 +87,7 @@ created_still : (number : ℕ) (refusal : Option ChosenRefusal) (r : Running) (p
 unfolding RunsFrom
 created_still number refusal r place [] end failure k h made = ap (λ (q : Running). any_created q.results k) h.0 ∙ made
 created_still number refusal r place (command ∷ more) end failure k (inl h) made =
-    created_still number refusal h.0 (place + 1) more end failure k h.2 (after_step r h.0 command place refusal number k h.1 ∙ first_true _ _ made)
+    created_still number refusal h.0 (place + 1) more end failure k h.2 (after_step r h.0 command place refusal number k h.1 ∙ or_left _ _ made)
 created_still number refusal r place (command ∷ more) end failure k (inr (code, fails, stays, failed)) made = ap (λ (q : Running). any_created q.results k) stays ∙ made
 
 stood_or_created : (number : ℕ) (refusal : Option ChosenRefusal) (r : Running) (place : ℕ) (commands : List RequestCommand) (end : Running) (failure : Option Failure) (k : ℕ) →
@@ -110,7 +99,7 @@ stood_or_created number refusal r place (command ∷ more) end failure k (inl h)
     by_step : (exists r.board (Eph k) ≡ true) ⊎ (is_created h.1.done k ≡ true) → (exists r.board (Eph k) ≡ true) ⊎ (any_created end.results k ≡ true)
     by_step (inl was) = inl was
     by_step (inr made) = inr (created_still number refusal h.0 (place + 1) more end failure k h.2
-        (after_step r h.0 command place refusal number k h.1 ∙ second_true (any_created r.results k) (is_created h.1.done k || false) (first_true _ false made)))
+        (after_step r h.0 command place refusal number k h.1 ∙ or_right (any_created r.results k) (is_created h.1.done k || false) (or_left _ false made)))
 
     by : (exists h.0.board (Eph k) ≡ true) ⊎ (any_created end.results k ≡ true) → (exists r.board (Eph k) ≡ true) ⊎ (any_created end.results k ≡ true)
     by (inl next) = by_step (stood_before r.board (item_at r.results command) h.1.board h.1.done k h.1.executed (sym (ap (λ (q : Running). exists q.board (Eph k)) h.1.next_is) ∙ next))
@@ -129,10 +118,10 @@ created_unused number refusal r place (command ∷ more) end failure k (inl h) m
 
     by_first : (any_created r.results k ≡ true) ⊎ ((is_created h.1.done k || false) ≡ true) → (any_created r.results k ≡ true) ⊎ (r.board.used_ephemeral k ≡ false)
     by_first (inl before) = inl before
-    by_first (inr now) = inr (by_done (either (is_created h.1.done k) false now))
+    by_first (inr now) = inr (by_done (or_cases (is_created h.1.done k) false now))
 
     by : (any_created h.0.results k ≡ true) ⊎ (h.0.board.used_ephemeral k ≡ false) → (any_created r.results k ≡ true) ⊎ (r.board.used_ephemeral k ≡ false)
-    by (inl next) = by_first (either (any_created r.results k) (is_created h.1.done k || false) (sym (after_step r h.0 command place refusal number k h.1) ∙ next))
+    by (inl next) = by_first (or_cases (any_created r.results k) (is_created h.1.done k || false) (sym (after_step r h.0 command place refusal number k h.1) ∙ next))
     by (inr unused) = inr (unused_before r.board (item_at r.results command) h.1.board h.1.done k h.1.executed (sym (ap (λ (q : Running). q.board.used_ephemeral k) h.1.next_is) ∙ unused))
 created_unused number refusal r place (command ∷ more) end failure k (inr (code, fails, stays, failed)) made = inl (sym (ap (λ (q : Running). any_created q.results k) stays) ∙ made)
 
@@ -194,7 +183,7 @@ noted_all results place call before now past so_far k = so_far k ∙ ap (λ (ds 
 
 made_whole : (results : List Done) (place k : ℕ) → any_created (take place results) k ≡ true → any_created results k ≡ true
 made_whole results place k made =
-    sym (ap (λ (ds : List Done). any_created ds k) (take-append-drop place results)) ∙ list_any-append (λ (d : Done). is_created d k) (take place results) (drop place results) ∙ first_true _ _ made
+    sym (ap (λ (ds : List Done). any_created ds k) (take-append-drop place results)) ∙ list_any-append (λ (d : Done). is_created d k) (take place results) (drop place results) ∙ or_left _ _ made
 
 pub kept_or_noted : (results : List Done) (place call : ℕ) (before now : List (ℕ × ℕ)) → NotedTo results place call before now → (k : ℕ) → IsKeptOrNoted call results before now k
 kept_or_noted results place call before now so_far k = by_value (any_created (take place results) k)

@@ -6,6 +6,7 @@ use Rattle.mg_model.specs.declared.line_events.LineEvent.{LineEvent}
 use Rattle.mg_model.specs.Gateway.{Gateway, Happens, outcome_of, notes_from}
 use Rattle.mg_model.specs.LineEvents.{LineRow, Note, Outcome}
 use Rattle.mg_model.specs.Messages.{SentNote}
+use Rattle.mg_model.proofs.Cases.{same_itself}
 use Rattle.line_events.specs.declared.fault.LineFault.{LineFault}
 use Rattle.line_events.specs.Raising.{is_raised}
 use Rattle.requests.specs.Connected.{Connected, board_in, line_in, has_line, answer_where, lines_after}
@@ -13,7 +14,7 @@ use Rattle.gateway.specs.Answers.{CannotOccur, IsSame, SameOpen}
 use Rattle.gateway.specs.Calls.{OpenCall, call_entry, call_in, open_entry, is_retired_in, line_entry, link_of, holder_of, with_call, counting}
 use Rattle.gateway.specs.Creators.{creator_on}
 use Rattle.gateway.specs.GatewayValue.{GatewayValue, AreTied, is_held_by, has_line_among, gateway_of, holder_in, is_open}
-use Rattle.gateway.proofs.TieLemmas.{Entry, same_number, same_retired}
+use Rattle.gateway.proofs.TieLemmas.{Entry, same_retired}
 
 some_is : {X : Type 0} (a b : X) → Some a ≡ Some b → a ≡ b
 some_is a b e = cc
@@ -31,7 +32,7 @@ open_held w tied l call e closed =
   where
     held_by : (holder : Option ℕ) → Some call ≡ holder → is_held_by holder call ≡ true
     held_by None e = cc
-    held_by (Some other) e = ap (λ (n : ℕ). n == call) (sym (some_is call other e)) ∙ same_number call
+    held_by (Some other) e = ap (λ (n : ℕ). n == call) (sym (some_is call other e)) ∙ same_itself call
 
 -- ---- what can't happen
 

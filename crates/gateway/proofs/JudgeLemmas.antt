@@ -2,6 +2,7 @@
 use Rattle.std.proofs.Common.{◌≡◌, ◌∙◌, ℕ, ◌+◌, ◌<◌, ◌≤◌, Bool, true, false, nat_le, List, length, Option, Some, None, is_some, refl, sym, ap, subst, arith, true≢false}
 use Rattle.std.proofs.lemmas.Bool.Decides.{nat_tests}
 use Rattle.std.proofs.lemmas.List.{length-map}
+use Rattle.std.proofs.lemmas.Bool.{leb-true}
 use Rattle.mg_model.specs.RequestRun.{RaisedNote}
 use Rattle.mg_model.specs.declared.failures.ChosenRefusal.{ChosenRefusal}
 use Rattle.mg_model.specs.declared.failures.Failure.{Failure}
@@ -19,9 +20,6 @@ use Rattle.gateway.specs.Execution.{IsNew, IsRun}
 use Rattle.gateway.specs.GatewayValue.{GatewayValue, gateway_of, is_open}
 use Rattle.gateway.proofs.NoteLemmas.{notes_at_most}
 use Rattle.gateway.proofs.OfferLemmas.{offer_is}
-
-at_most : (n m : ℕ) → nat_le n m ≡ true → n ≤ m
-at_most n m is = grind (arith, nat_tests)
 
 above : (n m : ℕ) → nat_le n m ≡ false → m < n
 above n m is = grind (arith, nat_tests)
@@ -77,7 +75,7 @@ module _ (w : GatewayValue) (call : ℕ) (request : Request) (state : OpenCall) 
   full_or_not e count room count_is all true few = λ both.
       let full : last_number < state.notes + length request.commands =
       subst (λ (o : Option OpenCall). last_number < (link_of o).notes + length request.commands) found_request both.1.full in
-      let within : count ≤ room = at_most count room (sym few) in
+      let within : count ≤ room = leb-true count room (sym few) in
       absurd (omega (arith, full, within, count_is, all))
   full_or_not e count room count_is all false many =
       let beyond : room < count = above count room (sym many) in
@@ -112,3 +110,8 @@ run_made start request refusal last ended results raised failure reply kept note
       notes_are = notes_are;
       last_is = last_is;
     }
+
+-- ---- numbers that are compared
+
+pub equal_numbers : (a b : ℕ) → false ≡ not (nat_eq a b) → a ≡ b
+equal_numbers a b e = grind (arith, nat_tests)

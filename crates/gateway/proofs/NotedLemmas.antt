@@ -4,7 +4,8 @@ use Rattle.std.specs.declared.alloc.AllocError.{AllocError}
 use Rattle.requests.specs.Connected.{board_in}
 use Rattle.mg_model.specs.Items.{Done}
 use Rattle.gateway.specs.Answers.{IsSame}
-use Rattle.gateway.specs.Calls.{OpenCall, call_entry, call_in, open_entry, link_of, creating, is_among}
+use Rattle.gateway.specs.Calls.{OpenCall, call_entry, call_in, open_entry, link_of, creating}
+use Rattle.mg_model.specs.Members.{is_among}
 use Rattle.gateway.specs.Creators.{creator_at, any_created, IsKeptOrNoted}
 use Rattle.gateway.specs.Execution.{HasCreated, AreNew}
 use Rattle.gateway.specs.GatewayValue.{GatewayValue, AreTied, gateway_of, is_open}

@@ -1,10 +1,10 @@
 -- A gateway whose call was opened stays tied.
-use Rattle.std.proofs.Common.{◌≡◌, ◌∙◌, ℕ, ◌==◌, ◌&&◌, Bool, true, false, not, if◌then◌else◌, List, Option, Some, None, is_some, Ok, refl, sym, ap, subst, arith, rules}
-use Rattle.std.proofs.lemmas.Bool.{eqb-true}
-use Rattle.std.proofs.lemmas.Bool.Decides.{nat_tests}
+use Rattle.std.proofs.Common.{◌≡◌, ◌∙◌, ℕ, ◌==◌, ◌&&◌, Bool, true, false, not, if◌then◌else◌, List, Option, Some, None, is_some, Ok, refl, sym, ap, subst, rules}
+use Rattle.std.proofs.lemmas.Bool.{eqb-true, and_parts}
 use Rattle.mg_names.specs.declared.identifiers.LineNo.{LineNo}
 use Rattle.mg_names.specs.declared.identifiers.TermId.TheVariants.{Line, Eph}
 use Rattle.mg_model.specs.Board.{Board, exists}
+use Rattle.mg_model.proofs.Cases.{same_turned}
 use Rattle.contexts.specs.BoardValue.{names_line}
 use Rattle.requests.specs.Connected.{board_in, has_line, is_idle}
 use Rattle.requests.specs.Idle.{idle_row}
@@ -14,11 +14,8 @@ use Rattle.gateway.specs.Openings.{opening_on}
 use Rattle.gateway.specs.Standby.{board_idled}
 use Rattle.gateway.specs.GatewayValue.{GatewayValue, AreTied, IsCreatedBy, is_held_by, has_line_among, holder_in, is_taken}
 use Rattle.gateway.proofs.OpeningLemmas.{there_idle}
-use Rattle.gateway.proofs.StartLemmas.{IsOpened, CanOpen, can_open, all_among, split, free_number, held_is, not_taken}
+use Rattle.gateway.proofs.StartLemmas.{IsOpened, CanOpen, can_open, all_among, free_number, held_is, not_taken}
 use Rattle.gateway.proofs.TieLemmas.{Entry}
-
-pub other_way : (a b : ℕ) → (a == b) ≡ (b == a)
-other_way a b = grind (arith, nat_tests)
 
 idled_there : (b : Board) (lines : List LineNo) (l : ℕ) → has_line (board_idled lines b) l ≡ has_line b l
 idled_there b lines l = by_test (names_line lines l)
@@ -34,7 +31,7 @@ still_listed (Some holder) true call = refl
 still_listed (Some holder) false call = refl
 
 free_none : (b : Board) (holder : ℕ → Option ℕ) (l : ℕ) → free_number b holder l ≡ true → holder l ≡ None
-free_none b holder l h = by (holder l) (split (is_idle b l) (not (is_some (holder l))) h).1
+free_none b holder l h = by (holder l) (and_parts (is_idle b l) (not (is_some (holder l))) h).1
   where
     by : (o : Option ℕ) → not (is_some o) ≡ true → o ≡ None
     by None e = refl
@@ -61,10 +58,10 @@ module _ (w new : GatewayValue) (call : ℕ) (lines : List LineNo) (tied : AreTi
 
   held : (l n : ℕ) (same among : Bool) → (n == call) ≡ same → names_line lines l ≡ among
       → is_held_by (if among then Some call else holder_in w l) n ≡ has_line_among (open_entry (if same then Some (Some done.state) else call_entry w.calls n)) l
-  held l n true true e a = other_way call n ∙ e ∙ sym (ap (λ (c : OpenCall). names_line c.lines l) done.state_is ∙ a)
+  held l n true true e a = same_turned call n ∙ e ∙ sym (ap (λ (c : OpenCall). names_line c.lines l) done.state_is ∙ a)
   held l n true false e a = ap (is_held_by (holder_in w l)) (eqb-true n call e) ∙ tied.holders l call ∙ ap (λ (x : Entry). has_line_among (open_entry x) l) no_entry
       ∙ sym (ap (λ (c : OpenCall). names_line c.lines l) done.state_is ∙ a)
-  held l n false true e a = other_way call n ∙ e
+  held l n false true e a = same_turned call n ∙ e
       ∙ ap (λ (h : Option ℕ). is_held_by h n) (sym (free_none (board_in w.connected) (holder_in w) l (all_among (free_number (board_in w.connected) (holder_in w)) lines l can.free a)))
       ∙ tied.holders l n
   held l n false false e a = tied.holders l n

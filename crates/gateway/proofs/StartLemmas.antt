@@ -1,7 +1,7 @@
 -- A gateway that starts, and one whose call was opened.
 use Rattle.std.proofs.Common.{◌≡◌, ◌∙◌, ℕ, ◌==◌, ◌&&◌, ◌||◌, Bool, true, false, not, if◌then◌else◌, List, [], ◌∷◌, Option, Some, None, is_some, Result, Ok, Err, refl, sym, ap, rules, true≢false}
 use Rattle.std.specs.List.{list_all}
-use Rattle.std.proofs.lemmas.Bool.{eqb-true}
+use Rattle.std.proofs.lemmas.Bool.{eqb-true, and_parts}
 use Rattle.mg_names.specs.declared.identifiers.LineNo.{LineNo}
 use Rattle.mg_names.specs.declared.identifiers.TermId.{TermId}
 use Rattle.mg_names.specs.declared.identifiers.TermId.TheVariants.{Line, Eph}
@@ -109,14 +109,10 @@ can_open b holder is_taken lines h = by_tests (are_there b lines) is_taken (list
 
 -- ---- what an opening leaves
 
-pub split : (a b : Bool) → (a && b) ≡ true → (a ≡ true) × (b ≡ true)
-split true b e = (refl, e)
-split false b e = absurd (search rules)
-
 pub all_among : (test : ℕ → Bool) (lines : List LineNo) (n : ℕ) → list_all (λ (l : LineNo). test l.0) lines ≡ true → names_line lines n ≡ true → test n ≡ true
 all_among test [] n all among = absurd (search rules)
 all_among test (l ∷ lines) n all among =
-    let both = split (test l.0) (list_all (λ (l : LineNo). test l.0) lines) all in
+    let both = and_parts (test l.0) (list_all (λ (l : LineNo). test l.0) lines) all in
     by_first both.0 (n == l.0) refl (all_among test lines n both.1)
   where
     by_first : test l.0 ≡ true → (same : Bool) → (n == l.0) ≡ same → (names_line lines n ≡ true → test n ≡ true) → test n ≡ true
@@ -136,7 +132,7 @@ idled_is b holder lines free (Line l) = by_test (names_line lines l.0) refl
   where
     by_test : (among : Bool) → names_line lines l.0 ≡ among
         → (if among then idle_row (b.row (Line l)) else b.row (Line l)) ≡ (if among then inactive_row (b.row (Line l)) else b.row (Line l))
-    by_test true e = idle_inactive (b.row (Line l)) (split (is_idle b l.0) _ (all_among (free_number b holder) lines l.0 free e)).0
+    by_test true e = idle_inactive (b.row (Line l)) (and_parts (is_idle b l.0) _ (all_among (free_number b holder) lines l.0 free e)).0
     by_test false e = refl
 idled_is b holder lines free (Eph k) = refl
 

@@ -1,6 +1,5 @@
 -- A call that changes: what stays tied, which calls stay open, and that a request whose end is put in place was executed.
-use Rattle.std.proofs.Common.{◌≡◌, ◌∙◌, ℕ, ◌==◌, ◌+◌, ◌≤◌, Bool, true, false, if◌then◌else◌, List, length, Option, Some, None, is_some, option_map, ◌⊎◌, inl, inr, refl, sym, ap, subst, arith, rules}
-use Rattle.std.proofs.lemmas.Bool.Decides.{nat_tests}
+use Rattle.std.proofs.Common.{◌≡◌, ◌∙◌, ℕ, ◌==◌, ◌+◌, ◌≤◌, Bool, true, false, if◌then◌else◌, List, length, Option, Some, None, is_some, option_map, ◌⊎◌, inl, inr, refl, sym, ap, subst, rules}
 use Rattle.mg_names.specs.declared.identifiers.LineNo.{LineNo}
 use Rattle.contexts.specs.BoardValue.{names_line}
 use Rattle.std.proofs.lemmas.Bool.{eqb-true}
@@ -14,20 +13,16 @@ use Rattle.mg_model.specs.Numbers.{last_number}
 use Rattle.mg_model.specs.Gateway.{Gateway, CallLink, after_request, reply_of, sent_notes, creator_after}
 use Rattle.mg_model.specs.Messages.{Request, Reply, SentNote}
 use Rattle.mg_model.specs.RequestRun.{Running}
+use Rattle.mg_model.proofs.Cases.{the_some, same_itself}
 use Rattle.requests.specs.Connected.{Connected, board_in, line_in, has_line, start_in}
 use Rattle.gateway.specs.Answers.{IsAddressed, IsExecution, SameOpen}
-use Rattle.gateway.specs.Calls.{OpenCall, call_entry, call_in, open_entry, is_retired_entry, line_entry, link_of, holder_of, with_call, keeping, creating, is_among}
+use Rattle.gateway.specs.Calls.{OpenCall, call_entry, call_in, open_entry, is_retired_entry, line_entry, link_of, holder_of, with_call, keeping, creating}
+use Rattle.mg_model.specs.Members.{is_among}
 use Rattle.gateway.specs.Execution.{IsNew, IsRun}
 use Rattle.gateway.specs.Creators.{creator_at, creator_on, any_created}
 use Rattle.gateway.specs.GatewayValue.{GatewayValue, AreTied, IsCreatedBy, is_held_by, has_line_among, gateway_of, is_open}
 use Rattle.gateway.proofs.CreatorLemmas.{creator_put}
 use Rattle.gateway.proofs.OfferLemmas.{offer_is}
-
-pub same_number : (n : ℕ) → (n == n) ≡ true
-same_number n = grind (arith, nat_tests)
-
-pub some_number : (a b : ℕ) → Some a ≡ Some b → a ≡ b
-some_number a b e = cc
 
 -- by a look-up, with its value
 found : {X : Type 0} {P : Type 0} (o : Option X) → (o ≡ None → P) → ((x : X) → o ≡ Some x → P) → P
@@ -109,7 +104,7 @@ pub changed_twice : (old between : ℕ → Entry) (call : ℕ) (first second : O
 changed_twice old between call first second changed n = by_test (n == call) refl
   where
     at_call : between call ≡ option_map (option_map first) (old call)
-    at_call = changed call ∙ rw (same_number call) refl
+    at_call = changed call ∙ rw (same_itself call) refl
 
     by_test : (b : Bool) → (n == call) ≡ b
         → (if b then option_map (option_map second) (between call) else between n) ≡ (if b then option_map (option_map (λ c. second (first c))) (old call) else old n)
@@ -155,12 +150,12 @@ tied_noted w call created calls creators tied opened changed kept noted = record
     in_created k among (Some (Some c)) h = among
 
     at_call : (k : ℕ) → is_among created k ≡ true → IsCreatedBy (call_entry calls call) k
-    at_call k among = subst (λ (e : Entry). IsCreatedBy e k) (sym (changed call ∙ rw (same_number call) refl)) (in_created k among (call_entry w.calls call) opened)
+    at_call k among = subst (λ (e : Entry). IsCreatedBy e k) (sym (changed call ∙ rw (same_itself call) refl)) (in_created k among (call_entry w.calls call) opened)
 
     by_noted : (k n : ℕ) → creator_at creators k ≡ Some n
         → (creator_at creators k ≡ creator_at w.creators k) ⊎ ((is_among created k ≡ true) × (creator_at creators k ≡ Some call)) → IsCreatedBy (call_entry calls n) k
     by_noted k n e (inl same) = same_created (call_entry w.calls) (call_entry calls) call (creating created) changed kept k n (tied.created k n (sym same ∙ e))
-    by_noted k n e (inr (among, is)) = subst (λ (m : ℕ). IsCreatedBy (call_entry calls m) k) (some_number call n (sym is ∙ e)) (at_call k among)
+    by_noted k n e (inr (among, is)) = subst (λ (m : ℕ). IsCreatedBy (call_entry calls m) k) (the_some call n (sym is ∙ e)) (at_call k among)
 
 pub settled_line : (b settled : Board) → IsSettled b settled → (l : ℕ) → has_line settled l ≡ has_line b l
 settled_line b settled is l = ap (λ (rows : TermId → Option Row). is_some (rows (Line (record { 0 = l })))) is.row

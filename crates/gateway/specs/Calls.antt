@@ -1,7 +1,6 @@
 -- What a gateway keeps of each call that was opened, and which call holds a line, by number. A call that was retired keeps an empty
 -- entry. A reader should check that the number under which a reply is kept is the reply's own, and when a call is retired.
 use Rattle.std.specs.Prelude.{◌≡◌, ℕ, ◌==◌, Bool, true, false, if◌then◌else◌, List, [], Option, Some, None, is_some, option_map}
-use Rattle.std.specs.List.{list_any}
 use Rattle.std.specs.Ordering.{nat_cmp}
 use Rattle.std.specs.BTreeMap.{is_at}
 use Rattle.std.specs.Map.{lookup}
@@ -84,11 +83,6 @@ creating created c = record c { created = created }
 -- what was created in another association is no more
 abbrev pub restarting : ℕ → OpenCall → OpenCall
 restarting association c = record c { association = association; last = None; created = [] }
-
--- ---- what a call created
-
-unfoldable pub is_among : List ℕ → ℕ → Bool
-is_among numbers n = list_any (λ m. n == m) numbers
 
 -- ---- the reply that a link of delivery keeps
 

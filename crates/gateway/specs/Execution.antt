@@ -16,7 +16,8 @@ use Rattle.gateway.specs.declared.execute.Judged.{Judged}
 use Rattle.gateway.specs.declared.execute.Judged.TheVariants.{New, Again, Nothing, Full, NoMemory}
 use Rattle.gateway.specs.Answers.{IsAddressed, HasNoRoom}
 use Rattle.gateway.specs.Creators.{creator_at, any_created}
-use Rattle.gateway.specs.Calls.{OpenCall, call_entry, call_in, open_entry, with_call, creating, is_among, delivery_link}
+use Rattle.gateway.specs.Calls.{OpenCall, call_entry, call_in, open_entry, with_call, creating, delivery_link}
+use Rattle.mg_model.specs.Members.{is_among}
 use Rattle.gateway.specs.GatewayValue.{GatewayValue, gateway_of}
 
 -- the request is new to its call, whose last note has this number, and there is room for its notes

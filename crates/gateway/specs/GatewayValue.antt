@@ -5,7 +5,8 @@ use Rattle.mg_model.specs.Board.{exists}
 use Rattle.mg_model.specs.Gateway.{Gateway}
 use Rattle.requests.specs.Connected.{Connected, board_in, line_in, has_line}
 use Rattle.contexts.specs.BoardValue.{names_line}
-use Rattle.gateway.specs.Calls.{OpenCall, call_entry, call_in, is_retired_in, is_taken_in, line_entry, link_of, holder_of, is_among}
+use Rattle.gateway.specs.Calls.{OpenCall, call_entry, call_in, is_retired_in, is_taken_in, line_entry, link_of, holder_of}
+use Rattle.mg_model.specs.Members.{is_among}
 use Rattle.gateway.specs.Creators.{creator_at, creator_on}
 
 pub record GatewayValue : Type 0 where

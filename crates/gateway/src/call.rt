@@ -3,7 +3,8 @@ ghost use Rattle.std.specs.Prelude.{◌≡◌, ℕ, ◌+◌, true, OnOk};
 ghost use Rattle.mg_model.specs.Delivery.{offer, fresh};
 ghost use Rattle.mg_model.specs.Numbers.{last_number};
 ghost use Rattle.delivery.specs.Offers.{offered};
-ghost use Rattle.gateway.specs.Calls.{delivery_link, new_call, keeping, counting, creating, restarting, is_among};
+ghost use Rattle.gateway.specs.Calls.{delivery_link, new_call, keeping, counting, creating, restarting};
+ghost use Rattle.mg_model.specs.Members.{is_among};
 ghost use Rattle.gateway.specs.Creators.{any_created};
 
 use crate::created;

@@ -1,6 +1,6 @@
 //! The numbers of the ephemerals that a call created, each once.
 ghost use Rattle.std.specs.Prelude.{◌≡◌, ◌==◌, ◌||◌, ℕ, true, OnOk, OnErr};
-ghost use Rattle.gateway.specs.Calls.{is_among};
+ghost use Rattle.mg_model.specs.Members.{is_among};
 ghost use Rattle.gateway.specs.Creators.{is_created, any_created};
 
 use contexts::Done;
@@ -8,7 +8,7 @@ use std::alloc::AllocError;
 use std::collections::BTreeSet;
 
 /// Adds a number.
-#[tactic(auto, using(crate::proofs::CreatedLemmas::among_by_order))]
+#[tactic(auto, using(mg_model::proofs::Members::among_by_order))]
 fn add(created: &mut BTreeSet<u32>, number: u32) -> Result<(), AllocError>
     ensures added { OnOk result ((k : ℕ) → is_among created.new.keys k ≡ ((k == number) || is_among created.old.keys k)) }
     ensures unchanged { OnErr result (created.new.keys ≡ created.old.keys) }

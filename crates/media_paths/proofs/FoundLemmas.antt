@@ -3,59 +3,43 @@ use Rattle.std.proofs.Common.{◌≡◌, ℕ, ◌+◌, ◌<◌, ◌≤◌, ◌==
 use Rattle.std.proofs.lemmas.Grind.{common_steps}
 use Rattle.std.proofs.lemmas.List.Folds.{list_any-append}
 use Rattle.std.proofs.lemmas.List.{append-nil, take-append-drop, take_all, take_more, take_more_set}
+use Rattle.std.proofs.lemmas.Bool.{and_parts, not-true, or_parts, or_right, or_left, or_cases, eqb-true}
 use Rattle.std.specs.List.{list_any}
 use Rattle.mg_names.specs.declared.identifiers.TermId.{TermId}
 use Rattle.mg_names.specs.declared.identifiers.TermId.TheVariants.{Eph}
 use Rattle.mg_model.specs.Board.{Board, same_term, place_of}
 use Rattle.mg_model.specs.Members.{is_among}
 use Rattle.mg_model.specs.Media.{hops, crosses, goes_over}
+use Rattle.mg_model.proofs.Terminations.{same_term_is, same_term_self}
+use Rattle.mg_model.proofs.Cases.{same_itself}
 use Rattle.context_tables.specs.BoardValue.{stands_in}
 use Rattle.media_paths.specs.Paths.{Leads, arrival}
 use Rattle.media_paths.specs.Found.{FoundValue, all_found, noted, noted_if, IsTaken, all_differ, IsFullFor, IsOverfull, ArrivesAtMore, ArrivesNext, arrives_over, MayArrive, IsSpread, IsExplored, IsClosed}
-use Rattle.context_tables.proofs.TermLemmas.{same_is, same_itself, split_and, by_value, not_both}
-use Rattle.media_paths.proofs.PathLemmas.{both, not_false, negated, same_number, next_from, arrives, stands_beside, avoids_nothing}
+use Rattle.context_tables.proofs.TermLemmas.{by_value, not_both}
+use Rattle.media_paths.proofs.PathLemmas.{both, negated, next_from, arrives, stands_beside, avoids_nothing}
 
 -- ---- what is among numbers
 
-either : (a b : Bool) → (a || b) ≡ true → (a ≡ true) ⊎ (b ≡ true)
-either true b h = inl refl
-either false b h = inr h
-
-or_first : (a b : Bool) → a ≡ true → (a || b) ≡ true
-or_first true b h = refl
-or_first false b h = absurd (search rules)
-
-or_second : (a b : Bool) → b ≡ true → (a || b) ≡ true
-or_second true b h = refl
-or_second false b h = h
-
 among_first : (xs ys : List ℕ) (i : ℕ) → is_among xs i ≡ true → is_among (xs ++ ys) i ≡ true
-among_first xs ys i h = list_any-append (λ (m : ℕ). i == m) xs ys ∙ or_first (is_among xs i) (is_among ys i) h
+among_first xs ys i h = list_any-append (λ (m : ℕ). i == m) xs ys ∙ or_left (is_among xs i) (is_among ys i) h
 
 among_second : (xs ys : List ℕ) (i : ℕ) → is_among ys i ≡ true → is_among (xs ++ ys) i ≡ true
-among_second xs ys i h = list_any-append (λ (m : ℕ). i == m) xs ys ∙ or_second (is_among xs i) (is_among ys i) h
+among_second xs ys i h = list_any-append (λ (m : ℕ). i == m) xs ys ∙ or_right (is_among xs i) (is_among ys i) h
 
 among_either : (xs ys : List ℕ) (i : ℕ) → is_among (xs ++ ys) i ≡ true → (is_among xs i ≡ true) ⊎ (is_among ys i ≡ true)
-among_either xs ys i h = either (is_among xs i) (is_among ys i) (sym (list_any-append (λ (m : ℕ). i == m) xs ys) ∙ h)
-
-itself : (i : ℕ) → (i == i) ≡ true
-itself i = grind (arith, common_steps)
+among_either xs ys i h = or_cases (is_among xs i) (is_among ys i) (sym (list_any-append (λ (m : ℕ). i == m) xs ys) ∙ h)
 
 among_one : (i k : ℕ) → is_among (i ∷ []) k ≡ true → k ≡ i
-among_one i k h = go (either (k == i) false h)
+among_one i k h = go (or_cases (k == i) false h)
   where
     go : ((k == i) ≡ true) ⊎ (false ≡ true) → k ≡ i
-    go (inl e) = same_number k i e
+    go (inl e) = eqb-true k i e
     go (inr e) = absurd (search rules)
 
 among_head : (i : ℕ) (more : List ℕ) → is_among (i ∷ more) i ≡ true
-among_head i more = or_first (i == i) (is_among more i) (itself i)
+among_head i more = or_left (i == i) (is_among more i) (same_itself i)
 
 -- ---- numbers that differ
-
-or_none : (a b : Bool) → (a || b) ≡ false → (a ≡ false) × (b ≡ false)
-or_none true b h = absurd (search rules)
-or_none false b h = (refl, h)
 
 neither : (a b : Bool) → a ≡ false → b ≡ false → (a || b) ≡ false
 neither true b h k = absurd (search rules)
@@ -67,10 +51,10 @@ turned i k h = grind (arith, common_steps)
 pub differ_with : (i : ℕ) (xs : List ℕ) → IsTrue (all_differ xs) → is_among xs i ≡ false → IsTrue (all_differ (xs ++ i ∷ []))
 differ_with i [] h absent = refl
 differ_with i (x ∷ xs) h absent =
-    let parts = split_and (not (is_among xs x)) (all_differ xs) h in
-    let apart = or_none (i == x) (is_among xs i) absent in
+    let parts = and_parts (not (is_among xs x)) (all_differ xs) h in
+    let apart = or_parts (i == x) (is_among xs i) absent in
     let last : is_among (i ∷ []) x ≡ false = neither (x == i) false (turned i x apart.0) refl in
-    let new : is_among (xs ++ i ∷ []) x ≡ false = list_any-append (λ (m : ℕ). x == m) xs (i ∷ []) ∙ neither (is_among xs x) (is_among (i ∷ []) x) (not_false _ parts.0) last in
+    let new : is_among (xs ++ i ∷ []) x ≡ false = list_any-append (λ (m : ℕ). x == m) xs (i ∷ []) ∙ neither (is_among xs x) (is_among (i ∷ []) x) (not-true _ parts.0) last in
     both (not (is_among (xs ++ i ∷ []) x)) (all_differ (xs ++ i ∷ [])) (negated _ new) (differ_with i xs parts.1 apart.1)
 
 -- one more is written after the first ones
@@ -179,14 +163,14 @@ spread_one b from t group old mid new so_far is = let at : IsSpreadBy b from (gr
         is_among (all_found (noted_if (arrival b [] from t) mid)) i ≡ true
     arrived more u i (inl h) a = more.kept i (so_far.arrived u i h a)
     arrived more u i (inr h) a = by_value (same_term u t)
-        (λ e. let same : u ≡ t = same_is u t e in more.arrived i (rw same at a))
+        (λ e. let same : u ≡ t = same_term_is u t e in more.arrived i (rw same at a))
         (λ e. let bad : false ≡ true = rw e at h in absurd (search rules))
 
     go : Adds b from t mid (noted_if (arrival b [] from t) mid) → IsSpreadBy b from (group ++ t ∷ []) old (noted_if (arrival b [] from t) mid)
     go more = record {
       done = more.done ∙ so_far.done;
       kept = λ i h. more.kept i (so_far.kept i h);
-      arrived = λ u i h a. arrived more u i (either (list_any (same_term u) group) (same_term u t || false) (sym (list_any-append (same_term u) group (t ∷ [])) ∙ h)) a;
+      arrived = λ u i h a. arrived more u i (or_cases (list_any (same_term u) group) (same_term u t || false) (sym (list_any-append (same_term u) group (t ∷ [])) ∙ h)) a;
       only = λ i h. before i (more.only i h);
     }
 
@@ -213,7 +197,7 @@ pub overfull : (b : Board) (most : ℕ) (from t : TermId) (group : List TermId) 
 overfull b most from t group old mid so_far full = go (arrival b [] from t) refl full
   where
     only : (k i : ℕ) → arrival b [] from t ≡ Some k → ((i == k) ≡ true) ⊎ (is_among (all_found mid) i ≡ true) → (is_among (all_found old) i ≡ true) ⊎ ArrivesNext b from i
-    only k i e (inl same) = let is : i ≡ k = same_number i k same in inr (arrival_next b from t i (rw is e))
+    only k i e (inl same) = let is : i ≡ k = eqb-true i k same in inr (arrival_next b from t i (rw is e))
     only k i e (inr before) = so_far.only i before
 
     go : (next : Option ℕ) → arrival b [] from t ≡ next → IsFullFor most next mid → IsOverfull b most from old
@@ -222,7 +206,7 @@ overfull b most from t group old mid so_far full = go (arrival b [] from t) refl
       numbers = k ∷ all_found mid;
       more = let many = is_full.many in omega (arith, many);
       differ = is_full.differ;
-      only = λ i h. only k i e (either (i == k) (is_among (all_found mid) i) h);
+      only = λ i h. only k i e (or_cases (i == k) (is_among (all_found mid) i) h);
     }
 
 -- ---- what may be arrived at leads on
@@ -230,13 +214,13 @@ overfull b most from t group old mid so_far full = go (arrival b [] from t) refl
 pub from_start : (b : Board) (from : TermId) (i : ℕ) → ArrivesNext b from i → MayArrive b from i
 from_start b from i next = record {
   crossings = (next.by, i) ∷ [];
-  goes = both (hops b from (Eph next.by) && crosses b next.by i) (same_term (Eph i) (Eph i)) (both _ _ next.hop next.crossing) (same_itself (Eph i));
+  goes = both (hops b from (Eph next.by) && crosses b next.by i) (same_term (Eph i) (Eph i)) (both _ _ next.hop next.crossing) (same_term_self (Eph i));
 }
 
 goes_further : (b : Board) (from : TermId) (crossings : List (ℕ × ℕ)) (k i : ℕ) → IsTrue (arrives_over b from crossings k) → ArrivesNext b (Eph k) i → MayArrive b from i
-goes_further b from [] k i goes next = let same : from ≡ Eph k = same_is from (Eph k) goes in rw same (from_start b (Eph k) i next)
+goes_further b from [] k i goes next = let same : from ≡ Eph k = same_term_is from (Eph k) goes in rw same (from_start b (Eph k) i next)
 goes_further b from (crossing ∷ more) k i goes next =
-    let parts = split_and (hops b from (Eph crossing.0) && crosses b crossing.0 crossing.1) (arrives_over b (Eph crossing.1) more k) goes in
+    let parts = and_parts (hops b from (Eph crossing.0) && crosses b crossing.0 crossing.1) (arrives_over b (Eph crossing.1) more k) goes in
     let on = goes_further b (Eph crossing.1) more k i parts.1 next in
     record { crossings = crossing ∷ on.crossings; goes = both (hops b from (Eph crossing.0) && crosses b crossing.0 crossing.1) _ parts.0 on.goes }
 
@@ -244,9 +228,9 @@ pub further : (b : Board) (from : TermId) (k i : ℕ) → MayArrive b from k →
 further b from k i way next = goes_further b from way.crossings k i way.goes next
 
 goes_to : (b : Board) (from to : TermId) (crossings : List (ℕ × ℕ)) (k : ℕ) → IsTrue (arrives_over b from crossings k) → hops b (Eph k) to ≡ true → IsTrue (goes_over b from crossings to)
-goes_to b from to [] k goes hop = let same : from ≡ Eph k = same_is from (Eph k) goes in rw same hop
+goes_to b from to [] k goes hop = let same : from ≡ Eph k = same_term_is from (Eph k) goes in rw same hop
 goes_to b from to (crossing ∷ more) k goes hop =
-    let parts = split_and (hops b from (Eph crossing.0) && crosses b crossing.0 crossing.1) (arrives_over b (Eph crossing.1) more k) goes in
+    let parts = and_parts (hops b from (Eph crossing.0) && crosses b crossing.0 crossing.1) (arrives_over b (Eph crossing.1) more k) goes in
     both (hops b from (Eph crossing.0) && crosses b crossing.0 crossing.1) _ parts.0 (goes_to b (Eph crossing.1) to more k parts.1 hop)
 
 pub leads_by_found : (b : Board) (from to : TermId) (k : ℕ) → MayArrive b from k → hops b (Eph k) to ≡ true → Leads b [] from to
@@ -258,8 +242,8 @@ no_way : (b : Board) (to : TermId) (found : List ℕ) → ((i : ℕ) → is_amon
     (from : TermId) (crossings : List (ℕ × ℕ)) → IsExplored b to found from → IsTrue (goes_over b from crossings to) → ⊥
 no_way b to found all from [] settled goes = not_both (hops b from to) goes settled.misses
 no_way b to found all from (crossing ∷ more) settled goes =
-    let parts = split_and (hops b from (Eph crossing.0) && crosses b crossing.0 crossing.1) (goes_over b (Eph crossing.1) more to) goes in
-    let first = split_and (hops b from (Eph crossing.0)) (crosses b crossing.0 crossing.1) parts.0 in
+    let parts = and_parts (hops b from (Eph crossing.0) && crosses b crossing.0 crossing.1) (goes_over b (Eph crossing.1) more to) goes in
+    let first = and_parts (hops b from (Eph crossing.0)) (crosses b crossing.0 crossing.1) parts.0 in
     no_way b to found all (Eph crossing.1) more (all crossing.1 (settled.arrived crossing.1 (record { by = crossing.0; hop = first.0; crossing = first.1 }))) parts.1
 
 pub closed_misses : (b : Board) (from to : TermId) (found : FoundValue) → IsClosed b from to found → found.ahead ≡ [] → Leads b [] from to → ⊥

@@ -5,6 +5,7 @@ use Rattle.std.proofs.lemmas.Grind.{common_steps}
 use Rattle.std.proofs.Math.Nat.{mul-le-mul_right}
 use Rattle.std.proofs.lemmas.List.{get_or_past}
 use Rattle.std.proofs.lemmas.Map.Steps.{length-le_from_distinct_below}
+use Rattle.std.proofs.lemmas.Bool.{and_parts, not-true, eqb-true}
 use Rattle.std.specs.List.{list_any, IsDistinct, AllByRecursion}
 use Rattle.mg_names.specs.declared.identifiers.TermId.{TermId}
 use Rattle.mg_names.specs.declared.identifiers.TermId.TheVariants.{Line, Eph}
@@ -18,18 +19,12 @@ use Rattle.identifiers.proofs.ClassLemmas.{number_at-key_of}
 use Rattle.context_tables.specs.BoardValue.{stands_in}
 use Rattle.media_paths.specs.Paths.{is_trail, avoids, Leads, crossed, arrival, LeadsBy, LeadsByOne}
 use Rattle.mg_model.specs.Members.{is_among}
-use Rattle.context_tables.proofs.TermLemmas.{same_is, split_and, by_value, not_both}
+use Rattle.mg_model.proofs.Terminations.{same_term_is}
+use Rattle.context_tables.proofs.TermLemmas.{by_value, not_both}
 
 pub both : (a b : Bool) → a ≡ true → b ≡ true → (a && b) ≡ true
 both true b h k = k
 both false b h k = absurd (search rules)
-
-pub same_number : (i j : ℕ) → (i == j) ≡ true → i ≡ j
-same_number i j e = grind (arith, common_steps)
-
-pub not_false : (b : Bool) → not b ≡ true → b ≡ false
-not_false true h = absurd (search rules)
-not_false false h = refl
 
 pub negated : (b : Bool) → b ≡ false → not b ≡ true
 negated b h = rw h refl
@@ -42,8 +37,8 @@ among_tail i j trail h = by_value (j == i) (λ e. let bad : (true || is_among tr
 pub avoids_tail : (i : ℕ) (trail : List ℕ) (crossings : List (ℕ × ℕ)) → avoids (i ∷ trail) crossings ≡ true → avoids trail crossings ≡ true
 avoids_tail i trail [] h = refl
 avoids_tail i trail (crossing ∷ more) h =
-    let parts = split_and (not (is_among (i ∷ trail) crossing.1)) (avoids (i ∷ trail) more) h in
-    both _ _ (negated _ (among_tail i crossing.1 trail (not_false _ parts.0))) (avoids_tail i trail more parts.1)
+    let parts = and_parts (not (is_among (i ∷ trail) crossing.1)) (avoids (i ∷ trail) more) h in
+    both _ _ (negated _ (among_tail i crossing.1 trail (not-true _ parts.0))) (avoids_tail i trail more parts.1)
 
 pub record IsNext (b : Board) (trail : List ℕ) (from t : TermId) (i : ℕ) : Type 0 where
   pub e : ℕ
@@ -62,8 +57,8 @@ next_from b trail from (Eph e) i h = by_value (hops b from (Eph e))
     go None hop k = absurd (search rules)
     go (Some j) hop k = by_value (crosses b e j && not (is_among trail j))
         (λ yes_it. let is_some : Some j ≡ Some i = rw yes_it at k in let same : j ≡ i = cc in
-        let parts = split_and (crosses b e j) (not (is_among trail j)) yes_it in
-        record { e = e; is = refl; hop = hop; crossing = rw same at parts.0; new = rw same at (not_false _ parts.1) })
+        let parts = and_parts (crosses b e j) (not (is_among trail j)) yes_it in
+        record { e = e; is = refl; hop = hop; crossing = rw same at parts.0; new = rw same at (not-true _ parts.1) })
         (λ none. let bad : None ≡ Some i = rw none at k in absurd (search rules))
 
 pub leads_from : (b : Board) (trail : List ℕ) (from to t : TermId) → LeadsBy b trail from to t → Leads b trail from to
@@ -82,16 +77,16 @@ pub cut_short : (b : Board) (trail : List ℕ) (i : ℕ) (from to : TermId) (cro
     (avoids (i ∷ trail) crossings ≡ true) ⊎ Leads b (i ∷ trail) (Eph i) to
 cut_short b trail i from to [] a g = inl refl
 cut_short b trail i from to (crossing ∷ more) a g =
-    let apart = split_and (not (is_among trail crossing.1)) (avoids trail more) a in
-    let parts = split_and (hops b from (Eph crossing.0) && crosses b crossing.0 crossing.1) (goes_over b (Eph crossing.1) more to) g in
+    let apart = and_parts (not (is_among trail crossing.1)) (avoids trail more) a in
+    let parts = and_parts (hops b from (Eph crossing.0) && crosses b crossing.0 crossing.1) (goes_over b (Eph crossing.1) more to) g in
     go (cut_short b trail i (Eph crossing.1) to more apart.1 parts.1) apart.0 parts.1
   where
     go : (avoids (i ∷ trail) more ≡ true) ⊎ Leads b (i ∷ trail) (Eph i) to → not (is_among trail crossing.1) ≡ true → goes_over b (Eph crossing.1) more to ≡ true →
         (avoids (i ∷ trail) (crossing ∷ more) ≡ true) ⊎ Leads b (i ∷ trail) (Eph i) to
     go (inr leads) new g = inr leads
     go (inl avoided) new g = by_value (crossing.1 == i)
-        (λ e. let same : crossing.1 ≡ i = same_number _ _ e in let at : goes_over b (Eph i) more to ≡ true = rw same at g in inr (more, avoided, at))
-        (λ e. let absent : is_among (i ∷ trail) crossing.1 ≡ false = rw e (not_false _ new) in inl (both _ _ (negated _ absent) avoided))
+        (λ e. let same : crossing.1 ≡ i = eqb-true _ _ e in let at : goes_over b (Eph i) more to ≡ true = rw same at g in inr (more, avoided, at))
+        (λ e. let absent : is_among (i ∷ trail) crossing.1 ≡ false = rw e (not-true _ new) in inl (both _ _ (negated _ absent) avoided))
 
 pub leads_on : (b : Board) (trail : List ℕ) (i : ℕ) (to : TermId) (crossings : List (ℕ × ℕ)) → avoids trail crossings ≡ true → goes_over b (Eph i) crossings to ≡ true →
     Leads b (i ∷ trail) (Eph i) to
@@ -104,19 +99,19 @@ leads_on b trail i to crossings a g = go (cut_short b trail i (Eph i) to crossin
 -- an ephemeral that crosses names the other one
 pub crosses_to : (b : Board) (e i : ℕ) → crosses b e i ≡ true → remote_of b (Eph e) ≡ Some i
 crosses_to b e i h =
-    let first = split_and (not (e == i) && exists b (Eph e) && exists b (Eph i) && is_number (remote_of b (Eph e)) i) (is_number (remote_of b (Eph i)) e) h in
-    let second = split_and (not (e == i) && exists b (Eph e) && exists b (Eph i)) (is_number (remote_of b (Eph e)) i) first.0 in
+    let first = and_parts (not (e == i) && exists b (Eph e) && exists b (Eph i) && is_number (remote_of b (Eph e)) i) (is_number (remote_of b (Eph i)) e) h in
+    let second = and_parts (not (e == i) && exists b (Eph e) && exists b (Eph i)) (is_number (remote_of b (Eph e)) i) first.0 in
     go (remote_of b (Eph e)) second.1
   where
     go : (remote : Option ℕ) → is_number remote i ≡ true → remote ≡ Some i
     go None k = absurd (search rules)
-    go (Some j) k = ap Some (same_number j i k)
+    go (Some j) k = ap Some (eqb-true j i k)
 
 pub exists_beyond : (b : Board) (e i : ℕ) → crosses b e i ≡ true → exists b (Eph i) ≡ true
 exists_beyond b e i h =
-    let first = split_and (not (e == i) && exists b (Eph e) && exists b (Eph i) && is_number (remote_of b (Eph e)) i) (is_number (remote_of b (Eph i)) e) h in
-    let second = split_and (not (e == i) && exists b (Eph e) && exists b (Eph i)) (is_number (remote_of b (Eph e)) i) first.0 in
-    (split_and (not (e == i) && exists b (Eph e)) (exists b (Eph i)) second.0).1
+    let first = and_parts (not (e == i) && exists b (Eph e) && exists b (Eph i) && is_number (remote_of b (Eph e)) i) (is_number (remote_of b (Eph i)) e) h in
+    let second = and_parts (not (e == i) && exists b (Eph e) && exists b (Eph i)) (is_number (remote_of b (Eph e)) i) first.0 in
+    (and_parts (not (e == i) && exists b (Eph e)) (exists b (Eph i)) second.0).1
 
 pub arrives : (b : Board) (trail : List ℕ) (from : TermId) (e i : ℕ) → hops b from (Eph e) ≡ true → crosses b e i ≡ true → is_among trail i ≡ false →
     arrival b trail from (Eph e) ≡ Some i
@@ -127,7 +122,7 @@ pub by_one : (b : Board) (trail : List ℕ) (from to t : TermId) (group : List T
     LeadsByOne b trail from to group
 by_one b trail from to t [] h by = absurd (search rules)
 by_one b trail from to t (u ∷ group) h by = by_value (same_term t u)
-    (λ e. let same : t ≡ u = same_is t u e in let at : LeadsBy b trail from to u = rw same at by in inl at)
+    (λ e. let same : t ≡ u = same_term_is t u e in let at : LeadsBy b trail from to u = rw same at by in inl at)
     (λ e. let more : list_any (same_term t) group ≡ true = rw e at h in inr (by_one b trail from to t group more by))
 
 pub hop_shares : (b : Board) (t u : TermId) → hops b t u ≡ true → share_context b t u ≡ true
@@ -143,11 +138,11 @@ pub leads_by_one : (b : Board) (trail : List ℕ) (from to : TermId) (group : Li
     hops b from to ≡ false → Leads b trail from to → LeadsByOne b trail from to group
 leads_by_one b trail from to group members no_hop ([], a, g) = not_both (hops b from to) g no_hop
 leads_by_one b trail from to group members no_hop ((crossing ∷ more), a, g) =
-    let apart = split_and (not (is_among trail crossing.1)) (avoids trail more) a in
-    let outer = split_and (hops b from (Eph crossing.0) && crosses b crossing.0 crossing.1) (goes_over b (Eph crossing.1) more to) g in
-    let inner = split_and (hops b from (Eph crossing.0)) (crosses b crossing.0 crossing.1) outer.0 in
+    let apart = and_parts (not (is_among trail crossing.1)) (avoids trail more) a in
+    let outer = and_parts (hops b from (Eph crossing.0) && crosses b crossing.0 crossing.1) (goes_over b (Eph crossing.1) more to) g in
+    let inner = and_parts (hops b from (Eph crossing.0)) (crosses b crossing.0 crossing.1) outer.0 in
     by_one b trail from to (Eph crossing.0) group (members (Eph crossing.0) ∙ stands_beside b from (Eph crossing.0) inner.0)
-    (crossing.1, arrives b trail from crossing.0 crossing.1 inner.0 inner.1 (not_false _ apart.0), leads_on b trail crossing.1 to more apart.1 outer.1)
+    (crossing.1, arrives b trail from crossing.0 crossing.1 inner.0 inner.1 (not-true _ apart.0), leads_on b trail crossing.1 to more apart.1 outer.1)
 
 -- ---- paths
 
@@ -174,17 +169,17 @@ distinct : (b : Board) (trail : List ℕ) → is_trail b trail ≡ true → IsDi
 unfolding IsDistinct
 distinct b [] h = tt
 distinct b (i ∷ before) h =
-    let outer = split_and (not (is_among before i) && exists b (Eph i)) (is_trail b before) h in
-    let inner = split_and (not (is_among before i)) (exists b (Eph i)) outer.0 in
-    (none_equal i before (not_false _ inner.0), distinct b before outer.1)
+    let outer = and_parts (not (is_among before i) && exists b (Eph i)) (is_trail b before) h in
+    let inner = and_parts (not (is_among before i)) (exists b (Eph i)) outer.0 in
+    (none_equal i before (not-true _ inner.0), distinct b before outer.1)
 
 on_trail : (b : Board) (trail : List ℕ) (q : ℕ) → is_trail b trail ≡ true → list_any (nat_eq q) trail ≡ true → exists b (Eph q) ≡ true
 on_trail b [] q h k = absurd (search rules)
 on_trail b (i ∷ before) q h k =
-    let outer = split_and (not (is_among before i) && exists b (Eph i)) (is_trail b before) h in
-    let inner = split_and (not (is_among before i)) (exists b (Eph i)) outer.0 in
+    let outer = and_parts (not (is_among before i) && exists b (Eph i)) (is_trail b before) h in
+    let inner = and_parts (not (is_among before i)) (exists b (Eph i)) outer.0 in
     by_value (nat_eq q i)
-    (λ e. let same : q ≡ i = same_number q i e in rw same inner.1)
+    (λ e. let same : q ≡ i = eqb-true q i e in rw same inner.1)
     (λ e. let more : list_any (nat_eq q) before ≡ true = rw e at k in on_trail b before q outer.1 more)
 
 -- no ephemeral has a number past that of the last key

@@ -8,12 +8,6 @@ use Rattle.mg_examples.proofs.PointFacts.{Below, EachPoint, at_number, at_points
 
 -- ---- places
 
--- no claim comes before itself
-pub not_before_itself : (key : List ℕ) → KeyBefore key key → ⊥
-not_before_itself [] before = before
-not_before_itself (x ∷ xs) (inl less) = let below : x < x = less in omega (arith, below)
-not_before_itself (x ∷ xs) (inr (same, before)) = not_before_itself xs before
-
 -- of two claims of points that rank alike, the earlier one is of an earlier entry, or of an earlier point of the same
 pub place_before : (e p rank s entry point : ℕ) → KeyBefore (2 ∷ e ∷ p ∷ rank ∷ s ∷ []) (2 ∷ entry ∷ point ∷ rank ∷ 0 ∷ [])
     → (e < entry) ⊎ ((e ≡ entry) × (p < point))

@@ -13,6 +13,7 @@ use Rattle.mg_model.specs.Steps.{opening}
 use Rattle.mg_examples.specs.Needed.{IsNeeded, whole_fault}
 use Rattle.mg_model.specs.Accepted.{IsEntryOf}
 use Rattle.mg_model.proofs.Single.{only_one}
+use Rattle.mg_model.proofs.Claims.{not_before_itself}
 use Rattle.mg_examples.specs.TwoLines.{to_talk_off_hook, calling}
 use Rattle.mg_examples.proofs.CallingRun.{calling_ends_badly}
 use Rattle.mg_examples.proofs.IdleEntries.{reset_covered, sole_included, unarmed_marked, unarmed_unbound, unarmed_live, unarmed_steps}
@@ -22,7 +23,6 @@ use Rattle.mg_examples.specs.EntriesOfTwo.{null}
 use Rattle.mg_examples.proofs.TwoLines.{is_script, is_entry, none_ends}
 use Rattle.mg_names.specs.declared.context_values.ContextValue.TheVariants.{Free}
 use Rattle.std.specs.Prelude.{◌⊎◌}
-use Rattle.mg_examples.proofs.FirstFaults.{not_before_itself}
 
 abbrev is_empty_list : EventsName → Bool
 is_empty_list Empty = true

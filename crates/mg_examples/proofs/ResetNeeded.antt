@@ -12,6 +12,7 @@ use Rattle.mg_model.specs.Obligations.{Claim, OpeningCovered, ResetCovered, OfPo
 use Rattle.mg_model.specs.Steps.{reset}
 use Rattle.mg_examples.specs.Needed.{IsNeeded, whole_fault}
 use Rattle.mg_model.specs.Accepted.{IsEntryOf}
+use Rattle.mg_model.proofs.Claims.{not_before_itself}
 use Rattle.mg_examples.proofs.IdleEntries.{opening_covered, sole_included, armed_marked, armed_unbound, armed_live, armed_stays}
 use Rattle.mg_examples.specs.TalkEntries.{idle_armed, at_rest}
 use Rattle.mg_examples.proofs.PointFacts.{EachPoint, at_points, steps_covered, nothing_ends, Below}
@@ -20,7 +21,6 @@ use Rattle.mg_examples.specs.TwoLines.{recovering}
 use Rattle.mg_examples.specs.EntriesOfTwo.{null}
 use Rattle.mg_examples.proofs.TwoLines.{is_script, is_entry, none_ends}
 use Rattle.mg_names.specs.declared.context_values.ContextValue.TheVariants.{Free}
-use Rattle.mg_examples.proofs.FirstFaults.{not_before_itself}
 
 -- the reset is in the state `talk`, and the entry isn't
 not_reset : IsCovered at_rest (reset recovering) → ⊥

@@ -48,6 +48,9 @@ same_test true q onward back = sym (onward refl)
 same_test false true onward back = back refl
 same_test false false onward back = refl
 
+pub same_itself : (n : ℕ) → (n == n) ≡ true
+same_itself n = eq-eqb n n refl
+
 pub same_turned : (i j : ℕ) → (i == j) ≡ (j == i)
 same_turned i j = same_test (i == j) (j == i) (λ e. eq-eqb j i (sym (eqb-true i j e))) (λ e. eq-eqb i j (sym (eqb-true j i e)))
 

@@ -2,21 +2,15 @@
 -- kept is that of the same number.
 use Rattle.std.proofs.Common.{◌≡◌, ◌∙◌, ℕ, ◌<◌, Bool, true, false, Option, Some, None, refl, sym, ap, arith, true≢false}
 use Rattle.std.specs.Prelude.{◌==◌, nat_lt, if◌then◌else◌}
-use Rattle.std.proofs.lemmas.Bool.{eqb-true, eq-eqb}
+use Rattle.std.proofs.lemmas.Bool.{eqb-true, eq-eqb, lt-ltb, ltb-true}
 use Rattle.std.proofs.lemmas.Bool.Decides.{nat_tests}
 use Rattle.mg_model.specs.Delivery.{Link, Offer, fresh, kept, discard, offer, offer_by, last_of}
 
 above_zero : (number : ℕ) → (number == 0) ≡ false → 0 < number
 above_zero number e = grind (arith, nat_tests)
 
-below : (last number : ℕ) → nat_lt last number ≡ true → last < number
-below last number e = grind (arith, nat_tests)
-
 is_nonzero : (number : ℕ) → 0 < number → (number == 0) ≡ false
 is_nonzero number above = grind (arith, nat_tests)
-
-is_below : (last number : ℕ) → last < number → nat_lt last number ≡ true
-is_below last number above = grind (arith, nat_tests)
 
 module _ {R : Type 0} where
   abbrev is_fresh : Offer R → Bool
@@ -39,7 +33,7 @@ module _ {R : Type 0} where
 
   above_last : (last : Option (ℕ × R)) (number : ℕ) → is_fresh (offer_by last number) ≡ true → last_of last < number
   above_last None number e = above_zero number (not_zero fresh (number == 0) e)
-  above_last (Some (last, r)) number e = below last number (is_above r (nat_lt last number) (number == last) e)
+  above_last (Some (last, r)) number e = ltb-true last number (is_above r (nat_lt last number) (number == last) e)
 
   offered_above : (link : Link R) (association number : ℕ) → offer link association number ≡ fresh → last_of link.last < number
   offered_above link association number e =
@@ -52,7 +46,7 @@ module _ {R : Type 0} where
   new_above : (last : Option (ℕ × R)) (number : ℕ) → last_of last < number → offer_by last number ≡ fresh
   new_above None number above = ap (λ zeroth. if zeroth then discard else fresh) (is_nonzero number above)
   new_above (Some (last, r)) number above =
-      ap (λ b. if b then fresh else if number == last then kept r else discard) (is_below last number above)
+      ap (λ b. if b then fresh else if number == last then kept r else discard) (lt-ltb last number above)
 
   pub fresh_offer : (link : Link R) (association number : ℕ) → offer link association number ≡ fresh
       → (association ≡ link.association) × (last_of link.last < number)

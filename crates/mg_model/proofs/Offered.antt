@@ -1,6 +1,6 @@
 -- What the link of a call offers a request, in terms of the gateway: executed is a request of this association above the last one, and the
 -- reply that is sent once more is the one that is kept.
-use Rattle.std.proofs.Common.{◌≡◌, ◌∙◌, ℕ, Bool, true, false, ◌<◌, Option, Some, None, option_map, refl, sym, ap, subst}
+use Rattle.std.proofs.Common.{◌≡◌, ◌∙◌, ℕ, Bool, true, false, ◌<◌, Option, Some, None, option_map, refl, ap}
 use Rattle.std.specs.Prelude.{if◌then◌else◌}
 use Rattle.mg_model.proofs.OfferLemmas.{fresh_offer, is_fresh_offer, kept_offer, pair}
 use Rattle.mg_model.specs.Delivery.{Offer, fresh, kept, discard, offer, last_of}

@@ -1,5 +1,5 @@
 -- The lines of an opening call by call: what is so of each line that is held is so of each line of each call, and the other way round.
-use Rattle.std.proofs.Common.{◌≡◌, ◌∙◌, ◌<◌, ℕ, List, length, Option, Some, refl, sym, ap}
+use Rattle.std.proofs.Common.{◌≡◌, ◌∙◌, ◌<◌, ℕ, List, length, Some, refl, sym, ap}
 use Rattle.std.specs.Prelude.{◌↔◌, Contains}
 use Rattle.mg_names.specs.declared.identifiers.TermId.TheVariants.{Line}
 use Rattle.mg_model.specs.declared.rows.Row.{Row}

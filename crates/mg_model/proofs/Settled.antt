@@ -1,9 +1,9 @@
 -- A board that is settled is one, and what a restart leaves of a row.
-use Rattle.std.proofs.Common.{◌≡◌, ◌∙◌, ℕ, Bool, true, false, IsTrue, Option, Some, None, is_some, refl, sym, ap, rules, ◌↔◌}
+use Rattle.std.proofs.Common.{◌≡◌, ◌∙◌, ℕ, Bool, true, false, IsTrue, Option, Some, None, is_some, refl, sym, rules, ◌↔◌}
 use Rattle.mg_names.specs.declared.identifiers.TermId.{TermId}
 use Rattle.mg_names.specs.declared.identifiers.TermId.TheVariants.{Line, Eph}
 use Rattle.mg_model.specs.declared.rows.Row.{Row}
-use Rattle.mg_model.specs.Board.{Board, IsSettled, exists, place_in}
+use Rattle.mg_model.specs.Board.{Board, IsSettled, place_in}
 use Rattle.mg_model.specs.Gateway.{row_restarted}
 
 -- two tests of one thing answer the same

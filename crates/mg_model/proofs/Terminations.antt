@@ -1,5 +1,5 @@
 -- What the tests of terminations and spots say: of one script, and of the gateway.
-use Rattle.std.proofs.Common.{◌≡◌, ℕ, Bool, true, refl, ap}
+use Rattle.std.proofs.Common.{◌≡◌, ℕ, true, refl, ap}
 use Rattle.std.proofs.lemmas.Bool.{eqb-true, eq-eqb}
 use Rattle.mg_names.specs.declared.identifiers.TermId.{TermId}
 use Rattle.mg_names.specs.declared.identifiers.TermId.TheVariants.{Line, Eph}

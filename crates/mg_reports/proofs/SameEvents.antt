@@ -13,7 +13,7 @@ use Rattle.mg_model.specs.Agent.{Agent, replied, noted}
 use Rattle.mg_model.specs.Board.{Board, IsSettled}
 use Rattle.mg_model.specs.Delivery.{Offer, fresh, kept, discard}
 use Rattle.mg_model.specs.Gateway as gateways
-use Rattle.mg_model.specs.Gateway.{Gateway, IsExecutedBy, offer_to, after_request, reply_of, sent_notes, notes_from, with_line, with_notes, start_of}
+use Rattle.mg_model.specs.Gateway.{Gateway, IsExecutedBy, offer_to, after_request, sent_notes, notes_from, with_line, with_notes, start_of}
 use Rattle.mg_model.specs.LineEvents.{Outcome}
 use Rattle.mg_model.specs.Messages.{Request, Reply, SentNote}
 use Rattle.mg_model.specs.RequestRun.{Running}
@@ -23,7 +23,8 @@ use Rattle.mg_model.specs.World.{World, OccursTo, Occurs, AgentSteps, agent_step
 use Rattle.mg_model.proofs.Cases.{the_some}
 use Rattle.mg_model.proofs.Offered.{kept_at}
 use Rattle.mg_safety.specs.MessageNumbers.{AreNamedByNumber}
-use Rattle.mg_reports.proofs.SameRequests.{first_same, same_run, same_settled}
+use Rattle.mg_model.proofs.Settled.{settled_same}
+use Rattle.mg_reports.proofs.SameRequests.{first_same, same_run}
 
 -- ---- replies that end alike
 
@@ -60,7 +61,7 @@ same_executed : (g : Gateway) (request : Request) (chosen : Option ChosenRefusal
 same_executed g request chosen one other reply answer notes sent x y same =
     let results : x.end.results ≡ y.end.results = ap (λ (r : Reply). r.results) (sym x.reply_is ∙ same ∙ y.reply_is) in
     let run = same_run request.number chosen (start_of g) 0 request.commands x.end y.end x.failure y.failure x.runs y.runs results in
-    let settled : x.settled ≡ y.settled = same_settled y.end.board x.settled y.settled
+    let settled : x.settled ≡ y.settled = settled_same y.end.board x.settled y.settled
     (subst (λ (r : Running). IsSettled r.board x.settled) run.0 x.is_settled) y.is_settled in (
       x.after_is ∙ ap (λ (r : Running). after_request g request r x.settled x.failure) run.0
           ∙ ap (λ (b : Board). after_request g request y.end b x.failure) settled

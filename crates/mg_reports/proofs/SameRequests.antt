@@ -12,13 +12,13 @@ use Rattle.mg_model.specs.declared.items.Added.TheVariants as added
 use Rattle.mg_model.specs.declared.items.Settings.{Settings}
 use Rattle.mg_model.specs.declared.items.Item.{Item}
 use Rattle.mg_model.specs.declared.items.Item.TheVariants.{Add, Modify, Move, Subtract, SubtractAll, SetTopology}
-use Rattle.mg_model.specs.Board.{Board, IsSettled}
+use Rattle.mg_model.specs.Board.{Board}
 use Rattle.mg_model.specs.Failures.{code_of}
 use Rattle.mg_model.specs.Items.{Chosen, Done, IsExecuted, creates_context, creates_ephemeral, effect, rank, only_if}
 use Rattle.mg_model.specs.Messages.{RequestCommand}
 use Rattle.mg_model.specs.Numbers.{choose}
 use Rattle.mg_model.specs.RequestRun.{Running, RunsFrom, Succeeds, Fails, IsRefusedWith, after_command, item_at, chosen_at}
-use Rattle.mg_model.proofs.Cases.{none_is_some, the_some, same_test}
+use Rattle.mg_model.proofs.Cases.{none_is_some, the_some}
 
 -- ---- lists
 
@@ -148,24 +148,3 @@ same_run number chosen r place (command ∷ rest) end other failure also (inr (c
 same_run number chosen r place (command ∷ rest) end other failure also (inr (code, fails, is, tells)) (inr (its, refused, at, told)) same =
     let one = one_code r.board (item_at r.results command) (chosen_at chosen place) code its fails refused in
     (is ∙ sym at, tells ∙ ap (λ (c : Code). Some (record { place = place; code = c })) one ∙ sym told)
-
--- ---- the end of a request
-
-pub same_settled : (b one other : Board) → IsSettled b one → IsSettled b other → one ≡ other
-same_settled b one other x y =
-    λ i. record { row = rows i; cut = cuts i; used_context = λ n. contexts n i; used_ephemeral = λ k. ephemerals k i; class = classes i }
-  where
-    rows : one.row ≡ other.row
-    rows = x.row ∙ sym y.row
-
-    cuts : one.cut ≡ other.cut
-    cuts = x.cut ∙ sym y.cut
-
-    classes : one.class ≡ other.class
-    classes = x.class ∙ sym y.class
-
-    contexts : (n : ℕ) → one.used_context n ≡ other.used_context n
-    contexts n = same_test (one.used_context n) (other.used_context n) (λ e. (y.contexts n).1 ((x.contexts n).0 e)) (λ e. (x.contexts n).1 ((y.contexts n).0 e))
-
-    ephemerals : (k : ℕ) → one.used_ephemeral k ≡ other.used_ephemeral k
-    ephemerals k = x.ephemerals k ∙ sym (y.ephemerals k)

@@ -2,7 +2,6 @@
 use Rattle.std.proofs.Common.{◌≡◌, ◌∙◌, ℕ, ◌+◌, ◌-◌, ◌*◌, ◌^◌, ◌<◌, ◌≤◌, List, [], ◌∷◌, ◌++◌, length, drop, slice_index_or, min, inl, inr, refl, sym, subst, ap, arith}
 use Rattle.std.proofs.Math.Nat.{min-eq_left}
 use Rattle.std.proofs.lemmas.Bool.{cases_lt}
-use Rattle.entry_table.proofs.Products.{at}
 use Rattle.mg_model.specs.Script.{Script}
 use Rattle.mg_model.specs.Entries.{Entry, HavePoints}
 use Rattle.mg_model.specs.declared.faults.Fault.{Fault}
@@ -11,6 +10,7 @@ use Rattle.parcheck.specs.declared.pieces.Piece.{Piece}
 use Rattle.closure.specs.declared.first_fault.Finding.{Finding}
 use Rattle.closure.specs.declared.first_fault.Finding.TheVariants as finding
 use Rattle.parcheck.specs.Pieces.{AreRuns, IsOfBoth, IsOfPieces}
+use Rattle.configuration.proofs.NumberLemmas.{at}
 
 module _ (script : Script) (entries : List Entry) (a b c : ℕ) where
   pub both_kept : RunIsKept script entries a b → RunIsKept script entries b c → RunIsKept script entries a c

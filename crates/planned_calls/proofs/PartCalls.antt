@@ -6,11 +6,10 @@ use Rattle.std.proofs.Math.Seq.{drop-cons}
 use Rattle.std.proofs.lemmas.List.{append_assoc, append-nil, drop_all}
 use Rattle.std.proofs.lemmas.List.Elements.{Contains-append_cases, Contains-append_left, Contains-append_right}
 use Rattle.std.proofs.lemmas.Nat.{mod_below}
-use Rattle.mg_model.proofs.Single.{first_in, none_in}
+use Rattle.mg_model.proofs.Single.{first_in, none_in, first_or_later, later_in}
 use Rattle.mg_model.specs.Plans.{Plan, PlanCall, opened_as}
 use Rattle.mg_model.specs.Shards.{Shard, all_calls}
 use Rattle.mg_model.specs.World.{Opened}
-use Rattle.mg_merge.proofs.Lists.{first_or_later, later_in}
 use Rattle.planned_calls.specs.Parts.{ArePartsFrom, one_in, opened_calls, opened_in}
 
 -- ---- the calls of one shard

@@ -1,11 +1,12 @@
 -- What is read of a tree has the form of a plan.
 use Rattle.std.proofs.Common.{◌≡◌, ℕ, zero, suc, ◌<◌, ◌≤◌, Bool, true, false, List, [], ◌∷◌, length, Option, Some, None, Result, Ok, Err, true≢false, refl, sym, subst, ap, arith}
-use Rattle.std.specs.Prelude.{◌==◌, not, nat_le, Contains, is_some, unwrap_or, codes, ℤ, pos, negsuc, if◌then◌else◌}
+use Rattle.std.specs.Prelude.{◌==◌, not, nat_le, Contains, unwrap_or, codes, ℤ, pos, negsuc, if◌then◌else◌}
 use Rattle.std.proofs.lemmas.Bool.{eqb-true, leb-true}
 use Rattle.std.proofs.lemmas.Option.{same_Some}
 use Rattle.toml.specs.Data.{Data, Items, no_items, item, Members, get_member, as_array, as_integer, as_table}
 use Rattle.mg_model.specs.Plans.{PlanCall, Plan}
 use Rattle.mg_model.specs.Script.{Script}
+use Rattle.mg_model.proofs.Cases.{none_is_some}
 use Rattle.toml_values.specs.Keys.{items_of, list_of, needed, optional, listed, has_only}
 use Rattle.typed_values.specs.Shape.{◌>>=◌, only_if, listed_at, optional_at}
 use Rattle.plans.specs.declared.fault.PlanFault.{PlanFault}
@@ -17,17 +18,14 @@ use Rattle.plans.specs.Tables.{call_in, call_keys, call_meant, epoch_meant, line
 
 -- ---- what a shape that gives something has gone through
 
-nothing_given : {A : Type 0} (x : A) → None ≡ Some x → ⊥
-nothing_given x same = true≢false (sym (ap is_some same))
-
 -- what was bound
 bound : {A B : Type 0} (o : Option A) (f : A → Option B) (y : B) → (o >>= f) ≡ Some y → (x : A) × ((o ≡ Some x) × (f x ≡ Some y))
-bound None f y is = absurd (nothing_given y is)
+bound None f y is = absurd (none_is_some y is)
 bound (Some x) f y is = (x, (refl, is))
 
 tested : {A : Type 0} (b : Bool) (o : Option A) (y : A) → only_if b o ≡ Some y → (b ≡ true) × (o ≡ Some y)
 tested true o y is = (refl, is)
-tested false o y is = absurd (nothing_given y is)
+tested false o y is = absurd (none_is_some y is)
 
 -- each item that is read of an array was read of one of its items
 each_read : {A : Type 0} (shape : Data → Option A) (P : A → Type 0) → ((d : Data) (x : A) → shape d ≡ Some x → P x) → (ds : Items) (xs : List A)
@@ -59,7 +57,7 @@ in_bounds least most (pos m) n is =
     let high = tested (nat_le m most) (Some m) n low.1 in
     let same : m ≡ n = same_Some m n high.1 in
     (subst (λ k. least ≤ k) same (leb-true least m low.0), subst (λ k. k ≤ most) same (leb-true m most high.0))
-in_bounds least most (negsuc m) n is = absurd (nothing_given n is)
+in_bounds least most (negsuc m) n is = absurd (none_is_some n is)
 
 shards_read : (found : Option Data) (shards : Option ℕ) → optional_at shards_meant found ≡ Some shards → (1 ≤ unwrap_or shards 1) × (unwrap_or shards 1 ≤ 16)
 unfolding whole_meant

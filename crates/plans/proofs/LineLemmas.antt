@@ -2,24 +2,13 @@
 use Rattle.std.proofs.Common.{◌≡◌, ◌∙◌, ℕ, suc, ◌+◌, ◌<◌, ◌++◌, Bool, true, false, List, [], ◌∷◌, length, map, take, drop, get_or, refl, sym, ap, arith, true≢false}
 use Rattle.std.specs.Prelude.{◌==◌, ◌||◌, not, if◌then◌else◌}
 use Rattle.std.specs.List.{list_any}
-use Rattle.std.specs.Ordering.{nat_cmp}
-use Rattle.std.specs.BTreeMap.{is_at}
-use Rattle.std.proofs.lemmas.Bool.Decides.{nat_tests}
 use Rattle.std.proofs.lemmas.List.Folds.{list_any-append}
 use Rattle.std.proofs.lemmas.List.{map-append}
 use Rattle.std.proofs.Math.Seq.{take-suc, drop-cons}
 use Rattle.mg_names.specs.declared.identifiers.LineNo.{LineNo}
-use Rattle.plans.specs.Tables.{has_twice, is_among}
-
--- a number is among others exactly where a set of them finds it
-equal_by_order : (n m : ℕ) → (n == m) ≡ is_at (nat_cmp n) m
-equal_by_order n m = grind (arith, nat_tests)
-
-pub found_by_order : (numbers : List ℕ) (n : ℕ) → is_among numbers n ≡ list_any (is_at (nat_cmp n)) numbers
-unfolding is_among
-found_by_order [] n = refl
-found_by_order (m ∷ ms) n =
-    ap (λ b. b || list_any (λ x. n == x) ms) (equal_by_order n m) ∙ ap (λ b. is_at (nat_cmp n) m || b) (found_by_order ms n)
+use Rattle.plans.specs.Tables.{has_twice}
+use Rattle.mg_model.specs.Members.{is_among}
+use Rattle.mg_model.proofs.Cases.{same_turned}
 
 -- ---- from the left: one of the numbers stands among those before it
 
@@ -32,9 +21,6 @@ meets : List ℕ → List ℕ → Bool
 meets before [] = false
 meets before (n ∷ more) = is_among before n || meets before more
 
-equal_back : (n m : ℕ) → (n == m) ≡ (m == n)
-equal_back n m = grind (arith, nat_tests)
-
 regrouped : (a b c d : Bool) → ((a || (c || false)) || (b || d)) ≡ ((a || b) || (c || d))
 regrouped true b c d = refl
 regrouped false true true d = refl
@@ -43,12 +29,12 @@ regrouped false false true d = refl
 regrouped false false false d = refl
 
 meets_more : (before : List ℕ) (n : ℕ) (more : List ℕ) → meets (before ++ n ∷ []) more ≡ (meets before more || is_among more n)
-unfolding is_among meets
+unfolding meets
 meets_more before n [] = refl
 meets_more before n (m ∷ more) =
     ap (λ b. b || meets (before ++ n ∷ []) more) (list_any-append (λ other. m == other) before (n ∷ []))
     ∙ ap (λ b. (list_any (λ other. m == other) before || ((m == n) || false)) || b) (meets_more before n more)
-    ∙ ap (λ b. (list_any (λ other. m == other) before || (b || false)) || (meets before more || list_any (λ other. n == other) more)) (equal_back m n)
+    ∙ ap (λ b. (list_any (λ other. m == other) before || (b || false)) || (meets before more || list_any (λ other. n == other) more)) (same_turned m n)
     ∙ regrouped (list_any (λ other. m == other) before) (meets before more) (n == m) (list_any (λ other. n == other) more)
 
 parted : (a b c d : Bool) → (a || ((b || c) || d)) ≡ ((a || b) || (c || d))
@@ -64,7 +50,7 @@ from_left before (n ∷ more) =
     ∙ parted (is_among before n) (meets before more) (is_among more n) (has_twice more)
 
 meets_nothing : (ns : List ℕ) → meets [] ns ≡ false
-unfolding meets is_among
+unfolding meets
 meets_nothing [] = refl
 meets_nothing (n ∷ more) = meets_nothing more
 
@@ -122,7 +108,6 @@ module _ (lines : List LineNo) (i : ℕ) (d : LineNo) (within : i < length lines
 
   pub holds_more : (keys after : List ℕ) → Holds keys (numbers_of (take i lines))
       → ((n : ℕ) → is_among after n ≡ (if n == at then true else is_among keys n)) → Holds after (numbers_of (take (i + 1) lines))
-  unfolding is_among
   holds_more keys after holds adds n =
       adds n ∙ one (n == at) (is_among (numbers_of (take i lines)) n) (holds n)
       ∙ sym (ap (λ front. is_among front n) front_more ∙ list_any-append (λ other. n == other) (numbers_of (take i lines)) (at ∷ []))

@@ -3,25 +3,20 @@ use Rattle.std.proofs.Common.{◌≡◌, ◌∙◌, ℕ, suc, ◌<◌, ◌≤◌
 use Rattle.std.specs.Prelude.{nat_le, ◌&&◌, ◌||◌, not, ◌==◌, slice_index}
 use Rattle.std.specs.List.{list_all}
 use Rattle.std.specs.Str.Parse.{AllDigits, IsNumeral, digits_value, without_leading_plus}
-use Rattle.std.proofs.lemmas.Bool.{leb-true}
+use Rattle.std.proofs.lemmas.Bool.{leb-true, and_parts}
 use Rattle.std.proofs.lemmas.Bool.Decides.{leb_tells}
 use Rattle.std.proofs.lemmas.Str.{digit_value_digit}
 use Rattle.std.proofs.lemmas.Str.Parse.{without_leading_plus_none}
 use Rattle.typed_values.specs.Shape.{only_if}
 use Rattle.plans.specs.Texts.{is_digit, is_numeral, number_in}
 
-both : (a b : Bool) → (a && b) ≡ true → (a ≡ true) × (b ≡ true)
-both true true is = (refl, refl)
-both true false is = absurd (true≢false (sym is))
-both false b is = absurd (true≢false (sym is))
-
 digit_range : (c : ℕ) → is_digit c ≡ true → (48 ≤ c) × (c ≤ 57)
-digit_range c is = let r = both (nat_le 48 c) (nat_le c 57) is in (leb-true 48 c r.0, leb-true c 57 r.1)
+digit_range c is = let r = and_parts (nat_le 48 c) (nat_le c 57) is in (leb-true 48 c r.0, leb-true c 57 r.1)
 
 all_digits : (text : List ℕ) → list_all (λ byte. is_digit byte) text ≡ true → AllDigits 10 text
 all_digits [] is = tt
 all_digits (c ∷ cs) is =
-    let parts = both (is_digit c) (list_all (λ byte. is_digit byte) cs) is in
+    let parts = and_parts (is_digit c) (list_all (λ byte. is_digit byte) cs) is in
     let range = digit_range c parts.0 in
     let low : 48 ≤ c = range.0 in
     let high : c ≤ 57 = range.1 in
@@ -32,10 +27,10 @@ of_numeral : (text : List ℕ) → is_numeral text ≡ true → IsNumeral 10 tex
 unfolding is_numeral
 of_numeral [] is = absurd (true≢false (sym is))
 of_numeral (c ∷ cs) is =
-    let form = (both (nat_le 1 (length (c ∷ cs)))
+    let form = (and_parts (nat_le 1 (length (c ∷ cs)))
     (list_all (λ byte. is_digit byte) (c ∷ cs) && (length (c ∷ cs) == 1 || not (slice_index (c ∷ cs) 0 == 48))) is).1 in
-    let digits = (both (list_all (λ byte. is_digit byte) (c ∷ cs)) (length (c ∷ cs) == 1 || not (slice_index (c ∷ cs) 0 == 48)) form).0 in
-    let first : 48 ≤ c = (digit_range c (both (is_digit c) (list_all (λ byte. is_digit byte) cs) digits).0).0 in (
+    let digits = (and_parts (list_all (λ byte. is_digit byte) (c ∷ cs)) (length (c ∷ cs) == 1 || not (slice_index (c ∷ cs) 0 == 48)) form).0 in
+    let first : 48 ≤ c = (digit_range c (and_parts (is_digit c) (list_all (λ byte. is_digit byte) cs) digits).0).0 in (
       (omega arith, all_digits (c ∷ cs) digits),
       without_leading_plus_none (c ∷ cs) (λ plus. let same : c ≡ 43 = plus in omega (arith, first, same)),
     )

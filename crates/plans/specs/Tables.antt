@@ -1,11 +1,12 @@
 -- The tables of a plan. A reader should check each key, whether it may be left out, and what it holds; and that no line is of two calls, or twice of one.
 -- Every fault of them is a bad step.
 use Rattle.std.specs.Prelude.{ℕ, List, [], ◌∷◌, length, Bool, false, not, ◌||◌, ◌==◌, nat_le, unwrap_or, codes, Option, Some, None, ℤ, pos, negsuc}
-use Rattle.std.specs.List.{list_any, flat_map}
+use Rattle.std.specs.List.{flat_map}
 use Rattle.toml.specs.Data.{Data, Members, as_str, as_integer, as_table}
 use Rattle.mg_model.specs.declared.plans.PlanStep.{PlanStep}
 use Rattle.mg_model.specs.Plans.{PlanCall, Plan}
 use Rattle.mg_model.specs.Script.{Script}
+use Rattle.mg_model.specs.Members.{is_among}
 use Rattle.toml_values.specs.Keys.{list_of, needed, optional, listed, has_only}
 use Rattle.typed_values.specs.Shape.{◌>>=◌, only_if}
 use Rattle.typed_values.specs.Texts.{words_of}
@@ -28,10 +29,6 @@ abbrev pub shards_meant : Data → Option ℕ
 shards_meant d = whole_meant 1 16 d
 
 -- ---- lines
-
--- the number is one of the numbers
-unfoldable pub is_among : List ℕ → ℕ → Bool
-is_among numbers n = list_any (λ other. n == other) numbers
 
 -- one of the numbers stands among those after it
 abbrev pub has_twice : List ℕ → Bool

@@ -1,7 +1,8 @@
 //! Lines of the gateway that a plan names twice.
 ghost use Rattle.std.specs.Prelude.{◌≡◌, ◌==◌, ℕ, true, not, if◌then◌else◌, map, IfOk, OnOk};
 ghost use Rattle.std.specs.List.{flat_map};
-ghost use Rattle.plans.specs.Tables.{is_among, has_twice, names_line_twice};
+ghost use Rattle.plans.specs.Tables.{has_twice, names_line_twice};
+ghost use Rattle.mg_model.specs.Members.{is_among};
 
 use crate::plan::PlanCall;
 use mg_names::identifiers::LineNo;
@@ -20,7 +21,7 @@ fn all_lines(alloc: Global, calls: &[PlanCall]) -> Result<Vec<LineNo>, AllocErro
 }
 
 /// Adds a number to others, and says whether it is new.
-#[tactic(auto, using(crate::proofs::LineLemmas::found_by_order))]
+#[tactic(auto, using(mg_model::proofs::Members::among_by_order))]
 fn add(numbers: &mut BTreeSet<u32>, number: u32) -> Result<bool, AllocError>
     ensures answer { IfOk result (λ added. added ≡ not (is_among numbers.old.keys number)) }
     ensures added { OnOk result ((n : ℕ) → is_among numbers.new.keys n ≡ (if n == number then true else is_among numbers.old.keys n)) }

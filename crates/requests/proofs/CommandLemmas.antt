@@ -3,6 +3,7 @@ use Rattle.std.proofs.Common.{◌≡◌, ◌≢◌, ℕ, ◌==◌, Bool, true, f
 use Rattle.std.proofs.lemmas.Grind.{common_steps}
 use Rattle.std.proofs.lemmas.List.Folds.{list_any_at}
 use Rattle.std.proofs.lemmas.Map.Views.{Contains-from_any}
+use Rattle.std.proofs.lemmas.Bool.{and_parts}
 use Rattle.mg_names.specs.declared.codes.Code.TheVariants.{UnknownContext, UnknownTermination}
 use Rattle.mg_names.specs.declared.identifiers.TermId.{TermId}
 use Rattle.mg_names.specs.declared.identifiers.TermId.TheVariants.{Line}
@@ -16,10 +17,11 @@ use Rattle.mg_model.specs.LineEvents.{LineRow, cleared}
 use Rattle.mg_model.specs.declared.references.TerminationRef.TheVariants as on
 use Rattle.mg_model.specs.Messages.{RequestCommand, add_line, add_ephemeral, modify, move, subtract, subtract_all, set_topology}
 use Rattle.mg_model.specs.RequestRun.{LineDescriptors, RaisedNote, Running, item_at, descriptors_for, described_row, has_new_events, raised, line_after, after_command}
-use Rattle.contexts.proofs.ExecLemmas.{both_known, is_true_from, not_null}
-use Rattle.context_tables.proofs.TermLemmas.{same_is, split_and}
+use Rattle.contexts.proofs.ExecLemmas.{both_known, not_null}
 use Rattle.requests.specs.Commands.{IsThere, raised_on, row_in, finished, without_settings, described_line}
 use Rattle.mg_model.specs.Members.{is_among}
+use Rattle.mg_model.proofs.Cases.{same_test, not_refused}
+use Rattle.mg_model.proofs.Terminations.{same_term_is}
 use Rattle.requests.specs.Connected.{has_line}
 
 -- ---- lines that a command finds
@@ -35,13 +37,13 @@ pub leaves_exist : (b : Board) (item : Item) (l : ℕ) → IsLegal b item → su
 leaves_exist b (Add context what settings) l legal h = absurd (search rules)
 leaves_exist b (Modify context t settings) l legal h = absurd (search rules)
 leaves_exist b (Move context t settings) l legal h = absurd (search rules)
-leaves_exist b (Subtract context t) l legal h = ap (λ (u : TermId). exists b u) (same_is (line l) t h) ∙ is_true_from (exists b t) (legal UnknownTermination)
+leaves_exist b (Subtract context t) l legal h = ap (λ (u : TermId). exists b u) (same_term_is (line l) t h) ∙ not_refused (exists b t) (legal UnknownTermination)
 leaves_exist b (SubtractAll context) l legal h = place_not_null (b.row (line l)) context.0 (not_null b context.0 (legal UnknownContext)) h
 leaves_exist b (SetTopology context t u topology) l legal h = absurd (search rules)
 
 set_stays : (b : Board) (t : TermId) (row : Row) (l : ℕ) (same : Bool) → same_term (line l) t ≡ same → exists b t ≡ true →
     is_some (if same then Some row else b.row (line l)) ≡ has_line b l
-set_stays b t row l true e there = sym (ap (λ (u : TermId). exists b u) (same_is (line l) t e) ∙ there)
+set_stays b t row l true e there = sym (ap (λ (u : TermId). exists b u) (same_term_is (line l) t e) ∙ there)
 set_stays b t row l false e there = refl
 
 out_stays : (b : Board) (row : Row) (l : ℕ) (gone : Bool) → (gone ≡ true → has_line b l ≡ true) → is_some (if gone then Some row else b.row (line l)) ≡ has_line b l
@@ -94,19 +96,13 @@ equal_itself n = grind (arith, common_steps)
 among_from : (numbers : List ℕ) (n : ℕ) → Contains numbers n → is_among numbers n ≡ true
 among_from numbers n (i, bound, is) = list_any_at (λ m. n == m) numbers i n bound (ap (λ (m : ℕ). n == m) is ∙ equal_itself n)
 
--- two tests that are true together
-equal_tests : (a b : Bool) → (a ≡ true → b ≡ true) → (b ≡ true → a ≡ true) → a ≡ b
-equal_tests true b f g = sym (f refl)
-equal_tests false true f g = g refl
-equal_tests false false f g = refl
-
 both : (a b : Bool) → a ≡ true → b ≡ true → IsTrue (a && b)
 both a b h k = rw (h, k) (search rules)
 
 -- the lines that leave are those that the result lists
 pub among_leaves : (b : Board) (item : Item) (after : Board) (done : Done) → IsExecuted b item after done → (l : ℕ) → is_among done.lines l ≡ subtracts b item (line l)
-among_leaves b item after done e l = equal_tests (is_among done.lines l) (subtracts b item (line l))
-    (λ h. (split_and (subtracts b item (line l)) (has_line b l) ((e.result.lines.exactly l).0 (Contains-from_any equal_is l done.lines h))).0)
+among_leaves b item after done e l = same_test (is_among done.lines l) (subtracts b item (line l))
+    (λ h. (and_parts (subtracts b item (line l)) (has_line b l) ((e.result.lines.exactly l).0 (Contains-from_any equal_is l done.lines h))).0)
     (λ h. among_from done.lines l ((e.result.lines.exactly l).1 (both (subtracts b item (line l)) (has_line b l) h (leaves_exist b item l e.legal h))))
 
 -- ---- the rest of a command

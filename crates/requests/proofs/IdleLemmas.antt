@@ -13,11 +13,11 @@ use Rattle.mg_model.specs.declared.items.Settings.{Settings}
 use Rattle.mg_model.specs.declared.rows.Row.{Row}
 use Rattle.mg_model.specs.Board.{Board, same_term, place_in, mode_in, remote_in}
 use Rattle.mg_model.specs.Items.{Done, IsExecuted, IsRefused, row_at, with_row}
+use Rattle.mg_model.proofs.Terminations.{same_term_is}
 use Rattle.contexts.specs.Faults.{IsFault}
 use Rattle.contexts.specs.declared.fault.ExecFault.{ExecFault}
 use Rattle.contexts.specs.declared.fault.ExecFault.TheVariants.{Code as Refused, NoMemory}
 use Rattle.contexts.proofs.ExecLemmas.{both_known, is_place}
-use Rattle.context_tables.proofs.TermLemmas.{same_is}
 use Rattle.requests.specs.Idle.{idle_row, deactivated}
 
 abbrev line : ℕ → TermId
@@ -66,7 +66,7 @@ nothing_set : (b : Board) (l : ℕ) → idle_row (b.row (line l)) ≡ b.row (lin
 nothing_set b l e = λ i. record b { row = λ u. by_test u (same_term u (line l)) refl i }
   where
     by_test : (u : TermId) (same : Bool) → same_term u (line l) ≡ same → b.row u ≡ (if same then idle_row (b.row (line l)) else b.row u)
-    by_test u true h = ap b.row (same_is u (line l) h) ∙ sym e
+    by_test u true h = ap b.row (same_term_is u (line l) h) ∙ sym e
     by_test u false h = refl
 
 pub refused_idle : (b : Board) (l : ℕ) (code : Code) → IsRefused b (set_idle l) code → b ≡ deactivated b l

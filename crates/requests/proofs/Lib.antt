@@ -3,4 +3,3 @@ pub mod RefusalLemmas
 pub mod RunLemmas
 pub mod SameLemmas
 pub mod IdleLemmas
-pub mod SettledLemmas

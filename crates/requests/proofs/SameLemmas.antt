@@ -26,6 +26,7 @@ use Rattle.mg_model.specs.declared.references.TerminationRef.TheVariants as on
 use Rattle.mg_model.specs.Numbers.{all, no_ephemeral}
 use Rattle.mg_model.specs.Messages.{Descriptors, RequestCommand, add_line, add_ephemeral, modify, move, subtract, subtract_all, set_topology}
 use Rattle.mg_model.specs.RequestRun.{Running, RunsFrom, Succeeds, Fails, MayRefuse, chosen_at, context_at, ephemeral_at, termination_at, remote_at, settings_at, item_at, line_after}
+use Rattle.mg_model.proofs.Cases.{the_some}
 use Rattle.requests.specs.Commands.{created}
 
 -- the boards and the lines are the same, and so are the identifiers that were created
@@ -81,15 +82,12 @@ module _ (xs ys : List Done) (same : map created xs ≡ map created ys) where
 
 -- ---- a command does the same
 
-some_is : (x y : ℕ) → Some x ≡ Some y → x ≡ y
-some_is x y e = ap (λ (o : Option ℕ). unwrap_or o 0) e
-
 target_same : (test : Bool) (x y other : ℕ) → only_if test x ≡ only_if test y → (if test then x else other) ≡ (if test then y else other)
-target_same true x y other e = some_is x y e
+target_same true x y other e = the_some x y e
 target_same false x y other e = refl
 
 given_same : (test : Bool) (x y : ℕ) (was : ℕ → Bool) → only_if test x ≡ only_if test y → given test x was ≡ given test y was
-given_same true x y was e = ap (λ (k : ℕ). given true k was) (some_is x y e)
+given_same true x y was e = ap (λ (k : ℕ). given true k was) (the_some x y e)
 given_same false x y was e = refl
 
 effect_same : (b : Board) (item : Item) (x y : Chosen) → only_if (creates_context item) x.context ≡ only_if (creates_context item) y.context →
@@ -100,7 +98,7 @@ effect_same b (Add c (added.Line l) settings) x y e f i =
       used_ephemeral = b.used_ephemeral;
     }
 effect_same b (Add c added.NewEphemeral settings) x y e f i =
-    record (with_ephemeral b (some_is x.ephemeral y.ephemeral f i) (target_same (c.0 == choose) x.context y.context c.0 e i) settings) {
+    record (with_ephemeral b (the_some x.ephemeral y.ephemeral f i) (target_same (c.0 == choose) x.context y.context c.0 e i) settings) {
       used_context = given_same (c.0 == choose) x.context y.context b.used_context e i;
       used_ephemeral = given_same true x.ephemeral y.ephemeral b.used_ephemeral f i;
     }

@@ -5,15 +5,15 @@ use Rattle.std.specs.List.{flat_map}
 use Rattle.std.proofs.lemmas.Bool.{eqb-true, eq-eqb, or_left, or_parts, or_right, true≢false}
 use Rattle.std.proofs.lemmas.List.Elements.{Contains-append_left, Contains-append_right, Contains-get_or}
 use Rattle.std.proofs.Math.Nat.{mod-eq_of_lt}
-use Rattle.mg_model.proofs.Single.{first_in, none_in}
+use Rattle.mg_model.proofs.Single.{first_in, none_in, first_or_later, later_in}
 use Rattle.mg_model.specs.Numbers.{plan_calls}
 use Rattle.mg_model.specs.Plans.{Plan, PlanCall, opened_as}
 use Rattle.mg_model.specs.Script.{Script}
 use Rattle.mg_model.specs.Shards.{AreAllApart, AreApart, Shard}
 use Rattle.mg_model.specs.World.{Opened}
-use Rattle.mg_merge.proofs.Lists.{first_or_later, later_in}
 use Rattle.plans.specs.Accepted.{IsPlanFor}
-use Rattle.plans.specs.Tables.{has_twice, is_among}
+use Rattle.plans.specs.Tables.{has_twice}
+use Rattle.mg_model.specs.Members.{is_among}
 use Rattle.planned_calls.specs.Parts.{ArePartsFrom, IsPart, numbers_in, opened_calls, opened_in}
 use Rattle.planned_calls.proofs.PartCalls.{has_rest, part_has_rest, part_in_plan}
 
@@ -43,7 +43,6 @@ part_numbered plan count shard few one among =
 -- ---- lines
 
 one_among : (numbers : List ℕ) (n : ℕ) → Contains numbers n → is_among numbers n ≡ true
-unfolding is_among
 one_among [] n among = absurd (none_in n among)
 one_among (m ∷ more) n among = by_place (first_or_later m more n among) (one_among more n)
   where

@@ -1,10 +1,9 @@
 -- What is left of the lines in their shards is left in the world that the merged run ends in.
-use Rattle.std.proofs.Common.{◌≡◌, ◌∙◌, ◌+◌, ◌==◌, inl, inr, ℕ, zero, suc, Bool, true, false, List, [], ◌∷◌, Option, Some, length, if◌then◌else◌, sym, ap, subst, arith}
+use Rattle.std.proofs.Common.{◌≡◌, ◌∙◌, ◌+◌, ◌==◌, inl, inr, ℕ, zero, suc, true, false, List, [], ◌∷◌, Option, Some, length, if◌then◌else◌, sym, ap, subst, arith}
 use Rattle.std.specs.Prelude.{◌%◌, Contains, IsTrue, is_some, slice_get, slice_index_or}
-use Rattle.std.specs.List.{filter}
 use Rattle.std.proofs.lemmas.Bool.{eq-eqb, true≢false}
 use Rattle.std.proofs.lemmas.Option.{same_Some}
-use Rattle.mg_model.proofs.Single.{first_in, none_in}
+use Rattle.mg_model.proofs.Single.{first_in, later_in}
 use Rattle.mg_model.specs.declared.events.Event.{Event}
 use Rattle.mg_model.specs.Numbers.{plan_calls}
 use Rattle.mg_model.specs.Reports.{phase_word}
@@ -12,7 +11,6 @@ use Rattle.mg_model.specs.Script.{Script}
 use Rattle.mg_model.specs.Shards.{IsMergedRun}
 use Rattle.mg_model.specs.Tables.{state_of}
 use Rattle.mg_model.specs.World.{World}
-use Rattle.mg_merge.proofs.Lists.{first_or_later, later_in}
 use Rattle.shards.specs.Shards.{ShardValue}
 use Rattle.run_account.specs.Finishing.{AreFinished, IsFinished}
 use Rattle.run_account.specs.FinalState.{IsLeft, IsLeftAmong, IsLeftIn, call_of}

@@ -2,19 +2,17 @@
 -- is good.
 use Rattle.std.proofs.Common.{◌≡◌, ◌∙◌, ◌+◌, ◌<◌, ◌≤◌, ◌++◌, ◌⊎◌, inl, inr, ℕ, suc, Bool, true, false, List, [], ◌∷◌, length, map, refl, sym, ap, subst, arith}
 use Rattle.std.specs.Prelude.{◌%◌, ◌==◌, Contains, if◌then◌else◌, slice_index_or}
-use Rattle.std.specs.List.{filter}
 use Rattle.std.proofs.lemmas.Bool.{eq-eqb, true≢false}
 use Rattle.std.proofs.lemmas.List.{length-map}
-use Rattle.mg_model.proofs.Single.{first_in, none_in}
+use Rattle.mg_model.proofs.Single.{none_in, first_or_later}
 use Rattle.mg_model.specs.Accepted.{IsScript}
 use Rattle.mg_model.specs.declared.events.Event.{Event}
 use Rattle.mg_model.specs.declared.events.Event.TheVariants.{OfCall, Restart}
 use Rattle.mg_model.specs.Numbers.{plan_calls}
-use Rattle.mg_model.specs.Plans.{Plan, PlanCall}
+use Rattle.mg_model.specs.Plans.{Plan}
 use Rattle.mg_model.specs.Script.{Script}
 use Rattle.mg_model.specs.Shards.{History, IsEventOf, IsMergedRun, IsShardRun, RunsWithin, Shard, all_calls, cut_at_restarts, histories, merged, restarts_in}
 use Rattle.mg_model.specs.World.{AreDistinct, IsOpening, Opened, Runs, World}
-use Rattle.mg_merge.proofs.Lists.{first_or_later, later_in}
 use Rattle.mg_merge.specs.Laws.{MergesAreRuns}
 use Rattle.mg_safety.specs.Headline.{RunsAreGood}
 use Rattle.identifiers.specs.Class.{is_of_class}

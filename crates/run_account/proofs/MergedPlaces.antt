@@ -4,7 +4,8 @@ use Rattle.std.specs.Prelude.{slice_index_or, slice_set}
 use Rattle.std.proofs.lemmas.List.{append-nil, append_assoc, drop-set-lt, drop_all, drop_more, take_all, take_more_set}
 use Rattle.mg_model.specs.declared.events.Event.{Event}
 use Rattle.mg_model.specs.declared.events.Event.TheVariants.{OfCall, Restart}
-use Rattle.mg_model.specs.Shards.{History, cut_at_restarts, with_first}
+use Rattle.mg_model.specs.Shards.{cut_at_restarts}
+use Rattle.mg_model.proofs.Histories.{first_with, later_with}
 use Rattle.run_account.specs.Merging.{ArePartsPushed, IsPartPushed, left_from, part_at, parts_at}
 
 -- ---- the parts of one history
@@ -14,17 +15,6 @@ none_at : (association : ℕ) → part_at [] association ≡ []
 unfolding cut_at_restarts
 none_at zero = refl
 none_at (suc association) = refl
-
--- an event of a call is the first of the first part
-first_with : (event : Event) (history : History) → slice_index_or (with_first event history) 0 [] ≡ event ∷ slice_index_or history 0 []
-first_with event [] = refl
-first_with event (events ∷ more) = refl
-
--- and is in no later one
-later_with : (event : Event) (history : History) (association : ℕ)
-    → slice_index_or (with_first event history) (suc association) [] ≡ slice_index_or history (suc association) []
-later_with event [] association = refl
-later_with event (events ∷ more) association = refl
 
 -- ---- pushing one part
 

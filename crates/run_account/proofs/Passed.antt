@@ -3,9 +3,8 @@ use Rattle.std.proofs.Common.{◌≡◌, ◌∙◌, ◌<◌, ◌⊎◌, inl, inr
 use Rattle.std.specs.Prelude.{Contains, slice_index_or}
 use Rattle.std.specs.List.{filter}
 use Rattle.std.proofs.lemmas.Bool.{true≢false}
-use Rattle.mg_model.proofs.Single.{first_in, none_in}
+use Rattle.mg_model.proofs.Single.{first_in, none_in, first_or_later, later_in}
 use Rattle.mg_model.specs.declared.events.Event.{Event}
-use Rattle.mg_merge.proofs.Lists.{first_or_later, later_in}
 
 pub passed_among : (test : Event → Bool) (history : List Event) (event : Event) → Contains history event → test event ≡ true
     → Contains (filter test history) event

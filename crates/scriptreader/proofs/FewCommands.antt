@@ -1,6 +1,6 @@
 -- No state of a table that bytes are read as has more than 16 commands: a document with such a state has a fault, and a state means as
 -- many commands as are written.
-use Rattle.std.proofs.Common.{◌≡◌, ◌≤◌, ℕ, suc, List, [], ◌∷◌, length, false, nat_lt, refl, sym, ap, subst, Option, Some, None}
+use Rattle.std.proofs.Common.{◌≡◌, ◌≤◌, ℕ, List, [], ◌∷◌, length, false, nat_lt, sym, subst, Some, None}
 use Rattle.std.specs.Prelude.{Ok}
 use Rattle.mg_model.specs.Script.{Script, State}
 use Rattle.script_names.specs.DeclaredNames.{Scope, scope_of}
@@ -14,15 +14,8 @@ use Rattle.scriptreader.proofs.Accepted.{each_has, read_has}
 use Rattle.script_meaning.proofs.Declared.{carried}
 use Rattle.script_document.proofs.SmallDocuments.{at_most, small}
 use Rattle.script_faults.proofs.Faultless.{faultless}
+use Rattle.script_meaning.proofs.Lengths.{each_length}
 use Rattle.script_meaning.proofs.Slots.{bound, kept}
-
--- there are as many meanings as elements
-each_length : {A B : Type 0} (f : A → Option B) (xs : List A) (ys : List B) → each f xs ≡ Some ys → length ys ≡ length xs
-each_length f [] ys e = carried (λ zs. length zs ≡ 0) [] ys e refl
-each_length f (x ∷ xs) ys e =
-    bound (f x) _ ys e (λ z is e2.
-    bound (each f xs) _ ys e2 (λ zs are same.
-    carried (λ all. length all ≡ length (x ∷ xs)) (z ∷ zs) ys same (ap (λ (n : ℕ). suc n) (each_length f xs zs are))))
 
 state_few : (k : Scope) (s : document.State) (state : State) → nat_lt 16 (length s.commands) ≡ false → state_for k s ≡ Some state → length state.commands ≤ 16
 unfolding state_for

@@ -1,8 +1,7 @@
 -- A reply that is sent is found by its number and as the latest, and every other is found as before.
 use Rattle.std.proofs.Common.{◌≡◌, ◌-◌, ◌<◌, ◌≤◌, ◌==◌, ℕ, zero, suc, Bool, true, false, List, [], ◌∷◌, length, Option, Some, None, if◌then◌else◌, refl, sym, ap, arith}
 use Rattle.std.specs.Prelude.{nat_le, slice_get, slice_set}
-use Rattle.std.proofs.lemmas.Bool.{eqb-true, eqb-false}
-use Rattle.std.proofs.lemmas.Bool.Decides.{nat_tests}
+use Rattle.std.proofs.lemmas.Bool.{eqb-true, eqb-false, leb-true, le-leb}
 use Rattle.mg_model.specs.Messages.{Reply, SentNote}
 use Rattle.call_messages.specs.Messages.{Messages, WasSent, answering, fits, joined, raising, reply_for, reply_to}
 
@@ -32,12 +31,6 @@ pub raising_replies : (m : Messages) (notes : List SentNote) (which : Option ℕ
 raising_replies m notes None = refl
 raising_replies m notes (Some n) = refl
 
-reached : (first n : ℕ) → first ≤ n → nat_le first n ≡ true
-reached first n later = grind (arith, nat_tests)
-
-at_least : (first n : ℕ) → nat_le first n ≡ true → first ≤ n
-at_least first n later = grind (arith, nat_tests)
-
 module _ (m : Messages) (reply : Reply) (sent : WasSent m reply.number) where
   abbrev place : ℕ
   place = reply.number - m.first
@@ -49,13 +42,13 @@ module _ (m : Messages) (reply : Reply) (sent : WasSent m reply.number) where
   by_number n = by_test (reply.number == n) refl
     where
       by_test : (test : Bool) → (reply.number == n) ≡ test → reply_to (answering m reply) n ≡ (if test then Some reply else reply_to m n)
-      by_test true same = rw (sym (eqb-true reply.number n same), reached m.first reply.number sent.at_least, set_at m.replies place (Some reply) within) refl
+      by_test true same = rw (sym (eqb-true reply.number n same), le-leb m.first reply.number sent.at_least, set_at m.replies place (Some reply) within) refl
       by_test false other = by_order (nat_le m.first n) refl
         where
           by_order : (order : Bool) → nat_le m.first n ≡ order
               → joined (if order then slice_get (slice_set m.replies place (Some reply)) (n - m.first) else None) ≡ joined (if order then slice_get m.replies (n - m.first) else None)
           by_order true later = ap joined (set_other m.replies place (n - m.first) (Some reply) (λ same.
-              let first = sent.at_least in let least : m.first ≤ n = at_least m.first n later in
+              let first = sent.at_least in let least : m.first ≤ n = leb-true m.first n later in
               eqb-false reply.number n other (omega (arith, first, least, same))))
           by_order false later = refl
 

@@ -2,18 +2,10 @@
 use Rattle.std.proofs.Common.{◌≡◌, ◌∙◌, ◌+◌, ◌≤◌, ◌⊎◌, inl, inr, ℕ, Bool, true, false, List, [], ◌∷◌, Some, None, if◌then◌else◌, refl, sym, ap, arith}
 use Rattle.std.specs.Prelude.{Contains}
 use Rattle.std.specs.List.{find}
-use Rattle.std.proofs.lemmas.List.Elements.{Contains-append_cases}
 use Rattle.mg_model.proofs.Cases.{not_both, some_is_none, the_some}
-use Rattle.mg_model.proofs.Single.{none_in, only_one}
+use Rattle.mg_model.proofs.Single.{none_in, first_or_later}
 use Rattle.mg_model.specs.Messages.{SentNote}
 use Rattle.call_messages.specs.Messages.{AreNumberedFrom, note_numbers}
-
--- an element of a list is its first, or one of the others
-first_or_later : {A : Type 0} (x : A) (more : List A) (y : A) → Contains (x ∷ more) y → (x ≡ y) ⊎ Contains more y
-first_or_later x more y among = elim (Contains-append_cases (x ∷ []) more y among) [
-  | inl first ↦ inl (only_one x y first)
-  | inr later ↦ inr later
-]
 
 -- where none is found, none passes
 pub none_passes : {A : Type 0} (p : A → Bool) (xs : List A) → find p xs ≡ None → (x : A) → Contains xs x → p x ≡ true → ⊥

@@ -3,9 +3,8 @@ use Rattle.std.proofs.Common.{◌≡◌, ◌∙◌, ◌-◌, ◌<◌, ◌==◌, 
 use Rattle.std.specs.Prelude.{Contains, ◌&&◌, is_some, nat_le, slice_get}
 use Rattle.std.specs.List.{find}
 use Rattle.std.proofs.lemmas.Bool.{eqb-true}
-use Rattle.std.proofs.lemmas.Bool.Decides.{nat_tests}
 use Rattle.std.proofs.lemmas.List.{reverse-append}
-use Rattle.mg_model.proofs.Cases.{and_first, and_second, none_is_some, the_some, different}
+use Rattle.mg_model.proofs.Cases.{and_first, and_second, none_is_some, the_some, different, same_itself}
 use Rattle.mg_model.proofs.Single.{first_in}
 use Rattle.mg_model.specs.Reports.{is_of}
 use Rattle.mg_model.specs.Agent.{Phase, awaits_reply, awaits_pass, resting}
@@ -27,12 +26,9 @@ same_found p q (x ∷ xs) same =
 
 -- ---- whose messages they are
 
-pub same_number : (n : ℕ) → (n == n) ≡ true
-same_number n = grind (arith, nat_tests)
-
 pub is_own : (call : ℕ) (which : Option ℕ) (number : ℕ) → is_of call which call number ≡ fits which number
-is_own call None number = same_number call
-is_own call (Some n) number = ap (λ test. test && number == n) (same_number call)
+is_own call None number = same_itself call
+is_own call (Some n) number = ap (λ test. test && number == n) (same_itself call)
 
 pub is_anothers : (call of : ℕ) (which : Option ℕ) (number : ℕ) → (of ≡ call → ⊥) → is_of call which of number ≡ false
 is_anothers call of None number other = different of call other

@@ -3,12 +3,12 @@ use Rattle.std.proofs.Common.{◌≡◌, ◌∙◌, ◌==◌, ◌⊎◌, inl, in
 use Rattle.std.specs.Prelude.{Contains}
 use Rattle.std.specs.List.{find}
 use Rattle.std.proofs.lemmas.List.Elements.{Contains-append_cases}
-use Rattle.mg_model.proofs.Cases.{not_both, some_is_none}
+use Rattle.mg_model.proofs.Cases.{not_both, some_is_none, same_itself}
 use Rattle.mg_model.proofs.Single.{none_in, only_one}
 use Rattle.mg_model.specs.declared.failures.ChosenRefusal.{ChosenRefusal}
 use Rattle.mg_model.specs.declared.line_events.LineEvent.{LineEvent}
 use Rattle.mg_model.specs.Gateway as gateway
-use Rattle.mg_model.specs.Gateway.{Gateway, offer_to}
+use Rattle.mg_model.specs.Gateway.{Gateway}
 use Rattle.mg_model.specs.Messages.{Request}
 use Rattle.mg_model.specs.Reports.{is_of}
 use Rattle.mg_model.specs.Script.{Script}
@@ -16,7 +16,7 @@ use Rattle.mg_model.specs.World.{World, Executes, Occurs, execute, on_a_line}
 use Rattle.mg_safety.proofs.Messages.NumberedWorlds.{IsNumbered}
 use Rattle.gateway.specs.Answers.{HasNoRoom}
 use Rattle.gateway.specs.GatewayValue.{GatewayValue, gateway_of}
-use Rattle.shards.proofs.MessageLemmas.{found_in, is_own, own_message, same_number}
+use Rattle.shards.proofs.MessageLemmas.{found_in, is_own, own_message}
 use Rattle.shards.specs.Shows.{Shows, ShowsCall}
 use Rattle.shards.specs.Slots.{CannotExecute, CannotHappenOn, request_in}
 use Rattle.shards.specs.declared.slot.Slot.{Slot}
@@ -40,7 +40,7 @@ module _ (w : World) (g : GatewayValue) (slot : ℕ → Option Slot) (shows : Sh
 
   named : (number : ℕ) (r : Request) → r.call ≡ call → r.number ≡ number → is_of call (Some number) r.call r.number ≡ true
   named number r of_call of_number =
-      ap (λ c. is_of call (Some number) c r.number) of_call ∙ is_own call (Some number) r.number ∙ subst (λ n. (r.number == n) ≡ true) of_number (same_number r.number)
+      ap (λ c. is_of call (Some number) c r.number) of_call ∙ is_own call (Some number) r.number ∙ subst (λ n. (r.number == n) ≡ true) of_number (same_itself r.number)
 
   no_request : (number : ℕ) (r : Request) → request_in s (Some number) ≡ None → Contains w.requests r → r.call ≡ call → r.number ≡ number → ⊥
   no_request number r none among of_call of_number =

@@ -1,7 +1,7 @@
 -- A step of an agent that is refused as not enabled can't happen in the world that is shown, or the call that is handed in can't take it.
 use Rattle.std.proofs.Common.{◌≡◌, ◌∙◌, ◌==◌, ◌⊎◌, inl, inr, ℕ, true, Option, Some, None, sym, ap, subst}
 use Rattle.std.proofs.lemmas.Bool.{eqb-true}
-use Rattle.mg_model.proofs.Cases.{none_is_some, the_some}
+use Rattle.mg_model.proofs.Cases.{none_is_some, the_some, same_itself}
 use Rattle.mg_names.specs.declared.identifiers.Assoc.{Assoc}
 use Rattle.mg_model.specs.declared.events.CallEvent.{CallEvent}
 use Rattle.mg_model.specs.declared.events.CallEvent.TheVariants as to_call
@@ -19,7 +19,7 @@ use Rattle.agent.specs.Preparing.{stepped_by}
 use Rattle.agent.specs.declared.call.Next.{Next}
 use Rattle.agent.specs.declared.delivered.Delivery.{Delivery}
 use Rattle.agent.specs.declared.delivered.Delivery.TheVariants as delivery
-use Rattle.shards.proofs.MessageLemmas.{found_in, is_own, own_message, same_number}
+use Rattle.shards.proofs.MessageLemmas.{found_in, is_own, own_message}
 use Rattle.shards.proofs.Refusals.{not_found}
 use Rattle.shards.specs.Shows.{Shows, ShowsCall}
 use Rattle.shards.specs.Slots.{CannotStep, IsDelivered}
@@ -88,10 +88,10 @@ module _ (script : Script) (w : World) (g : GatewayValue) (slot : ℕ → Option
   not_brought (to_call.Reply number) after of_agent none (answer, sent, steps) =
       not_found (λ (r : Reply). is_of call (Some number) r.call r.number) w.replies answer (own.replies (Some number) ∙ none) sent.0
       (ap (λ c. is_of call (Some number) c answer.number) sent.1 ∙ is_own call (Some number) answer.number
-      ∙ subst (λ n. (answer.number == n) ≡ true) sent.2 (same_number answer.number))
+      ∙ subst (λ n. (answer.number == n) ≡ true) sent.2 (same_itself answer.number))
   not_brought (to_call.Note number) after of_agent none (note, sent, steps) =
       not_found (λ (n : SentNote). n.number == number) s.messages.sent.notes note none (own.notes_kept note sent.0 sent.1)
-      (subst (λ n. (note.number == n) ≡ true) sent.2 (same_number note.number))
+      (subst (λ n. (note.number == n) ≡ true) sent.2 (same_itself note.number))
   not_brought to_call.Pass after of_agent none occurs = none
   not_brought to_call.Timer after of_agent none occurs = none
   not_brought (to_call.Hear association) after of_agent none occurs = none

@@ -4,8 +4,7 @@ use Rattle.std.proofs.Common.{◌≡◌, ◌∙◌, ◌+◌, ◌<◌, ◌≤◌,
 use Rattle.std.specs.Prelude.{◌&&◌, nat_le, nat_lt, not}
 use Rattle.std.specs.List.{All, find}
 use Rattle.std.specs.Option.{option_or}
-use Rattle.std.proofs.lemmas.Bool.{eqb-true, eq-eqb}
-use Rattle.std.proofs.lemmas.Bool.Decides.{nat_tests}
+use Rattle.std.proofs.lemmas.Bool.{eqb-true, eq-eqb, leb-true, ltb-true, le-leb}
 use Rattle.std.proofs.lemmas.List.{take-append-drop, take-append-le, length-append}
 use Rattle.std.proofs.lemmas.List.Elements.{All-contains, All-more, All-nil, All-weaker}
 use Rattle.std.proofs.lemmas.List.Folds.{find-append}
@@ -141,14 +140,11 @@ timed_kept script a = at_rest (is_resting a.phase)
     at_rest true = if_kept script a a (state_of script a.state).timer (keeps_all a)
     at_rest false = gives_none a
 
-below : (m n : ℕ) → nat_lt m n ≡ true → m < n
-below m n is = grind (arith, nat_tests)
-
 heard_kept : (script : Script) (a : Agent) (association : ℕ) → GivesKept a (heard script a association)
 heard_kept script a association = newer (nat_lt a.association association) refl
   where
     newer : (is_newer : Bool) → nat_lt a.association association ≡ is_newer → GivesKept a (if is_newer then entered script (forgotten a association) script.restart else None)
-    newer true is = enters_kept script a (forgotten a association) script.restart (inr (below a.association association is))
+    newer true is = enters_kept script a (forgotten a association) script.restart (inr (ltb-true a.association association is))
     newer false is = gives_none a
 
 stepped_kept : (script : Script) (a : Agent) (brought : Delivery) → GivesKept a (stepped_by script a brought)
@@ -159,12 +155,6 @@ stepped_kept script a delivery.Timer = timed_kept script a
 stepped_kept script a (delivery.Hear association) = heard_kept script a association.0
 
 -- ---- what is settled stays so
-
-at_most : (m n : ℕ) → nat_le m n ≡ true → m ≤ n
-at_most m n is = grind (arith, nat_tests)
-
-is_at_most : (m n : ℕ) → m ≤ n → nat_le m n ≡ true
-is_at_most m n is = grind (arith, nat_tests)
 
 -- a note that isn't new is of another association, or was accepted
 was_accepted : (here accepted : Bool) → is_new (if here then (if accepted then was_seen else arrives_new) else is_old) ≡ false → here ≡ true → accepted ≡ true
@@ -179,14 +169,14 @@ not_new false accepted kept = refl
 
 module _ (a b : Agent) (n : SentNote) (settled : is_settled a n ≡ true) where
   reached : n.association ≤ a.association
-  reached = at_most n.association a.association (and_first (nat_le n.association a.association) _ settled)
+  reached = leb-true n.association a.association (and_first (nat_le n.association a.association) _ settled)
 
   seen : is_new (arrival (inbox_of a) n.association n.number) ≡ false
   seen = denied _ (and_second (nat_le n.association a.association) _ settled)
 
   both : n.association ≤ b.association → (n.association ≡ b.association → b.accepted n.number ≡ true) → is_settled b n ≡ true
   both least accepted =
-      ap (λ test. test && not (is_new (arrival (inbox_of b) n.association n.number))) (is_at_most n.association b.association least)
+      ap (λ test. test && not (is_new (arrival (inbox_of b) n.association n.number))) (le-leb n.association b.association least)
       ∙ not_new (n.association == b.association) (b.accepted n.number) (λ own. accepted (eqb-true n.association b.association own))
 
   stays_settled : KeepsNotes a b → is_settled b n ≡ true

@@ -5,7 +5,7 @@ use Rattle.mg_model.specs.declared.events.Event.{Event}
 use Rattle.mg_model.specs.declared.events.Event.TheVariants.{Restart}
 use Rattle.mg_model.specs.Script.{Script}
 use Rattle.mg_model.specs.World.{World, Occurs, IsOpening, Runs, is_of_call}
-use Rattle.mg_safety.proofs.Messages.NamedMessages.{event_numbered, opening_numbered}
+use Rattle.mg_safety.proofs.Messages.NamedMessages.{opening_numbered, runs_numbered}
 use Rattle.mg_safety.proofs.Messages.NumberedWorlds.{IsNumbered}
 use Rattle.mg_model.specs.Gateway.{Gateway}
 use Rattle.mg_model.specs.Accepted.{IsScript}
@@ -46,14 +46,9 @@ one_more call (first ∷ more) event = by_test (is_of_call call first) (one_more
 
 -- ---- worlds
 
-numbered_from : (script : Script) (history : List Event) (w end : World) → IsNumbered w → Runs script history w end → IsNumbered end
-unfolding Runs
-numbered_from script [] w end was runs = subst IsNumbered (sym runs) was
-numbered_from script (event ∷ more) w end was (next, (happens, runs)) = numbered_from script more next end (event_numbered script w next event was happens) runs
-
 -- messages are numbered in a world that a shard shows
 pub world_numbered : (v : ShardValue) (w : World) → IsWorldOf v w → IsNumbered w
-world_numbered v w is = numbered_from v.script v.history is.start w (opening_numbered v.script (map opened_as v.calls) is.start is.opens) is.runs
+world_numbered v w is = runs_numbered v.script v.history is.start w (opening_numbered v.script (map opened_as v.calls) is.start is.opens) is.runs
 
 -- where an event leads on, the world that it leads to is the shard's
 pub led_on : (old new : ShardValue) (event : Event) → HasSameOpening old new → new.history ≡ old.history ++ event ∷ [] → (w : World) → IsWorldOf old w

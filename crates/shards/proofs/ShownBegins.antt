@@ -6,7 +6,7 @@ use Rattle.std.specs.List.{find}
 use Rattle.std.proofs.lemmas.Bool.{eqb-true, eqb-false, eq-eqb}
 use Rattle.mg_model.proofs.Cases.{and_first, and_second, none_is_some, none_of, some_is_none, the_some}
 use Rattle.mg_model.proofs.Single.{none_in}
-use Rattle.mg_model.specs.Agent.{Agent, Phase, awaits_pass, awaits_reply, begun, is_resting, resting}
+use Rattle.mg_model.specs.Agent.{Agent, Phase, begun, is_resting}
 use Rattle.mg_model.specs.Gateway as gateway
 use Rattle.mg_model.specs.Gateway.{CallLink, Gateway, MayBegin}
 use Rattle.mg_model.specs.Messages.{Request, Reply}
@@ -14,12 +14,14 @@ use Rattle.mg_model.specs.Reports.{is_of}
 use Rattle.mg_model.specs.Script.{Script}
 use Rattle.mg_model.specs.Tables.{state_of}
 use Rattle.mg_model.specs.World.{World, HasEnded, begin, sent_in}
+use Rattle.mg_model.proofs.Agents.{at_rest}
 use Rattle.mg_safety.proofs.Events.Handover.{agent_new, agent_other, link_new, link_other, world_begun}
 use Rattle.mg_safety.proofs.Invariant.Sound.{IsKnown}
 use Rattle.mg_safety.proofs.Messages.NumberedWorlds.{IsNumbered}
 use Rattle.gateway.specs.Beginnings.{IsBegun}
 use Rattle.gateway.specs.Calls.{OpenCall, call_entry, is_retired_entry, open_entry}
 use Rattle.gateway.specs.GatewayValue.{GatewayValue, gateway_of, is_open, is_taken}
+use Rattle.gateway.proofs.Entries.{no_entry}
 use Rattle.agent.specs.AgentValue.{agent_of}
 use Rattle.call_messages.specs.Messages.{AreNumberedFrom, Messages, request_numbers, fits, joined, none_sent, placed, reply_for}
 use Rattle.shards.proofs.MessageLemmas.{is_anothers, same_found}
@@ -32,13 +34,9 @@ use Rattle.shards.specs.declared.slot.Slot.{Slot}
 
 -- ---- numbers that were never used
 
-entry_free : (entry : Option (Option OpenCall)) → is_some entry ≡ false → (is_some (open_entry entry) ≡ false) × (is_retired_entry entry ≡ false)
-entry_free None none = (refl, refl)
-entry_free (Some entry) none = absurd (true≢false none)
-
 pub free_number : (g : GatewayValue) (n : ℕ) → is_taken g n ≡ false → (is_open g n ≡ false) × ((gateway_of g).retired n ≡ false)
 unfolding is_taken is_open gateway_of
-free_number g n free = entry_free (call_entry g.calls n) free
+free_number g n free = no_entry (call_entry g.calls n) free
 
 entry_used : (entry : Option (Option OpenCall)) → is_some entry ≡ true → (is_some (open_entry entry) ≡ true) ⊎ (is_retired_entry entry ≡ true)
 entry_used None there = absurd (true≢false (sym there))
@@ -50,11 +48,6 @@ unfolding is_taken is_open gateway_of
 used_number g n taken = entry_used (call_entry g.calls n) taken
 
 -- ---- a call that has ended
-
-at_rest : (phase : Phase) → is_resting phase ≡ true → phase ≡ resting
-at_rest resting is = refl
-at_rest awaits_pass is = absurd (true≢false (sym is))
-at_rest (awaits_reply request) is = absurd (true≢false (sym is))
 
 pub ended_in : (script : Script) (w : World) (a : Agent) (association : ℕ) → w.gateway.association ≡ association → has_ended script a association ≡ true → HasEnded script w a
 ended_in script w a association current is =

@@ -2,8 +2,7 @@
 use Rattle.std.proofs.Common.{◌≡◌, ◌∙◌, ◌+◌, ◌-◌, ◌<◌, ◌≤◌, ◌==◌, ◌++◌, ℕ, zero, suc, Bool, true, false, List, [], ◌∷◌, Bor, length, Option, Some, None, if◌then◌else◌, reverse, refl, sym, ap, arith}
 use Rattle.std.specs.Prelude.{Contains, nat_le, option_map, slice_get}
 use Rattle.std.specs.List.{find}
-use Rattle.std.proofs.lemmas.Bool.{eqb-true}
-use Rattle.std.proofs.lemmas.Bool.Decides.{nat_tests}
+use Rattle.std.proofs.lemmas.Bool.{eqb-true, leb-true}
 use Rattle.mg_model.proofs.Cases.{none_is_some, the_some}
 use Rattle.mg_model.proofs.Single.{only_here}
 use Rattle.mg_model.specs.Agent.{Agent, Phase, awaits_reply, awaits_pass, resting}
@@ -51,15 +50,12 @@ got_within [] i x is = absurd (none_is_some x is)
 got_within (y ∷ more) zero x is = omega arith
 got_within (y ∷ more) (suc i) x is = let within : i < length more = got_within more i x is in omega (arith, within)
 
-reached : (first n : ℕ) → nat_le first n ≡ true → first ≤ n
-reached first n later = grind (arith, nat_tests)
-
 placed_within : {A : Type 0} (first : ℕ) (xs : List A) (n : ℕ) (x : A) → placed first xs n ≡ Some x → (first ≤ n) × (n < first + length xs)
 placed_within first xs n x is = by_order (nat_le first n) refl is
   where
     by_order : (order : Bool) → nat_le first n ≡ order → (if order then slice_get xs (n - first) else None) ≡ Some x → (first ≤ n) × (n < first + length xs)
     by_order true later got =
-        let at_least : first ≤ n = reached first n later in
+        let at_least : first ≤ n = leb-true first n later in
         let within : n - first < length xs = got_within xs (n - first) x got in
         (at_least, omega (arith, at_least, within))
     by_order false earlier got = absurd (none_is_some x got)

@@ -1,5 +1,5 @@
 -- A call doesn't open on a new gateway on which others of a list are open: then it has what one of them has, or a line twice.
-use Rattle.std.proofs.Common.{◌≡◌, ◌∙◌, ◌⊎◌, inl, inr, ℕ, ◌+◌, ◌<◌, ◌++◌, zero, suc, get_or, Bool, true, false, true≢false, List, [], ◌∷◌, length, map, take, drop, Option, Some, None, Result, Ok, Err, if◌then◌else◌, refl, sym, subst, ap, arith}
+use Rattle.std.proofs.Common.{◌≡◌, ◌∙◌, ◌⊎◌, inl, inr, ℕ, ◌+◌, ◌<◌, ◌++◌, Bool, true, false, true≢false, List, [], ◌∷◌, length, map, take, drop, Option, Some, None, Result, Ok, Err, if◌then◌else◌, refl, sym, subst, ap, arith}
 use Rattle.std.specs.Prelude.{◌==◌, ◌||◌, ◌&&◌, not, Contains, is_some, option_map}
 use Rattle.std.specs.List.{list_all, flat_map}
 use Rattle.std.proofs.lemmas.Bool.{eq-eqb}
@@ -13,6 +13,7 @@ use Rattle.mg_model.specs.Board.{Board, null_row, place_in}
 use Rattle.mg_model.specs.Gateway.{Gateway}
 use Rattle.mg_model.specs.Script.{Script}
 use Rattle.mg_model.specs.World.{Opened}
+use Rattle.mg_model.proofs.Single.{only_one}
 use Rattle.contexts.specs.BoardValue.{names_line}
 use Rattle.requests.specs.Connected.{has_line, is_idle}
 use Rattle.gateway.specs.GatewayValue.{GatewayValue, gateway_of, is_taken}
@@ -35,17 +36,10 @@ use Rattle.shards.specs.declared.slot.Slot.{Slot}
 
 -- ---- lists
 
-alone : {A : Type 0} (x y : A) → Contains (x ∷ []) y → x ≡ y
-alone x y among = at_first among.0 among.1 among.2
-  where
-    at_first : (i : ℕ) → i < 1 → get_or (x ∷ []) i y ≡ y → x ≡ y
-    at_first zero within is = is
-    at_first (suc i) within is = absurd (let below : suc i < 1 = within in omega (arith, below))
-
 in_map : (calls : List OpenedCall) (o : Opened) → Contains (map opened_as calls) o → (one : OpenedCall) × (Contains calls one × (opened_as one ≡ o))
 in_map [] o among = absurd (let below : among.0 < 0 = among.1 in omega (arith, below))
 in_map (one ∷ calls) o among = elim (Contains-append_cases (opened_as one ∷ []) (map opened_as calls) o among) [
-  | inl here ↦ (one, ((0, omega arith, refl), alone (opened_as one) o here))
+  | inl here ↦ (one, ((0, omega arith, refl), only_one (opened_as one) o here))
   | inr later ↦ (let found = in_map calls o later in (found.0, (Contains-append_right (one ∷ []) calls found.0 found.1.0, found.1.1)))
 ]
 
@@ -93,7 +87,7 @@ names_each : (calls : List OpenedCall) (one : OpenedCall) → Contains calls one
 names_each [] one among l is = absurd (let below : among.0 < 0 = among.1 in omega (arith, below))
 names_each (first ∷ calls) one among l is =
     list_any-append (λ (x : LineNo). l == x.0) first.lines.items (lines_of calls) ∙ elim (Contains-append_cases (first ∷ []) calls one among) [
-      | inl here ↦ left (names_line (lines_of calls) l) (subst (λ (x : OpenedCall). names_line x.lines.items l ≡ true) (sym (alone first one here)) is)
+      | inl here ↦ left (names_line (lines_of calls) l) (subst (λ (x : OpenedCall). names_line x.lines.items l ≡ true) (sym (only_one first one here)) is)
       | inr later ↦ right (names_line first.lines.items l) (names_each calls one later l is)
     ]
   where
@@ -131,7 +125,7 @@ pub one_more_has_all : (script : Script) (calls : List OpenedCall) (one : Opened
     → HaveAllLines script (calls ++ one ∷ [])
 one_more_has_all script calls one have has other among = elim (Contains-append_cases calls (one ∷ []) other among) [
   | inl before ↦ have other before
-  | inr here ↦ subst (λ (x : OpenedCall). length x.lines.items ≡ length script.lines) (alone one other here) has
+  | inr here ↦ subst (λ (x : OpenedCall). length x.lines.items ≡ length script.lines) (only_one one other here) has
 ]
 
 module _ (script : Script) (calls : List OpenedCall) (first stride : ℕ) (g : GatewayValue) (entries : List (ℕ × Option Slot))

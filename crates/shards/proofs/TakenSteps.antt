@@ -2,6 +2,7 @@
 use Rattle.std.proofs.Common.{◌≡◌, ◌∙◌, ◌+◌, ◌<◌, ◌≤◌, ◌++◌, ◌⊎◌, inl, inr, ℕ, suc, Bool, true, false, true≢false, List, [], ◌∷◌, length, Option, Some, None, Ok, Err, if◌then◌else◌, refl, sym, ap, subst, arith}
 use Rattle.std.specs.Prelude.{is_some, nat_le}
 use Rattle.std.proofs.lemmas.Bool.Decides.{nat_tests}
+use Rattle.std.proofs.lemmas.Bool.{leb-true}
 use Rattle.mg_model.specs.declared.events.CallEvent.{CallEvent}
 use Rattle.mg_model.specs.declared.events.CallEvent.TheVariants as to_call
 use Rattle.mg_model.specs.declared.events.Event.{Event}
@@ -54,16 +55,13 @@ stands v is call s there = is.is_world.shows.open_calls call ∙ ap is_some ther
 
 -- ---- what an agent is told
 
-reached : (n m : ℕ) → nat_le n m ≡ true → n ≤ m
-reached n m is = grind (arith, nat_tests)
-
 beyond : (n m : ℕ) → nat_le n m ≡ false → n ≤ m → ⊥
 beyond n m is within = grind (arith, nat_tests)
 
 told_in : (v : ShardValue) (w : World) → IsWorldOf v w → (event : CallEvent) → is_told v.gateway.association event ≡ true → IsTold w event
 unfolding gateway_of
 told_in v w is (to_call.Hear association) told =
-    subst (λ (g : Gateway). association.0 ≤ g.association) (sym is.shows.gateway) (reached association.0 v.gateway.association told)
+    subst (λ (g : Gateway). association.0 ≤ g.association) (sym is.shows.gateway) (leb-true association.0 v.gateway.association told)
 told_in v w is (to_call.OnLine line happens) told = tt
 told_in v w is (to_call.Execute number chosen) told = tt
 told_in v w is (to_call.Reply number) told = tt

@@ -16,16 +16,17 @@ use Rattle.mg_model.specs.Gateway.{Gateway}
 use Rattle.mg_model.specs.Messages.{Request, Reply, SentNote}
 use Rattle.mg_model.specs.Script.{Script}
 use Rattle.mg_model.specs.Tables.{line_places}
-use Rattle.mg_model.specs.World.{World, AgentSteps, HasEnded, Occurs, Runs, execute, on_a_line, begin, sent_in}
+use Rattle.mg_model.specs.World.{World, AgentSteps, HasEnded, Occurs, Runs, execute, on_a_line, begin}
 use Rattle.gateway.specs.declared.answer.Answer.{Answer}
 use Rattle.gateway.specs.declared.answer.Answer.TheVariants as answer
 use Rattle.gateway.specs.declared.fault.CannotHappen as fault
 use Rattle.gateway.specs.Answers.{IsAnswered, IsHappened, IsRestarted}
-use Rattle.gateway.specs.Calls.{OpenCall, open_entry, is_retired_entry, call_entry}
+use Rattle.gateway.specs.Calls.{call_entry}
 use Rattle.gateway.specs.GatewayValue.{GatewayValue, gateway_of, is_open, is_taken}
+use Rattle.gateway.proofs.Entries.{no_entry}
 use Rattle.agent.specs.AgentValue.{agent_of}
 use Rattle.agent.specs.CallValue.{CallValue}
-use Rattle.systems.specs.Systems.{System, Answers, AreOf, AreOpen, Begins, ChangesCall, Does, Happens, Logs, Makes, MakesRoom, Restarts, Steps, Takes, agent_in, agents_of, answers, begins, happens, logs, makes_room, note_told, notes_told, replies_told, restarts, steps, with_call, world_of}
+use Rattle.systems.specs.Systems.{System, AreOf, AreOpen, Begins, ChangesCall, Does, Makes, Steps, Takes, agent_in, agents_of, answers, begins, happens, logs, makes_room, note_told, notes_told, replies_told, restarts, steps, with_call, world_of}
 
 -- ---- worlds by their parts
 
@@ -161,10 +162,6 @@ module _ (script : Script) (s t : System) where
   taken d (to_call.Begin old) takes = absurd takes
 
 -- ---- a call begins
-
-no_entry : (entry : Option (Option OpenCall)) → is_some entry ≡ false → (is_some (open_entry entry) ≡ false) × (is_retired_entry entry ≡ false)
-no_entry None none = (refl, refl)
-no_entry (Some entry) none = absurd (true≢false none)
 
 no_call : (call : Option CallValue) → is_some call ≡ false → option_map agent_in call ≡ None
 no_call None none = refl

@@ -2,7 +2,7 @@
 use Rattle.std.proofs.Common.{◌≡◌, ◌∙◌, ℕ, zero, suc, ◌+◌, ◌<◌, Bool, true, false, List, [], ◌∷◌, length, Option, Some, None, true≢false, refl, sym, subst, ap, arith}
 use Rattle.std.specs.Prelude.{◌==◌, ◌||◌, ◌&&◌, not, is_some}
 use Rattle.std.specs.List.{list_all}
-use Rattle.std.proofs.lemmas.Bool.{eqb-true, eq-eqb}
+use Rattle.std.proofs.lemmas.Bool.{eqb-true, eq-eqb, and_parts, or_parts, or_right}
 use Rattle.mg_names.specs.declared.identifiers.LineNo.{LineNo}
 use Rattle.mg_model.specs.Board.{Board}
 use Rattle.contexts.specs.BoardValue.{names_line}
@@ -11,18 +11,6 @@ use Rattle.gateway.specs.Openings.{has_twice, is_free}
 use Rattle.systems.specs.Openings.{line_at}
 
 -- ---- tests
-
-second_true : (a b : Bool) → b ≡ true → (a || b) ≡ true
-second_true true b is = refl
-second_true false b is = is
-
-pub both_hold : (a b : Bool) → (a && b) ≡ true → (a ≡ true) × (b ≡ true)
-both_hold true b is = (refl, is)
-both_hold false b is = absurd (true≢false (sym is))
-
-pub neither_holds : (a b : Bool) → (a || b) ≡ false → (a ≡ false) × (b ≡ false)
-neither_holds true b is = absurd (true≢false is)
-neither_holds false b is = (refl, is)
 
 pub none_where : {A : Type 0} (o : Option A) → not (is_some o) ≡ true → o ≡ None
 none_where None is = refl
@@ -34,7 +22,7 @@ pub named : (lines : List LineNo) (i : ℕ) → i < length lines → names_line 
 named [] i within = absurd (omega (arith, within))
 named (l ∷ lines) zero within = ap (λ (b : Bool). b || names_line lines l.0) (eq-eqb l.0 l.0 refl)
 named (l ∷ lines) (suc i) within =
-    second_true (line_at lines i == l.0) (names_line lines (line_at lines i)) (named lines i (omega (arith, within)))
+    or_right (line_at lines i == l.0) (names_line lines (line_at lines i)) (named lines i (omega (arith, within)))
 
 pub place_of_named : (lines : List LineNo) (n : ℕ) → names_line lines n ≡ true → (i : ℕ) × ((i < length lines) × (line_at lines i ≡ n))
 place_of_named [] n is = absurd (true≢false (sym is))
@@ -51,20 +39,20 @@ pub one_place : (lines : List LineNo) (i j : ℕ) → has_twice lines ≡ false 
 one_place [] i j once within other same = absurd (omega (arith, within))
 one_place (l ∷ lines) zero zero once within other same = refl
 one_place (l ∷ lines) zero (suc j) once within other same =
-    let none = (neither_holds (names_line lines l.0) (has_twice lines) once).0 in
+    let none = (or_parts (names_line lines l.0) (has_twice lines) once).0 in
     absurd (true≢false (sym (subst (λ (n : ℕ). names_line lines n ≡ true) (sym same) (named lines j (omega (arith, other)))) ∙ none))
 one_place (l ∷ lines) (suc i) zero once within other same =
-    let none = (neither_holds (names_line lines l.0) (has_twice lines) once).0 in
+    let none = (or_parts (names_line lines l.0) (has_twice lines) once).0 in
     absurd (true≢false (sym (subst (λ (n : ℕ). names_line lines n ≡ true) same (named lines i (omega (arith, within)))) ∙ none))
 one_place (l ∷ lines) (suc i) (suc j) once within other same =
-    ap (λ (n : ℕ). suc n) (one_place lines i j (neither_holds (names_line lines l.0) (has_twice lines) once).1 (omega (arith, within))
+    ap (λ (n : ℕ). suc n) (one_place lines i j (or_parts (names_line lines l.0) (has_twice lines) once).1 (omega (arith, within))
     (omega (arith, other)) same)
 
 pub free_at : (b : Board) (holder : ℕ → Option ℕ) (lines : List LineNo) (i : ℕ) → list_all (is_free b holder) lines ≡ true → i < length lines
     → (is_idle b (line_at lines i) ≡ true) × (holder (line_at lines i) ≡ None)
 free_at b holder [] i free within = absurd (omega (arith, within))
 free_at b holder (l ∷ lines) zero free within =
-    let first = both_hold (is_idle b l.0) (not (is_some (holder l.0))) (both_hold (is_free b holder l) (list_all (is_free b holder) lines) free).0 in
+    let first = and_parts (is_idle b l.0) (not (is_some (holder l.0))) (and_parts (is_free b holder l) (list_all (is_free b holder) lines) free).0 in
     (first.0, none_where (holder l.0) first.1)
 free_at b holder (l ∷ lines) (suc i) free within =
-    free_at b holder lines i (both_hold (is_free b holder l) (list_all (is_free b holder) lines) free).1 (omega (arith, within))
+    free_at b holder lines i (and_parts (is_free b holder l) (list_all (is_free b holder) lines) free).1 (omega (arith, within))

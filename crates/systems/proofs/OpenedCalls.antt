@@ -2,18 +2,16 @@
 use Rattle.std.proofs.Common.{◌≡◌, ◌∙◌, ℕ, ◌<◌, Bool, true, false, List, [], ◌∷◌, ◌++◌, length, Option, Some, None, Result, Ok, Err, ◌⊎◌, inl, inr, true≢false, refl, sym, subst, ap, arith}
 use Rattle.std.specs.Prelude.{◌==◌, ◌||◌, ◌&&◌, not, if◌then◌else◌, Contains, is_some, option_map}
 use Rattle.std.specs.List.{list_all}
-use Rattle.std.proofs.lemmas.Bool.{eqb-true, eq-eqb}
+use Rattle.std.proofs.lemmas.Bool.{eqb-true, eq-eqb, and_parts, not-true}
 use Rattle.std.proofs.lemmas.Option.{same_Some}
-use Rattle.mg_names.specs.declared.identifiers.LineNo.{LineNo}
-use Rattle.mg_names.specs.declared.identifiers.TermId.TheVariants.{Line}
 use Rattle.mg_model.specs.declared.rows.Row.{Row}
 use Rattle.mg_model.specs.Agent.{Agent}
 use Rattle.mg_model.specs.Agent as model
-use Rattle.mg_model.specs.Board.{Board, null_row}
+use Rattle.mg_model.specs.Board.{null_row}
 use Rattle.mg_model.specs.Gateway.{CallLink, Gateway}
-use Rattle.mg_model.specs.LineEvents.{LineRow, new_line}
+use Rattle.mg_model.specs.LineEvents.{new_line}
 use Rattle.mg_model.specs.Script.{Script}
-use Rattle.mg_model.specs.World.{AreDistinct, AreOpenedAgents, AreOpenedLines, IsNewGateway, IsOpening, Opened, World}
+use Rattle.mg_model.specs.World.{AreOpenedAgents, AreOpenedLines, IsNewGateway, IsOpening, Opened}
 use Rattle.mg_model.proofs.OpenedLines.{line_held}
 use Rattle.contexts.specs.BoardValue.{names_line}
 use Rattle.gateway.specs.declared.fault.OpenFault.{OpenFault}
@@ -22,9 +20,9 @@ use Rattle.gateway.specs.GatewayValue.{gateway_of, is_open, is_taken}
 use Rattle.gateway.specs.Openings.{are_free, are_there, first_gateway, has_twice, is_free, opened}
 use Rattle.agent.specs.CallValue.{CallValue}
 use Rattle.systems.specs.Openings.{AreOpened, Opens, Starts, line_at}
-use Rattle.systems.specs.Systems.{AreOf, AreOpen, System, agent_in, agents_of, with_call, world_of}
+use Rattle.systems.specs.Systems.{AreOf, AreOpen, System, agent_in, agents_of, world_of}
 use Rattle.systems.proofs.Deeds.{not_open}
-use Rattle.systems.proofs.LineLists.{both_hold, named, one_place}
+use Rattle.systems.proofs.LineLists.{named, one_place}
 use Rattle.systems.proofs.OpenedLines.{MayOpen, first_in, later_in, latest_or_earlier, lines_opened, not_held, still_hook}
 
 -- an opening, whose lines are on hook, and whose calls are of the script and are those that the gateway has open
@@ -63,10 +61,6 @@ allowed true false false is = absurd (true≢false (sym (ap is_fine is)))
 allowed true true free is = absurd (true≢false (sym (ap is_fine is)))
 allowed false taken free is = absurd (true≢false (sym (ap is_fine is)))
 
-not_true : (b : Bool) → not b ≡ true → b ≡ false
-not_true false is = refl
-not_true true is = absurd (true≢false (sym is))
-
 -- ---- one more call
 
 module _ (script : Script) (calls : List Opened) (one : Opened) (s t : System) (before : IsOpened script calls s) (d : Opens script one s t) where
@@ -85,8 +79,8 @@ module _ (script : Script) (calls : List Opened) (one : Opened) (s t : System) (
 
   frees : MayOpen script g d.lines
   frees =
-      let both = both_hold (list_all (is_free g.board g.holder) d.lines) (not (has_twice d.lines)) may.1 in
-      record { all_lines = d.all_lines; free = both.0; once = not_true (has_twice d.lines) both.1 }
+      let both = and_parts (list_all (is_free g.board g.holder) d.lines) (not (has_twice d.lines)) may.1 in
+      record { all_lines = d.all_lines; free = both.0; once = not-true (has_twice d.lines) both.1 }
 
   -- no call of this number was opened before
   not_before : (o : Opened) → Contains calls o → o.call ≡ one.call → ⊥

@@ -1,13 +1,14 @@
 -- The lines of a gateway on which one more call is opened.
-use Rattle.std.proofs.Common.{◌≡◌, ◌∙◌, ℕ, zero, suc, ◌<◌, get_or, Bool, true, false, List, [], ◌∷◌, length, Option, Some, None, Result, Ok, Err, ◌⊎◌, inl, inr, true≢false, refl, sym, subst, ap, arith}
-use Rattle.std.specs.Prelude.{◌==◌, not, if◌then◌else◌, Contains, is_some}
+use Rattle.std.proofs.Common.{◌≡◌, ◌∙◌, ℕ, zero, suc, ◌<◌, get_or, Bool, true, false, List, [], ◌∷◌, length, Option, Some, None, ◌⊎◌, inl, inr, true≢false, refl, sym, subst, ap, arith}
+use Rattle.std.specs.Prelude.{◌==◌, if◌then◌else◌, Contains, is_some}
 use Rattle.std.specs.List.{list_all}
 use Rattle.std.proofs.lemmas.List.Elements.{Contains-append_cases, Contains-append_right}
 use Rattle.std.proofs.lemmas.Option.{same_Some}
+use Rattle.std.proofs.lemmas.Bool.{and_parts}
 use Rattle.mg_names.specs.declared.identifiers.LineNo.{LineNo}
 use Rattle.mg_names.specs.declared.identifiers.TermId.TheVariants.{Line}
 use Rattle.mg_model.specs.declared.rows.Row.{Row}
-use Rattle.mg_model.specs.Board.{Board, exists, null_row}
+use Rattle.mg_model.specs.Board.{null_row}
 use Rattle.mg_model.specs.Gateway.{Gateway}
 use Rattle.mg_model.specs.LineEvents.{LineRow, new_line}
 use Rattle.mg_model.specs.Script.{Script}
@@ -15,9 +16,9 @@ use Rattle.mg_model.specs.World.{AreOpenedLines, IsLineOf, Opened, armed_line}
 use Rattle.mg_model.proofs.OpenedLines.{line_armed, line_held, line_stands, opened_lines}
 use Rattle.contexts.specs.BoardValue.{names_line}
 use Rattle.requests.specs.Connected.{is_idle, has_line, opened_line}
-use Rattle.gateway.specs.Openings.{are_free, has_twice, inactive_row, is_free, opened}
+use Rattle.gateway.specs.Openings.{has_twice, inactive_row, is_free, opened}
 use Rattle.systems.specs.Openings.{line_at}
-use Rattle.systems.proofs.LineLists.{both_hold, free_at, named, one_place, place_of_named}
+use Rattle.systems.proofs.LineLists.{free_at, named, place_of_named}
 
 -- ---- the latest call, and those before it
 
@@ -113,7 +114,7 @@ module _ (script : Script) (g : Gateway) (calls : List Opened) (call : ℕ) (lin
           let n = line_at lines i in
           let row = g.board.row (Line (record { 0 = n })) in
           still_null (names_line lines n) row
-          (there row (both_hold (has_line g.board n) _ (free i within).0).0 (before.others_null n))
+          (there row (and_parts (has_line g.board n) _ (free i within).0).0 (before.others_null n))
 
       still_held : (n c : ℕ) → g.holder n ≡ Some c → (is : Bool) → names_line lines n ≡ is → (if is then Some call else g.holder n) ≡ Some c
       still_held n c held true is = absurd (not_held n c held is)

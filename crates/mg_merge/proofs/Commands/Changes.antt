@@ -15,7 +15,8 @@ use Rattle.mg_model.specs.Board.{Board, same_term, exists, place_of, place_in, m
 use Rattle.mg_model.specs.Items.{IsLegal, Chosen, IsFresh, target, row_at, effect, subtracts, subtracted, given, creates_context, creates_ephemeral}
 use Rattle.mg_model.specs.Numbers.{null, choose}
 use Rattle.mg_model.proofs.Cases.{not_both, false_not_true, by_test, neither_first, not_refused, where_false}
-use Rattle.mg_merge.proofs.Commands.SameCodes.{same_term_is, existing_mine, leaves_mine}
+use Rattle.mg_model.proofs.Terminations.{same_term_is}
+use Rattle.mg_merge.proofs.Commands.SameCodes.{existing_mine, leaves_mine}
 use Rattle.mg_merge.proofs.Scopes.{Scope, mine, NamesTerm, NamesItem, IsContextOf, IsEphemeralOf, IsWithin}
 
 -- ---- tests

@@ -10,8 +10,7 @@ use Rattle.mg_model.specs.Board.{Board}
 use Rattle.mg_model.specs.Items.{IsRising, Chosen, effect, given, IsUsedUp, creates_context, creates_ephemeral}
 use Rattle.mg_model.specs.Shards.{AreLeft, IsContextLeft, IsEphemeralLeft}
 use Rattle.mg_model.proofs.Cases.{not_both, different}
-use Rattle.mg_model.proofs.Single.{none_in, first_in}
-use Rattle.mg_merge.proofs.Lists.{first_or_later, later_in}
+use Rattle.mg_model.proofs.Single.{none_in, first_in, first_or_later, later_in}
 use Rattle.mg_merge.proofs.Commands.Changes.{class_stays}
 use Rattle.mg_merge.proofs.Scopes.{Scope, IsWithin, IsPart}
 

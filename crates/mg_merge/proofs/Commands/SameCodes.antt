@@ -12,17 +12,12 @@ use Rattle.mg_model.specs.declared.items.Item.{Item}
 use Rattle.mg_model.specs.declared.items.Item.TheVariants.{Add, Modify, Move, Subtract, SubtractAll, SetTopology}
 use Rattle.mg_model.specs.declared.items.RemoteSetting.{RemoteSetting}
 use Rattle.mg_model.specs.declared.items.RemoteSetting.TheVariants.{Nothing, Ephemeral}
-use Rattle.mg_model.specs.Board.{Board, same_term, exists, place_of, place_in, ContextExists}
+use Rattle.mg_model.specs.Board.{Board, exists, place_of, place_in, ContextExists}
 use Rattle.mg_model.specs.Items.{is_context_number, LacksContext, names_nothing, remote_refused, lacks_termination, is_taken, is_misplaced, IsUsedUp, Applies, IsLegal, subtracts}
 use Rattle.mg_model.specs.Numbers.{null}
 use Rattle.mg_model.proofs.Cases.{none_of, different, not_both, false_not_true}
+use Rattle.mg_model.proofs.Terminations.{same_term_is}
 use Rattle.mg_merge.proofs.Scopes.{Scope, mine, NamesContext, NamesTerm, NamesRemote, NamesItem, IsWithin, IsPart, IsWhole}
-
-pub same_term_is : (t u : TermId) → same_term t u ≡ true → t ≡ u
-same_term_is (Line i) (Line j) e = ap (λ n. Line (record { 0 = n })) (eqb-true i.0 j.0 e)
-same_term_is (Line i) (Eph j) e = absurd (false_not_true e)
-same_term_is (Eph i) (Line j) e = absurd (false_not_true e)
-same_term_is (Eph i) (Eph j) e = ap (λ n. Eph n) (eqb-true i j e)
 
 -- ---- the shard's board alone
 

@@ -1,10 +1,8 @@
 -- The agents of a shard's calls: what their names stand for is the shard's, through each of their steps, and so is what their requests name.
-use Rattle.std.proofs.Common.{◌≡◌, ◌+◌, ◌<◌, arith, ℕ, Bool, true, false, List, [], ◌∷◌, length, Option, Some, None, option_map, refl, sym, subst, inl, inr}
+use Rattle.std.proofs.Common.{◌≡◌, ◌+◌, ◌<◌, arith, ℕ, Bool, true, false, List, [], ◌∷◌, length, Option, Some, None, option_map, refl, subst}
 use Rattle.std.specs.Prelude.{◌==◌, if◌then◌else◌, nat_lt, nat_le, unwrap_or, Contains}
 use Rattle.std.specs.List.{All}
-use Rattle.std.proofs.lemmas.Bool.{cases_lt}
 use Rattle.std.proofs.lemmas.List.Elements.{All-nil, All-cons, All-head, All-tail}
-use Rattle.std.proofs.lemmas.Option.{unwrap_or-slice_get, slice_get_past}
 use Rattle.mg_model.specs.declared.commands.Command.{Command}
 use Rattle.mg_model.specs.declared.commands.Command.TheVariants.{AddLine, AddEphemeral, ModifyLine, ModifyEphemeral, MoveLine, MoveEphemeral, Subtract, SubtractAll, SetTopology}
 use Rattle.mg_model.specs.declared.commands.Place.{Place}
@@ -14,19 +12,19 @@ use Rattle.mg_model.specs.declared.commands.RemoteOption.TheVariants.{NoneGiven,
 use Rattle.mg_model.specs.declared.commands.Termination.{Termination}
 use Rattle.mg_model.specs.declared.commands.Termination.TheVariants as termination
 use Rattle.mg_model.specs.declared.failures.Failure.{Failure}
-use Rattle.mg_model.specs.Accepted.{IsScript, IsSlot, IsCommandOf, IsStateOf}
+use Rattle.mg_model.specs.Accepted.{IsScript, IsSlot, IsCommandOf}
 use Rattle.mg_model.specs.Agent.{answers, Agent, Made, none_made, made_after, Phase, awaits_reply, awaits_pass, resting, entered_with, entered, entered_or_rests, entered_if, entered_or_stays, built_by, bound_by, bound_if, request_of, after_result, after_results, leads_on, replied_to, replied, passed_in, passed, may_accept, inbox_of, is_listed, target_of, line_in, noted, is_resting, timed, forgotten, heard, begun, opened, context_or, ephemeral_or, context_ref, ephemeral_ref, added_to, place_ref, termination_ref, remote_ref, command_of, commands_of}
 use Rattle.mg_model.specs.Delivery.{with_accepted}
 use Rattle.mg_model.specs.Items.{Done}
 use Rattle.mg_model.specs.Messages.{Request, Reply, SentNote}
 use Rattle.mg_model.specs.Numbers.{all, null, choose, no_ephemeral, last_number}
-use Rattle.mg_model.specs.Request.{Names, uses_known, names_after, built}
-use Rattle.mg_model.specs.Script.{Script, State}
-use Rattle.mg_model.specs.Tables.{state_of, no_state, is_empty}
+use Rattle.mg_model.specs.Script.{Script}
+use Rattle.mg_model.specs.Tables.{state_of, is_empty}
 use Rattle.mg_model.specs.Updates.{with_at}
 use Rattle.mg_model.specs.World.{sent_in}
 use Rattle.mg_model.proofs.Cases.{the_some, none_is_some}
 use Rattle.mg_model.proofs.Single.{none_in, only_one}
+use Rattle.mg_model.proofs.Built.{state_commands, built_commands}
 use Rattle.mg_merge.proofs.Commands.NamedItems.{NamesContextRef, NamesEphemeralRef, NamesTermRef, NamesRemoteRef, NamesCommand, IsDoneBy, none_is_all, none_is_zero}
 use Rattle.mg_merge.proofs.Scopes.{Scope, NamesContext, NamesEphemeral, IsContextOf, IsEphemeralOf}
 
@@ -53,27 +51,6 @@ pub record IsAgentWithin (script : Script) (s : Scope) (a : Agent) : Type 0 wher
   pub sends : SendsWithin s a.phase
 
 -- ---- the commands of a state
-
-state_commands : (script : Script) → IsScript script → (state : ℕ) → All (IsCommandOf script) (state_of script state).commands
-state_commands script is state = elim (cases_lt state (length script.states)) [
-  | inl below ↦ (subst (IsStateOf script) (sym (unwrap_or-slice_get script.states state no_state)) (is.states state no_state below)).0
-  | inr past ↦ subst (λ (found : Option State). All (IsCommandOf script) (unwrap_or found no_state).commands)
-      (sym (slice_get_past script.states state past)) (All-nil (IsCommandOf script))
-]
-
-built_commands : (script : Script) (names : Names) (commands : List Command) → All (IsCommandOf script) commands
-    → All (IsCommandOf script) (built names commands)
-built_commands script names [] every = All-nil (IsCommandOf script)
-built_commands script names (command ∷ more) every =
-    by_test (uses_known names command)
-    (built_commands script (names_after names command) more (All-tail (IsCommandOf script) command more every))
-    (built_commands script names more (All-tail (IsCommandOf script) command more every))
-  where
-    by_test : (known : Bool) → All (IsCommandOf script) (built (names_after names command) more) → All (IsCommandOf script) (built names more)
-        → All (IsCommandOf script) (if known then command ∷ built (names_after names command) more else built names more)
-    by_test true kept left_out = All-cons (IsCommandOf script) command (built (names_after names command) more)
-        (All-head (IsCommandOf script) command more every) kept
-    by_test false kept left_out = left_out
 
 null_named : (s : Scope) → NamesContext s null
 null_named s number = let above : 0 < 0 = number.0 in absurd (omega (arith, above))

@@ -1,32 +1,22 @@
 -- A restart of a shard beside that of the merge: one restart of the merge stands for those of all shards.
-use Rattle.std.proofs.Common.{◌≡◌, ◌∙◌, ◌+◌, ℕ, false, Option, Some, None, is_some, refl, sym, ap}
-use Rattle.mg_names.specs.declared.identifiers.TermId.{TermId}
-use Rattle.mg_names.specs.declared.identifiers.TermId.TheVariants.{Line, Eph}
-use Rattle.mg_model.specs.declared.rows.Row.{Row}
-use Rattle.mg_model.specs.Board.{Board, place_in}
+use Rattle.std.proofs.Common.{◌≡◌, ◌∙◌, ◌+◌, ℕ, refl, sym, ap}
+use Rattle.mg_names.specs.declared.identifiers.TermId.TheVariants.{Eph}
+use Rattle.mg_model.specs.Board.{Board}
 use Rattle.mg_model.specs.Gateway.{restarted, board_restarted, link_restarted, row_restarted}
 use Rattle.mg_model.specs.LineEvents.{cleared}
 use Rattle.mg_model.specs.Script.{Script}
 use Rattle.mg_model.specs.World.{World, with_gateway}
 use Rattle.mg_model.proofs.Cases.{false_not_true, none_is_some}
+use Rattle.mg_model.proofs.Settled.{restarted_gone, restarted_in_null}
 use Rattle.mg_merge.proofs.Scopes.{Scope, IsWithin}
 use Rattle.mg_merge.proofs.Events.Worlds.{IsContained, IsBeside, IsMerge}
-
-pub gone : (k : ℕ) (row : Option Row) → is_some (row_restarted (Eph k) row) ≡ false
-gone k None = refl
-gone k (Some row) = refl
-
-pub in_null : (t : TermId) (row : Option Row) → place_in (row_restarted t row) ≡ 0
-in_null t None = refl
-in_null (Line l) (Some row) = refl
-in_null (Eph x) (Some row) = refl
 
 within_restarted : (s : Scope) (b : Board) → IsWithin s b → IsWithin s (board_restarted b)
 within_restarted s b within = record {
   class = within.class;
-  outside = λ t other. in_null t (b.row t);
-  places = λ t real. absurd (real (in_null t (b.row t)));
-  ephemerals = λ k there. absurd (false_not_true (sym (gone k (b.row (Eph k))) ∙ there));
+  outside = λ t other. restarted_in_null t (b.row t);
+  places = λ t real. absurd (real (restarted_in_null t (b.row t)));
+  ephemerals = λ k there. absurd (false_not_true (sym (restarted_gone k (b.row (Eph k))) ∙ there));
 }
 
 pub contained_restarted : (script : Script) (s : Scope) (w : World) → IsContained script s w → IsContained script s (with_gateway w (restarted w.gateway))
@@ -49,7 +39,7 @@ beside_restarted s w m along = record {
     cut = λ t u own also. refl;
     used_context = λ n own. refl;
     used_ephemeral = λ n own. refl;
-    members = λ t real class. absurd (real (in_null t (m.gateway.board.row t)));
+    members = λ t real class. absurd (real (restarted_in_null t (m.gateway.board.row t)));
   };
   line = λ l own. ap cleared (along.line l own);
   holder = along.holder;
@@ -67,10 +57,10 @@ beside_restarted s w m along = record {
 pub merge_restarted : (m : World) → IsMerge (with_gateway m (restarted m.gateway))
 merge_restarted m = record {
   board = record {
-    places = λ t real. absurd (real (in_null t (m.gateway.board.row t)));
-    zeroth = gone 0 (m.gateway.board.row (Eph 0));
+    places = λ t real. absurd (real (restarted_in_null t (m.gateway.board.row t)));
+    zeroth = restarted_gone 0 (m.gateway.board.row (Eph 0));
   };
-  contexts = λ c. (λ used. absurd (false_not_true used), λ there. absurd (there.0 (sym there.1.1 ∙ in_null there.1.0 (m.gateway.board.row there.1.0))));
-  ephemerals = λ k. sym (gone k (m.gateway.board.row (Eph k)));
+  contexts = λ c. (λ used. absurd (false_not_true used), λ there. absurd (there.0 (sym there.1.1 ∙ restarted_in_null there.1.0 (m.gateway.board.row there.1.0))));
+  ephemerals = λ k. sym (restarted_gone k (m.gateway.board.row (Eph k)));
   creator = λ k none. refl;
 }

@@ -4,10 +4,9 @@ use Rattle.std.specs.Prelude.{Contains}
 use Rattle.std.proofs.Math.Nat.{add-mod_right}
 use Rattle.mg_model.specs.Items.{IsRising}
 use Rattle.mg_model.specs.Shards.{AreLeft}
-use Rattle.mg_model.proofs.Single.{none_in}
+use Rattle.mg_model.proofs.Single.{none_in, first_or_later}
 use Rattle.mg_merge.specs.Identifiers.{most_shards}
 use Rattle.mg_merge.proofs.Commands.IdentifiersLeft.{without, was_there, still_rising, one_less, taken_out}
-use Rattle.mg_merge.proofs.Lists.{first_or_later}
 
 -- ---- the numbers of a class
 

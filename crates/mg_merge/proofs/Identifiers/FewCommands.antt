@@ -1,6 +1,6 @@
 -- How long requests are: a request has at most as many commands as the state that it is built of, so where each state has few, each step of an
 -- agent sends few.
-use Rattle.std.proofs.Common.{◌≡◌, ◌+◌, ◌≤◌, ℕ, suc, Bool, true, false, List, [], ◌∷◌, length, Option, Some, None, refl, sym, subst, arith, inl, inr}
+use Rattle.std.proofs.Common.{◌≡◌, ◌+◌, ◌≤◌, ℕ, Bool, true, false, List, [], ◌∷◌, length, Option, Some, None, refl, sym, subst, arith, inl, inr}
 use Rattle.std.specs.Prelude.{◌==◌, if◌then◌else◌, nat_lt, nat_le, unwrap_or, Contains}
 use Rattle.std.proofs.lemmas.Bool.{cases_lt}
 use Rattle.std.proofs.lemmas.Option.{unwrap_or-slice_get, slice_get_past}
@@ -10,12 +10,12 @@ use Rattle.mg_model.specs.Agent.{answers, Agent, Made, none_made, made_after, Ph
 use Rattle.mg_model.specs.Delivery.{with_accepted, arrival, is_new}
 use Rattle.mg_model.specs.Messages.{Request, Reply, SentNote}
 use Rattle.mg_model.specs.Numbers.{last_number}
-use Rattle.mg_model.specs.Request.{Names, uses_known, names_after, built}
 use Rattle.mg_model.specs.Script.{Script, State}
 use Rattle.mg_model.specs.Tables.{state_of, no_state, is_empty}
 use Rattle.mg_model.specs.World.{sent_in}
 use Rattle.mg_model.proofs.Cases.{the_some, none_is_some, false_not_true, and_first, and_second}
 use Rattle.mg_model.proofs.Single.{none_in, only_one}
+use Rattle.mg_model.proofs.Built.{built_no_more}
 use Rattle.mg_merge.specs.Identifiers.{HasFewCommands, most_commands}
 
 -- ---- the commands of a state
@@ -25,16 +25,6 @@ few_in_state script few state = elim (cases_lt state (length script.states)) [
   | inl below ↦ subst (λ (s : State). length s.commands ≤ most_commands) (sym (unwrap_or-slice_get script.states state no_state)) (few state no_state below)
   | inr past ↦ subst (λ (found : Option State). length (unwrap_or found no_state).commands ≤ most_commands) (sym (slice_get_past script.states state past)) (omega (arith))
 ]
-
-built_no_more : (names : Names) (commands : List Command) → length (built names commands) ≤ length commands
-built_no_more names [] = omega (arith)
-built_no_more names (command ∷ more) =
-    by_test (uses_known names command) (built_no_more (names_after names command) more) (built_no_more names more)
-  where
-    by_test : (known : Bool) → length (built (names_after names command) more) ≤ length more → length (built names more) ≤ length more
-        → length (if known then command ∷ built (names_after names command) more else built names more) ≤ suc (length more)
-    by_test true kept left_out = omega (arith, kept)
-    by_test false kept left_out = omega (arith, left_out)
 
 sent_as_many : (script : Script) (a : Agent) (made : Made) (place : ℕ) (commands : List Command) → length (commands_of script a made place commands) ≡ length commands
 sent_as_many script a made place [] = refl

@@ -19,11 +19,12 @@ use Rattle.mg_model.specs.Script.{Script}
 use Rattle.mg_model.specs.Shards.{HasIdentifiersLeft, RunsWithin, IsContextLeft, IsEphemeralLeft, AreLeft}
 use Rattle.mg_model.specs.Tables.{line_places}
 use Rattle.mg_model.specs.World.{World, Opened, Occurs, OccursTo, Runs, IsOpening, AgentSteps, Executes, sent_in}
+use Rattle.mg_model.proofs.Single.{nothing_in}
 use Rattle.mg_merge.specs.Identifiers.{HasFewCommands, IdentifiersLast, executes_of, executes_in, most_commands, most_shards, most_executes}
 use Rattle.mg_merge.proofs.Identifiers.Candidates.{class_has_more}
 use Rattle.mg_merge.proofs.Identifiers.FewCommands.{IsShort, GivesShort, replied_short, passed_short, noted_short, timed_short, heard_short}
 use Rattle.mg_merge.proofs.Identifiers.UsedNumbers.{UsesFew, or_more, commands_use_few, settled_uses_few, nothing_used, restarted_uses_none}
-use Rattle.mg_merge.proofs.Shards.Opening.{all_in_null, nothing_in}
+use Rattle.mg_merge.proofs.Shards.Opening.{all_in_null}
 
 -- a world that used few identifiers of a class, and whose requests are short
 record IsSparing (class : ℕ → Bool) (w : World) (most : ℕ) : Type 0 where

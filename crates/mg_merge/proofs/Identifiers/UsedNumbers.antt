@@ -18,11 +18,10 @@ use Rattle.mg_model.specs.Messages.{RequestCommand}
 use Rattle.mg_model.specs.Numbers.{null, choose}
 use Rattle.mg_model.specs.RequestRun.{Running, RunsFrom}
 use Rattle.mg_model.proofs.Cases.{false_not_true, by_test, neither_first, not_refused}
-use Rattle.mg_model.proofs.Single.{none_in, first_in}
+use Rattle.mg_model.proofs.Single.{none_in, first_in, first_or_later, later_in}
+use Rattle.mg_model.proofs.Terminations.{same_term_is}
+use Rattle.mg_model.proofs.Settled.{restarted_gone, restarted_in_null}
 use Rattle.mg_merge.proofs.Commands.Changes.{class_stays}
-use Rattle.mg_merge.proofs.Commands.SameCodes.{same_term_is}
-use Rattle.mg_merge.proofs.Lists.{first_or_later, later_in}
-use Rattle.mg_merge.proofs.Events.Restarts.{gone, in_null}
 
 -- ---- boards
 
@@ -209,18 +208,18 @@ settled_uses_few b after most few is = record {
 -- a board on which no identifier is used and nothing stands
 pub nothing_used : (b : Board) (most : ℕ) → ((n : ℕ) → b.used_context n ≡ false) → ((n : ℕ) → b.used_ephemeral n ≡ false)
     → ((t : TermId) → place_of b t ≡ null) → ((k : ℕ) → exists b (Eph k) ≡ false) → UsesFew b most
-nothing_used b most no_context no_ephemeral in_null none = record {
+nothing_used b most no_context no_ephemeral restarted_in_null none = record {
   contexts = [];
   ephemerals = [];
   few_contexts = omega (arith);
   few_ephemerals = omega (arith);
   among = record {
     used_contexts = λ n used. absurd (false_not_true (sym (no_context n) ∙ used));
-    places = λ t real. absurd (real (in_null t));
+    places = λ t real. absurd (real (restarted_in_null t));
     used_ephemerals = λ n used. absurd (false_not_true (sym (no_ephemeral n) ∙ used));
     existing = λ k there. absurd (false_not_true (sym (none k) ∙ there));
   };
 }
 
 pub restarted_uses_none : (b : Board) (most : ℕ) → UsesFew (board_restarted b) most
-restarted_uses_none b most = nothing_used (board_restarted b) most (λ n. refl) (λ n. refl) (λ t. in_null t (b.row t)) (λ k. gone k (b.row (Eph k)))
+restarted_uses_none b most = nothing_used (board_restarted b) most (λ n. refl) (λ n. refl) (λ t. restarted_in_null t (b.row t)) (λ k. restarted_gone k (b.row (Eph k)))

@@ -5,8 +5,7 @@ use Rattle.std.proofs.lemmas.Bool.{or_left, or_right}
 use Rattle.mg_model.specs.Script.{Script}
 use Rattle.mg_model.specs.Shards.{Shard, AreApart, AreAllApart}
 use Rattle.mg_model.proofs.Cases.{none_is_some}
-use Rattle.mg_model.proofs.Single.{first_in, none_in}
-use Rattle.mg_merge.proofs.Lists.{first_or_later, later_in}
+use Rattle.mg_model.proofs.Single.{first_in, none_in, first_or_later, later_in}
 
 -- ---- the first that has it
 

@@ -7,8 +7,9 @@ use Rattle.std.proofs.lemmas.List.Elements.{All-tail}
 use Rattle.mg_model.specs.declared.events.Event.{Event}
 use Rattle.mg_model.specs.declared.events.Event.TheVariants.{OfCall, Restart}
 use Rattle.mg_model.specs.Script.{Script}
-use Rattle.mg_model.specs.Shards.{History, with_first, cut_at_restarts, restarts_in, together, merged_from}
+use Rattle.mg_model.specs.Shards.{History, cut_at_restarts, restarts_in, together, merged_from}
 use Rattle.mg_model.specs.World.{World, Runs}
+use Rattle.mg_model.proofs.Histories.{first_with, later_with}
 
 -- ---- one history
 
@@ -30,20 +31,12 @@ after_restart [] = []
 after_restart (OfCall call happens ∷ more) = after_restart more
 after_restart (Restart ∷ more) = more
 
-first_of : (event : Event) (history : History) → slice_index_or (with_first event history) 0 [] ≡ event ∷ slice_index_or history 0 []
-first_of event [] = refl
-first_of event (events ∷ more) = refl
-
-later_of : (event : Event) (history : History) (place : ℕ) → slice_index_or (with_first event history) (suc place) [] ≡ slice_index_or history (suc place) []
-later_of event [] place = refl
-later_of event (events ∷ more) place = refl
-
 -- the first part of a history that is cut
 first_part : (events : List Event) → slice_index_or (cut_at_restarts events) 0 [] ≡ before_restart events
 unfolding cut_at_restarts
 first_part [] = refl
 first_part (OfCall call happens ∷ more) =
-    first_of (OfCall call happens) (cut_at_restarts more) ∙ ap (λ (events : List Event). OfCall call happens ∷ events) (first_part more)
+    first_with (OfCall call happens) (cut_at_restarts more) ∙ ap (λ (events : List Event). OfCall call happens ∷ events) (first_part more)
 first_part (Restart ∷ more) = refl
 
 nothing_at : (place : ℕ) → slice_index_or (cut_at_restarts []) place [] ≡ []
@@ -55,7 +48,7 @@ nothing_at (suc place) = refl
 later_part : (events : List Event) (place : ℕ) → slice_index_or (cut_at_restarts events) (suc place) [] ≡ slice_index_or (cut_at_restarts (after_restart events)) place []
 unfolding cut_at_restarts
 later_part [] place = sym (nothing_at place)
-later_part (OfCall call happens ∷ more) place = later_of (OfCall call happens) (cut_at_restarts more) place ∙ later_part more place
+later_part (OfCall call happens ∷ more) place = later_with (OfCall call happens) (cut_at_restarts more) place ∙ later_part more place
 later_part (Restart ∷ more) place = refl
 
 pub none_left : (events : List Event) → restarts_in events ≡ 0 → from_restart events ≡ []

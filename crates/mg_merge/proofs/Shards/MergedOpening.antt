@@ -1,5 +1,5 @@
 -- Where the merge opens: the lines, the holders and the agents of all shards. It is an opening of all their calls, and each shard stands beside it.
-use Rattle.std.proofs.Common.{◌≡◌, ◌∙◌, ℕ, Bool, true, false, List, [], Option, Some, None, is_some, refl, sym, ap, subst, inl, inr}
+use Rattle.std.proofs.Common.{◌<◌, ◌≡◌, ◌∙◌, ℕ, Bool, true, false, List, [], Option, Some, None, is_some, refl, sym, ap, subst, inl, inr}
 use Rattle.std.specs.Prelude.{◌⊎◌, Contains}
 use Rattle.mg_names.specs.declared.identifiers.TermId.{TermId}
 use Rattle.mg_names.specs.declared.identifiers.TermId.TheVariants.{Line, Eph}
@@ -13,9 +13,10 @@ use Rattle.mg_model.specs.Shards.{Shard, IsShardRun, AreAllApart, all_calls}
 use Rattle.mg_model.specs.World.{World, Opened, IsOpening, AreDistinct, AreOpenedLines, IsLineOf, armed_line}
 use Rattle.mg_model.proofs.Cases.{false_not_true, none_is_some, the_some}
 use Rattle.mg_model.proofs.OpenedLines.{line_armed, line_held, line_stands, opened_lines}
+use Rattle.mg_model.proofs.Single.{in_joined, nothing_in}
 use Rattle.mg_merge.proofs.Shards.Choosing.{first_with, only_with, from_first, class_of, in_class, two_of}
-use Rattle.mg_merge.proofs.Lists.{in_joined, from_joined}
-use Rattle.mg_merge.proofs.Shards.Opening.{line_of_call, call_line, start_contained, nothing_in, separate}
+use Rattle.mg_merge.proofs.Lists.{from_joined}
+use Rattle.mg_merge.proofs.Shards.Opening.{line_of_call, call_line, start_contained, separate}
 use Rattle.mg_merge.proofs.Scopes.{scope_of, mine}
 use Rattle.mg_merge.proofs.Events.Worlds.{IsBeside, IsMerge}
 

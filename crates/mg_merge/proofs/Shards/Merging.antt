@@ -11,8 +11,7 @@ use Rattle.mg_model.specs.Script.{Script}
 use Rattle.mg_merge.specs.Laws.{MergesAreRuns}
 use Rattle.mg_model.specs.Shards.{History, Shard, IsShardRun, IsEventOf, AgreesWith, AreAllApart, RunsWithin, cut_at_restarts, histories, merged_from, restarts_in}
 use Rattle.mg_model.specs.World.{World, Runs, with_gateway}
-use Rattle.mg_model.proofs.Single.{first_in, none_in}
-use Rattle.mg_merge.proofs.Lists.{later_in, first_or_later}
+use Rattle.mg_model.proofs.Single.{first_in, none_in, first_or_later, later_in}
 use Rattle.mg_merge.proofs.Shards.Histories.{after_restart, all_after, all_before, all_cut, first_together, later_merged, later_own, none_left, one_left, runs_after}
 use Rattle.mg_merge.proofs.Shards.Lanes.{Lane, scope_in, Each, AreAllSeparate, rests, each_both, Begins, Stops, all_pass}
 use Rattle.mg_merge.proofs.Shards.MergedOpening.{merged_start, start_beside, start_merge, opens}

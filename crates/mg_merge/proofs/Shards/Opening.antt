@@ -11,7 +11,7 @@ use Rattle.mg_model.specs.Script.{Script}
 use Rattle.mg_model.specs.Shards.{Shard, IsShardRun, AreApart}
 use Rattle.mg_model.specs.World.{World, Opened, IsOpening}
 use Rattle.mg_model.proofs.Cases.{false_not_true, none_is_some, some_of, the_some}
-use Rattle.mg_model.proofs.Single.{none_in}
+use Rattle.mg_model.proofs.Single.{nothing_in}
 use Rattle.mg_model.proofs.OpenedLines.{line_held}
 use Rattle.mg_merge.proofs.Events.AgentNames.{IsAgentWithin, opened_within}
 use Rattle.mg_merge.proofs.Scopes.{Scope, scope_of, AreSeparate, IsWithin}
@@ -25,9 +25,6 @@ all_in_null script calls w o (Line l) = go (w.gateway.board.row (Line l)) refl
     go None e = refl
     go (Some row) e = ap (λ (r : Row). r.place.0) (o.lines.others_null l.0 row e)
 all_in_null script calls w o (Eph k) = ap place_in (o.gateway.no_ephemeral k)
-
-pub nothing_in : {A : Type 0} (x : A) (xs : List A) → xs ≡ [] → Contains xs x → ⊥
-nothing_in x xs e among = none_in x (subst (λ ys. Contains ys x) e among)
 
 module _ (script : Script) (shard : Shard) (run : IsShardRun script shard) where
   -- a line of the shard is one of a call of its opening

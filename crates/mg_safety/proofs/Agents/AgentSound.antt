@@ -1,5 +1,5 @@
 -- What an agent does of itself keeps the world sound: an empty request passes, and its timer ends.
-use Rattle.std.proofs.Common.{◌≡◌, ◌∙◌, ◌<◌, ℕ, Bool, true, false, List, Some, None, refl, sym, subst, arith, inl, inr, true≢false}
+use Rattle.std.proofs.Common.{◌≡◌, ◌∙◌, ◌<◌, ℕ, Bool, true, false, List, Some, None, refl, sym, subst, arith, inl, inr}
 use Rattle.std.proofs.lemmas.List.Elements.{Contains-append_right}
 use Rattle.std.specs.Prelude.{if◌then◌else◌, Contains, ◌⊎◌}
 use Rattle.mg_names.specs.declared.phases.LinkPhase as phases
@@ -11,11 +11,12 @@ use Rattle.mg_model.specs.Gateway.{Gateway, last_executed}
 use Rattle.mg_model.specs.Messages.{Request}
 use Rattle.mg_model.specs.Script.{Script}
 use Rattle.mg_model.specs.Steps as steps
-use Rattle.mg_model.specs.Steps.{Step, entering, observations}
+use Rattle.mg_model.specs.Steps.{entering, observations}
 use Rattle.std.specs.List.{flat_map}
 use Rattle.mg_model.specs.Tables.{state_of, line_places}
 use Rattle.mg_model.specs.World.{World, AgentSteps}
 use Rattle.mg_model.proofs.Cases.{none_is_some}
+use Rattle.mg_model.proofs.Agents.{at_rest as rests}
 use Rattle.mg_safety.proofs.Invariant.Shown.{naming, Seen, LinesShown}
 use Rattle.mg_safety.proofs.Invariant.Sound.{owned_in, IsPassing, IsResting, IsAt, IsCurrent, IsLost, CallIsSound}
 use Rattle.mg_safety.proofs.Invariant.Statements.{IsClosed, KeepsSound}
@@ -95,11 +96,6 @@ pass_sound call script entries is_script closed w after sound s = agent_goes scr
     (pass_goes script entries closed w call s.before s.agent (sound.calls call s.before s.open_call) s.steps)
 
 -- ---- the timer ends
-
-pub rests : (phase : Phase) → is_resting phase ≡ true → phase ≡ resting
-rests resting is = refl
-rests awaits_pass is = absurd (true≢false (sym is))
-rests (awaits_reply request) is = absurd (true≢false (sym is))
 
 times : (script : Script) (a b : Agent) (at_rest : Bool) → is_resting a.phase ≡ at_rest
     → (if at_rest then entered_if script a (state_of script a.state).timer else None) ≡ Some b

@@ -19,17 +19,10 @@ use Rattle.mg_model.specs.LineEvents.{ListItem, Note}
 use Rattle.mg_model.specs.Script.{Script}
 use Rattle.mg_model.specs.Steps.{Step, all_kinds, with_state, entering, observation, observations, steps_by_link}
 use Rattle.mg_model.specs.Tables.{state_of, items_of, item_raises, raises, target_in, below, line_places}
-use Rattle.mg_model.proofs.Single.{only_here, only_one}
+use Rattle.mg_model.proofs.Single.{only_here, only_one, in_joined}
 use Rattle.mg_safety.proofs.Invariant.Shown.{raises_kind, list_raises}
 
 -- ---- lists
-
-flat_map_has : {X A : Type 0} (f : X → List A) (xs : List X) (x : X) (y : A) → Contains xs x → Contains (f x) y → Contains (flat_map f xs) y
-flat_map_has f [] x y among has = absurd (let below : among.0 < 0 = among.1 in omega (arith, below))
-flat_map_has f (z ∷ xs) x y among has = elim (Contains-append_cases (z ∷ []) xs x among) [
-  | inl first ↦ Contains-append_left (f z) (flat_map f xs) y (subst (λ v. Contains (f v) y) (sym (only_one z x first)) has)
-  | inr later ↦ Contains-append_right (f z) (flat_map f xs) y (flat_map_has f xs x y later has)
-]
 
 below_less : (n : ℕ) (xs : List ℕ) (i : ℕ) → Contains (below n xs) i → i < n
 below_less n [] i among = absurd (let nothing : among.0 < 0 = among.1 in omega (arith, nothing))
@@ -146,8 +139,8 @@ observed script c i what state place raised target =
     let seen : Contains (observation script c i what) step = subst (λ (p : Bool). Contains
     (if p then entering script c (names.Observe i what) (target_in (state_of script c.state).on i what) else []) step) (sym raised) among in
     Contains-append_left (flat_map (observations script c) (line_places script)) (entering script c names.Timer (state_of script c.state).timer) step
-    (flat_map_has (observations script c) (line_places script) i step place
-    (flat_map_has (observation script c i) all_kinds what step (has_kind what) seen))
+    (in_joined (observations script c) (line_places script) i step place
+    (in_joined (observation script c i) all_kinds what step (has_kind what) seen))
 
 -- the list of a line raises what the items of its configuration raise
 pub list_says : (script : Script) (name : EventsName) (list : List ListItem) (what : Kind) → list ≡ list_of script name → list_raises list what ≡ true

@@ -8,7 +8,7 @@ use Rattle.mg_model.specs.Configuration.{Configuration, is_same, with_of}
 use Rattle.mg_model.specs.Effects.{with_pair}
 use Rattle.mg_model.specs.Entries.{Component, links, spots, modes, events, plays, contexts, remotes, cuts}
 use Rattle.mg_model.specs.Accepted.{is_links, is_spots, is_modes, is_events, is_plays, is_contexts, is_remotes, is_cuts}
-use Rattle.mg_safety.proofs.Shared.Components.{is_same_is}
+use Rattle.mg_model.proofs.Terminations.{is_same_is}
 use Rattle.mg_safety.proofs.Certificate.ChoiceNumbers.{choice_to, choices_to}
 
 -- ---- changes that write a function's values into another

@@ -20,8 +20,8 @@ use Rattle.mg_model.specs.Configuration.{Configuration, is_same, is_in, is_live,
 use Rattle.mg_model.specs.Effects.{is_legal, effect, put_in, with_line_options, with_ephemeral_options, without_cuts_of, without_terminations, spot_after, remote_after, with_pair, cuts_forward, cuts_backward, plays_after, remote_set}
 use Rattle.mg_model.specs.Script.{Script}
 use Rattle.mg_model.specs.Accepted.{IsSlot, IsContext, IsCommandOf}
-use Rattle.mg_safety.proofs.Shared.Components.{is_same_self, is_same_is}
 use Rattle.mg_model.proofs.Cases.{where_false}
+use Rattle.mg_model.proofs.Terminations.{is_same_is, is_same_self}
 use Rattle.mg_safety.proofs.Certificate.Declared.{AreSlots}
 use Rattle.mg_safety.proofs.Invariant.Sound.{IsOfScript}
 

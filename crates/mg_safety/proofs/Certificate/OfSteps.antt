@@ -1,10 +1,8 @@
 -- The opening, the reset, and each step of a configuration hold nothing that the script doesn't declare.
-use Rattle.std.proofs.Common.{◌≡◌, ◌+◌, ◌++◌, ℕ, Bool, true, false, List, [], ◌∷◌, length, Option, Some, None, refl, sym, subst, inl, inr}
-use Rattle.std.specs.Prelude.{if◌then◌else◌, unwrap_or}
+use Rattle.std.proofs.Common.{◌≡◌, ◌+◌, ◌++◌, ℕ, Bool, true, false, List, [], ◌∷◌, length, Option, Some, None, refl}
+use Rattle.std.specs.Prelude.{if◌then◌else◌}
 use Rattle.std.specs.List.{All, flat_map}
-use Rattle.std.proofs.lemmas.Bool.{cases_lt}
 use Rattle.std.proofs.lemmas.List.Elements.{All-nil, All-cons, All-head, All-tail, All-append}
-use Rattle.std.proofs.lemmas.Option.{unwrap_or-slice_get, slice_get_past}
 use Rattle.mg_names.specs.declared.kinds.Kind.{Kind}
 use Rattle.mg_names.specs.declared.phases.LinkPhase.{LinkPhase}
 use Rattle.mg_names.specs.declared.phases.LinkPhase.TheVariants.{Sent, Answered, Failed, Resting}
@@ -18,11 +16,11 @@ use Rattle.mg_model.specs.declared.steps.StepName.{StepName}
 use Rattle.mg_model.specs.declared.steps.StepName.TheVariants.{Refuse, Execute, Reply, Observe, Timer}
 use Rattle.mg_model.specs.Configuration.{Configuration}
 use Rattle.mg_model.specs.Effects.{is_legal, effect}
-use Rattle.mg_model.specs.Request.{Names, uses_known, names_after, built}
-use Rattle.mg_model.specs.Script.{Script, State}
+use Rattle.mg_model.specs.Script.{Script}
 use Rattle.mg_model.specs.Steps.{Step, steps_of, steps_by_link, request_in, with_state, with_link, refusals, executed, execution, names_unbound, entering, reply_step, all_kinds, observation, observations, unused, opening, reset, bound_names}
-use Rattle.mg_model.specs.Tables.{state_of, no_state, items_of, raises, target_in, line_places}
-use Rattle.mg_model.specs.Accepted.{IsScript, IsSlot, IsCommandOf, IsStateOf}
+use Rattle.mg_model.specs.Tables.{state_of, items_of, raises, target_in, line_places}
+use Rattle.mg_model.specs.Accepted.{IsScript, IsSlot, IsCommandOf}
+use Rattle.mg_model.proofs.Built.{state_commands, built_commands}
 use Rattle.mg_safety.proofs.Certificate.Declared.{past_is_not_below, unused_past}
 use Rattle.mg_safety.proofs.Certificate.OfScript.{of_effect}
 use Rattle.mg_safety.proofs.Invariant.Sound.{IsOfScript}
@@ -67,27 +65,6 @@ of_reset script =
     of_entered script (unused (length script.lines) script.restart Answered Empty) script.restart (of_unused script script.restart Answered Empty)
 
 -- ---- the commands of a request
-
-pub state_commands : (script : Script) → IsScript script → (state : ℕ) → All (IsCommandOf script) (state_of script state).commands
-state_commands script is state = elim (cases_lt state (length script.states)) [
-  | inl below ↦ (subst (IsStateOf script) (sym (unwrap_or-slice_get script.states state no_state)) (is.states state no_state below)).0
-  | inr past ↦ subst (λ (found : Option State). All (IsCommandOf script) (unwrap_or found no_state).commands)
-      (sym (slice_get_past script.states state past)) (All-nil (IsCommandOf script))
-]
-
-pub built_commands : (script : Script) (names : Names) (commands : List Command) → All (IsCommandOf script) commands
-    → All (IsCommandOf script) (built names commands)
-built_commands script names [] all = All-nil (IsCommandOf script)
-built_commands script names (command ∷ more) all =
-    by_test (uses_known names command)
-    (built_commands script (names_after names command) more (All-tail (IsCommandOf script) command more all))
-    (built_commands script names more (All-tail (IsCommandOf script) command more all))
-  where
-    by_test : (known : Bool) → All (IsCommandOf script) (built (names_after names command) more) → All (IsCommandOf script) (built names more)
-        → All (IsCommandOf script) (if known then command ∷ built (names_after names command) more else built names more)
-    by_test true kept left_out = All-cons (IsCommandOf script) command (built (names_after names command) more)
-        (All-head (IsCommandOf script) command more all) kept
-    by_test false kept left_out = left_out
 
 pub request_commands : (script : Script) → IsScript script → (c : Configuration) (state : ℕ) → All (IsCommandOf script) (request_in script c state)
 request_commands script is c state = built_commands script (bound_names c) (state_of script state).commands (state_commands script is state)

@@ -24,8 +24,9 @@ use Rattle.mg_model.specs.Effects.{remote_legal}
 use Rattle.mg_model.specs.Items.{effect, given, is_context_number, is_ephemeral_number, row_at, target, with_ephemeral}
 use Rattle.mg_model.specs.Request.{remote_option_known}
 use Rattle.mg_model.specs.Script.{Script}
-use Rattle.mg_safety.proofs.Shared.Components.{free_as_before, same_term_self}
+use Rattle.mg_safety.proofs.Shared.Components.{free_as_before}
 use Rattle.mg_model.proofs.Cases.{and_first, and_second, denied, false_not_true, none_is_some}
+use Rattle.mg_model.proofs.Terminations.{same_term_self}
 use Rattle.mg_safety.proofs.Commands.Binding.{with_at_here, with_at_kept, with_context, given_still, shown_live, shown_given, accounted_given, built_given}
 use Rattle.mg_safety.proofs.Commands.Carrying.{Carries, IsEntered, carried}
 use Rattle.mg_safety.proofs.Invariant.CarriedOver.{IsCarried, IsCarriedOver}

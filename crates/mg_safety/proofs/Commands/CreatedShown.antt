@@ -15,8 +15,8 @@ use Rattle.mg_model.specs.Updates.{with_at}
 use Rattle.mg_model.specs.Configuration.{Configuration, is_same, is_present}
 use Rattle.mg_model.specs.Script.{Script}
 use Rattle.mg_model.specs.Accepted.{IsSlot}
-use Rattle.mg_safety.proofs.Shared.Components.{is_same_is, same_term_is, same_term_self}
 use Rattle.mg_model.proofs.Cases.{none_is_some, the_some}
+use Rattle.mg_model.proofs.Terminations.{is_same_is, same_term_is, same_term_self}
 use Rattle.mg_safety.proofs.Commands.Binding.{with_at_here, with_at_kept, with_at_some, given_still}
 use Rattle.mg_safety.proofs.Commands.Creating.{first_row, with_created, with_ephemeral_name, with_present, created_row, created_owned, owned_elsewhere, given_apart, stands_apart, kept}
 use Rattle.mg_safety.proofs.Commands.OneRow.{row_here, row_elsewhere}

@@ -19,7 +19,8 @@ use Rattle.mg_model.specs.Request.{termination_known}
 use Rattle.mg_model.specs.Script.{Script}
 use Rattle.mg_model.specs.Accepted.{IsScript, IsSlot}
 use Rattle.mg_model.proofs.Cases.{false_not_true, same_test, some_is_none, some_of, the_some}
-use Rattle.mg_safety.proofs.Shared.Components.{is_in_is, is_in_self}
+use Rattle.mg_model.proofs.Terminations.{is_in_is}
+use Rattle.mg_safety.proofs.Shared.Components.{is_in_self}
 use Rattle.mg_safety.proofs.Invariant.Shown.{Naming, Shown, AreBuilt, row_on, term_of, eph_of, number_at, known_by, term_for, ephemeral_for}
 
 -- ---- names and terminations

@@ -7,7 +7,7 @@ use Rattle.mg_names.specs.declared.identifiers.TermId.{TermId}
 use Rattle.mg_names.specs.declared.identifiers.TermId.TheVariants.{Line, Eph}
 use Rattle.mg_model.specs.declared.rows.Row.{Row}
 use Rattle.mg_model.specs.Board.{Board, same_term, exists, place_of, place_in}
-use Rattle.mg_safety.proofs.Shared.Components.{same_term_is}
+use Rattle.mg_model.proofs.Terminations.{same_term_is}
 use Rattle.mg_safety.proofs.Invariant.Shown.{Naming, IsAccounted, Owner, owned_at, AreBuilt, ChangesOwned}
 
 -- ---- one row changed

@@ -15,8 +15,8 @@ use Rattle.mg_model.specs.Board.{Board, same_term, exists, place_of, place_in, m
 use Rattle.mg_model.specs.Configuration.{Configuration, is_same, is_present, is_free}
 use Rattle.mg_model.specs.Script.{Script}
 use Rattle.mg_model.specs.Accepted.{IsSlot}
-use Rattle.mg_safety.proofs.Shared.Components.{is_same_is, same_term_is, same_term_self}
 use Rattle.mg_model.proofs.Cases.{same_test, none_is_some, the_some}
+use Rattle.mg_model.proofs.Terminations.{is_same_is, same_term_is, same_term_self}
 use Rattle.mg_safety.proofs.Commands.OneRow.{HasOneRow, row_here, row_elsewhere, exists_as_before}
 use Rattle.mg_safety.proofs.Invariant.Shown.{Naming, eph_of, term_of, row_on, cut_on, number_at, RemoteReads, Shown}
 

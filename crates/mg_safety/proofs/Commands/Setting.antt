@@ -3,7 +3,7 @@
 use Rattle.std.proofs.Common.{◌≡◌, ◌∙◌, ◌||◌, ℕ, Bool, true, false, Option, Some, None, is_some, refl, sym, ap, subst, true≢false, length, ◌<◌}
 use Rattle.std.specs.Prelude.{if◌then◌else◌, unwrap_or, option_map}
 use Rattle.mg_names.specs.declared.identifiers.TermId.{TermId}
-use Rattle.mg_names.specs.declared.identifiers.TermId.TheVariants.{Line, Eph}
+use Rattle.mg_names.specs.declared.identifiers.TermId.TheVariants.{Eph}
 use Rattle.mg_names.specs.declared.modes.Mode.{Mode}
 use Rattle.mg_model.specs.declared.commands.EphemeralOptions.{EphemeralOptions}
 use Rattle.mg_model.specs.declared.commands.LineOptions.{LineOptions}
@@ -25,8 +25,8 @@ use Rattle.mg_model.specs.Items as items
 use Rattle.mg_model.specs.Items.{row_at, without_cuts}
 use Rattle.mg_model.specs.Script.{Script}
 use Rattle.mg_model.specs.Accepted.{IsSlot}
-use Rattle.mg_safety.proofs.Shared.Components.{is_same_self}
-use Rattle.mg_model.proofs.Cases.{same_turned}
+use Rattle.mg_model.proofs.Cases.{false_either_way}
+use Rattle.mg_model.proofs.Terminations.{is_same_self, is_same_turned, same_term_turned}
 use Rattle.mg_safety.proofs.Commands.Binding.{with_at_here, with_at_kept}
 use Rattle.mg_safety.proofs.Commands.Placing.{HasOneName, term_test, is_term}
 use Rattle.mg_safety.proofs.Invariant.Shown.{Naming, eph_of, term_of, row_on, cut_on, number_at, RemoteReads, Shown, line_settings, ephemeral_settings, remote_for}
@@ -46,36 +46,20 @@ cut_same b after same None q = refl
 cut_same b after same (Some v) None = refl
 cut_same b after same (Some v) (Some w) = sym (same v w)
 
-name_turned : (s t : Termination) → is_same s t ≡ is_same t s
-name_turned (termination.Line i) (termination.Line j) = same_turned i j
-name_turned (termination.Line i) (termination.Ephemeral j) = refl
-name_turned (termination.Ephemeral i) (termination.Line j) = refl
-name_turned (termination.Ephemeral i) (termination.Ephemeral j) = same_turned i j
-
-term_turned : (u v : TermId) → same_term u v ≡ same_term v u
-term_turned (Line i) (Line j) = same_turned i.0 j.0
-term_turned (Line i) (Eph j) = refl
-term_turned (Eph i) (Line j) = refl
-term_turned (Eph i) (Eph j) = same_turned i j
-
 -- what is set for other pairs stays
 pub cuts_outside : (cut : TermId → TermId → Bool) (u v w : TermId) → same_term v u ≡ false → same_term w u ≡ false
     → without_cuts (same_term u) cut v w ≡ cut v w
-cuts_outside cut u v w first second = ap (λ q. if q || same_term u w then false else cut v w) (term_turned u v ∙ first)
-    ∙ ap (λ q. if q then false else cut v w) (term_turned u w ∙ second)
-
-nothing_cut : (p : Bool) → (if p then false else false) ≡ false
-nothing_cut true = refl
-nothing_cut false = refl
+cuts_outside cut u v w first second = ap (λ q. if q || same_term u w then false else cut v w) (same_term_turned u v ∙ first)
+    ∙ ap (λ q. if q then false else cut v w) (same_term_turned u w ∙ second)
 
 -- cuts read at names where those of one termination are forgotten
 forgotten : (b after : Board) (u : TermId) → ((v w : TermId) → after.cut v w ≡ without_cuts (same_term u) b.cut v w) → (o q : Option TermId)
     → (if is_term o u || is_term q u then false else cut_on b o q) ≡ cut_on after o q
-forgotten b after u same None q = nothing_cut (is_term q u)
-forgotten b after u same (Some v) None = nothing_cut (same_term v u || false)
+forgotten b after u same None q = false_either_way (is_term q u)
+forgotten b after u same (Some v) None = false_either_way (same_term v u || false)
 forgotten b after u same (Some v) (Some w) =
-    ap (λ p. if p || same_term w u then false else b.cut v w) (term_turned v u)
-    ∙ ap (λ p. if same_term u v || p then false else b.cut v w) (term_turned w u) ∙ sym (same v w)
+    ap (λ p. if p || same_term w u then false else b.cut v w) (same_term_turned v u)
+    ∙ ap (λ p. if same_term u v || p then false else b.cut v w) (same_term_turned w u) ∙ sym (same v w)
 
 module _ (script : Script) (owned : TermId → Bool) (n : Naming) (b after : Board) (c : Configuration) (shown : Shown script owned n b c) where
   pub cuts_stay : ((v w : TermId) → after.cut v w ≡ b.cut v w) → (s v : Termination) → IsSlot script s → IsSlot script v
@@ -93,7 +77,7 @@ module _ (script : Script) (owned : TermId → Bool) (n : Naming) (b after : Boa
       ∙ forgotten b after u same (term_of n s) (term_of n v)
     where
       tests : (w : Termination) → IsSlot script w → is_same t w ≡ is_term (term_of n w) u
-      tests w among = name_turned t w ∙ sym (term_test script owned n b c shown t w u slot among named)
+      tests w among = is_same_turned t w ∙ sym (term_test script owned n b c shown t w u slot among named)
 
 -- ---- what is set
 

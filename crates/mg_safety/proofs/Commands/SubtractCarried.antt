@@ -23,8 +23,9 @@ use Rattle.mg_model.specs.Items.{Done, Lists, subtracts, without}
 use Rattle.mg_model.specs.Request.{termination_known}
 use Rattle.mg_model.specs.Script.{Script}
 use Rattle.mg_model.specs.Accepted.{IsSlot}
-use Rattle.mg_safety.proofs.Shared.Components.{is_in_self, is_same_is, is_same_self, same_term_is, same_term_self}
+use Rattle.mg_safety.proofs.Shared.Components.{is_in_self}
 use Rattle.mg_model.proofs.Cases.{at_another, not_both, same_test, where_true, where_false, some_is_none, some_of, the_some}
+use Rattle.mg_model.proofs.Terminations.{is_same_is, is_same_self, same_term_is, same_term_self}
 use Rattle.mg_safety.proofs.Invariant.CarriedOver.{IsReady, IsCarried, IsCarriedOver}
 use Rattle.mg_safety.proofs.Commands.InForce.{MayExist, names_once, in_named, same_place, context_in_force, live_context, term_in_force}
 use Rattle.mg_safety.proofs.Commands.Leaving.{Leaves, names_left, configuration_left, shown_left}

@@ -18,14 +18,12 @@ use Rattle.mg_model.specs.World.{World, Opened, IsOpening, armed_line}
 use Rattle.mg_safety.proofs.Agents.Entering.{not_resting}
 use Rattle.mg_model.proofs.Cases.{none_is_some}
 use Rattle.mg_model.proofs.OpenedLines.{line_armed, line_held, line_stands}
+use Rattle.mg_model.proofs.Single.{nothing_in}
 use Rattle.mg_safety.proofs.SmallLaws.OpeningLaws.{all_in_null}
 use Rattle.mg_safety.proofs.Invariant.Shown.{LinesShown}
 use Rattle.mg_safety.proofs.Invariant.OpeningShown.{AreCleared, events_armed, opening_shown}
 use Rattle.mg_safety.proofs.Invariant.Sound.{IsReached, IsCurrent, CallIsSound, GatewayIsSound, is_call, owned_in}
 use Rattle.mg_safety.proofs.Invariant.Statements.{IsClosed, OpeningsAreSound}
-
-none_among : {A : Type 0} (x : A) (xs : List A) → xs ≡ [] → Contains xs x → ⊥
-none_among x xs e among = let there = subst (λ ys. Contains ys x) e among in let below : there.0 < 0 = there.1 in omega (arith, below)
 
 module _ (script : Script) (entries : List Entry) (closed : IsClosed script entries) (calls : List Opened) (w : World) (o : IsOpening script calls w) where
   -- ---- one call
@@ -80,7 +78,7 @@ module _ (script : Script) (entries : List Entry) (closed : IsClosed script entr
           next = omega (arith, none);
           held = λ i within. line_held script calls w.gateway o.lines one there i within;
           once = λ i j first second e. (o.distinct.lines_differ one one there there i j first second e).1;
-          requests = λ request among of. absurd (none_among request w.requests o.messages.no_request among);
+          requests = λ request among of. absurd (nothing_in request w.requests o.messages.no_request among);
           outstanding = λ request awaiting. absurd (not_resting request awaiting);
           part = inl current;
         }
@@ -119,9 +117,9 @@ module _ (script : Script) (entries : List Entry) (closed : IsClosed script entr
     kept = λ call answer e. absurd (none_kept call answer e);
     request_ids = request_ids;
     retired = λ call a there. ap (λ (retired : ℕ → Bool). retired call) o.gateway.none_retired;
-    requests = λ request among. absurd (none_among request w.requests o.messages.no_request among);
-    replies = λ answer among. absurd (none_among answer w.replies o.messages.no_answer among);
-    notes = λ sent among. absurd (none_among sent w.notes o.messages.no_note among);
+    requests = λ request among. absurd (nothing_in request w.requests o.messages.no_request among);
+    replies = λ answer among. absurd (nothing_in answer w.replies o.messages.no_answer among);
+    notes = λ sent among. absurd (nothing_in sent w.notes o.messages.no_note among);
   }
 
   call_sound : (call : ℕ) (a : Agent) → w.agent call ≡ Some a → CallIsSound script entries w call a
@@ -138,7 +136,7 @@ openings_sound script entries is_script closed calls w o = record {
   gateway = gateway_sound script entries closed calls w o;
   floors = λ call a there. record {
     next = (call_sound script entries closed calls w o call a there).first;
-    requests = λ request among of. absurd (none_among request w.requests o.messages.no_request among);
+    requests = λ request among of. absurd (nothing_in request w.requests o.messages.no_request among);
   };
   calls = call_sound script entries closed calls w o;
 }

@@ -1,7 +1,6 @@
 -- A restart keeps the world sound: every call is lost, and nothing of the association before counts any more.
 use Rattle.std.proofs.Common.{◌≡◌, ◌∙◌, ◌+◌, ℕ, true, false, List, length, Option, Some, None, is_some, refl, sym, ap, subst, arith, true≢false, ◌<◌, ◌≤◌, ◌⊎◌, inl, inr}
 use Rattle.std.specs.Prelude.{Contains}
-use Rattle.mg_names.specs.declared.identifiers.TermId.{TermId}
 use Rattle.mg_names.specs.declared.identifiers.TermId.TheVariants.{Line, Eph}
 use Rattle.mg_model.specs.declared.rows.Row.{Row}
 use Rattle.mg_model.specs.Agent.{Agent}
@@ -14,6 +13,7 @@ use Rattle.mg_model.specs.declared.events.Event.TheVariants.{Restart}
 use Rattle.mg_model.specs.World.{World, with_gateway, Occurs}
 use Rattle.mg_model.specs.Board.{null_row}
 use Rattle.mg_model.proofs.Cases.{none_is_some}
+use Rattle.mg_model.proofs.Settled.{restarted_gone, restarted_in_null}
 use Rattle.mg_safety.proofs.Agents.EffectiveAgent.{same_lines}
 use Rattle.mg_safety.proofs.Invariant.Shown.{IsAccounted}
 use Rattle.mg_safety.proofs.Invariant.Sound.{IsCurrent, IsLost, IsSentBy, IsOpen, CallIsSound, IsReplySound, IsNoteSound, GatewayIsSound, IsSound}
@@ -21,29 +21,20 @@ use Rattle.mg_safety.proofs.Invariant.Statements.{KeepsSound}
 
 -- ---- rows
 
-ephemeral_gone : (x : ℕ) (row : Option Row) → is_some (row_restarted (Eph x) row) ≡ false
-ephemeral_gone x None = refl
-ephemeral_gone x (Some row) = refl
-
-in_null : (t : TermId) (row : Option Row) → place_in (row_restarted t row) ≡ 0
-in_null t None = refl
-in_null (Line l) (Some row) = refl
-in_null (Eph x) (Some row) = refl
-
 line_cleared : (t : ℕ) (row : Option Row) → is_some row ≡ true → row_restarted (Line (record { 0 = t })) row ≡ Some null_row
 line_cleared t None stands = absurd (true≢false (sym stands))
 line_cleared t (Some row) stands = refl
 
 null_place : (t : ℕ) (before : Option Row) (row : Row) → row_restarted (Line (record { 0 = t })) before ≡ Some row → row.place.0 ≡ 0
-null_place t before row e = ap place_in (sym e) ∙ in_null (Line (record { 0 = t })) before
+null_place t before row e = ap place_in (sym e) ∙ restarted_in_null (Line (record { 0 = t })) before
 
 -- ---- the gateway
 
 module _ (script : Script) (entries : List Entry) (w : World) (sound : IsSound script entries w) where
   accounted : IsAccounted (board_restarted w.gateway.board)
   accounted = record {
-    ephemerals = λ x there. absurd (true≢false (sym there ∙ ephemeral_gone x (w.gateway.board.row (Eph x))));
-    contexts = λ t elsewhere. absurd (elsewhere (in_null t (w.gateway.board.row t)));
+    ephemerals = λ x there. absurd (true≢false (sym there ∙ restarted_gone x (w.gateway.board.row (Eph x))));
+    contexts = λ t elsewhere. absurd (elsewhere (restarted_in_null t (w.gateway.board.row t)));
   }
 
   reply_sound : (answer : Reply) → Contains w.replies answer → IsOpen w answer.call → IsReplySound (restarted w.gateway) answer
@@ -67,7 +58,7 @@ module _ (script : Script) (entries : List Entry) (w : World) (sound : IsSound s
     accounted = accounted;
     creator_stands = λ x call e. absurd (none_is_some call e);
     apart = λ x y one other e. absurd (none_is_some one e);
-    created = λ x there. absurd (true≢false (sym there ∙ ephemeral_gone x (w.gateway.board.row (Eph x))));
+    created = λ x there. absurd (true≢false (sym there ∙ restarted_gone x (w.gateway.board.row (Eph x))));
     unheld = λ l row free stands. null_place l (w.gateway.board.row (Line (record { 0 = l }))) row stands;
     held = sound.gateway.held;
     kept = λ call answer e. absurd (none_is_some answer e);

@@ -20,8 +20,8 @@ use Rattle.mg_safety.proofs.Shared.Sides.{receives_is, sends_is}
 use Rattle.mg_model.specs.Paths.{passes_in, passes_out, is_shared, hops, crosses, goes_over}
 use Rattle.mg_model.specs.Script.{Script}
 use Rattle.mg_model.specs.Accepted.{IsSlot}
-use Rattle.mg_safety.proofs.Shared.Components.{is_same_is, same_term_self}
 use Rattle.mg_model.proofs.Cases.{all_three, none_is_some, the_some, three_parts}
+use Rattle.mg_model.proofs.Terminations.{is_same_is, same_term_self}
 use Rattle.mg_safety.proofs.Invariant.Shown.{Naming, eph_of, term_of, row_on, cut_on, number_at, RemoteSeen, Seen}
 
 -- a slot of the script stands for a termination of the gateway

@@ -1,7 +1,7 @@
 -- The opening configuration is shown on lines that stand in the null context, where nothing is cut between them and no ephemeral exists that is owned.
-use Rattle.std.proofs.Common.{◌≡◌, ◌∙◌, ℕ, Bool, true, false, Some, None, is_some, length, refl, sym, ap, arith, true≢false, ◌<◌}
+use Rattle.std.proofs.Common.{◌≡◌, ◌∙◌, ℕ, Bool, true, false, Some, None, is_some, length, refl, sym, ap, true≢false, ◌<◌}
 use Rattle.std.specs.Prelude.{nat_lt}
-use Rattle.std.proofs.lemmas.Grind.{common_steps}
+use Rattle.std.proofs.lemmas.Bool.{lt-ltb}
 use Rattle.mg_names.specs.declared.identifiers.TermId.{TermId}
 use Rattle.mg_names.specs.declared.identifiers.TermId.TheVariants.{Line, Eph}
 use Rattle.mg_model.specs.declared.commands.EventsName.TheVariants.{Empty, Armed}
@@ -16,9 +16,6 @@ use Rattle.mg_model.specs.Steps.{opening}
 use Rattle.mg_model.specs.Accepted.{IsSlot}
 use Rattle.mg_model.proofs.Cases.{none_is_some, where_true}
 use Rattle.mg_safety.proofs.Invariant.Shown.{Naming, term_of, row_on, cut_on, number_at, Seen}
-
-below_is : (i n : ℕ) → i < n → nat_lt i n ≡ true
-below_is i n h = grind (arith, common_steps)
 
 abbrev is_null_or_absent : Spot → Bool
 is_null_or_absent Absent = true
@@ -38,14 +35,14 @@ pub record AreCleared (script : Script) (owned : TermId → Bool) (b : Board) (l
   pub no_ephemeral : (x : ℕ) → owned (Eph x) ≡ true → exists b (Eph x) ≡ true → ⊥
 
 pub events_armed : (script : Script) (i : ℕ) → i < length script.lines → (opening script).events i ≡ Armed
-events_armed script i within = where_true (nat_lt i (length script.lines)) Armed Empty (below_is i (length script.lines) within)
+events_armed script i within = where_true (nat_lt i (length script.lines)) Armed Empty (lt-ltb i (length script.lines) within)
 
 module _ (script : Script) (owned : TermId → Bool) (b : Board) (lines : ℕ → ℕ) (cleared : AreCleared script owned b lines) where
   abbrev names : Naming
   names = lines_alone lines
 
   spot_is : (i : ℕ) → i < length script.lines → (opening script).spot (termination.Line i) ≡ Null
-  spot_is i within = where_true (nat_lt i (length script.lines)) Null Absent (below_is i (length script.lines) within)
+  spot_is i within = where_true (nat_lt i (length script.lines)) Null Absent (lt-ltb i (length script.lines) within)
 
   stands : (t : Termination) → IsSlot script t → is_some (row_on b (term_of names t)) ≡ is_present ((opening script).spot t)
   stands (termination.Line i) within = ap is_some (cleared.rows i within) ∙ sym (ap is_present (spot_is i within))

@@ -9,7 +9,6 @@ use Rattle.mg_model.specs.declared.events.Event.TheVariants.{OfCall, Restart}
 use Rattle.mg_model.specs.Agent.{Agent, begun, opened, replied, passed, noted, timed, heard}
 use Rattle.mg_model.specs.Gateway as gateway
 use Rattle.mg_model.specs.Gateway.{Gateway, CallLink, restarted}
-use Rattle.mg_model.proofs.Offered.{number_of}
 use Rattle.mg_model.specs.Messages.{Request, Reply, SentNote}
 use Rattle.mg_model.specs.Script.{Script}
 use Rattle.mg_model.specs.Tables.{line_places}

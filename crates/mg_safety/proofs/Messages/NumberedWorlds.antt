@@ -6,8 +6,7 @@ use Rattle.std.proofs.lemmas.List.Elements.{Contains-append_cases, Contains-appe
 use Rattle.mg_model.specs.declared.line_events.LineEvent.{LineEvent}
 use Rattle.mg_model.specs.Agent.{Agent, Phase, awaits_reply, awaits_pass, resting}
 use Rattle.mg_model.specs.Gateway as gateway
-use Rattle.mg_model.specs.Gateway.{Gateway, CallLink, last_executed, with_line, with_notes, after_request, reply_of, sent_notes, notes_from, restarted}
-use Rattle.mg_model.proofs.Offered.{number_of}
+use Rattle.mg_model.specs.Gateway.{Gateway, CallLink, with_line, with_notes}
 use Rattle.mg_model.specs.Messages.{Request}
 use Rattle.mg_model.specs.World.{World, AgentSteps, agent_steps, sent_in, with_gateway, LineOccurs}
 use Rattle.mg_model.proofs.Cases.{the_some, at_one, at_another}

@@ -27,6 +27,7 @@ use Rattle.mg_model.specs.Tables.{state_of}
 use Rattle.mg_model.specs.Accepted.{IsScript, IsCommandOf, create_once}
 use Rattle.mg_model.proofs.Single.{first_in}
 use Rattle.mg_model.proofs.Cases.{and_first, and_second}
+use Rattle.mg_model.proofs.Agents.{no_results}
 use Rattle.mg_safety.proofs.Invariant.CarriedOver.{IsReady, IsCarried, IsCarriedOver}
 use Rattle.mg_safety.proofs.Requests.RunCarried.{lines_carried}
 use Rattle.mg_safety.proofs.Requests.RunKnown.{AreKnown, binds, bound_agree, built_all, built_known, built_once, built_pass, known_on, state_is}
@@ -71,10 +72,6 @@ record IsUnderway (script : Script) (entries : List Entry) (g : Gateway) (a : Ag
   own_lines : (l : ℕ) → LineGoes number (g.line l) (r.line l)
   notes : AreNotes (owner_of g a.call).held number r.line r.notes
 
-nothing_taken : (e : Agent) (left : List Command) (number : ℕ) → after_results e left [] number ≡ e
-nothing_taken e [] number = refl
-nothing_taken e (command ∷ left) number = refl
-
 module _ (script : Script) (is_script : IsScript script) (entries : List Entry) (g : Gateway) (a : Agent) (number : ℕ) where
   -- the request ends at this place
   ended : (r : Running) (place : ℕ) (left : List Command) (made : Made) (e : Agent) (c : Configuration) (link : phases.LinkPhase) (failure : Option Failure)
@@ -82,7 +79,7 @@ module _ (script : Script) (is_script : IsScript script) (entries : List Entry) 
       → IsRunOf script entries g a number r failure
   ended r place left made e c link failure u stands is =
       let taken : e ≡ after_results a (built_by script a a.state) r.results number =
-      sym (ap (λ results. after_results a (built_by script a a.state) results number) (sym (append-nil r.results)) ∙ u.follows [] ∙ nothing_taken e left number) in
+      sym (ap (λ results. after_results a (built_by script a a.state) results number) (sym (append-nil r.results)) ∙ u.follows [] ∙ no_results e left number) in
       record {
         c = with_link c link;
         stands = stands;

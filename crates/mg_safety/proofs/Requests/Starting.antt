@@ -2,7 +2,7 @@
 use Rattle.std.proofs.Common.{◌≡◌, ◌∙◌, ◌<◌, ◌≤◌, ℕ, Bool, true, false, List, [], ◌∷◌, length, Option, Some, None, is_some, refl, sym, ap, subst, arith, true≢false, inl, inr, ◌⊎◌}
 use Rattle.std.specs.Prelude.{◌||◌, not, unwrap_or}
 use Rattle.std.specs.List.{list_any}
-use Rattle.std.proofs.lemmas.Bool.{cases_lt, eqb-true}
+use Rattle.std.proofs.lemmas.Bool.{cases_lt}
 use Rattle.mg_names.specs.declared.context_values.ContextValue.{ContextValue}
 use Rattle.mg_names.specs.declared.context_values.ContextValue.TheVariants.{Free, Live, Stale}
 use Rattle.mg_names.specs.declared.identifiers.TermId.{TermId}
@@ -17,6 +17,7 @@ use Rattle.mg_model.specs.Board.{Board, place_of, place_in, remote_in}
 use Rattle.mg_model.specs.Configuration.{Configuration, IsWellFormed, is_in, is_free, is_live, terminations}
 use Rattle.mg_model.specs.Obligations.{IsLive}
 use Rattle.mg_model.specs.Script.{Script}
+use Rattle.mg_model.proofs.Terminations.{is_in_is}
 use Rattle.mg_safety.proofs.Invariant.Shown.{Naming, Shown, Seen, RemoteReads, RemoteSeen, IsAccounted, row_on, term_of, eph_of, number_at}
 use Rattle.mg_safety.proofs.Invariant.Sound.{IsOfScript}
 
@@ -28,11 +29,6 @@ first_or p x false rest is e later = later e
 any_found : {A : Type 0} (p : A → Bool) (xs : List A) → list_any p xs ≡ true → (x : A) × (p x ≡ true)
 any_found p [] e = absurd (true≢false (sym e))
 any_found p (x ∷ xs) e = first_or p x (p x) (list_any p xs) refl e (any_found p xs)
-
-in_it : (spot : Spot) (j : ℕ) → is_in spot j ≡ true → spot ≡ In j
-in_it Absent j e = absurd (true≢false (sym e))
-in_it Null j e = absurd (true≢false (sym e))
-in_it (In i) j e = ap (λ x. In x) (eqb-true i j e)
 
 abbrev is_absent : Spot → Bool
 is_absent Absent = true
@@ -76,7 +72,7 @@ module _ (script : Script) (owned : TermId → Bool) (n : Naming) (b : Board) (c
   stander : (j : ℕ) → c.context j ≡ Live → Stander j
   stander j live =
       let some = any_found (λ t. is_in (c.spot t) j) terminations (sym (formed.live j) ∙ ap is_live live) in
-      let at = in_it (c.spot some.0) j some.1 in
+      let at = is_in_is (c.spot some.0) j some.1 in
       record { v = some.0; slot = slot_of script c of_script some.0 j at; at = at }
 
   module _ (names : IsLive c) where

@@ -12,8 +12,8 @@ use Rattle.mg_model.specs.Items.{without_cuts}
 use Rattle.mg_model.specs.Media.{share_context, hops, crosses, goes_over}
 use Rattle.mg_model.specs.Media.{receives, sends}
 use Rattle.mg_safety.specs.Laws.{CommandsKeepOthers, AreClosed, PathsStayInside}
-use Rattle.mg_safety.proofs.Shared.Components.{same_term_is}
 use Rattle.mg_model.proofs.Cases.{three_parts}
+use Rattle.mg_model.proofs.Terminations.{same_term_is}
 
 -- another termination than one of these
 differs : (mine : TermId → Bool) (t u : TermId) → IsTrue (mine t) → mine u ≡ false → same_term u t ≡ false

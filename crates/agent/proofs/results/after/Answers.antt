@@ -3,8 +3,8 @@ use Rattle.std.proofs.Common.{◌∙◌, List, sym, ap, arith}
 use Rattle.std.proofs.lemmas.List.{drop_all}
 use Rattle.mg_model.specs.Agent as model
 use Rattle.mg_model.specs.Items.{Done}
+use Rattle.mg_model.proofs.Agents.{no_results}
 use Rattle.agent.specs.Parts.{agent_in}
-use Rattle.agent.proofs.AgentLemmas.{no_results}
 use Rattle.agent.proofs.results.after.Goals as goal
 
 pub returns : goal.returns

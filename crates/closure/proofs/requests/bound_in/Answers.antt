@@ -3,9 +3,10 @@ use Rattle.std.proofs.Common.{ℕ, not, refl, ap, ◌∙◌, arith}
 use Rattle.mg_names.specs.declared.context_values.ContextValue.{ContextValue}
 use Rattle.mg_model.specs.declared.commands.Termination.TheVariants.{Ephemeral}
 use Rattle.mg_model.specs.Configuration.{is_free, is_present}
+use Rattle.mg_model.proofs.Built.{same_names}
 use Rattle.configuration.specs.Config.{configuration_of}
 use Rattle.configuration.proofs.SlotLemmas.{absent_past_eight}
-use Rattle.closure.proofs.RequestLemmas.{four_of, same_names}
+use Rattle.closure.proofs.RequestLemmas.{four_of}
 use Rattle.closure.proofs.requests.bound_in.Goals as goal
 
 pub returns : goal.returns

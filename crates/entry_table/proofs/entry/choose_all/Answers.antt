@@ -3,9 +3,9 @@ use Rattle.std.proofs.Common.{◌∙◌, ◌*◌, ◌/◌, ◌%◌, ◌+◌, map
 use Rattle.std.specs.List.{slice_index_or}
 use Rattle.mg_model.specs.Entries.{chosen, same_choice}
 use Rattle.configuration.specs.Config.{configuration_of}
+use Rattle.configuration.proofs.NumberLemmas.{at}
 use Rattle.entry_table.specs.Listed.{choices_of, size_of}
 use Rattle.entry_table.specs.Shown.{shown, shown_all}
-use Rattle.entry_table.proofs.Products.{at}
 use Rattle.entry_table.proofs.Products.{factors}
 use Rattle.entry_table.proofs.entry.choose_all.Goals as goal
 

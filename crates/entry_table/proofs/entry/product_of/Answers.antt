@@ -3,9 +3,9 @@ use Rattle.std.proofs.Common.{◌≡◌, ◌∙◌, ◌-◌, ◌*◌, ◌^◌, �
 use Rattle.std.proofs.lemmas.List.{drop_all}
 use Rattle.entry_table.specs.Listed.{size_of}
 use Rattle.entry_table.specs.Shown.{shown_all}
-use Rattle.entry_table.proofs.Products.{at}
 use Rattle.entry_table.proofs.Products.{capped_step, times_one}
 use Rattle.entry_table.proofs.entry.product_of.Goals as goal
+use Rattle.configuration.proofs.NumberLemmas.{at}
 
 pub loop-component-preserved : goal.loop-component-preserved
 loop-component-preserved c =

@@ -1,11 +1,10 @@
 -- One component more was parted; at the end, all.
-use Rattle.std.proofs.Common.{◌≡◌, ◌∙◌, ◌++◌, ◌∷◌, [], ◌+◌, List, ap, refl, subst, drop}
-use Rattle.std.proofs.lemmas.List.{drop_all, append-nil}
+use Rattle.std.proofs.Common.{◌≡◌, ◌∙◌, ◌++◌, ◌∷◌, [], ◌+◌, List, ap, subst, drop}
 use Rattle.mg_model.specs.Entries.{Component as Listed}
 use Rattle.configuration.specs.Config.{configuration_of}
+use Rattle.configuration.proofs.NumberLemmas.{at}
 use Rattle.entry_table.specs.Shown.{shown, shown_all}
-use Rattle.entry_table.specs.Turned.{IsTurned, IsParted}
-use Rattle.entry_table.proofs.Products.{at}
+use Rattle.entry_table.specs.Turned.{IsParted}
 use Rattle.entry_table.proofs.turned.parted.Goals as goal
 
 pub loop-component-preserved : goal.loop-component-preserved

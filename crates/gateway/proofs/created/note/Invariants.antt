@@ -1,5 +1,5 @@
 use Rattle.std.proofs.Common.{◌≡◌, ◌||◌, ℕ, drop, true}
-use Rattle.gateway.specs.Calls.{is_among}
+use Rattle.mg_model.specs.Members.{is_among}
 use Rattle.gateway.specs.Creators.{any_created}
 use Rattle.gateway.proofs.created.note.Given as goal
 

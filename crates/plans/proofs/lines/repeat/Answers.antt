@@ -1,6 +1,6 @@
 -- No line at first, and one line more.
 use Rattle.std.proofs.Common.{◌∙◌, ℕ, List, ap, sym}
-use Rattle.plans.specs.Tables.{is_among}
+use Rattle.mg_model.specs.Members.{is_among}
 use Rattle.plans.proofs.LineLemmas.{goes_on, holds_more, numbers_of, twice_from_left}
 use Rattle.plans.proofs.lines.repeat.Goals as goal
 

@@ -1,12 +1,9 @@
 -- The two tables of four have what is bound, which is nothing past the fourth.
 use Rattle.std.proofs.Common.{◌≡◌, ◌∙◌, None, is_some, false, length, slice_index_or, ap, arith, rules}
-use Rattle.mg_model.specs.Request.{Names}
+use Rattle.mg_model.proofs.Built.{same_names}
 use Rattle.agent.specs.Parts.{agent_in}
 use Rattle.agent.proofs.Fours.{four_of, past_four}
 use Rattle.agent.proofs.bindings.Bindings.names.Goals as goal
-
-same_names : (m n : Names) → m.contexts ≡ n.contexts → m.ephemerals ≡ n.ephemerals → m ≡ n
-same_names m n e f = λ i. record { contexts = e i; ephemerals = f i }
 
 pub returns : goal.returns
 unfolding agent_in

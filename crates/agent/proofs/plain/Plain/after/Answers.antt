@@ -2,14 +2,11 @@
 use Rattle.std.proofs.Common.{◌≡◌, ◌∙◌, ℕ, Option, Some, None, refl, sym, ap, slice_index_or}
 use Rattle.mg_model.specs.Agent.{Agent}
 use Rattle.agent.specs.AgentValue.{agent_of}
-use Rattle.agent.specs.PreparedValue.{PreparedValue, finished, in_newer}
+use Rattle.agent.specs.PreparedValue.{PreparedValue, finished}
 use Rattle.agent.specs.Preparing.{with_note}
 use Rattle.agent.specs.Steps.{given_up}
+use Rattle.agent.proofs.StepLemmas.{newer_given_up}
 use Rattle.agent.proofs.plain.Plain.after.Goals as goal
-
-newer_at_rest : (a : Agent) (newer : Option ℕ) → in_newer (given_up a) newer ≡ given_up (in_newer a newer)
-newer_at_rest a None = refl
-newer_at_rest a (Some association) = refl
 
 note_at_rest : (a : Agent) (note : Option ℕ) → with_note (given_up a) note ≡ given_up (with_note a note)
 note_at_rest a None = refl
@@ -26,7 +23,7 @@ finished_at_rest a p =
       ephemerals = λ k. slice_index_or p.ephemerals k None;
       next = p.next;
       expected = λ i. slice_index_or p.expected i None;
-    }) (newer_at_rest a p.association)
+    }) (newer_given_up a p.association)
 
 pub returns : goal.returns
 returns c =

@@ -1,16 +1,12 @@
 -- What is put in place is what was prepared, part by part; what was awaited before is no part of it.
-use Rattle.std.proofs.Common.{◌≡◌, ◌∙◌, ℕ, Option, Some, None, option_map, refl, ap, subst}
+use Rattle.std.proofs.Common.{◌≡◌, ◌∙◌, option_map, ap, subst}
 use Rattle.mg_model.specs.Agent.{Agent}
 use Rattle.agent.specs.AgentValue.{agent_of}
 use Rattle.agent.specs.PreparedValue.{PreparedValue, finished, in_newer}
 use Rattle.agent.specs.Entering.{having}
 use Rattle.agent.specs.Parts.{agent_in, bound_as}
-use Rattle.agent.specs.Steps.{given_up}
+use Rattle.agent.proofs.StepLemmas.{newer_given_up}
 use Rattle.agent.proofs.plain.Plain.finish.Goals as goal
-
-newer_given_up : (a : Agent) (newer : Option ℕ) → in_newer (given_up a) newer ≡ given_up (in_newer a newer)
-newer_given_up a None = refl
-newer_given_up a (Some association) = refl
 
 pub returns-clause-finished : goal.returns-clause-finished
 unfolding finished agent_in

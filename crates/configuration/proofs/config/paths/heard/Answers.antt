@@ -1,13 +1,10 @@
 -- Each turn adds what is arrived at; where nothing is added, all paths are found.
-use Rattle.std.proofs.Common.{true, nat_lt, refl, ◌≡◌, ℕ, ◌-◌, ◌<◌, ◌≤◌, ◌==◌, not, ap, sym, ◌∙◌, arith}
-use Rattle.std.proofs.lemmas.Grind.{common_steps}
+use Rattle.std.proofs.Common.{refl, ◌≡◌, ℕ, ◌-◌, ◌<◌, ◌≤◌, ◌==◌, not, ap, ◌∙◌, arith}
+use Rattle.std.proofs.lemmas.Bool.{lt-ltb}
 use Rattle.configuration.specs.Bits.{has}
 use Rattle.configuration.specs.Fields.{field_of}
 use Rattle.configuration.proofs.SearchLemmas.{has_low, alone, alone_small, none_arrived, next_arrived, search_ends}
 use Rattle.configuration.proofs.config.paths.heard.Goals as goal
-
-lt_is : (i n : ℕ) → i < n → nat_lt i n ≡ true
-lt_is i n h = grind (arith, common_steps)
 
 less_left : (m n : ℕ) → m ≤ n → (m ≡ n → ⊥) → n < 256 → 256 - n < 256 - m
 less_left m n h other l = omega arith
@@ -47,7 +44,7 @@ loop-mask-preserved c = record {
 pub returns-clause-lines : goal.returns-clause-lines
 returns-clause-lines c config rows crossings small j below =
     let low : has c.field.result j ≡ has c.reached.result j =
-    ap (λ n. has n j) c.field.ensures.value ∙ has_low c.reached.result 4 j ∙ rw (lt_is j 4 below) refl in
+    ap (λ n. has n j) c.field.ensures.value ∙ has_low c.reached.result 4 j ∙ rw (lt-ltb j 4 below) refl in
     search_ends c.args.rows c.args.crossings c.args.from j c.loop-mask.mask c.loop-mask.more c.field.result
     c.index.ensures.in_range below c.loop-mask.invariant c.loop-mask-test.false
     (low ∙ c.reached.ensures j (omega (arith, below))) config rows crossings small

@@ -1,5 +1,4 @@
-use Rattle.std.proofs.Common.{◌≡◌, ◌∙◌, ℕ, ◌<◌, ◌+◌, Some, length, refl, nat_eq, false, not, inl, inr, sym, ap, arith}
-use Rattle.std.proofs.lemmas.Bool.Decides.{nat_tests}
+use Rattle.std.proofs.Common.{◌≡◌, ◌∙◌, ℕ, ◌<◌, ◌+◌, Some, length, refl, inl, inr, sym, ap, arith}
 use Rattle.std.proofs.lemmas.List.{length-map}
 use Rattle.mg_model.specs.Delivery.{offer}
 use Rattle.mg_model.specs.Numbers.{last_number}
@@ -8,11 +7,8 @@ use Rattle.mg_model.specs.Gateway.{IsKept}
 use Rattle.std.proofs.Common.{subst}
 use Rattle.gateway.specs.Calls.{OpenCall, call_in, delivery_link}
 use Rattle.gateway.specs.GatewayValue.{GatewayValue, gateway_of}
-use Rattle.gateway.proofs.JudgeLemmas.{nobody, addressed, is_discarded, is_kept, has_no_room}
+use Rattle.gateway.proofs.JudgeLemmas.{nobody, addressed, is_discarded, is_kept, has_no_room, equal_numbers}
 use Rattle.gateway.proofs.gateway.Gateway.judge.Goals as goal
-
-same_number : (a b : ℕ) → false ≡ not (nat_eq a b) → a ≡ b
-same_number a b e = grind (arith, nat_tests)
 
 pub returns-in_default : goal.returns-in_default
 returns-in_default c = inl (nobody c.args.self.now c.args.call.0 c.args.request.now
@@ -26,7 +22,7 @@ returns-in-Discard c =
     let state : OpenCall = c.in-Some.state.now in
     let found : call_in w.calls call ≡ Some state = sym (ap (λ (x : GatewayValue). call_in x.calls call) c.self.view_is) ∙ sym c.in-Some.ensures in
     let tied : state.association ≡ w.association = c.self.invariant.links call state (sym c.in-Some.ensures) ∙ ap (λ (x : GatewayValue). x.association) c.self.view_is in
-    let ours : request.call ≡ call = sym c.call.ensures ∙ same_number _ _ c.if-ne.ensures in
+    let ours : request.call ≡ call = sym c.call.ensures ∙ equal_numbers _ _ c.if-ne.ensures in
     let asked : offer (delivery_link state) request.association request.number ≡ offer (delivery_link state) c.association.result.0 c.number.result =
     ap (λ (a : ℕ). offer (delivery_link state) a request.number) (sym c.association.ensures) ∙ ap (offer (delivery_link state) c.association.result.0) (sym c.number.ensures) in
     inr (is_discarded w call request state found tied ours (asked ∙ sym c.in-Discard.ensures))
@@ -39,7 +35,7 @@ returns-in-Ok c =
     let state : OpenCall = c.in-Some.state.now in
     let found : call_in w.calls call ≡ Some state = sym (ap (λ (x : GatewayValue). call_in x.calls call) c.self.view_is) ∙ sym c.in-Some.ensures in
     let tied : state.association ≡ w.association = c.self.invariant.links call state (sym c.in-Some.ensures) ∙ ap (λ (x : GatewayValue). x.association) c.self.view_is in
-    let ours : request.call ≡ call = sym c.call.ensures ∙ same_number _ _ c.if-ne.ensures in
+    let ours : request.call ≡ call = sym c.call.ensures ∙ equal_numbers _ _ c.if-ne.ensures in
     let asked : offer (delivery_link state) request.association request.number ≡ offer (delivery_link state) c.association.result.0 c.number.result =
     ap (λ (a : ℕ). offer (delivery_link state) a request.number) (sym c.association.ensures) ∙ ap (offer (delivery_link state) c.association.result.0) (sym c.number.ensures) in (
       addressed w call request state found tied ours,
@@ -55,7 +51,7 @@ returns-then-commands-room c =
     let state : OpenCall = c.in-Some.state.now in
     let found : call_in w.calls call ≡ Some state = sym (ap (λ (x : GatewayValue). call_in x.calls call) c.self.view_is) ∙ sym c.in-Some.ensures in
     let tied : state.association ≡ w.association = c.self.invariant.links call state (sym c.in-Some.ensures) ∙ ap (λ (x : GatewayValue). x.association) c.self.view_is in
-    let ours : request.call ≡ call = sym c.call.ensures ∙ same_number _ _ c.if-ne.ensures in
+    let ours : request.call ≡ call = sym c.call.ensures ∙ equal_numbers _ _ c.if-ne.ensures in
     let asked : offer (delivery_link state) request.association request.number ≡ offer (delivery_link state) c.association.result.0 c.number.result =
     ap (λ (a : ℕ). offer (delivery_link state) a request.number) (sym c.association.ensures) ∙ ap (offer (delivery_link state) c.association.result.0) (sym c.number.ensures) in
     let same : length request.commands ≡ length c.commands.result.now = ap length (sym c.commands.ensures) ∙ (rw length-map refl) in

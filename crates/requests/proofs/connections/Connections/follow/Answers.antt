@@ -1,11 +1,11 @@
 use Rattle.std.proofs.Common.{◌≡◌, ◌∙◌, sym, ap, refl, rules, map, subst}
 use Rattle.mg_model.specs.Board.{Board, IsSettled}
 use Rattle.mg_model.specs.RequestRun.{Running}
+use Rattle.mg_model.proofs.Settled.{settled_same}
 use Rattle.requests.specs.Commands.{created}
 use Rattle.requests.specs.Connected.{board_in, line_in, start_in}
 use Rattle.requests.specs.Views.{line_notes}
 use Rattle.requests.proofs.SameLemmas.{same_end, IsAlike}
-use Rattle.requests.proofs.SettledLemmas.{settled_same}
 use Rattle.requests.proofs.connections.Connections.follow.Goals as goal
 
 pub returns : goal.returns
