@@ -8,7 +8,7 @@ use Rattle.mg_model.specs.Messages.{Reply, SentNote}
 use Rattle.mg_model.specs.Script.{Script}
 use Rattle.mg_model.specs.Tables.{state_of}
 use Rattle.mg_model.specs.declared.failures.Failure.{Failure}
-use Rattle.mg_model.proofs.Agents.{at_rest}
+use Rattle.mg_model.proofs.Agents.{is_resting_is}
 use Rattle.agent.specs.declared.entering.Entered.{Entered}
 use Rattle.agent.specs.declared.entering.Start.{Start}
 use Rattle.agent.specs.declared.fault.PlainFault.{PlainFault}
@@ -106,7 +106,7 @@ stays script a (Some state) e = refl
 pub notes : (script : Script) (a : Agent) (slots : List ℕ) (sent : SentNote) (target : Option ℕ) → true ≡ may_accept script a sent →
     target ≡ target_of script a (line_in a sent.line slots) sent.note → noted script a slots sent ≡ entered_or_rests script (accepting a sent.number) target
 notes script a slots sent target may same =
-    rw (sym may, sym same) (stays script (accepting a sent.number) target (at_rest a.phase (rests (sent.call == a.call) _ _ _ (sym may))))
+    rw (sym may, sym same) (stays script (accepting a sent.number) target (is_resting_is a.phase (rests (sent.call == a.call) _ _ _ (sym may))))
   where
     rests : (call here ends new : Bool) → (call && (here && ends && new)) ≡ true → here ≡ true
     rests true true ends new e = refl

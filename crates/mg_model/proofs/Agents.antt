@@ -7,7 +7,7 @@ pub no_results : (a : Agent) (commands : List Command) (number : ℕ) → after_
 no_results a [] number = refl
 no_results a (command ∷ more) number = refl
 
-pub at_rest : (phase : Phase) → is_resting phase ≡ true → phase ≡ resting
-at_rest resting is = refl
-at_rest awaits_pass is = absurd (true≢false (sym is))
-at_rest (awaits_reply request) is = absurd (true≢false (sym is))
+pub is_resting_is : (phase : Phase) → is_resting phase ≡ true → phase ≡ resting
+is_resting_is resting is = refl
+is_resting_is awaits_pass is = absurd (true≢false (sym is))
+is_resting_is (awaits_reply request) is = absurd (true≢false (sym is))

@@ -6,10 +6,14 @@ pub mod Binding
 pub mod Carrying
 pub mod Setting
 pub mod EnteredContexts
-pub mod LineCommands
+pub mod InPlace
+pub mod InContext
+pub mod EphemeralNames
+pub mod Modify
+pub mod Move
+pub mod AddLine
 pub mod Creating
 pub mod CreatedShown
-pub mod EphemeralCommands
 pub mod AddEphemeral
 pub mod Leaving
 pub mod LeavingChanges

@@ -14,7 +14,7 @@ use Rattle.mg_model.specs.Reports.{is_of}
 use Rattle.mg_model.specs.Script.{Script}
 use Rattle.mg_model.specs.Tables.{state_of}
 use Rattle.mg_model.specs.World.{World, HasEnded, begin, sent_in}
-use Rattle.mg_model.proofs.Agents.{at_rest}
+use Rattle.mg_model.proofs.Agents.{is_resting_is}
 use Rattle.mg_safety.proofs.Events.Handover.{agent_new, agent_other, link_new, link_other, world_begun}
 use Rattle.mg_safety.proofs.Invariant.Sound.{IsKnown}
 use Rattle.mg_safety.proofs.Messages.NumberedWorlds.{IsNumbered}
@@ -54,7 +54,7 @@ ended_in script w a association current is =
     let second = and_second (is_resting a.phase) _ is in
     record {
       is_end = and_first (state_of script a.state).is_end (a.association == association) second;
-      at_rest = at_rest a.phase (and_first (is_resting a.phase) _ is);
+      is_resting_is = is_resting_is a.phase (and_first (is_resting a.phase) _ is);
       current = eqb-true a.association association (and_second (state_of script a.state).is_end (a.association == association) second) ∙ sym current;
     }
 

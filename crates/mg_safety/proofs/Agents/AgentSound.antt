@@ -16,7 +16,7 @@ use Rattle.std.specs.List.{flat_map}
 use Rattle.mg_model.specs.Tables.{state_of, line_places}
 use Rattle.mg_model.specs.World.{World, AgentSteps}
 use Rattle.mg_model.proofs.Cases.{none_is_some}
-use Rattle.mg_model.proofs.Agents.{at_rest as rests}
+use Rattle.mg_model.proofs.Agents.{is_resting_is}
 use Rattle.mg_safety.proofs.Invariant.Shown.{naming, Seen, LinesShown}
 use Rattle.mg_safety.proofs.Invariant.Sound.{owned_in, IsPassing, IsResting, IsAt, IsCurrent, IsLost, CallIsSound}
 use Rattle.mg_safety.proofs.Invariant.Statements.{IsClosed, KeepsSound}
@@ -100,7 +100,7 @@ pass_sound call script entries is_script closed w after sound s = agent_goes scr
 times : (script : Script) (a b : Agent) (at_rest : Bool) → is_resting a.phase ≡ at_rest
     → (if at_rest then entered_if script a (state_of script a.state).timer else None) ≡ Some b
     → (a.phase ≡ resting) × (entered_if script a (state_of script a.state).timer ≡ Some b)
-times script a b true e is = (rests a.phase e, is)
+times script a b true e is = (is_resting_is a.phase e, is)
 times script a b false e is = absurd (none_is_some b is)
 
 timer_goes : (script : Script) (entries : List Entry) → IsClosed script entries → (w : World) (call : ℕ) (a b : Agent) → CallIsSound script entries w call a

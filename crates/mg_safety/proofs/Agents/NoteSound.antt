@@ -18,7 +18,7 @@ use Rattle.mg_model.specs.Steps as steps
 use Rattle.mg_model.specs.Tables.{state_of, items_of, raises, target_in, line_places}
 use Rattle.mg_model.specs.World.{World, AgentSteps}
 use Rattle.mg_model.proofs.Cases.{none_is_some, the_some, and_second}
-use Rattle.mg_model.proofs.Agents.{at_rest}
+use Rattle.mg_model.proofs.Agents.{is_resting_is}
 use Rattle.mg_safety.proofs.Invariant.Sound.{Stands, IsCurrent, IsLost, IsNoteSound, IsNoteStanding, CallIsSound}
 use Rattle.mg_safety.proofs.Invariant.Statements.{IsClosed, KeepsSound}
 use Rattle.mg_safety.proofs.Agents.Entering.{Follows, not_resting, enters_follows, IsBetween, enters_current}
@@ -61,7 +61,7 @@ accepts script a b sent is = by_case (may_accept script a sent) refl is
     by_case true e is =
         let both = first_and_third (is_resting a.phase) (not (state_of script a.state).is_end)
         (is_new (arrival (inbox_of a) sent.association sent.number)) (and_second (sent.call == a.call) _ e) in
-        record { phase = at_rest a.phase both.0; association = new_is_ours (inbox_of a) sent.association sent.number both.1; leads = is }
+        record { phase = is_resting_is a.phase both.0; association = new_is_ours (inbox_of a) sent.association sent.number both.1; leads = is }
     by_case false e is = absurd (none_is_some b is)
 
 -- ---- the agent after it

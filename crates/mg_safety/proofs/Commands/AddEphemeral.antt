@@ -33,9 +33,9 @@ use Rattle.mg_safety.proofs.Invariant.CarriedOver.{IsCarried, IsCarriedOver}
 use Rattle.mg_safety.proofs.Commands.CreatedShown.{unbound_ephemeral, created_shown}
 use Rattle.mg_safety.proofs.Commands.Creating.{first_row, with_created, with_ephemeral_name, with_present, created_row, accounted_created, built_created, owned_back}
 use Rattle.mg_safety.proofs.Commands.EnteredContexts.{known_context, real_not_choose, target_named, IsExisting, existing_context, entered_fresh}
-use Rattle.mg_safety.proofs.Commands.EphemeralCommands.{peer_in_force, peer_legal}
+use Rattle.mg_safety.proofs.Commands.EphemeralNames.{peer_in_force, peer_legal}
 use Rattle.mg_safety.proofs.Commands.InForce.{MayExist}
-use Rattle.mg_safety.proofs.Commands.LineCommands.{with_live}
+use Rattle.mg_safety.proofs.Commands.InContext.{with_live}
 use Rattle.mg_safety.proofs.Commands.OneRow.{HasOneRow, row_here, exists_as_before}
 use Rattle.mg_safety.proofs.Commands.Setting.{PeerInForce, cuts_stay, cuts_outside, ephemeral_set, set_in_context}
 use Rattle.mg_safety.proofs.Invariant.Shown.{Naming, eph_of, Shown, IsAccounted, Owner, owned_at, AreBuilt, known_by, context_for, ephemeral_settings, item_for}

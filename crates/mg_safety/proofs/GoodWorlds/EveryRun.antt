@@ -13,8 +13,9 @@ use Rattle.mg_safety.specs.Headline.{EveryRunIsGood, EveryRunOfOneCallIsGood}
 use Rattle.mg_model.specs.Accepted.{IsScript}
 use Rattle.mg_model.specs.declared.commands.Command.TheVariants.{AddLine, AddEphemeral, ModifyLine, ModifyEphemeral, MoveLine, MoveEphemeral, Subtract, SubtractAll, SetTopology}
 use Rattle.mg_safety.proofs.Commands.AddEphemeral.{add_ephemeral_carried}
-use Rattle.mg_safety.proofs.Commands.EphemeralCommands.{modify_ephemeral_carried, move_ephemeral_carried}
-use Rattle.mg_safety.proofs.Commands.LineCommands.{modify_line_carried, move_line_carried, add_line_carried}
+use Rattle.mg_safety.proofs.Commands.AddLine.{add_line_carried}
+use Rattle.mg_safety.proofs.Commands.Modify.{modify_ephemeral_carried, modify_line_carried}
+use Rattle.mg_safety.proofs.Commands.Move.{move_ephemeral_carried, move_line_carried}
 use Rattle.mg_safety.proofs.Commands.SubtractCarried.{subtract_carried, subtract_all_carried}
 use Rattle.mg_safety.proofs.Commands.TopologyCarried.{topology_carried}
 use Rattle.mg_safety.proofs.Agents.AgentSound.{pass_sound, timer_sound}
