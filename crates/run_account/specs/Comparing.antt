@@ -1,10 +1,11 @@
 -- What the shards keep beside what the calls went through. A reader should check that a call's events stand in the history of its own shard alone, each once
--- and in order, and that nothing else stands there.
-use Rattle.std.specs.Prelude.{◌≡◌, ℕ, ◌%◌, ◌<◌, List, ◌++◌, length, take, map, slice_index_or, []}
+-- and in order, that nothing else stands there, and that where they are said to differ they do.
+use Rattle.std.specs.Prelude.{◌≡◌, ℕ, ◌%◌, ◌<◌, ◌≤◌, ◌⊎◌, List, [], ◌∷◌, ◌++◌, length, take, map, Some, slice_get, slice_index_or}
 use Rattle.std.specs.List.{flat_map}
 use Rattle.mg_model.specs.declared.events.Event.{Event}
 use Rattle.mg_model.specs.declared.events.Event.TheVariants.{OfCall, Restart}
 use Rattle.agent.specs.Calls.{value_of}
+use Rattle.mg_model.specs.Numbers.{plan_calls}
 use Rattle.run_account.specs.Runs.{within}
 use Rattle.planned_calls.specs.declared.planned_call.PlannedCall.{PlannedCall}
 
@@ -44,6 +45,47 @@ pub record Agree (count : ℕ) (histories trails : List (List Event)) : Type 0 w
   pub whole : (number : ℕ) → trail_at trails number ≡ flat_map (within number) histories
   pub own : (number shard : ℕ) → (number % count ≡ shard → ⊥) → within number (slice_index_or histories shard []) ≡ []
 
--- each trail ends at its place
+-- no trail goes on behind its place
 abbrev pub IsAtEnd : List (List Event) → List ℕ → Type 0
-IsAtEnd trails places = (number : ℕ) → number < length trails → place_at places number ≡ length (trail_at trails number)
+IsAtEnd trails places = (number : ℕ) → number < length trails → length (trail_at trails number) ≤ place_at places number
+
+-- ---- where they don't agree
+
+-- the greatest number of a place
+abbrev pub last_place : ℕ
+last_place = 18446744073709551615
+
+-- what happened at a place isn't this event, or the trail is longer than places can be counted
+abbrev pub IsNotNext : Event → List Event → ℕ → Type 0
+IsNotNext event trail place = (slice_get trail place ≡ Some event → ⊥) ⊎ (last_place < length trail)
+
+-- an event that a shard has is of a call that stands in another one, or it isn't the next one of its call
+abbrev pub Strays : (count shard : ℕ) → Event → List (List Event) → List ℕ → Type 0
+Strays count shard Restart trails places = ⊥
+Strays count shard (OfCall call happens) trails places =
+    (count ≡ 0) ⊎ ((call.0 % plan_calls % count ≡ shard → ⊥)
+    ⊎ IsNotNext (OfCall call happens) (trail_at trails (call.0 % plan_calls)) (place_at places (call.0 % plan_calls)))
+
+-- some event of a shard strays, behind those that were gone along
+pub record StraysIn (count shard : ℕ) (history : List Event) (trails : List (List Event)) (old : List ℕ) : Type 0 where
+  pub before : List Event
+  pub event : Event
+  pub after : List Event
+  pub places : List ℕ
+  pub parts : history ≡ before ++ event ∷ after
+  pub followed : Follows count shard before trails old places
+  pub strays : Strays count shard event trails places
+
+-- some event of some shard strays, behind the shards that were gone along
+pub record StrayAmong (count : ℕ) (histories trails : List (List Event)) (old : List ℕ) : Type 0 where
+  pub front : List (List Event)
+  pub history : List Event
+  pub back : List (List Event)
+  pub places : List ℕ
+  pub parts : histories ≡ front ++ history ∷ back
+  pub followed : FollowAll count front trails old places
+  pub strays : StraysIn count (length front) history trails places
+
+-- the histories aren't what the calls went through, or a trail is longer than places can be counted
+abbrev pub Differ : (count : ℕ) → (histories trails : List (List Event)) → Type 0
+Differ count histories trails = (Agree count histories trails → ⊥) ⊎ ((number : ℕ) × (last_place < length (trail_at trails number)))

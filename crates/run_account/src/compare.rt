@@ -1,8 +1,8 @@
 //! What the shards keep beside what the calls went through: one walk through each history, with a place in the transcripts of each call.
-ghost use Rattle.std.specs.Prelude.{◌≡◌, ◌∷◌, [], ◌++◌, ◌≤◌, IfOk, IfSome, IsTrue, OnOk, length, map, slice_get, take};
+ghost use Rattle.std.specs.Prelude.{◌≡◌, ◌∷◌, [], ◌++◌, ◌≤◌, false, IfNone, IfOk, IfSome, IsTrue, OnOk, length, map, nat_le, slice_get, take};
 ghost use Rattle.mg_model.specs.Shards.{restarts_in};
 ghost use Rattle.mg_merge.specs.Identifiers.{executes_in, executes_of};
-ghost use Rattle.run_account.specs.Comparing.{Agree, FollowAll, Follows, IsAtEnd, restarts_of, trail_of, trails_of};
+ghost use Rattle.run_account.specs.Comparing.{Agree, Differ, FollowAll, Follows, IsAtEnd, IsNotNext, StrayAmong, Strays, StraysIn, restarts_of, trail_of, trails_of};
 ghost use Rattle.planned_calls.specs.Parts.{of_call};
 ghost use Rattle.agent.specs.Calls.{value_of};
 
@@ -78,16 +78,19 @@ pub(crate) fn push_of(
     Ok(())
 }
 
-/// Whether so much happened to a call of the plan, with all that began within it.
+/// Whether nothing happened behind a place to a call of the plan, with all that began within it.
 pub(crate) fn ends_at(planned: &PlannedCall<'_>, place: usize) -> bool
-    ensures { IsTrue result → length (trail_of planned.now) ≡ place }
+    ensures { result ≡ nat_le (length (trail_of planned.now)) place }
 {
     let all = planned
         .log
         .trail
         .len()
         .checked_add(planned.chain.next.transcript().len());
-    all == Some(place)
+    match all {
+        Some(all) => all <= place,
+        None => false,
+    }
 }
 
 /// What happened at a place to a call of the plan, with all that began within it.
@@ -103,7 +106,8 @@ pub(crate) fn event_at(planned: &PlannedCall<'_>, place: usize) -> Option<Event>
 
 /// The place behind an event in the transcripts of a call of the plan. Nothing, where the event isn't the next one there.
 fn place_behind(event: &Event, planned: &PlannedCall<'_>, place: usize) -> Option<usize>
-    ensures { IfSome result (λ next. take next (trail_of planned.now) ≡ take place (trail_of planned.now) ++ event.now ∷ []) }
+    ensures next { IfSome result (λ next. take next (trail_of planned.now) ≡ take place (trail_of planned.now) ++ event.now ∷ []) }
+    ensures none { IfNone result (IsNotNext event.now (trail_of planned.now) place) }
 {
     if event_at(planned, place) != Some(*event) {
         return None;
@@ -114,23 +118,24 @@ fn place_behind(event: &Event, planned: &PlannedCall<'_>, place: usize) -> Optio
 /// Goes along the transcripts by one event of a shard. No, where it isn't the next one of its call, or isn't of a call of this shard.
 fn follow_event(
     count: u32,
-    shard: u32,
+    shard: usize,
     event: &Event,
     planned_calls: &[PlannedCall<'_>],
     places: &mut [usize],
 ) -> bool
     requires { length places.old ≡ length planned_calls.now }
-    ensures { IsTrue result → Follows count shard (event.now ∷ []) (trails_of planned_calls.now) places.old places.new }
+    ensures follows { IsTrue result → Follows count shard (event.now ∷ []) (trails_of planned_calls.now) places.old places.new }
+    ensures strays { result ≡ false → Strays count shard event.now (trails_of planned_calls.now) places.old }
 {
     let Event::OfCall { call, .. } = *event else {
         return true;
     };
     let number = call.0 % PLAN_CALLS;
-    if number.checked_rem(count) != Some(shard) {
+    let Some(own) = number.checked_rem(count) else {
         return false;
-    }
+    };
     let number = number as usize;
-    if number >= planned_calls.len() {
+    if own as usize != shard || number >= planned_calls.len() {
         return false;
     }
     let Some(next) = place_behind(event, &planned_calls[number], places[number]) else {
@@ -143,13 +148,14 @@ fn follow_event(
 /// Goes along the transcripts by the history of a shard. No, where an event isn't the next one of its call, or isn't of a call of this shard.
 fn follow(
     count: u32,
-    shard: u32,
+    shard: usize,
     history: &[Event],
     planned_calls: &[PlannedCall<'_>],
     places: &mut [usize],
 ) -> bool
     requires { length places.old ≡ length planned_calls.now }
-    ensures { IsTrue result → Follows count shard history.now (trails_of planned_calls.now) places.old places.new }
+    ensures follows { IsTrue result → Follows count shard history.now (trails_of planned_calls.now) places.old places.new }
+    ensures strays { result ≡ false → StraysIn count shard history.now (trails_of planned_calls.now) places.old }
 {
     for event in history {
         if !follow_event(count, shard, event, planned_calls, places) {
@@ -167,25 +173,22 @@ fn follow_all(
     places: &mut [usize],
 ) -> bool
     requires { length places.old ≡ length planned_calls.now }
-    ensures { IsTrue result → FollowAll count (map (λ v. v.history) shards.now) (trails_of planned_calls.now) places.old places.new }
+    ensures follow { IsTrue result → FollowAll count (map (λ v. v.history) shards.now) (trails_of planned_calls.now) places.old places.new }
+    ensures stray { result ≡ false → StrayAmong count (map (λ v. v.history) shards.now) (trails_of planned_calls.now) places.old }
 {
-    let mut number: u32 = 0;
-    for shard in shards {
+    for (number, shard) in shards.iter().enumerate() {
         if !follow(count, number, shard.history(), planned_calls, places) {
             return false;
         }
-        let Some(next) = number.checked_add(1) else {
-            return false;
-        };
-        number = next;
     }
     true
 }
 
-/// Whether each transcript ends where the histories do.
+/// Whether no transcript goes on where the histories end.
 fn all_at_end(planned_calls: &[PlannedCall<'_>], places: &[usize]) -> bool
     requires { length places.now ≡ length planned_calls.now }
-    ensures { IsTrue result → IsAtEnd (trails_of planned_calls.now) places.now }
+    ensures yes { IsTrue result → IsAtEnd (trails_of planned_calls.now) places.now }
+    ensures no { result ≡ false → IsAtEnd (trails_of planned_calls.now) places.now → ⊥ }
 {
     for (number, planned) in planned_calls.iter().enumerate() {
         let Some(place) = places.get(number) else {
@@ -205,7 +208,8 @@ pub(crate) fn agree(
     shards: &[Shard<'_>],
     planned_calls: &[PlannedCall<'_>],
 ) -> Result<bool, AllocError>
-    ensures { IfOk result (λ yes. IsTrue yes → Agree count (map (λ v. v.history) shards.now) (trails_of planned_calls.now)) }
+    ensures agree { IfOk result (λ yes. IsTrue yes → Agree count (map (λ v. v.history) shards.now) (trails_of planned_calls.now)) }
+    ensures differ { IfOk result (λ yes. yes ≡ false → Differ count (map (λ v. v.history) shards.now) (trails_of planned_calls.now)) }
 {
     let mut places = Vec::from_elem(alloc, 0usize, planned_calls.len())?;
     if !follow_all(count, shards, planned_calls, places.as_mut_slice()) {

@@ -27,7 +27,7 @@ use Rattle.agent.specs.declared.delivered.Delivery.TheVariants as delivery
 use Rattle.call_messages.specs.Messages.{AreNumberedFrom, Messages, fits, listed, reply_for, request_numbers, sending}
 use Rattle.shards.specs.Shows.{IsTold, ShowsCall}
 use Rattle.shards.specs.Slots.{AreSettled, IsDelivered, IsTied, request_in}
-use Rattle.shards.specs.declared.slot.Slot.{Slot}
+use Rattle.shards.specs.declared.call_record.CallRecord.{CallRecord}
 use Rattle.shards.proofs.MessageLemmas.{found_in, is_own, length_over, length_places, over_first, own_message, places_for, same_found, same_replies}
 use Rattle.shards.proofs.SettledNotes.{settled_after}
 use Rattle.shards.proofs.SlotLemmas.{next_over}
@@ -40,7 +40,7 @@ stepped_next script a (delivery.Note note) = noted_next script a (line_places sc
 stepped_next script a delivery.Timer = timed_next script a
 stepped_next script a (delivery.Hear association) = heard_next script a association.0
 
-module _ (script : Script) (w : World) (call : ℕ) (s t : Slot) (shows : ShowsCall w call s) where
+module _ (script : Script) (w : World) (call : ℕ) (s t : CallRecord) (shows : ShowsCall w call s) where
   abbrev before : Agent
   before = agent_of s.agent
 

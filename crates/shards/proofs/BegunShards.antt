@@ -28,7 +28,7 @@ use Rattle.shards.specs.Beginnings.{HandsOver, IsBegunBy, has_ended, refusal_of}
 use Rattle.shards.specs.Shards.{CountsEvents, HasHappened, IsShard, IsUnchanged, ShardValue, events_of}
 use Rattle.shards.specs.SlotTable.{slot_in}
 use Rattle.shards.specs.Stepping.{CannotOccur, IsRefusedStep, IsSameNext, IsStep}
-use Rattle.shards.specs.declared.slot.Slot.{Slot}
+use Rattle.shards.specs.declared.call_record.CallRecord.{CallRecord}
 use Rattle.shards.specs.declared.stepped.Stepped.{Stepped}
 use Rattle.shards.specs.declared.stepped.Stepped.TheVariants.{Done, Begun}
 
@@ -39,7 +39,7 @@ module _ (v : ShardValue) (value : CallValue) (new old : ℕ) where
   pub not_own : (value.agent.call ≡ old → ⊥) → CannotOccur v refusing (begin new old)
   not_own other w shown after a occurs goes = other (sym goes.1.0)
 
-  pub not_ended : (s : Slot) → slot_in v.slots old ≡ Some s → has_ended v.script (agent_of s.agent) v.gateway.association ≡ false → CannotOccur v refusing (begin new old)
+  pub not_ended : (s : CallRecord) → slot_in v.slots old ≡ Some s → has_ended v.script (agent_of s.agent) v.gateway.association ≡ false → CannotOccur v refusing (begin new old)
   unfolding gateway_of
   not_ended s there none w shown after a occurs goes =
       let shows = shown.shows.calls old s there in
@@ -56,9 +56,9 @@ module _ (v : ShardValue) (was : IsShard v) (value : CallValue) (new old : ℕ) 
 
   -- ---- it begins
 
-  module _ (own : value.agent.call ≡ old) (s : Slot) (there : slot_in v.slots old ≡ Some s) (ended : has_ended v.script (agent_of s.agent) v.gateway.association ≡ true)
-      (before : List (ℕ × Option Slot)) (same : (c : ℕ) → slot_in before c ≡ slot_in v.slots c)
-      (h : GatewayValue) (b : IsBegun v.gateway old new h (Ok tt)) (entries : List (ℕ × Option Slot)) (x : HandsOver v.script before entries old new s)
+  module _ (own : value.agent.call ≡ old) (s : CallRecord) (there : slot_in v.slots old ≡ Some s) (ended : has_ended v.script (agent_of s.agent) v.gateway.association ≡ true)
+      (before : List (ℕ × Option CallRecord)) (same : (c : ℕ) → slot_in before c ≡ slot_in v.slots c)
+      (h : GatewayValue) (b : IsBegun v.gateway old new h (Ok tt)) (entries : List (ℕ × Option CallRecord)) (x : HandsOver v.script before entries old new s)
       (events : List Event) (history : events ≡ v.history ++ named ∷ []) where
     abbrev later : ShardValue
     later = record v { gateway = h; slots = entries; history = events }
@@ -67,7 +67,7 @@ module _ (v : ShardValue) (was : IsShard v) (value : CallValue) (new old : ℕ) 
     apart = differ v.script was.world v.gateway h (slot_in v.slots) was.is_world.shows (world_numbered v was.world was.is_world) old new s there b
 
     slots_are : (c : ℕ) → slot_in entries c ≡ (if c == new then Some x.slot else if c == old then None else slot_in v.slots c)
-    slots_are c = x.slots c ∙ ap (λ (o : Option Slot). if c == new then Some x.slot else if c == old then None else o) (same c)
+    slots_are c = x.slots c ∙ ap (λ (o : Option CallRecord). if c == new then Some x.slot else if c == old then None else o) (same c)
 
     happened : HasHappened v later named
     happened = record {
@@ -97,14 +97,14 @@ module _ (v : ShardValue) (was : IsShard v) (value : CallValue) (new old : ℕ) 
       unused = λ c not_open not_retired. unused c not_open (ap (λ (g : Gateway). g.retired c) (sym b.3) ∙ not_retired);
     }
       where
-        by_old : (c : ℕ) (y : Slot) (test : Bool) → (c ≡ new → ⊥) → (if test then None else slot_in v.slots c) ≡ Some y → y.events ≡ events_of c events
+        by_old : (c : ℕ) (y : CallRecord) (test : Bool) → (c ≡ new → ⊥) → (if test then None else slot_in v.slots c) ≡ Some y → y.events ≡ events_of c events
         by_old c y true not_new at = absurd (none_is_some y at)
         by_old c y false not_new at = was.counts.counted c y at ∙ sym (other_count c not_new)
 
-        by_new : (c : ℕ) (y : Slot) (test : Bool) → (c == new) ≡ test → (if test then Some x.slot else if c == old then None else slot_in v.slots c) ≡ Some y
+        by_new : (c : ℕ) (y : CallRecord) (test : Bool) → (c == new) ≡ test → (if test then Some x.slot else if c == old then None else slot_in v.slots c) ≡ Some y
             → y.events ≡ events_of c events
         by_new c y true this at =
-            ap (λ (z : Slot). z.events) (sym (the_some x.slot y at)) ∙ x.begun_slot.events ∙ sym own_count ∙ ap (λ n. events_of n events) (sym (eqb-true c new this))
+            ap (λ (z : CallRecord). z.events) (sym (the_some x.slot y at)) ∙ x.begun_slot.events ∙ sym own_count ∙ ap (λ n. events_of n events) (sym (eqb-true c new this))
         by_new c y false other at = by_old c y (c == old) (eqb-false c new other) at
 
         unused : (c : ℕ) → is_open h c ≡ false → (gateway.begun (gateway_of v.gateway) old new).retired c ≡ false → events_of c events ≡ 0
@@ -134,7 +134,7 @@ module _ (v : ShardValue) (was : IsShard v) (value : CallValue) (new old : ℕ) 
     begun_taken after (Ok Done) is = absurd is
     begun_taken after (Err why) is = absurd is
 
-  module _ (before : List (ℕ × Option Slot)) (same : (c : ℕ) → slot_in before c ≡ slot_in v.slots c) where
+  module _ (before : List (ℕ × Option CallRecord)) (same : (c : ℕ) → slot_in before c ≡ slot_in v.slots c) where
     abbrev back : ShardValue
     back = record v { slots = before }
 
@@ -173,7 +173,7 @@ module _ (v : ShardValue) (was : IsShard v) (value : CallValue) (new old : ℕ) 
   same_after h fault.CannotHappen is = is.3
   same_after h fault.NoMemory is = is
 
-  module _ (before : List (ℕ × Option Slot)) (same : (c : ℕ) → slot_in before c ≡ slot_in v.slots c) (h : GatewayValue) (why : BeginFault)
+  module _ (before : List (ℕ × Option CallRecord)) (same : (c : ℕ) → slot_in before c ≡ slot_in v.slots c) (h : GatewayValue) (why : BeginFault)
       (b : IsBegun v.gateway old new h (Err why)) (after : Next) (handed_back : IsSameNext handed after) where
     abbrev behind : ShardValue
     behind = record v { gateway = h; slots = before }
@@ -194,7 +194,7 @@ module _ (v : ShardValue) (was : IsShard v) (value : CallValue) (new old : ℕ) 
 
 module _ (v u : ShardValue) (is : v ≡ u) (was : IsShard v) (value : CallValue) (new old : ℕ) where
   -- no entry was made for the new call
-  pub without_entry : (before : List (ℕ × Option Slot)) → ((c : ℕ) → slot_in before c ≡ slot_in v.slots c) → (events : List Event) → events ≡ v.history → (after : Next)
+  pub without_entry : (before : List (ℕ × Option CallRecord)) → ((c : ℕ) → slot_in before c ≡ slot_in v.slots c) → (events : List Event) → events ≡ v.history → (after : Next)
       → IsSameNext (next.Ended value) after
       → IsShard (record v { slots = before; history = events })
       × IsStep u (record v { slots = before; history = events }) (next.Ended value) after (begin new old) (Err NoMemory)
@@ -206,7 +206,7 @@ module _ (v u : ShardValue) (is : v ≡ u) (was : IsShard v) (value : CallValue)
       (back_kept v was value new old before same, (tt, (back_unchanged v was value new old before same, handed_back))))
 
   -- the gateway refused it
-  pub refused_by : (before : List (ℕ × Option Slot)) → ((c : ℕ) → slot_in before c ≡ slot_in v.slots c) → (h : GatewayValue) (why : BeginFault) → IsBegun v.gateway old new h (Err why)
+  pub refused_by : (before : List (ℕ × Option CallRecord)) → ((c : ℕ) → slot_in before c ≡ slot_in v.slots c) → (h : GatewayValue) (why : BeginFault) → IsBegun v.gateway old new h (Err why)
       → (told : Refusal) → told ≡ refusal_of why → (events : List Event) → events ≡ v.history → (after : Next) → IsSameNext (next.Ended value) after
       → IsShard (record v { gateway = h; slots = before; history = events })
       × IsStep u (record v { gateway = h; slots = before; history = events }) (next.Ended value) after (begin new old) (Err told)
@@ -220,9 +220,9 @@ module _ (v u : ShardValue) (is : v ≡ u) (was : IsShard v) (value : CallValue)
       (begin_refused v was value new old before same h why b after handed_back)))
 
   -- it began
-  module _ (own : value.agent.call ≡ old) (s : Slot) (there : slot_in v.slots old ≡ Some s) (ended : has_ended v.script (agent_of s.agent) v.gateway.association ≡ true)
-      (before : List (ℕ × Option Slot)) (same : (c : ℕ) → slot_in before c ≡ slot_in v.slots c)
-      (h : GatewayValue) (b : IsBegun v.gateway old new h (Ok tt)) (entries : List (ℕ × Option Slot)) (x : HandsOver v.script before entries old new s)
+  module _ (own : value.agent.call ≡ old) (s : CallRecord) (there : slot_in v.slots old ≡ Some s) (ended : has_ended v.script (agent_of s.agent) v.gateway.association ≡ true)
+      (before : List (ℕ × Option CallRecord)) (same : (c : ℕ) → slot_in before c ≡ slot_in v.slots c)
+      (h : GatewayValue) (b : IsBegun v.gateway old new h (Ok tt)) (entries : List (ℕ × Option CallRecord)) (x : HandsOver v.script before entries old new s)
       (events : List Event) (history : events ≡ v.history ++ begin new old ∷ []) where
     pub forward_kept : IsShard (record v { gateway = h; slots = entries; history = events })
     forward_kept = begun_kept v was value new old own s there ended before same h b entries x events history

@@ -11,7 +11,7 @@ use Rattle.call_messages.specs.Messages.{AreNumberedFrom, Messages, fits, reply_
 use Rattle.shards.specs.Shows.{ShowsCall}
 use Rattle.shards.proofs.SettledNotes.{settled_before}
 use Rattle.shards.specs.Slots.{AreSettled, IsCounted, IsTied, request_in}
-use Rattle.shards.specs.declared.slot.Slot.{Slot}
+use Rattle.shards.specs.declared.call_record.CallRecord.{CallRecord}
 
 -- messages with the same requests, and places for as many replies, to which notes were added
 pub record HasSameRequests (m n : Messages) : Type 0 where
@@ -24,7 +24,7 @@ pub record HasSameRequests (m n : Messages) : Type 0 where
 abbrev all_requests : AgentValue → List Request → List Request
 all_requests agent requests = sent_in (agent_of agent).phase ++ reverse requests
 
-module _ (s t : Slot) (agent : t.agent ≡ s.agent) (settled : t.settled ≡ s.settled) (same : HasSameRequests s.messages.sent t.messages.sent) where
+module _ (s t : CallRecord) (agent : t.agent ≡ s.agent) (settled : t.settled ≡ s.settled) (same : HasSameRequests s.messages.sent t.messages.sent) where
   requests_stay : (which : Option ℕ) → request_in t which ≡ request_in s which
   requests_stay which =
       ap (λ (a : AgentValue). find (λ (r : Request). fits which r.number) (all_requests a t.messages.sent.requests)) agent
@@ -59,7 +59,7 @@ module _ (s t : Slot) (agent : t.agent ≡ s.agent) (settled : t.settled ≡ s.s
   }
 
 -- notes of a call that are sent, in a world and in a slot
-module _ (w : World) (call : ℕ) (s : Slot) (shows : ShowsCall w call s) (new : List SentNote) (of_call : (n : SentNote) → Contains new n → n.call ≡ call) where
+module _ (w : World) (call : ℕ) (s : CallRecord) (shows : ShowsCall w call s) (new : List SentNote) (of_call : (n : SentNote) → Contains new n → n.call ≡ call) where
   pub notes_in_world : (n : SentNote) → Contains (s.messages.sent.notes ++ new) n → Contains (new ++ w.notes) n × (n.call ≡ call)
   notes_in_world n among = elim (Contains-append_cases s.messages.sent.notes new n among) [
     | inl old ↦ let sent = shows.notes_sent n old in (Contains-append_right new w.notes n sent.0, sent.1)
@@ -73,7 +73,7 @@ module _ (w : World) (call : ℕ) (s : Slot) (shows : ShowsCall w call s) (new :
   ]
 
 -- what a slot has to be shown to hold where its agent stays and its messages become these
-pub record HoldsAfter (w v : World) (call : ℕ) (s : Slot) (m : Messages) : Type 0 where
+pub record HoldsAfter (w v : World) (call : ℕ) (s : CallRecord) (m : Messages) : Type 0 where
   pub agent : v.agent call ≡ w.agent call
   pub requests : v.requests ≡ w.requests
   pub same : HasSameRequests s.messages.sent m
@@ -82,7 +82,7 @@ pub record HoldsAfter (w v : World) (call : ℕ) (s : Slot) (m : Messages) : Typ
   pub notes_kept : (n : SentNote) → Contains v.notes n → n.call ≡ call → Contains m.notes n
   pub counted : (v.gateway.link call).notes ≡ length m.notes
 
-pub counted_shown : (w v : World) (call : ℕ) (s t : Slot) (m : Messages) → ShowsCall w call s → IsCounted s t m → HoldsAfter w v call s m → ShowsCall v call t
+pub counted_shown : (w v : World) (call : ℕ) (s t : CallRecord) (m : Messages) → ShowsCall w call s → IsCounted s t m → HoldsAfter w v call s m → ShowsCall v call t
 counted_shown w v call s t m shows counted holds =
     let same : HasSameRequests s.messages.sent t.messages.sent = subst (HasSameRequests s.messages.sent) (sym counted.sent) holds.same in
     record {

@@ -31,7 +31,7 @@ use Rattle.shards.specs.Shows.{LeadsOn, Shows, with_slot}
 use Rattle.shards.specs.SlotTable.{OthersStay, slot_in}
 use Rattle.shards.specs.Slots.{IsExecuted, IsHappenedOn, is_event}
 use Rattle.shards.specs.Stepping.{AtGateway, HasStepped, IsRefusedStep, IsSameNext, ValueGoes, call_in, is_beginning}
-use Rattle.shards.specs.declared.slot.Slot.{Slot}
+use Rattle.shards.specs.declared.call_record.CallRecord.{CallRecord}
 
 -- ---- the calls of a gateway stay
 
@@ -49,15 +49,15 @@ answer_keeps g h call request refusal answer.NoMemory happens is = absurd (true�
 -- ---- an event at the gateway, in a slot
 
 -- the slot goes on, and every world that is shown leads on
-pub record GoesOnAt (g h : GatewayValue) (call : ℕ) (event : CallEvent) (s : Slot) (entry : Option Slot) : Type 0 where
-  pub slot : Slot
+pub record GoesOnAt (g h : GatewayValue) (call : ℕ) (event : CallEvent) (s : CallRecord) (entry : Option CallRecord) : Type 0 where
+  pub slot : CallRecord
   pub put : entry ≡ Some slot
   pub keeps : KeepsCalls g h
   pub events : slot.events ≡ s.events + 1
-  pub leads : (script : Rattle.mg_model.specs.Script.Script) (w : World) (slots : ℕ → Option Slot) → Shows w g slots → IsNumbered w → slots call ≡ Some s
+  pub leads : (script : Rattle.mg_model.specs.Script.Script) (w : World) (slots : ℕ → Option CallRecord) → Shows w g slots → IsNumbered w → slots call ≡ Some s
       → LeadsOn script w (OfCall (record { 0 = call }) event) h (with_slot slots call slot)
 
-goes_on_at : (g h : GatewayValue) (call : ℕ) (event : CallEvent) (s : Slot) (entry : Option Slot) → AtGateway g h call event (Some s) entry (Ok tt)
+goes_on_at : (g h : GatewayValue) (call : ℕ) (event : CallEvent) (s : CallRecord) (entry : Option CallRecord) → AtGateway g h call event (Some s) entry (Ok tt)
     → GoesOnAt g h call event s entry
 goes_on_at g h call (to_call.OnLine line happens) s entry (t, put, x) = record {
   slot = t;
@@ -80,7 +80,7 @@ goes_on_at g h call to_call.Timer s entry is = absurd (let no = is.0 in cc)
 goes_on_at g h call (to_call.Hear association) s entry is = absurd (let no = is.0 in cc)
 goes_on_at g h call (to_call.Begin old) s entry is = absurd (let no = is.0 in cc)
 
-no_slot_goes_on : (g h : GatewayValue) (call : ℕ) (event : CallEvent) (entry : Option Slot) → AtGateway g h call event None entry (Ok tt) → ⊥
+no_slot_goes_on : (g h : GatewayValue) (call : ℕ) (event : CallEvent) (entry : Option CallRecord) → AtGateway g h call event None entry (Ok tt) → ⊥
 no_slot_goes_on g h call (to_call.OnLine line happens) entry is = let no = is.1 in cc
 no_slot_goes_on g h call (to_call.Execute number chosen) entry is = let no = is.1 in cc
 no_slot_goes_on g h call (to_call.Reply number) entry is = let no = is.0 in cc
@@ -115,7 +115,7 @@ logged_goes w next call (to_call.Hear association) a is own same = absurd (true�
 logged_goes w next call (to_call.Begin old) a is own same = absurd (true≢false (sym is))
 
 module _ (old : ShardValue) (was : IsShard old) (call : ℕ) (next : Next) (own : call_in next ≡ call) (event : CallEvent) (of_gateway : is_of_gateway event ≡ true)
-    (h : GatewayValue) (entries : List (ℕ × Option Slot)) (others : OthersStay old.slots call entries) where
+    (h : GatewayValue) (entries : List (ℕ × Option CallRecord)) (others : OthersStay old.slots call entries) where
   abbrev named : Event
   named = OfCall (record { 0 = call }) event
 
@@ -124,7 +124,7 @@ module _ (old : ShardValue) (was : IsShard old) (call : ℕ) (next : Next) (own 
     abbrev later : ShardValue
     later = record old { gateway = h; slots = entries; history = events }
 
-    taken : (s : Slot) → slot_in old.slots call ≡ Some s → GoesOnAt old.gateway h call event s (slot_in entries call) → IsShard later × HasStepped old later next after named
+    taken : (s : CallRecord) → slot_in old.slots call ≡ Some s → GoesOnAt old.gateway h call event s (slot_in entries call) → IsShard later × HasStepped old later next after named
     taken s there x =
         let happened : HasHappened old later named = step_happened old h entries events call event s x.slot there x.put others history
         (λ w is. x.leads old.script w (slot_in old.slots) is.shows (world_numbered old w is) there) in
@@ -144,7 +144,7 @@ module _ (old : ShardValue) (was : IsShard old) (call : ℕ) (next : Next) (own 
         → IsShard later × HasStepped old later next after named
     gateway_taken steps = by_slot (slot_in old.slots call) refl steps
       where
-        by_slot : (o : Option Slot) → slot_in old.slots call ≡ o → AtGateway old.gateway h call event o (slot_in entries call) (Ok tt)
+        by_slot : (o : Option CallRecord) → slot_in old.slots call ≡ o → AtGateway old.gateway h call event o (slot_in entries call) (Ok tt)
             → IsShard later × HasStepped old later next after named
         by_slot None there is = absurd (no_slot_goes_on old.gateway h call event (slot_in entries call) is)
         by_slot (Some s) there is = taken s there (goes_on_at old.gateway h call event s (slot_in entries call) is)
@@ -166,7 +166,7 @@ module _ (old : ShardValue) (was : IsShard old) (call : ℕ) (next : Next) (own 
         handed_back why (subst (λ (x : Refusal). IsRefusedStep old next named x) is (inr (ap (slot_in old.slots) own ∙ there)))
         (ap gateway_of stays, λ c. ap (λ (x : GatewayValue). is_open x c) stays) (none_same old.slots entries call others there here)
 
-    line_refused : (line : ℕ) (happens : _) (s t : Slot) → event ≡ to_call.OnLine (record { 0 = line }) happens → slot_in old.slots call ≡ Some s → slot_in entries call ≡ Some t → (why : Refusal)
+    line_refused : (line : ℕ) (happens : _) (s t : CallRecord) → event ≡ to_call.OnLine (record { 0 = line }) happens → slot_in old.slots call ≡ Some s → slot_in entries call ≡ Some t → (why : Refusal)
         → IsHappenedOn old.gateway h call line happens s t (Err why) → IsBack why
     line_refused line happens s t is there here NotEnabled x =
         handed_back NotEnabled (inl (λ w shown world a occurs goes. cannot_happen w old.gateway (slot_in old.slots) shown.shows (world_numbered old w shown) call s there
@@ -175,7 +175,7 @@ module _ (old : ShardValue) (was : IsShard old) (call : ℕ) (next : Next) (own 
     line_refused line happens s t is there here NoMemory x = handed_back NoMemory tt x.0 (one_same old.slots entries call s t there here x.1 others)
     line_refused line happens s t is there here (Behind slot_count) x = absurd x
 
-    execute_refused : (number : ℕ) (chosen : Option ChosenRefusal) (s t : Slot) → event ≡ to_call.Execute number chosen → slot_in old.slots call ≡ Some s → slot_in entries call ≡ Some t
+    execute_refused : (number : ℕ) (chosen : Option ChosenRefusal) (s t : CallRecord) → event ≡ to_call.Execute number chosen → slot_in old.slots call ≡ Some s → slot_in entries call ≡ Some t
         → (why : Refusal) → IsExecuted old.gateway h call number chosen s t (Err why) → IsBack why
     execute_refused number chosen s t is there here NotEnabled x =
         handed_back NotEnabled (inl (λ w shown world a occurs goes. cannot_execute w old.gateway (slot_in old.slots) shown.shows (world_numbered old w shown) call s there
@@ -184,7 +184,7 @@ module _ (old : ShardValue) (was : IsShard old) (call : ℕ) (next : Next) (own 
     execute_refused number chosen s t is there here NoMemory x = handed_back NoMemory tt x.0 (one_same old.slots entries call s t there here x.1 others)
     execute_refused number chosen s t is there here (Behind slot_count) x = absurd x
 
-    by_slot : (e : CallEvent) → event ≡ e → (o : Option Slot) → slot_in old.slots call ≡ o → (why : Refusal)
+    by_slot : (e : CallEvent) → event ≡ e → (o : Option CallRecord) → slot_in old.slots call ≡ o → (why : Refusal)
         → AtGateway old.gateway h call e o (slot_in entries call) (Err why) → IsBack why
     by_slot (to_call.OnLine line happens) is None there why x = no_slot why there x.0 (let told = x.1 in cc) x.2
     by_slot (to_call.OnLine line happens) is (Some s) there why x = line_refused line.0 happens s x.0 is there x.1 why x.2
@@ -203,7 +203,7 @@ module _ (old : ShardValue) (was : IsShard old) (call : ℕ) (next : Next) (own 
 -- ---- the same with what is left of the old shard beside it
 
 pub gateway_back : (old v : ShardValue) → old ≡ v → IsShard old → (call : ℕ) (next after : Next) → call_in next ≡ call → (event : CallEvent) → is_of_gateway event ≡ true
-    → (h : GatewayValue) (entries : List (ℕ × Option Slot)) → OthersStay old.slots call entries → IsSameNext next after
+    → (h : GatewayValue) (entries : List (ℕ × Option CallRecord)) → OthersStay old.slots call entries → IsSameNext next after
     → (events : List Event) → events ≡ old.history → (why : Refusal)
     → AtGateway old.gateway h call event (slot_in old.slots call) (slot_in entries call) (Err why)
     → IsShard (record old { gateway = h; slots = entries; history = events }) × (IsRefusedStep v next (OfCall (record { 0 = call }) event) why
@@ -216,7 +216,7 @@ gateway_back old v is was call next after own event of_gateway h entries others 
     (gateway_refused old was call next own event of_gateway h entries others after same_next why steps))
 
 pub gateway_forward : (old v : ShardValue) → old ≡ v → IsShard old → (call : ℕ) (next after : Next) → call_in next ≡ call → (event : CallEvent) → is_of_gateway event ≡ true
-    → (h : GatewayValue) (entries : List (ℕ × Option Slot)) → OthersStay old.slots call entries → IsNext after
+    → (h : GatewayValue) (entries : List (ℕ × Option CallRecord)) → OthersStay old.slots call entries → IsNext after
     → IsWithEvent (OfCall (record { 0 = call }) event) (with_room (value_of next)) (value_of after)
     → (events : List Event) → events ≡ old.history ++ OfCall (record { 0 = call }) event ∷ []
     → AtGateway old.gateway h call event (slot_in old.slots call) (slot_in entries call) (Ok tt)

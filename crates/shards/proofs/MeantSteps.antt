@@ -24,9 +24,9 @@ use Rattle.shards.specs.Shards.{IsShard, IsUnchanged, ShardValue}
 use Rattle.shards.specs.Shows.{ShowsCall}
 use Rattle.shards.specs.SlotTable.{OthersStay, slot_in}
 use Rattle.shards.specs.Slots.{request_in}
-use Rattle.shards.specs.declared.slot.Slot.{Slot}
+use Rattle.shards.specs.declared.call_record.CallRecord.{CallRecord}
 
-module _ (w : World) (s : Slot) (shows : ShowsCall w (agent_of s.agent).call s) (numbered : AreNumberedFrom 1 (note_numbers s.messages.sent.notes))
+module _ (w : World) (s : CallRecord) (shows : ShowsCall w (agent_of s.agent).call s) (numbered : AreNumberedFrom 1 (note_numbers s.messages.sent.notes))
     (association next : ℕ) (told : w.gateway.association ≡ association) where
   abbrev a : Agent
   a = agent_of s.agent
@@ -105,7 +105,7 @@ module _ (w : World) (s : Slot) (shows : ShowsCall w (agent_of s.agent).call s) 
 
 module _ (v : ShardValue) (call next : ℕ) (step : PlanStep) where
   -- the event of the slot of a call is meant
-  slot_meant : (s : Slot) → slot_in v.slots call ≡ Some s → AreNumberedFrom 1 (note_numbers s.messages.sent.notes)
+  slot_meant : (s : CallRecord) → slot_in v.slots call ≡ Some s → AreNumberedFrom 1 (note_numbers s.messages.sent.notes)
       → IsMeant v call next step (event_in s v.gateway.association next step)
   unfolding gateway_of
   slot_meant s there numbered w is =
@@ -115,7 +115,7 @@ module _ (v : ShardValue) (call next : ℕ) (step : PlanStep) where
       (step_meant w s (subst (λ c. ShowsCall w c s) (sym own) shows) numbered v.gateway.association next (ap (λ (g : Gateway). g.association) is.shows.gateway) step)
 
   -- and nothing of a call without one
-  entry_meant : (entry : Option Slot) → slot_in v.slots call ≡ entry → HasNumberedNotes entry → IsMeant v call next step (event_of_entry entry v.gateway.association next step)
+  entry_meant : (entry : Option CallRecord) → slot_in v.slots call ≡ entry → HasNumberedNotes entry → IsMeant v call next step (event_of_entry entry v.gateway.association next step)
   entry_meant None there numbered w is =
       subst (λ (agent : Option Agent). MeansIn w agent next step None) (sym (is.shows.no_others call there)) refl
   entry_meant (Some s) there numbered w is = slot_meant s there (numbered s refl) w is
@@ -128,12 +128,12 @@ pub tied_entry : (v : ShardValue) (call : ℕ) → IsShard v → IsTiedEntry (sl
 tied_entry v call was s there = (was.is_world.shows.calls call s there).tied
 
 -- where the slot of one call is as it was, nothing has changed
-module _ (v : ShardValue) (call : ℕ) (entries : List (ℕ × Option Slot)) (same : IsSameEntry (slot_in v.slots call) (slot_in entries call))
+module _ (v : ShardValue) (call : ℕ) (entries : List (ℕ × Option CallRecord)) (same : IsSameEntry (slot_in v.slots call) (slot_in entries call))
     (others : OthersStay v.slots call entries) where
   abbrev after : ShardValue
   after = record v { slots = entries }
 
-  same_slots : (entry : Option Slot) → slot_in v.slots call ≡ entry → IsSameEntry entry (slot_in entries call) → AreSameSlots v.slots entries
+  same_slots : (entry : Option CallRecord) → slot_in v.slots call ≡ entry → IsSameEntry entry (slot_in entries call) → AreSameSlots v.slots entries
   same_slots None there none = none_same v.slots entries call others there none
   same_slots (Some s) there (t, is, alike) = one_same v.slots entries call s t there is alike others
 

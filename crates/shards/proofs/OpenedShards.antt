@@ -34,7 +34,7 @@ use Rattle.shards.specs.Shows.{ShowsCall}
 use Rattle.shards.specs.SlotTable.{slot_in}
 use Rattle.shards.specs.Slots.{IsTied, request_in}
 use Rattle.shards.specs.declared.opened.OpenedCall.{OpenedCall}
-use Rattle.shards.specs.declared.slot.Slot.{Slot}
+use Rattle.shards.specs.declared.call_record.CallRecord.{CallRecord}
 
 -- ---- one call more
 
@@ -67,7 +67,7 @@ none_opened script first stride lines g gateway no_call = record {
   slots = λ c t is. absurd (none_is_some t is);
 }
 
-module _ (script : Script) (calls : List OpenedCall) (first stride : ℕ) (g h : GatewayValue) (old new : List (ℕ × Option Slot)) (one : OpenedCall)
+module _ (script : Script) (calls : List OpenedCall) (first stride : ℕ) (g h : GatewayValue) (old new : List (ℕ × Option CallRecord)) (one : OpenedCall)
     (was : AreOpenedOn script calls first stride g old) (x : OpensOne script g h old new one) where
   calls_are : (λ c. option_map (call_of script) (slot_in new c)) ≡ with_call (λ c. option_map (call_of script) (slot_in old c)) one.call.0 (call_of script x.slot)
   calls_are = same_calls (λ c. ap (option_map (call_of script)) (x.slots c) ∙ by_test c (c == one.call.0))
@@ -110,8 +110,8 @@ module _ (script : Script) (calls : List OpenedCall) (first stride : ℕ) (g h :
     slots = λ c t is. slot_at c t (c == one.call.0) (sym (x.slots c) ∙ is);
   }
     where
-      slot_at : (c : ℕ) (t : Slot) (test : Bool) → (if test then Some x.slot else slot_in old c) ≡ Some t → (t.events ≡ 0) × (t.messages.sent ≡ none_sent 1) × (t.settled ≡ 0)
-      slot_at c t true is = subst (λ (y : Slot). (y.events ≡ 0) × (y.messages.sent ≡ none_sent 1) × (y.settled ≡ 0)) (the_some x.slot t is) (x.first.events, x.first.sent, x.first.settled)
+      slot_at : (c : ℕ) (t : CallRecord) (test : Bool) → (if test then Some x.slot else slot_in old c) ≡ Some t → (t.events ≡ 0) × (t.messages.sent ≡ none_sent 1) × (t.settled ≡ 0)
+      slot_at c t true is = subst (λ (y : CallRecord). (y.events ≡ 0) × (y.messages.sent ≡ none_sent 1) × (y.settled ≡ 0)) (the_some x.slot t is) (x.first.events, x.first.sent, x.first.settled)
       slot_at c t false is = was.slots c t is
 
 pub entered_more : (script : Script) (calls : List OpenedCall) (nexts : List Next) (one : OpenedCall) (next : Next) → AreEntered script calls nexts
@@ -149,7 +149,7 @@ module _ (script : Script) (xs ys : List Opened) (w : World) (has : (o : Opened)
 
 -- ---- the shard
 
-module _ (script : Script) (calls : List OpenedCall) (first stride : ℕ) (g : GatewayValue) (entries : List (ℕ × Option Slot))
+module _ (script : Script) (calls : List OpenedCall) (first stride : ℕ) (g : GatewayValue) (entries : List (ℕ × Option CallRecord))
     (x : AreOpenedOn script calls first stride g entries) where
   abbrev system : System
   system = system_of script g entries
@@ -160,27 +160,27 @@ module _ (script : Script) (calls : List OpenedCall) (first stride : ℕ) (g : G
   abbrev o : IsOpened script x.done system
   o = calls_opened script x.done system x.opened
 
-  agent_at : (c : ℕ) (t : Slot) → slot_in entries c ≡ Some t → w.agent c ≡ Some (agent_of t.agent)
-  agent_at c t is = ap (λ (slot : Option Slot). option_map agent_in (option_map (call_of script) slot)) is
+  agent_at : (c : ℕ) (t : CallRecord) → slot_in entries c ≡ Some t → w.agent c ≡ Some (agent_of t.agent)
+  agent_at c t is = ap (λ (slot : Option CallRecord). option_map agent_in (option_map (call_of script) slot)) is
 
   -- each agent is at rest, and its first request has number 1
-  pub record IsFresh (t : Slot) : Type 0 where
+  pub record IsFresh (t : CallRecord) : Type 0 where
     pub rests : sent_in (agent_of t.agent).phase ≡ []
     pub next : (agent_of t.agent).next ≡ 1
 
-  fresh : (c : ℕ) (t : Slot) → slot_in entries c ≡ Some t → IsFresh t
+  fresh : (c : ℕ) (t : CallRecord) → slot_in entries c ≡ Some t → IsFresh t
   fresh c t is =
       let one = o.is_opening.agents.no_other c (agent_of t.agent) (agent_at c t is) in
       let same : model.opened script one.0.call one.0.lines ≡ agent_of t.agent =
       the_some _ (agent_of t.agent) (sym (o.is_opening.agents.opened one.0 one.1) ∙ ap w.agent one.2 ∙ agent_at c t is) in
       record { rests = ap (λ (a : Agent). sent_in a.phase) (sym same); next = ap (λ (a : Agent). a.next) (sym same) }
 
-  no_request : (c : ℕ) (t : Slot) → slot_in entries c ≡ Some t → (which : Option ℕ) → request_in t which ≡ None
+  no_request : (c : ℕ) (t : CallRecord) → slot_in entries c ≡ Some t → (which : Option ℕ) → request_in t which ≡ None
   no_request c t is which =
       ap (λ (sent : List Request). find (λ (r : Request). fits which r.number) (sent ++ reverse t.messages.sent.requests)) (fresh c t is).rests
       ∙ ap (λ (m : Messages). find (λ (r : Request). fits which r.number) (reverse m.requests)) (x.slots c t is).1
 
-  tied : (c : ℕ) (t : Slot) → slot_in entries c ≡ Some t → IsTied t
+  tied : (c : ℕ) (t : CallRecord) → slot_in entries c ≡ Some t → IsTied t
   tied c t is =
       let sent = (x.slots c t is).1 in
       record {
@@ -192,7 +192,7 @@ module _ (script : Script) (calls : List OpenedCall) (first stride : ℕ) (g : G
         settled = none_settled (agent_of t.agent) t.messages.sent.notes t.settled (x.slots c t is).2;
       }
 
-  shown : (c : ℕ) (t : Slot) → slot_in entries c ≡ Some t → ShowsCall w c t
+  shown : (c : ℕ) (t : CallRecord) → slot_in entries c ≡ Some t → ShowsCall w c t
   shown c t is = record {
     agent = agent_at c t is;
     requests = λ which. sym (no_request c t is which);
@@ -203,7 +203,7 @@ module _ (script : Script) (calls : List OpenedCall) (first stride : ℕ) (g : G
     tied = tied c t is;
   }
 
-  mapped : (slot : Option Slot) → is_some (option_map (call_of script) slot) ≡ is_some slot
+  mapped : (slot : Option CallRecord) → is_some (option_map (call_of script) slot) ≡ is_some slot
   mapped None = refl
   mapped (Some t) = refl
 
@@ -228,7 +228,7 @@ module _ (script : Script) (calls : List OpenedCall) (first stride : ℕ) (g : G
         gateway = refl;
         open_calls = λ c. sym (o.are_open c) ∙ mapped (slot_in entries c);
         calls = shown;
-        no_others = λ c none. ap (λ (slot : Option Slot). option_map agent_in (option_map (call_of script) slot)) none;
+        no_others = λ c none. ap (λ (slot : Option CallRecord). option_map agent_in (option_map (call_of script) slot)) none;
       };
     };
     counts = record { counted = λ c t is. (x.slots c t is).0; unused = λ c not_open not_retired. refl };

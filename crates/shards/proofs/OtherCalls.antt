@@ -9,7 +9,7 @@ use Rattle.mg_model.specs.Reports.{is_of}
 use Rattle.mg_model.specs.World.{World}
 use Rattle.shards.proofs.MessageLemmas.{is_anothers, same_found}
 use Rattle.shards.specs.Shows.{ShowsCall}
-use Rattle.shards.specs.declared.slot.Slot.{Slot}
+use Rattle.shards.specs.declared.call_record.CallRecord.{CallRecord}
 
 pub none_found : {A : Type 0} (xs : List A) → find (λ x. false) xs ≡ None
 none_found [] = refl
@@ -24,7 +24,7 @@ others_added of number call which new old other =
     (same_found (λ x. is_of call which (of x) (number x)) (λ x. false) new (λ x among. is_anothers call (of x) which (number x) (other x among)) ∙ none_found new)
 
 -- a call of which everything stays is shown as before
-pub stays_shown : (w v : World) (call : ℕ) (s : Slot) → ShowsCall w call s → v.agent call ≡ w.agent call
+pub stays_shown : (w v : World) (call : ℕ) (s : CallRecord) → ShowsCall w call s → v.agent call ≡ w.agent call
     → ((which : Option ℕ) → find (λ (r : Request). is_of call which r.call r.number) v.requests ≡ find (λ (r : Request). is_of call which r.call r.number) w.requests)
     → ((which : Option ℕ) → find (λ (r : Reply). is_of call which r.call r.number) v.replies ≡ find (λ (r : Reply). is_of call which r.call r.number) w.replies)
     → ((n : SentNote) → Contains w.notes n → Contains v.notes n) → ((n : SentNote) → Contains v.notes n → n.call ≡ call → Contains w.notes n)

@@ -39,7 +39,7 @@ use Rattle.shards.specs.Shows.{is_told}
 use Rattle.shards.specs.SlotTable.{slot_in}
 use Rattle.shards.specs.Slots.{CannotStep, IsDelivered, request_in}
 use Rattle.shards.specs.Stepping.{CannotOccur, IsAtAgent, IsNotEnabled, IsPossible, call_in, is_ended}
-use Rattle.shards.specs.declared.slot.Slot.{Slot}
+use Rattle.shards.specs.declared.call_record.CallRecord.{CallRecord}
 
 -- ---- what is asked
 
@@ -48,7 +48,7 @@ pub possible_on : (g : GatewayValue) (call line : ℕ) (event : LineEvent) (can 
 possible_on g call line event true held is = record { held = held; can = is }
 possible_on g call line event false held is = inr is
 
-pub possible_request : (g : GatewayValue) (call number : ℕ) (s : Slot) (request : Request) (can : Bool) → request_in s (Some number) ≡ Some request
+pub possible_request : (g : GatewayValue) (call number : ℕ) (s : CallRecord) (request : Request) (can : Bool) → request_in s (Some number) ≡ Some request
     → CanExecute g call request can → IsPossibleRequest g call number s can
 possible_request g call number s request true sent is = record { request = request; sent = sent; can = is }
 possible_request g call number s request false sent is = inr (request, sent, is.1)
@@ -57,16 +57,16 @@ nothing : (o : Option Agent) → is_some o ≡ false → o ≡ None
 nothing None none = refl
 nothing (Some a) none = absurd (true≢false none)
 
-pub slot_cannot : (script : Script) (next : Next) (event : CallEvent) (s : Slot) (brought : Delivery) → IsDelivered s.messages.sent event (Some brought)
+pub slot_cannot : (script : Script) (next : Next) (event : CallEvent) (s : CallRecord) (brought : Delivery) → IsDelivered s.messages.sent event (Some brought)
     → is_some (stepped_by script (agent_of s.agent) brought) ≡ false → IsPossibleStep script next event s false
 slot_cannot script next event s brought delivered none = inr (brought, delivered, inl (nothing _ none))
 
-pub possible_step : (script : Script) (next : Next) (event : CallEvent) (s : Slot) (brought : Delivery) → IsDelivered s.messages.sent event (Some brought)
+pub possible_step : (script : Script) (next : Next) (event : CallEvent) (s : CallRecord) (brought : Delivery) → IsDelivered s.messages.sent event (Some brought)
     → is_some (stepped_by script (agent_of s.agent) brought) ≡ true → (can : Bool) → can ≡ is_some (advancing next brought) → IsPossibleStep script next event s can
 possible_step script next event s brought delivered by_slot true is = record { brought = brought; delivered = delivered; by_slot = by_slot; by_call = sym is }
 possible_step script next event s brought delivered by_slot false is = inr (brought, delivered, inr (nothing _ (sym is)))
 
-pub own_or_none : (v : ShardValue) (next : Next) (call : ℕ) (o : Option Slot) → call ≡ call_in next → o ≡ slot_in v.slots call → HasOwnSlot v next call o
+pub own_or_none : (v : ShardValue) (next : Next) (call : ℕ) (o : Option CallRecord) → call ≡ call_in next → o ≡ slot_in v.slots call → HasOwnSlot v next call o
 own_or_none v next call None same is = inr (ap (slot_in v.slots) (sym same) ∙ sym is)
 own_or_none v next call (Some s) same is = (same, sym is)
 
@@ -79,7 +79,7 @@ none_own v next call event may (inl other) = inl (of_another v next call event m
 none_own v next call event may (inr none) = inr none
 
 module _ (v : ShardValue) (was : IsShard v) (next : Next) (call : ℕ) where
-  module _ (s : Slot) (own : HasOwnSlot v next call (Some s)) where
+  module _ (s : CallRecord) (own : HasOwnSlot v next call (Some s)) where
     held : slot_in v.slots (call_in next) ≡ Some s
     held = ap (slot_in v.slots) (sym own.0) ∙ own.1
 
@@ -136,7 +136,7 @@ module _ (v : ShardValue) (was : IsShard v) (next : Next) (call : ℕ) where
 
 -- ---- the same of what a shard shows
 
-module _ (u v : ShardValue) (is : u ≡ v) (was : IsShard u) (next : Next) (call : ℕ) (s : Slot) (own : HasOwnSlot v next call (Some s)) where
+module _ (u v : ShardValue) (is : u ≡ v) (was : IsShard u) (next : Next) (call : ℕ) (s : CallRecord) (own : HasOwnSlot v next call (Some s)) where
   pub line_shown_possible : (line : LineNo) (event : LineEvent) (can : Bool) → IsPossibleOn u.gateway call line.0 event can
       → IsPossible v next (OfCall (record { 0 = call }) (to_call.OnLine line event)) can
   line_shown_possible line event can possible =
@@ -172,7 +172,7 @@ module _ (v : ShardValue) (was : IsShard v) (value : CallValue) (new old : ℕ) 
   not_begun fault.CannotHappen is = cannot v was value new old v.gateway fault.CannotHappen (stays fault.CannotHappen is)
   not_begun fault.NoMemory is = absurd is
 
-  pub begun_possible : (own : value.agent.call ≡ old) (s : Slot) → slot_in v.slots old ≡ Some s → has_ended v.script (agent_of s.agent) v.gateway.association ≡ true
+  pub begun_possible : (own : value.agent.call ≡ old) (s : CallRecord) → slot_in v.slots old ≡ Some s → has_ended v.script (agent_of s.agent) v.gateway.association ≡ true
       → CanBegin v.gateway old new (Ok tt) → CouldHappen v (next.Ended value) (begin new old)
   begun_possible own s there ended may = record {
     slot = s;

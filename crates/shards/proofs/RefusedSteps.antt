@@ -25,14 +25,14 @@ use Rattle.shards.specs.Shows.{Shows, ShowsCall}
 use Rattle.shards.specs.Slots.{CannotStep, IsDelivered}
 use Rattle.shards.specs.Stepping.{IsAtAgent}
 use Rattle.agent.specs.Advancing.{advancing}
-use Rattle.shards.specs.declared.slot.Slot.{Slot}
+use Rattle.shards.specs.declared.call_record.CallRecord.{CallRecord}
 
 -- what was sent is brought, but the call that is handed in can't take it
-abbrev pub ValueCannot : Next → CallEvent → Slot → Type 0
+abbrev pub ValueCannot : Next → CallEvent → CallRecord → Type 0
 ValueCannot old event s = (brought : Delivery) × IsDelivered s.messages.sent event (Some brought) × (advancing old brought ≡ None)
 
-module _ (script : Script) (w : World) (g : GatewayValue) (slot : ℕ → Option Slot) (shows : Shows w g slot) (numbered : IsNumbered w)
-    (call : ℕ) (s : Slot) (there : slot call ≡ Some s) where
+module _ (script : Script) (w : World) (g : GatewayValue) (slot : ℕ → Option CallRecord) (shows : Shows w g slot) (numbered : IsNumbered w)
+    (call : ℕ) (s : CallRecord) (there : slot call ≡ Some s) where
   abbrev own : ShowsCall w call s
   own = shows.calls call s there
 

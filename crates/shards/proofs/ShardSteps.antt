@@ -25,10 +25,10 @@ use Rattle.shards.specs.Shards.{CountsEvents, HasHappened, IsShard, IsUnchanged,
 use Rattle.shards.specs.Shows.{LeadsOn, Shows, ShowsCall, with_slot}
 use Rattle.shards.specs.Slots.{AreSettled, IsSameSlot, IsTied, request_in}
 use Rattle.shards.specs.SlotTable.{OthersStay, slot_in}
-use Rattle.shards.specs.declared.slot.Slot.{Slot}
+use Rattle.shards.specs.declared.call_record.CallRecord.{CallRecord}
 
 -- slots that are alike at each call are the same
-pub same_slots : {f g : ℕ → Option Slot} → ((n : ℕ) → f n ≡ g n) → f ≡ g
+pub same_slots : {f g : ℕ → Option CallRecord} → ((n : ℕ) → f n ≡ g n) → f ≡ g
 same_slots h = λ i n. h n i
 
 -- the calls that are open and those that are retired stay
@@ -41,7 +41,7 @@ keeps_all g = record { open_calls = λ call. refl; retired = λ call. refl }
 
 -- ---- an event happens
 
-module _ (old : ShardValue) (h : GatewayValue) (entries : List (ℕ × Option Slot)) (events : List Event) (call : ℕ) (happens : CallEvent) (s t : Slot)
+module _ (old : ShardValue) (h : GatewayValue) (entries : List (ℕ × Option CallRecord)) (events : List Event) (call : ℕ) (happens : CallEvent) (s t : CallRecord)
     (there : slot_in old.slots call ≡ Some s) (here : slot_in entries call ≡ Some t) (others : OthersStay old.slots call entries)
     (history : events ≡ old.history ++ OfCall (record { 0 = call }) happens ∷ []) where
   abbrev event : Event
@@ -62,7 +62,7 @@ module _ (old : ShardValue) (h : GatewayValue) (entries : List (ℕ × Option Sl
     same = record { script = refl; first = refl; stride = refl; calls = refl };
     history = history;
     worlds = λ w is. led_on old stepped event (record { script = refl; first = refl; stride = refl; calls = refl }) history w is
-        (subst (λ (slot : ℕ → Option Slot). LeadsOn old.script w event h slot) (sym slots_are) (leads w is));
+        (subst (λ (slot : ℕ → Option CallRecord). LeadsOn old.script w event h slot) (sym slots_are) (leads w is));
   }
 
   own_count : events_of call events ≡ events_of call old.history + 1
@@ -85,11 +85,11 @@ module _ (old : ShardValue) (h : GatewayValue) (entries : List (ℕ × Option Sl
         ∙ counts.unused c closed (sym (keeps.retired c) ∙ not_retired);
   }
     where
-      counted_at : (c : ℕ) (x : Slot) → slot_in entries c ≡ Some x → (test : Bool) → (c == call) ≡ test → x.events ≡ events_of c events
+      counted_at : (c : ℕ) (x : CallRecord) → slot_in entries c ≡ Some x → (test : Bool) → (c == call) ≡ test → x.events ≡ events_of c events
       counted_at c x is true same =
           let this : c ≡ call = eqb-true c call same in
           let was : t ≡ x = the_some t x (sym here ∙ ap (slot_in entries) (sym this) ∙ is) in
-          ap (λ (y : Slot). y.events) (sym was) ∙ one ∙ ap (λ n. n + 1) (counts.counted call s there) ∙ sym own_count ∙ ap (λ n. events_of n events) (sym this)
+          ap (λ (y : CallRecord). y.events) (sym was) ∙ one ∙ ap (λ n. n + 1) (counts.counted call s there) ∙ sym own_count ∙ ap (λ n. events_of n events) (sym this)
       counted_at c x is false other =
           let differs = eqb-false c call other in
           counts.counted c x (sym (others c differs) ∙ is) ∙ sym (other_count c differs)
@@ -97,7 +97,7 @@ module _ (old : ShardValue) (h : GatewayValue) (entries : List (ℕ × Option Sl
 -- ---- an event is refused
 
 -- a slot that is as it was shows its call as before
-pub same_shown : (w : World) (call : ℕ) (s t : Slot) → IsSameSlot s t → ShowsCall w call s → ShowsCall w call t
+pub same_shown : (w : World) (call : ℕ) (s t : CallRecord) → IsSameSlot s t → ShowsCall w call s → ShowsCall w call t
 same_shown w call s t same shows = record {
   agent = shows.agent ∙ ap (λ (a : Agent). Some a) (sym same.agent);
   requests = λ which. shows.requests which ∙ found which;
@@ -132,19 +132,19 @@ same_shown w call s t same shows = record {
     }
 
 -- the slot of each call is as it was
-abbrev pub AreSameSlots : List (ℕ × Option Slot) → List (ℕ × Option Slot) → Type 0
+abbrev pub AreSameSlots : List (ℕ × Option CallRecord) → List (ℕ × Option CallRecord) → Type 0
 AreSameSlots old new =
-    ((call : ℕ) (t : Slot) → slot_in new call ≡ Some t → (s : Slot) × (slot_in old call ≡ Some s) × IsSameSlot s t)
+    ((call : ℕ) (t : CallRecord) → slot_in new call ≡ Some t → (s : CallRecord) × (slot_in old call ≡ Some s) × IsSameSlot s t)
     × ((call : ℕ) → is_some (slot_in new call) ≡ is_some (slot_in old call))
 
-module _ (old : ShardValue) (h : GatewayValue) (entries : List (ℕ × Option Slot)) (same : IsSame old.gateway h) (slots : AreSameSlots old.slots entries) where
+module _ (old : ShardValue) (h : GatewayValue) (entries : List (ℕ × Option CallRecord)) (same : IsSame old.gateway h) (slots : AreSameSlots old.slots entries) where
   abbrev pub refused : ShardValue
   refused = record old { gateway = h; slots = entries }
 
   none_there : (call : ℕ) → slot_in entries call ≡ None → slot_in old.slots call ≡ None
   none_there call none = by_slot (slot_in old.slots call) refl
     where
-      by_slot : (o : Option Slot) → slot_in old.slots call ≡ o → o ≡ None
+      by_slot : (o : Option CallRecord) → slot_in old.slots call ≡ o → o ≡ None
       by_slot None is = refl
       by_slot (Some s) is = absurd (true≢false (ap is_some (sym is) ∙ sym (slots.1 call) ∙ ap is_some none))
 
@@ -172,14 +172,14 @@ module _ (old : ShardValue) (h : GatewayValue) (entries : List (ℕ × Option Sl
   }
 
 -- where one slot is as it was, and the others stay, each is
-pub one_same : (old new : List (ℕ × Option Slot)) (call : ℕ) (s t : Slot) → slot_in old call ≡ Some s → slot_in new call ≡ Some t → IsSameSlot s t
+pub one_same : (old new : List (ℕ × Option CallRecord)) (call : ℕ) (s t : CallRecord) → slot_in old call ≡ Some s → slot_in new call ≡ Some t → IsSameSlot s t
     → OthersStay old call new → AreSameSlots old new
 one_same old new call s t there here same others = (λ c x is. at c x is (c == call) refl, λ c. stands c (c == call) refl)
   where
-    same_as : (x : Slot) → IsSameSlot x x
+    same_as : (x : CallRecord) → IsSameSlot x x
     same_as x = record { agent = refl; sent = refl; events = refl; settled = inl refl }
 
-    at : (c : ℕ) (x : Slot) → slot_in new c ≡ Some x → (test : Bool) → (c == call) ≡ test → (y : Slot) × (slot_in old c ≡ Some y) × IsSameSlot y x
+    at : (c : ℕ) (x : CallRecord) → slot_in new c ≡ Some x → (test : Bool) → (c == call) ≡ test → (y : CallRecord) × (slot_in old c ≡ Some y) × IsSameSlot y x
     at c x is true this =
         let own : c ≡ call = eqb-true c call this in
         let was : t ≡ x = the_some t x (sym here ∙ ap (slot_in new) (sym own) ∙ is) in
@@ -212,10 +212,10 @@ shard_unchanged old new was unchanged counts = record {
 }
 
 -- where a call had no slot and has none, and the others stay, each is as it was
-pub none_same : (old new : List (ℕ × Option Slot)) (call : ℕ) → OthersStay old call new → slot_in old call ≡ None → slot_in new call ≡ None → AreSameSlots old new
+pub none_same : (old new : List (ℕ × Option CallRecord)) (call : ℕ) → OthersStay old call new → slot_in old call ≡ None → slot_in new call ≡ None → AreSameSlots old new
 none_same old new call others there here = (λ c x is. at c x is (c == call) refl, λ c. open_as c (c == call) refl)
   where
-    at : (c : ℕ) (x : Slot) → slot_in new c ≡ Some x → (test : Bool) → (c == call) ≡ test → (y : Slot) × (slot_in old c ≡ Some y) × IsSameSlot y x
+    at : (c : ℕ) (x : CallRecord) → slot_in new c ≡ Some x → (test : Bool) → (c == call) ≡ test → (y : CallRecord) × (slot_in old c ≡ Some y) × IsSameSlot y x
     at c x is true this = absurd (some_is_none x (sym is ∙ ap (slot_in new) (eqb-true c call this) ∙ here))
     at c x is false other = (x, sym (others c (eqb-false c call other)) ∙ is, record { agent = refl; sent = refl; events = refl; settled = inl refl })
 

@@ -30,7 +30,7 @@ use Rattle.shards.proofs.SettledNotes.{none_settled}
 use Rattle.shards.specs.Beginnings.{IsBegunSlot, has_ended}
 use Rattle.shards.specs.Shows.{LeadsOn, Shows, ShowsCall}
 use Rattle.shards.specs.Slots.{IsTied, request_in}
-use Rattle.shards.specs.declared.slot.Slot.{Slot}
+use Rattle.shards.specs.declared.call_record.CallRecord.{CallRecord}
 
 -- ---- numbers that were never used
 
@@ -82,8 +82,8 @@ no_reply first (Some n) = no_place first n
 
 -- ---- the world after it
 
-module _ (script : Script) (w : World) (g h : GatewayValue) (slot : ℕ → Option Slot) (shows : Shows w g slot) (numbered : IsNumbered w)
-    (old new : ℕ) (s : Slot) (there : slot old ≡ Some s) (b : IsBegun g old new h (Ok tt)) where
+module _ (script : Script) (w : World) (g h : GatewayValue) (slot : ℕ → Option CallRecord) (shows : Shows w g slot) (numbered : IsNumbered w)
+    (old new : ℕ) (s : CallRecord) (there : slot old ≡ Some s) (b : IsBegun g old new h (Ok tt)) where
   abbrev a : Agent
   a = agent_of s.agent
 
@@ -118,7 +118,7 @@ module _ (script : Script) (w : World) (g h : GatewayValue) (slot : ℕ → Opti
   none_of_new of number which xs other =
       same_found (λ x. is_of new which (of x) (number x)) (λ x. false) xs (λ x among. is_anothers new (of x) which (number x) (other x among)) ∙ none_found xs
 
-  module _ (ended : has_ended script a g.association ≡ true) (t : Slot) (x : IsBegunSlot script new s t) (slots : ℕ → Option Slot)
+  module _ (ended : has_ended script a g.association ≡ true) (t : CallRecord) (x : IsBegunSlot script new s t) (slots : ℕ → Option CallRecord)
       (slots_are : (c : ℕ) → slots c ≡ (if c == new then Some t else if c == old then None else slot c)) where
     requests_of_none : (which : Option ℕ) → request_in t which ≡ None
     requests_of_none which =
@@ -147,12 +147,12 @@ module _ (script : Script) (w : World) (g h : GatewayValue) (slot : ℕ → Opti
       tied = tied;
     }
 
-    other_shown : (c : ℕ) (y : Slot) → (c ≡ new → ⊥) → (c ≡ old → ⊥) → slot c ≡ Some y → ShowsCall after c y
+    other_shown : (c : ℕ) (y : CallRecord) → (c ≡ new → ⊥) → (c ≡ old → ⊥) → slot c ≡ Some y → ShowsCall after c y
     other_shown c y not_new not_old is =
         stays_shown w after c y (shows.calls c y is) (agent_other script w new old c a not_old not_new) (λ which. refl) (λ which. refl)
         (λ n among. among) (λ n among of_it. among) (ap (λ (link : CallLink). link.notes) (link_other w.gateway old new c not_old not_new))
 
-    calls : (c : ℕ) (y : Slot) → slots c ≡ Some y → ShowsCall after c y
+    calls : (c : ℕ) (y : CallRecord) → slots c ≡ Some y → ShowsCall after c y
     calls c y is = by_new (c == new) refl (sym (slots_are c) ∙ is)
       where
         by_old : (test : Bool) → (c == old) ≡ test → (c ≡ new → ⊥) → (if test then None else slot c) ≡ Some y → ShowsCall after c y
@@ -161,7 +161,7 @@ module _ (script : Script) (w : World) (g h : GatewayValue) (slot : ℕ → Opti
 
         by_new : (test : Bool) → (c == new) ≡ test → (if test then Some t else if c == old then None else slot c) ≡ Some y → ShowsCall after c y
         by_new true this at = subst (λ n. ShowsCall after n y) (sym (eqb-true c new this))
-            (subst (λ (z : Slot). ShowsCall after new z) (the_some t y at) new_shown)
+            (subst (λ (z : CallRecord). ShowsCall after new z) (the_some t y at) new_shown)
         by_new false other at = by_old (c == old) refl (eqb-false c new other) at
 
     no_others : (c : ℕ) → slots c ≡ None → after.agent c ≡ None

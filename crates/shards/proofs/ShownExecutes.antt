@@ -29,10 +29,10 @@ use Rattle.shards.proofs.ShownSteps.{each_slot, none_before, same_open}
 use Rattle.shards.proofs.SlotLemmas.{was_sent}
 use Rattle.shards.specs.Shows.{LeadsOn, Shows, ShowsCall, with_slot}
 use Rattle.shards.specs.Slots.{Executes, IsCounted, after_answer, is_event, request_in}
-use Rattle.shards.specs.declared.slot.Slot.{Slot}
+use Rattle.shards.specs.declared.call_record.CallRecord.{CallRecord}
 
-module _ (script : Script) (w : World) (g h : GatewayValue) (slot : ℕ → Option Slot) (shows : Shows w g slot)
-    (call number : ℕ) (refusal : Option ChosenRefusal) (s t : Slot) (there : slot call ≡ Some s)
+module _ (script : Script) (w : World) (g h : GatewayValue) (slot : ℕ → Option CallRecord) (shows : Shows w g slot)
+    (call number : ℕ) (refusal : Option ChosenRefusal) (s t : CallRecord) (there : slot call ≡ Some s)
     (request : Request) (sent : request_in s (Some number) ≡ Some request) where
   abbrev own : ShowsCall w call s
   own = shows.calls call s there
@@ -77,7 +77,7 @@ module _ (script : Script) (w : World) (g h : GatewayValue) (slot : ℕ → Opti
     abbrev repeated : World
     repeated = record w { replies = reply ∷ w.replies }
 
-    other_repeated : (c : ℕ) (x : Slot) → (c ≡ call → ⊥) → slot c ≡ Some x → ShowsCall repeated c x
+    other_repeated : (c : ℕ) (x : CallRecord) → (c ≡ call → ⊥) → slot c ≡ Some x → ShowsCall repeated c x
     other_repeated c x other is =
         stays_shown w repeated c x (shows.calls c x is) refl (λ which. refl) (other_replies c other) (λ n among. among) (λ n among of_it. among) refl
 
@@ -121,7 +121,7 @@ module _ (script : Script) (w : World) (g h : GatewayValue) (slot : ℕ → Opti
           ap (λ (x : Gateway). (x.link c).notes) e.after_is
           ∙ ap (λ (l : CallLink). l.notes) (at_another request.call c _ (w.gateway.link c) (λ same. other (same ∙ names.0)))
 
-      other_executed : (c : ℕ) (x : Slot) → (c ≡ call → ⊥) → slot c ≡ Some x → ShowsCall executed c x
+      other_executed : (c : ℕ) (x : CallRecord) → (c ≡ call → ⊥) → slot c ≡ Some x → ShowsCall executed c x
       other_executed c x other is =
           stays_shown w executed c x (shows.calls c x is) refl (λ which. refl) (other_replies c other)
           (λ n among. Contains-append_right notes w.notes n among) (λ n among of_it. not_added n of_it (Contains-append_cases notes w.notes n among)) (other_link c other)
@@ -201,8 +201,8 @@ module _ (script : Script) (w : World) (g h : GatewayValue) (slot : ℕ → Opti
   answered_shown numbered answer.NoMemory happens is counted = absurd (true≢false (sym happens))
 
 -- a request that reaches the gateway, as the slots and the gateway take it
-pub execute_shown : (script : Script) (w : World) (g h : GatewayValue) (slot : ℕ → Option Slot) → Shows w g slot → IsNumbered w
-    → (call number : ℕ) (refusal : Option ChosenRefusal) (s t : Slot) → slot call ≡ Some s → Executes g h call number refusal s t
+pub execute_shown : (script : Script) (w : World) (g h : GatewayValue) (slot : ℕ → Option CallRecord) → Shows w g slot → IsNumbered w
+    → (call number : ℕ) (refusal : Option ChosenRefusal) (s t : CallRecord) → slot call ≡ Some s → Executes g h call number refusal s t
     → LeadsOn script w (execute call number refusal) h (with_slot slot call t)
 execute_shown script w g h slot shows numbered call number refusal s t there x =
     answered_shown script w g h slot shows call number refusal s t there x.request x.sent numbered x.told x.happens x.answered x.counted

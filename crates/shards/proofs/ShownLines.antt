@@ -20,10 +20,10 @@ use Rattle.shards.proofs.OtherCalls.{stays_shown}
 use Rattle.shards.proofs.ShownSteps.{each_slot, none_before, same_open}
 use Rattle.shards.specs.Shows.{LeadsOn, Shows, ShowsCall, with_slot}
 use Rattle.shards.specs.Slots.{HappensOn}
-use Rattle.shards.specs.declared.slot.Slot.{Slot}
+use Rattle.shards.specs.declared.call_record.CallRecord.{CallRecord}
 
-module _ (script : Script) (w : World) (g h : GatewayValue) (slot : ℕ → Option Slot) (shows : Shows w g slot)
-    (call line : ℕ) (event : LineEvent) (s t : Slot) (there : slot call ≡ Some s) (x : HappensOn g h call line event s t) where
+module _ (script : Script) (w : World) (g h : GatewayValue) (slot : ℕ → Option CallRecord) (shows : Shows w g slot)
+    (call line : ℕ) (event : LineEvent) (s t : CallRecord) (there : slot call ≡ Some s) (x : HappensOn g h call line event s t) where
   abbrev own : ShowsCall w call s
   own = shows.calls call s there
 
@@ -59,7 +59,7 @@ module _ (script : Script) (w : World) (g h : GatewayValue) (slot : ℕ → Opti
       ap (λ (g : Gateway). (g.link c).notes) happens.after_is
       ∙ ap (λ (l : CallLink). l.notes) (at_another happens.call c _ (w.gateway.link c) (λ same. other (same ∙ to_call)))
 
-  other_shown : (c : ℕ) (y : Slot) → (c ≡ call → ⊥) → slot c ≡ Some y → ShowsCall after c y
+  other_shown : (c : ℕ) (y : CallRecord) → (c ≡ call → ⊥) → slot c ≡ Some y → ShowsCall after c y
   other_shown c y other is =
       stays_shown w after c y (shows.calls c y is) refl (λ which. refl) (λ which. refl)
       (λ n among. Contains-append_right new w.notes n among) (λ n among of_it. not_added n of_it (Contains-append_cases new w.notes n among)) (other_link c other)

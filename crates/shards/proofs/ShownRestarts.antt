@@ -10,9 +10,9 @@ use Rattle.gateway.specs.Answers.{IsNext}
 use Rattle.gateway.specs.GatewayValue.{GatewayValue, gateway_of}
 use Rattle.shards.proofs.OtherCalls.{stays_shown}
 use Rattle.shards.specs.Shows.{LeadsOn, Shows}
-use Rattle.shards.specs.declared.slot.Slot.{Slot}
+use Rattle.shards.specs.declared.call_record.CallRecord.{CallRecord}
 
-pub restart_shown : (script : Script) (w : World) (g h : GatewayValue) (slot : ℕ → Option Slot) (association : ℕ) → Shows w g slot → IsNext g h association
+pub restart_shown : (script : Script) (w : World) (g h : GatewayValue) (slot : ℕ → Option CallRecord) (association : ℕ) → Shows w g slot → IsNext g h association
     → LeadsOn script w Restart h slot
 unfolding gateway_of
 restart_shown script w g h slot association shows next = record {

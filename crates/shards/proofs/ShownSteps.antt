@@ -17,19 +17,19 @@ use Rattle.shards.proofs.AgentSteps.{is_event, shows_after, stepped_next}
 use Rattle.shards.proofs.OtherCalls.{others_added, stays_shown}
 use Rattle.shards.specs.Shows.{IsTold, LeadsOn, Shows, ShowsCall, with_slot}
 use Rattle.shards.specs.Slots.{Steps}
-use Rattle.shards.specs.declared.slot.Slot.{Slot}
+use Rattle.shards.specs.declared.call_record.CallRecord.{CallRecord}
 
 -- what holds of the slot that was put in the place of a call, and of every other, holds of each
-pub each_slot : (slot : ℕ → Option Slot) (call : ℕ) (t : Slot) (P : ℕ → Slot → Type 0) → P call t
-    → ((c : ℕ) (s : Slot) → (c ≡ call → ⊥) → slot c ≡ Some s → P c s) → (c : ℕ) (s : Slot) → with_slot slot call t c ≡ Some s → P c s
+pub each_slot : (slot : ℕ → Option CallRecord) (call : ℕ) (t : CallRecord) (P : ℕ → CallRecord → Type 0) → P call t
+    → ((c : ℕ) (s : CallRecord) → (c ≡ call → ⊥) → slot c ≡ Some s → P c s) → (c : ℕ) (s : CallRecord) → with_slot slot call t c ≡ Some s → P c s
 each_slot slot call t P here others c s is = by_test (c == call) refl is
   where
     by_test : (test : Bool) → (c == call) ≡ test → (if test then Some t else slot c) ≡ Some s → P c s
-    by_test true same at = subst (λ (x : Slot). P c x) (the_some t s at) (subst (λ n. P n t) (sym (eqb-true c call same)) here)
+    by_test true same at = subst (λ (x : CallRecord). P c x) (the_some t s at) (subst (λ n. P n t) (sym (eqb-true c call same)) here)
     by_test false other at = others c s (eqb-false c call other) at
 
 -- a call that was open is open still
-pub same_open : (slot : ℕ → Option Slot) (call : ℕ) (s t : Slot) → slot call ≡ Some s → (c : ℕ) → is_some (slot c) ≡ is_some (with_slot slot call t c)
+pub same_open : (slot : ℕ → Option CallRecord) (call : ℕ) (s t : CallRecord) → slot call ≡ Some s → (c : ℕ) → is_some (slot c) ≡ is_some (with_slot slot call t c)
 same_open slot call s t there c = by_test (c == call) refl
   where
     by_test : (test : Bool) → (c == call) ≡ test → is_some (slot c) ≡ is_some (if test then Some t else slot c)
@@ -37,22 +37,22 @@ same_open slot call s t there c = by_test (c == call) refl
     by_test false other = refl
 
 -- a call of which there is no slot now had none before
-pub none_before : (slot : ℕ → Option Slot) (call : ℕ) (t : Slot) (c : ℕ) → with_slot slot call t c ≡ None → (c ≡ call → ⊥) × (slot c ≡ None)
+pub none_before : (slot : ℕ → Option CallRecord) (call : ℕ) (t : CallRecord) (c : ℕ) → with_slot slot call t c ≡ None → (c ≡ call → ⊥) × (slot c ≡ None)
 none_before slot call t c none = by_test (c == call) refl none
   where
     by_test : (test : Bool) → (c == call) ≡ test → (if test then Some t else slot c) ≡ None → (c ≡ call → ⊥) × (slot c ≡ None)
     by_test true same is = absurd (some_is_none t is)
     by_test false other is = (eqb-false c call other, is)
 
-module _ (script : Script) (w : World) (g : GatewayValue) (slot : ℕ → Option Slot) (shows : Shows w g slot) (numbered : IsNumbered w)
-    (call : ℕ) (s t : Slot) (there : slot call ≡ Some s) (old new : Next) (event : CallEvent) (steps : Steps script old event s t new) where
+module _ (script : Script) (w : World) (g : GatewayValue) (slot : ℕ → Option CallRecord) (shows : Shows w g slot) (numbered : IsNumbered w)
+    (call : ℕ) (s t : CallRecord) (there : slot call ≡ Some s) (old new : Next) (event : CallEvent) (steps : Steps script old event s t new) where
   abbrev after : World
   after = agent_steps w call (agent_of t.agent)
 
   goes : GoesOn (agent_of s.agent).call (agent_of s.agent).next (agent_of s.agent).lines (agent_of t.agent)
   goes = stepped_next script (agent_of s.agent) steps.brought (agent_of t.agent) steps.steps
 
-  other_shown : (c : ℕ) (x : Slot) → (c ≡ call → ⊥) → slot c ≡ Some x → ShowsCall after c x
+  other_shown : (c : ℕ) (x : CallRecord) → (c ≡ call → ⊥) → slot c ≡ Some x → ShowsCall after c x
   other_shown c x other is =
       stays_shown w after c x (shows.calls c x is) (at_another call c (Some (agent_of t.agent)) (w.agent c) other)
       (λ which. others_added (λ (r : Request). r.call) (λ (r : Request). r.number) c which (sent_in (agent_of t.agent).phase) w.requests

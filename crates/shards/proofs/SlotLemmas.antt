@@ -14,7 +14,7 @@ use Rattle.agent.specs.AgentValue.{agent_of}
 use Rattle.call_messages.proofs.NumberLemmas.{request_found}
 use Rattle.call_messages.specs.Messages.{IsNextOver, Messages, MessagesValue, WasSent, placed}
 use Rattle.shards.specs.Slots.{IsTied, request_in, requests_of}
-use Rattle.shards.specs.declared.slot.Slot.{Slot}
+use Rattle.shards.specs.declared.call_record.CallRecord.{CallRecord}
 
 -- what an agent awaits has the number after the requests that are awaited no more
 pub next_over : (m : Messages) (phase : Phase) → ((r : Request) → Contains (sent_in phase) r → r.number ≡ m.first + length m.requests)
@@ -61,7 +61,7 @@ placed_within first xs n x is = by_order (nat_le first n) refl is
     by_order false earlier got = absurd (none_is_some x got)
 
 -- a request that is found by its number has it, and was sent
-pub was_sent : (s : Slot) → IsTied s → (number : ℕ) (request : Request) → request_in s (Some number) ≡ Some request
+pub was_sent : (s : CallRecord) → IsTied s → (number : ℕ) (request : Request) → request_in s (Some number) ≡ Some request
     → (request.number ≡ number) × WasSent s.messages.sent number
 was_sent s tied number request is = (
   eqb-true request.number number (found_fits (λ (r : Request). r.number == number) (requests_of s) request is),
@@ -93,7 +93,7 @@ was_sent s tied number request is = (
     by_phase resting awaited places found = kept_before (omega (arith, places)) found
 
 -- a request that is found once more, when there is more room
-pub found_again : (s : Slot) (m : MessagesValue) (number : ℕ) (found : Option (Bor Request)) (request : Bor Request) → m.sent ≡ s.messages.sent
+pub found_again : (s : CallRecord) (m : MessagesValue) (number : ℕ) (found : Option (Bor Request)) (request : Bor Request) → m.sent ≡ s.messages.sent
     → option_map (λ r. r.now) found ≡ request_in (record s { messages = m }) (Some number) → found ≡ Some request
     → request_in s (Some number) ≡ Some request.now
 found_again s m number found request same told is =

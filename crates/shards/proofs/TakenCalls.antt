@@ -32,7 +32,7 @@ use Rattle.shards.specs.SlotTable.{slot_in}
 use Rattle.shards.specs.declared.fault.OpenFault as shard_fault
 use Rattle.shards.specs.declared.fault.OpenFault.TheVariants as why_not
 use Rattle.shards.specs.declared.opened.OpenedCall.{OpenedCall}
-use Rattle.shards.specs.declared.slot.Slot.{Slot}
+use Rattle.shards.specs.declared.call_record.CallRecord.{CallRecord}
 
 -- ---- lists
 
@@ -128,7 +128,7 @@ one_more_has_all script calls one have has other among = elim (Contains-append_c
   | inr here ↦ subst (λ (x : OpenedCall). length x.lines.items ≡ length script.lines) (only_one one other here) has
 ]
 
-module _ (script : Script) (calls : List OpenedCall) (first stride : ℕ) (g : GatewayValue) (entries : List (ℕ × Option Slot))
+module _ (script : Script) (calls : List OpenedCall) (first stride : ℕ) (g : GatewayValue) (entries : List (ℕ × Option CallRecord))
     (x : AreOpenedOn script calls first stride g entries) (have : HaveAllLines script calls) (one : OpenedCall)
     (there : (l : ℕ) → names_line one.lines.items l ≡ true → has_line (gateway_of g).board l ≡ true) where
   abbrev system : System
@@ -151,10 +151,10 @@ module _ (script : Script) (calls : List OpenedCall) (first stride : ℕ) (g : G
     | inr retired ↦ absurd (true≢false (sym retired ∙ ap (λ (of : ℕ → Bool). of one.call.0) o.is_opening.gateway.none_retired))
   ]
     where
-      by_slot : (slot : Option Slot) → slot_in entries one.call.0 ≡ slot → is_some (option_map (call_of script) (slot_in entries one.call.0)) ≡ true → Taken
-      by_slot None at there = absurd (true≢false (sym there ∙ ap (λ (s : Option Slot). is_some (option_map (call_of script) s)) at))
+      by_slot : (slot : Option CallRecord) → slot_in entries one.call.0 ≡ slot → is_some (option_map (call_of script) (slot_in entries one.call.0)) ≡ true → Taken
+      by_slot None at there = absurd (true≢false (sym there ∙ ap (λ (s : Option CallRecord). is_some (option_map (call_of script) s)) at))
       by_slot (Some t) at there =
-          let opening = o.is_opening.agents.no_other one.call.0 (agent_of t.agent) (ap (λ (s : Option Slot). option_map agent_in (option_map (call_of script) s)) at) in
+          let opening = o.is_opening.agents.no_other one.call.0 (agent_of t.agent) (ap (λ (s : Option CallRecord). option_map agent_in (option_map (call_of script) s)) at) in
           let earlier = is_before opening.0 opening.1 in
           inl (earlier.0, earlier.1.0, inl (ap (λ (of : Opened). of.call) earlier.1.1 ∙ opening.2))
 
@@ -229,7 +229,7 @@ parts_at : (calls : List OpenedCall) (i : ℕ) (one : OpenedCall) → take i cal
 parts_at calls i one here =
     sym (take-append-drop (i + 1) calls) ∙ ap (λ front. front ++ drop (i + 1) calls) (sym here) ∙ append_assoc (take i calls) (one ∷ []) (drop (i + 1) calls)
 
-module _ (script : Script) (calls : List OpenedCall) (i : ℕ) (first stride : ℕ) (g h : GatewayValue) (old new : List (ℕ × Option Slot)) (one : OpenedCall)
+module _ (script : Script) (calls : List OpenedCall) (i : ℕ) (first stride : ℕ) (g h : GatewayValue) (old new : List (ℕ × Option CallRecord)) (one : OpenedCall)
     (among : Contains calls one) (here : take i calls ++ one ∷ [] ≡ take (i + 1) calls) (x : AreOpenedOn script (take i calls) first stride g old)
     (have : HaveAllLines script (take i calls)) (there : AreThere calls (gateway_of g)) where
   pub not_opened : (why : shard_fault.OpenFault) → IsOpenedOne script g h old new one (Err why) → AreOpenedSlots script calls first stride (Err why)

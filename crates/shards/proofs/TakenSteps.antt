@@ -27,7 +27,7 @@ use Rattle.shards.specs.SlotTable.{IsReady, CountsNotes, OthersStay, StepsIn, ev
 use Rattle.shards.specs.Slots.{IsStepped, Steps}
 use Rattle.shards.specs.Stepping.{CannotOccur, HasStepped, IsAtAgent, IsRefusedStep, IsSameNext, call_in, is_beginning}
 use Rattle.agent.specs.Advancing.{event_of}
-use Rattle.shards.specs.declared.slot.Slot.{Slot}
+use Rattle.shards.specs.declared.call_record.CallRecord.{CallRecord}
 
 -- ---- what a slot is fit for
 
@@ -50,7 +50,7 @@ counts_notes v is call s there =
     ap (λ (g : Gateway). (g.link call).notes) (sym is.is_world.shows.gateway) ∙ (is.is_world.shows.calls call s there).counted
 
 -- a call that has a slot is open
-pub stands : (v : ShardValue) → IsShard v → (call : ℕ) (s : Slot) → slot_in v.slots call ≡ Some s → is_open v.gateway call ≡ true
+pub stands : (v : ShardValue) → IsShard v → (call : ℕ) (s : CallRecord) → slot_in v.slots call ≡ Some s → is_open v.gateway call ≡ true
 stands v is call s there = is.is_world.shows.open_calls call ∙ ap is_some there
 
 -- ---- what an agent is told
@@ -115,7 +115,7 @@ no_beginning call to_call.Timer is = refl
 no_beginning call (to_call.Hear association) is = refl
 
 module _ (old : ShardValue) (was : IsShard old) (call : ℕ) (next after : Next) (own : call_in next ≡ call) (event : CallEvent) (of_agent : IsAtAgent event)
-    (entries : List (ℕ × Option Slot)) (others : OthersStay old.slots call entries) where
+    (entries : List (ℕ × Option CallRecord)) (others : OthersStay old.slots call entries) where
   abbrev named : Event
   named = OfCall (record { 0 = call }) event
 
@@ -123,7 +123,7 @@ module _ (old : ShardValue) (was : IsShard old) (call : ℕ) (next after : Next)
     abbrev later : ShardValue
     later = record old { slots = entries; history = events }
 
-    taken : (s t : Slot) → slot_in old.slots call ≡ Some s → slot_in entries call ≡ Some t → Steps old.script next event s t after
+    taken : (s t : CallRecord) → slot_in old.slots call ≡ Some s → slot_in entries call ≡ Some t → Steps old.script next event s t after
         → IsShard later × HasStepped old later next after named
     taken s t there here steps =
         let happened : HasHappened old later named = step_happened old old.gateway entries events call event s t there here others history
@@ -146,7 +146,7 @@ module _ (old : ShardValue) (was : IsShard old) (call : ℕ) (next after : Next)
     pub agent_taken : StepsIn old.script next event (slot_in old.slots call) (slot_in entries call) after (Ok tt) → IsShard later × HasStepped old later next after named
     agent_taken steps = by_slot (slot_in old.slots call) refl steps
       where
-        by_slot : (o : Option Slot) → slot_in old.slots call ≡ o → StepsIn old.script next event o (slot_in entries call) after (Ok tt)
+        by_slot : (o : Option CallRecord) → slot_in old.slots call ≡ o → StepsIn old.script next event o (slot_in entries call) after (Ok tt)
             → IsShard later × HasStepped old later next after named
         by_slot None there is = absurd (let told_so = is.1 in cc)
         by_slot (Some s) there is = taken s is.0 there is.1 is.2
@@ -160,7 +160,7 @@ module _ (old : ShardValue) (was : IsShard old) (call : ℕ) (next after : Next)
       let stays : IsUnchanged old back = step_refused old old.gateway entries same slots in
       (shard_unchanged old back was stays (refused_counts old old.gateway entries same slots was.counts), stays)
 
-  refused : (s t : Slot) → slot_in old.slots call ≡ Some s → slot_in entries call ≡ Some t → (why : Refusal) → IsStepped old.script next event s t after (Err why)
+  refused : (s t : CallRecord) → slot_in old.slots call ≡ Some s → slot_in entries call ≡ Some t → (why : Refusal) → IsStepped old.script next event s t after (Err why)
       → IsShard back × (IsRefusedStep old next named why × (IsUnchanged old back × IsSameNext next after))
   refused s t there here NotEnabled is =
       let both = unchanged (one_same old.slots entries call s t there here is.1 others) in
@@ -186,7 +186,7 @@ module _ (old : ShardValue) (was : IsShard old) (call : ℕ) (next after : Next)
           let both = unchanged (none_same old.slots entries call others there here) in
           (both.0, (subst (λ (x : Refusal). IsRefusedStep old next named x) is (inr (ap (slot_in old.slots) own ∙ there)), (both.1, back_as next after same)))
 
-      by_slot : (o : Option Slot) → slot_in old.slots call ≡ o → StepsIn old.script next event o (slot_in entries call) after (Err why)
+      by_slot : (o : Option CallRecord) → slot_in old.slots call ≡ o → StepsIn old.script next event o (slot_in entries call) after (Err why)
           → IsShard back × (IsRefusedStep old next named why × (IsUnchanged old back × IsSameNext next after))
       by_slot None there is = no_slot why there is.0 (let same = is.1 in cc) is.2
       by_slot (Some s) there is = refused s is.0 there is.1 why is.2
@@ -194,7 +194,7 @@ module _ (old : ShardValue) (was : IsShard old) (call : ℕ) (next after : Next)
 -- ---- the same with what is left of the old shard beside it
 
 pub agent_back : (old v : ShardValue) → old ≡ v → IsShard old → (call : ℕ) (next after : Next) → call_in next ≡ call → (event : CallEvent) → IsAtAgent event
-    → (entries : List (ℕ × Option Slot)) → OthersStay old.slots call entries → (events : List Event) → events ≡ old.history → (why : Refusal)
+    → (entries : List (ℕ × Option CallRecord)) → OthersStay old.slots call entries → (events : List Event) → events ≡ old.history → (why : Refusal)
     → StepsIn old.script next event (slot_in old.slots call) (slot_in entries call) after (Err why)
     → IsShard (record old { slots = entries; history = events }) × (IsRefusedStep v next (OfCall (record { 0 = call }) event) why
     × (IsUnchanged v (record old { slots = entries; history = events }) × IsSameNext next after))
@@ -206,7 +206,7 @@ agent_back old v is was call next after own event of_agent entries others events
     (agent_refused old was call next after own event of_agent entries others why steps))
 
 pub agent_forward : (old v : ShardValue) → old ≡ v → IsShard old → (call : ℕ) (next after : Next) → call_in next ≡ call → (event : CallEvent) → IsAtAgent event
-    → (entries : List (ℕ × Option Slot)) → OthersStay old.slots call entries → is_told old.gateway.association event ≡ true
+    → (entries : List (ℕ × Option CallRecord)) → OthersStay old.slots call entries → is_told old.gateway.association event ≡ true
     → (events : List Event) → events ≡ old.history ++ OfCall (record { 0 = call }) event ∷ []
     → StepsIn old.script next event (slot_in old.slots call) (slot_in entries call) after (Ok tt)
     → IsShard (record old { slots = entries; history = events })

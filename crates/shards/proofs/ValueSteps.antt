@@ -27,7 +27,7 @@ use Rattle.shards.specs.Shows.{ShowsCall}
 use Rattle.shards.specs.Slots.{IsDelivered}
 use Rattle.shards.specs.Stepping.{ValueGoes, call_in, is_at_rest, is_waiting}
 use Rattle.agent.specs.Advancing.{advancing, event_of, takes}
-use Rattle.shards.specs.declared.slot.Slot.{Slot}
+use Rattle.shards.specs.declared.call_record.CallRecord.{CallRecord}
 
 -- ---- which kind takes what
 
@@ -72,7 +72,7 @@ taken next brought a is = by_test (takes (variant_of next) brought) refl is
 not_taken : (next : Next) (brought : Delivery) → advancing next brought ≡ None → takes (variant_of next) brought ≡ true → stepped next brought ≡ None
 not_taken next brought none may = sym (ap (λ test. if test then stepped next brought else None) may) ∙ none
 
-module _ (w : World) (call : ℕ) (s : Slot) (shows : ShowsCall w call s) (next : Next) (own : call ≡ call_in next) where
+module _ (w : World) (call : ℕ) (s : CallRecord) (shows : ShowsCall w call s) (next : Next) (own : call ≡ call_in next) where
   abbrev kind : Kind
   kind = variant_of next
 

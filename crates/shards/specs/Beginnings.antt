@@ -17,7 +17,7 @@ use Rattle.agent.specs.declared.refusal.Refusal.{Refusal}
 use Rattle.agent.specs.declared.refusal.Refusal.TheVariants.{NotEnabled, NoMemory}
 use Rattle.call_messages.specs.Messages.{none_sent}
 use Rattle.shards.specs.SlotTable.{slot_in}
-use Rattle.shards.specs.declared.slot.Slot.{Slot}
+use Rattle.shards.specs.declared.call_record.CallRecord.{CallRecord}
 use Rattle.shards.specs.declared.stepped.Stepped.{Stepped}
 use Rattle.shards.specs.declared.stepped.Stepped.TheVariants.{Begun}
 
@@ -36,19 +36,19 @@ refusal_of fault.NoMemory = NoMemory
 -- ---- the slots
 
 -- a call has an entry, if only an empty one
-unfoldable pub has_entry : List (ℕ × Option Slot) → ℕ → Bool
+unfoldable pub has_entry : List (ℕ × Option CallRecord) → ℕ → Bool
 has_entry slots call = is_some (lookup (is_at (nat_cmp call)) slots)
 
 -- the slot of the call that began: its beginning is the one event, nothing was sent, and no note is settled
-pub record IsBegunSlot (script : Script) (call : ℕ) (old new : Slot) : Type 0 where
+pub record IsBegunSlot (script : Script) (call : ℕ) (old new : CallRecord) : Type 0 where
   pub agent : agent_of new.agent ≡ begun script call (agent_of old.agent)
   pub events : new.events ≡ 1
   pub sent : new.messages.sent ≡ none_sent (agent_of old.agent).next
   pub settled : new.settled ≡ 0
 
 -- the new call has its slot in place of the old one's, which has none
-pub record HandsOver (script : Script) (old new : List (ℕ × Option Slot)) (from call : ℕ) (s : Slot) : Type 0 where
-  pub slot : Slot
+pub record HandsOver (script : Script) (old new : List (ℕ × Option CallRecord)) (from call : ℕ) (s : CallRecord) : Type 0 where
+  pub slot : CallRecord
   pub begun_slot : IsBegunSlot script call s slot
   pub slots : (c : ℕ) → slot_in new c ≡ (if c == call then Some slot else if c == from then None else slot_in old c)
 

@@ -23,7 +23,7 @@ use Rattle.shards.specs.Shards.{ShardValue}
 use Rattle.shards.specs.Shows.{is_told}
 use Rattle.shards.specs.Slots.{CannotExecute, CannotHappenOn, CannotStep, IsDelivered, request_in}
 use Rattle.shards.specs.SlotTable.{slot_in}
-use Rattle.shards.specs.declared.slot.Slot.{Slot}
+use Rattle.shards.specs.declared.call_record.CallRecord.{CallRecord}
 
 -- ---- each kind of event
 
@@ -33,20 +33,20 @@ pub record CouldHappenOn (g : GatewayValue) (call line : ℕ) (event : LineEvent
   pub can : CanOccur g line event
 
 -- a request that reaches the gateway: it was sent, and the numbers of notes have room for it
-pub record CouldExecute (g : GatewayValue) (number : ℕ) (s : Slot) : Type 0 where
+pub record CouldExecute (g : GatewayValue) (number : ℕ) (s : CallRecord) : Type 0 where
   pub request : Request
   pub sent : request_in s (Some number) ≡ Some request
   pub room : HasNoRoom (gateway_of g) request → ⊥
 
 -- at the agent: what it brings was sent, and the slot's agent and the call that is handed in can both take it
-pub record CouldStep (script : Script) (next : Next) (event : CallEvent) (s : Slot) : Type 0 where
+pub record CouldStep (script : Script) (next : Next) (event : CallEvent) (s : CallRecord) : Type 0 where
   pub brought : Delivery
   pub delivered : IsDelivered s.messages.sent event (Some brought)
   pub by_slot : is_some (stepped_by script (agent_of s.agent) brought) ≡ true
   pub by_call : is_some (advancing next brought) ≡ true
 
 -- a beginning: the call that is handed in has ended, the slot's has in the gateway's association, and the gateway lets the new one begin
-pub record CouldBegin (script : Script) (g : GatewayValue) (next : Next) (old new : ℕ) (s : Slot) : Type 0 where
+pub record CouldBegin (script : Script) (g : GatewayValue) (next : Next) (old new : ℕ) (s : CallRecord) : Type 0 where
   pub kind : variant_of next ≡ ended_kind
   pub ended : has_ended script (agent_of s.agent) g.association ≡ true
   pub may : CanBegin g old new (Ok tt)
@@ -54,7 +54,7 @@ pub record CouldBegin (script : Script) (g : GatewayValue) (next : Next) (old ne
 -- ---- an event
 
 -- it is one of the call that is handed in, of which this is the slot, and could happen
-abbrev pub CouldHappenTo : ShardValue → Next → Slot → Event → Type 0
+abbrev pub CouldHappenTo : ShardValue → Next → CallRecord → Event → Type 0
 CouldHappenTo v next s (OfCall call (to_call.OnLine line happens)) =
     (call.0 ≡ (value_of next).agent.call) × CouldHappenOn v.gateway call.0 line.0 happens
 CouldHappenTo v next s (OfCall call (to_call.Execute number chosen)) = (call.0 ≡ (value_of next).agent.call) × CouldExecute v.gateway number s
@@ -64,14 +64,14 @@ CouldHappenTo v next s (OfCall call event) =
 CouldHappenTo v next s Restart = ⊥
 
 pub record CouldHappen (v : ShardValue) (next : Next) (event : Event) : Type 0 where
-  pub slot : Slot
+  pub slot : CallRecord
   pub held : slot_in v.slots (value_of next).agent.call ≡ Some slot
   pub could : CouldHappenTo v next slot event
 
 -- ---- how it is asked
 
 -- the slot of the call that is handed in, where that is the call of the event
-abbrev pub HasOwnSlot : ShardValue → Next → (call : ℕ) → Option Slot → Type 0
+abbrev pub HasOwnSlot : ShardValue → Next → (call : ℕ) → Option CallRecord → Type 0
 HasOwnSlot v next call (Some s) = (call ≡ (value_of next).agent.call) × (slot_in v.slots call ≡ Some s)
 HasOwnSlot v next call None = (call ≡ (value_of next).agent.call → ⊥) ⊎ (slot_in v.slots (value_of next).agent.call ≡ None)
 
@@ -81,16 +81,16 @@ IsPossibleOn g call line event true = CouldHappenOn g call line event
 IsPossibleOn g call line event false = CannotHappenOn g call line event
 
 -- a request
-pub record IsExecutable (g : GatewayValue) (call number : ℕ) (s : Slot) : Type 0 where
+pub record IsExecutable (g : GatewayValue) (call number : ℕ) (s : CallRecord) : Type 0 where
   pub request : Request
   pub sent : request_in s (Some number) ≡ Some request
   pub can : CanExecute g call request true
 
-abbrev pub IsPossibleRequest : GatewayValue → (call number : ℕ) → Slot → Bool → Type 0
+abbrev pub IsPossibleRequest : GatewayValue → (call number : ℕ) → CallRecord → Bool → Type 0
 IsPossibleRequest g call number s true = IsExecutable g call number s
 IsPossibleRequest g call number s false = CannotExecute g number s
 
 -- at the agent
-abbrev pub IsPossibleStep : Script → Next → CallEvent → Slot → Bool → Type 0
+abbrev pub IsPossibleStep : Script → Next → CallEvent → CallRecord → Bool → Type 0
 IsPossibleStep script next event s true = CouldStep script next event s
 IsPossibleStep script next event s false = CannotStep script next event s

@@ -17,21 +17,21 @@ use Rattle.agent.specs.AgentValue.{agent_of}
 use Rattle.call_messages.specs.Messages.{AreNumberedFrom, note_numbers, reply_for}
 use Rattle.shards.specs.Shards.{IsWorldOf, ShardValue}
 use Rattle.shards.specs.Slots.{IsSameSlot, IsTied, request_in}
-use Rattle.shards.specs.declared.slot.Slot.{Slot}
+use Rattle.shards.specs.declared.call_record.CallRecord.{CallRecord}
 
 -- ---- of a slot
 
 -- an event of a line of the script
-abbrev pub on_slot : Slot → (line : ℕ) → LineEvent → Event
+abbrev pub on_slot : CallRecord → (line : ℕ) → LineEvent → Event
 on_slot s line event = on_a_line (agent_of s.agent).call ((agent_of s.agent).lines line) event
 
 -- the note of this number, or the oldest that waits for the agent
-abbrev pub note_in : Slot → Option ℕ → Option SentNote
+abbrev pub note_in : CallRecord → Option ℕ → Option SentNote
 note_in s None = find (is_waiting (agent_of s.agent)) s.messages.sent.notes
 note_in s (Some n) = find (λ (m : SentNote). m.number == n) s.messages.sent.notes
 
 -- the event that a step means for the call of a slot, where the gateway is in this association and the next call to begin has this number
-abbrev pub event_in : Slot → (association next : ℕ) → PlanStep → Option Event
+abbrev pub event_in : CallRecord → (association next : ℕ) → PlanStep → Option Event
 event_in s association next (GoesOff l) = Some (on_slot s l (Hook Off))
 event_in s association next (GoesOn l) = Some (on_slot s l (Hook On))
 event_in s association next (Flashes l) = Some (on_slot s l Flash)
@@ -49,22 +49,22 @@ event_in s association next Begins = Some (begin next (agent_of s.agent).call)
 event_in s association next Restarts = Some Restart
 
 -- and that of a call that may have no slot: then it means nothing
-abbrev pub event_of_entry : Option Slot → (association next : ℕ) → PlanStep → Option Event
+abbrev pub event_of_entry : Option CallRecord → (association next : ℕ) → PlanStep → Option Event
 event_of_entry None association next step = None
 event_of_entry (Some s) association next step = event_in s association next step
 
 -- the slot, if there is one, is tied
-abbrev pub IsTiedEntry : Option Slot → Type 0
-IsTiedEntry entry = (s : Slot) → entry ≡ Some s → IsTied s
+abbrev pub IsTiedEntry : Option CallRecord → Type 0
+IsTiedEntry entry = (s : CallRecord) → entry ≡ Some s → IsTied s
 
 -- its notes are numbered from 1
-abbrev pub HasNumberedNotes : Option Slot → Type 0
-HasNumberedNotes entry = (s : Slot) → entry ≡ Some s → AreNumberedFrom 1 (note_numbers s.messages.sent.notes)
+abbrev pub HasNumberedNotes : Option CallRecord → Type 0
+HasNumberedNotes entry = (s : CallRecord) → entry ≡ Some s → AreNumberedFrom 1 (note_numbers s.messages.sent.notes)
 
 -- it stays, but for how many notes are counted as settled
-abbrev pub IsSameEntry : Option Slot → Option Slot → Type 0
+abbrev pub IsSameEntry : Option CallRecord → Option CallRecord → Type 0
 IsSameEntry None new = new ≡ None
-IsSameEntry (Some s) new = (t : Slot) × (new ≡ Some t) × IsSameSlot s t
+IsSameEntry (Some s) new = (t : CallRecord) × (new ≡ Some t) × IsSameSlot s t
 
 -- ---- of a world
 

@@ -25,7 +25,7 @@ use Rattle.shards.specs.declared.fault.OpenFault.{OpenFault}
 use Rattle.shards.specs.declared.fault.OpenFault.TheVariants.{WrongLines, Taken, NoMemory}
 use Rattle.shards.specs.declared.opening.Opened as opening
 use Rattle.shards.specs.declared.opened.OpenedCall.{OpenedCall}
-use Rattle.shards.specs.declared.slot.Slot.{Slot}
+use Rattle.shards.specs.declared.call_record.CallRecord.{CallRecord}
 
 -- ---- the calls that are handed out
 
@@ -85,22 +85,22 @@ IsShardOpened script calls first stride (Err NoMemory) = Unit {0}
 -- ---- one call of it
 
 -- the slot of a call that opens: no event happened, and nothing was sent
-pub record IsFirstSlot (script : Script) (one : OpenedCall) (t : Slot) : Type 0 where
+pub record IsFirstSlot (script : Script) (one : OpenedCall) (t : CallRecord) : Type 0 where
   pub agent : agent_of t.agent ≡ opened script one.call.0 (line_at one.lines.items)
   pub events : t.events ≡ 0
   pub sent : t.messages.sent ≡ none_sent 1
   pub settled : t.settled ≡ 0
 
-pub record OpensOne (script : Script) (g h : GatewayValue) (old new : List (ℕ × Option Slot)) (one : OpenedCall) : Type 0 where
+pub record OpensOne (script : Script) (g h : GatewayValue) (old new : List (ℕ × Option CallRecord)) (one : OpenedCall) : Type 0 where
   pub all_lines : length one.lines.items ≡ length script.lines
   pub may : gateway.opening (gateway_of g) (is_taken g one.call.0) one.lines.items ≡ Ok tt
   pub gateway : gateway_of h ≡ gateway.opened (gateway_of g) one.call.0 one.lines.items
   pub open_calls : (other : ℕ) → is_open h other ≡ ((other == one.call.0) || is_open g other)
-  pub slot : Slot
+  pub slot : CallRecord
   pub first : IsFirstSlot script one slot
   pub slots : (c : ℕ) → slot_in new c ≡ (if c == one.call.0 then Some slot else slot_in old c)
 
-abbrev pub IsOpenedOne : Script → GatewayValue → GatewayValue → List (ℕ × Option Slot) → List (ℕ × Option Slot) → OpenedCall → Result Next OpenFault → Type 0
+abbrev pub IsOpenedOne : Script → GatewayValue → GatewayValue → List (ℕ × Option CallRecord) → List (ℕ × Option CallRecord) → OpenedCall → Result Next OpenFault → Type 0
 IsOpenedOne script g h old new one (Ok next) = OpensOne script g h old new one × IsEntered script one next
 IsOpenedOne script g h old new one (Err WrongLines) = length one.lines.items ≢ length script.lines
 IsOpenedOne script g h old new one (Err Taken) =
@@ -110,21 +110,21 @@ IsOpenedOne script g h old new one (Err NoMemory) = Unit {0}
 -- ---- all of them
 
 -- a slot as a call that is open on the gateway
-abbrev pub call_of : Script → Slot → CallValue
+abbrev pub call_of : Script → CallRecord → CallValue
 call_of script t = record { script = script; agent = t.agent; transcript = []; room = false }
 
-abbrev pub system_of : Script → GatewayValue → List (ℕ × Option Slot) → System
+abbrev pub system_of : Script → GatewayValue → List (ℕ × Option CallRecord) → System
 system_of script g entries =
     record { gateway = g; call = λ c. option_map (call_of script) (slot_in entries c); requests = []; replies = []; notes = [] }
 
 -- these calls were opened, in some order, on a new gateway of this class
-pub record AreOpenedOn (script : Script) (calls : List OpenedCall) (first stride : ℕ) (g : GatewayValue) (entries : List (ℕ × Option Slot)) : Type 0 where
+pub record AreOpenedOn (script : Script) (calls : List OpenedCall) (first stride : ℕ) (g : GatewayValue) (entries : List (ℕ × Option CallRecord)) : Type 0 where
   pub done : List Opened
   pub opened : AreOpened script done (system_of script g entries)
   pub has : (o : Opened) → Contains done o → Contains (map opened_as calls) o
   pub each : (o : Opened) → Contains (map opened_as calls) o → Contains done o
   pub class : (gateway_of g).board.class ≡ is_of_class first stride
-  pub slots : (c : ℕ) (t : Slot) → slot_in entries c ≡ Some t → (t.events ≡ 0) × (t.messages.sent ≡ none_sent 1) × (t.settled ≡ 0)
+  pub slots : (c : ℕ) (t : CallRecord) → slot_in entries c ≡ Some t → (t.events ≡ 0) × (t.messages.sent ≡ none_sent 1) × (t.settled ≡ 0)
 
 abbrev pub AreOpenedSlots : Script → List OpenedCall → (first stride : ℕ) → Result opening.Opened OpenFault → Type 0
 AreOpenedSlots script calls first stride (Ok o) = AreOpenedOn script calls first stride o.gateway o.slots.entries × AreEntered script calls o.nexts.items

@@ -20,7 +20,7 @@ use Rattle.shards.specs.SlotTable.{slot_in}
 use Rattle.shards.specs.declared.fault.RestartFault.{RestartFault}
 use Rattle.shards.specs.declared.fault.RestartFault.TheVariants.{CannotHappen, NoMemory}
 use Rattle.shards.specs.declared.opened.OpenedCall.{OpenedCall}
-use Rattle.shards.specs.declared.slot.Slot.{Slot}
+use Rattle.shards.specs.declared.call_record.CallRecord.{CallRecord}
 
 pub record ShardValue : Type 0 where
   pub script : Script
@@ -30,7 +30,7 @@ pub record ShardValue : Type 0 where
   -- the calls of its opening
   pub calls : List OpenedCall
   pub gateway : GatewayValue
-  pub slots : List (ℕ × Option Slot)
+  pub slots : List (ℕ × Option CallRecord)
   pub history : List Event
 
 -- a call of the opening, as the model has it
@@ -54,7 +54,7 @@ events_of call (event ∷ more) = if is_of_call call event then suc (events_of c
 
 -- each slot counts the events of its call, and no event is of a call whose number was never used
 pub record CountsEvents (v : ShardValue) : Type 0 where
-  pub counted : (call : ℕ) (s : Slot) → slot_in v.slots call ≡ Some s → s.events ≡ events_of call v.history
+  pub counted : (call : ℕ) (s : CallRecord) → slot_in v.slots call ≡ Some s → s.events ≡ events_of call v.history
   pub unused : (call : ℕ) → is_open v.gateway call ≡ false → (gateway_of v.gateway).retired call ≡ false → events_of call v.history ≡ 0
 
 pub record IsShard (v : ShardValue) : Type 0 where

@@ -13,10 +13,10 @@ use Rattle.gateway.specs.GatewayValue.{GatewayValue, gateway_of, is_open}
 use Rattle.agent.specs.AgentValue.{agent_of}
 use Rattle.call_messages.specs.Messages.{reply_for}
 use Rattle.shards.specs.Slots.{IsTied, request_in}
-use Rattle.shards.specs.declared.slot.Slot.{Slot}
+use Rattle.shards.specs.declared.call_record.CallRecord.{CallRecord}
 
 -- a slot shows a call of a world
-pub record ShowsCall (w : World) (call : ℕ) (s : Slot) : Type 0 where
+pub record ShowsCall (w : World) (call : ℕ) (s : CallRecord) : Type 0 where
   pub agent : w.agent call ≡ Some (agent_of s.agent)
   pub requests : (which : Option ℕ) → find (λ (r : Request). is_of call which r.call r.number) w.requests ≡ request_in s which
   pub replies : (which : Option ℕ) → find (λ (r : Reply). is_of call which r.call r.number) w.replies ≡ reply_for s.messages.sent which
@@ -26,14 +26,14 @@ pub record ShowsCall (w : World) (call : ℕ) (s : Slot) : Type 0 where
   pub tied : IsTied s
 
 -- a gateway and the slots of the calls that are open on it show a world
-pub record Shows (w : World) (g : GatewayValue) (slot : ℕ → Option Slot) : Type 0 where
+pub record Shows (w : World) (g : GatewayValue) (slot : ℕ → Option CallRecord) : Type 0 where
   pub gateway : w.gateway ≡ gateway_of g
   pub open_calls : (call : ℕ) → is_open g call ≡ is_some (slot call)
-  pub calls : (call : ℕ) (s : Slot) → slot call ≡ Some s → ShowsCall w call s
+  pub calls : (call : ℕ) (s : CallRecord) → slot call ≡ Some s → ShowsCall w call s
   pub no_others : (call : ℕ) → slot call ≡ None → w.agent call ≡ None
 
 -- a slot is put in the place of a call
-abbrev pub with_slot : (ℕ → Option Slot) → ℕ → Slot → ℕ → Option Slot
+abbrev pub with_slot : (ℕ → Option CallRecord) → ℕ → CallRecord → ℕ → Option CallRecord
 with_slot slot call new c = if c == call then Some new else slot c
 
 -- an agent hears of no association that the gateway hasn't begun
@@ -47,7 +47,7 @@ IsTold w (Hear association) = association.0 ≤ w.gateway.association
 IsTold w event = Unit {0}
 
 -- an event leads to a world that a gateway and slots show
-pub record LeadsOn (script : Script) (w : World) (event : Event) (g : GatewayValue) (slot : ℕ → Option Slot) : Type 0 where
+pub record LeadsOn (script : Script) (w : World) (event : Event) (g : GatewayValue) (slot : ℕ → Option CallRecord) : Type 0 where
   pub after : World
   pub occurs : Occurs script w event after
   pub shown : Shows after g slot

@@ -13,18 +13,18 @@ use Rattle.agent.specs.declared.call.Next.{Next}
 use Rattle.agent.specs.declared.refusal.Refusal.{Refusal}
 use Rattle.agent.specs.declared.refusal.Refusal.TheVariants.{NotEnabled}
 use Rattle.shards.specs.Slots.{IsExecuted, IsHappenedOn, IsStepped, IsTied}
-use Rattle.shards.specs.declared.slot.Slot.{Slot}
+use Rattle.shards.specs.declared.call_record.CallRecord.{CallRecord}
 
-abbrev pub slot_entry : Option (Option Slot) → Option Slot
+abbrev pub slot_entry : Option (Option CallRecord) → Option CallRecord
 slot_entry None = None
 slot_entry (Some entry) = entry
 
 -- the slot of a call; none where no call of this number is open
-unfoldable pub slot_in : List (ℕ × Option Slot) → ℕ → Option Slot
+unfoldable pub slot_in : List (ℕ × Option CallRecord) → ℕ → Option CallRecord
 slot_in slots call = slot_entry (lookup (is_at (nat_cmp call)) slots)
 
 -- the slots of all calls but one stay
-abbrev pub OthersStay : List (ℕ × Option Slot) → ℕ → List (ℕ × Option Slot) → Type 0
+abbrev pub OthersStay : List (ℕ × Option CallRecord) → ℕ → List (ℕ × Option CallRecord) → Type 0
 OthersStay old call new = (c : ℕ) → (c ≡ call → ⊥) → slot_in new c ≡ slot_in old c
 
 -- ---- a call is stepped
@@ -33,23 +33,23 @@ abbrev pub events_bound : ℕ
 events_bound = 18446744073709551616
 
 -- the slot, if there is one, is tied, and can count one event more
-abbrev pub IsReady : Option Slot → Type 0
-IsReady entry = (s : Slot) → entry ≡ Some s → IsTied s × (s.events + 1 < events_bound)
+abbrev pub IsReady : Option CallRecord → Type 0
+IsReady entry = (s : CallRecord) → entry ≡ Some s → IsTied s × (s.events + 1 < events_bound)
 
 -- and it counts the notes that the gateway does
-abbrev pub CountsNotes : GatewayValue → ℕ → Option Slot → Type 0
-CountsNotes g call entry = (s : Slot) → entry ≡ Some s → ((gateway_of g).link call).notes ≡ length s.messages.sent.notes
+abbrev pub CountsNotes : GatewayValue → ℕ → Option CallRecord → Type 0
+CountsNotes g call entry = (s : CallRecord) → entry ≡ Some s → ((gateway_of g).link call).notes ≡ length s.messages.sent.notes
 
 -- at its agent
-abbrev pub StepsIn : Script → Next → CallEvent → Option Slot → Option Slot → Next → Result (Unit {0}) Refusal → Type 0
+abbrev pub StepsIn : Script → Next → CallEvent → Option CallRecord → Option CallRecord → Next → Result (Unit {0}) Refusal → Type 0
 StepsIn script old event None entry new told = (entry ≡ None) × (told ≡ Err NotEnabled) × (new ≡ old)
-StepsIn script old event (Some s) entry new told = (t : Slot) × (entry ≡ Some t) × IsStepped script old event s t new told
+StepsIn script old event (Some s) entry new told = (t : CallRecord) × (entry ≡ Some t) × IsStepped script old event s t new told
 
 -- at its gateway
-abbrev pub ExecutesIn : GatewayValue → GatewayValue → (call number : ℕ) → Option ChosenRefusal → Option Slot → Option Slot → Result (Unit {0}) Refusal → Type 0
+abbrev pub ExecutesIn : GatewayValue → GatewayValue → (call number : ℕ) → Option ChosenRefusal → Option CallRecord → Option CallRecord → Result (Unit {0}) Refusal → Type 0
 ExecutesIn old new call number refusal None entry told = (entry ≡ None) × (told ≡ Err NotEnabled) × (new ≡ old)
-ExecutesIn old new call number refusal (Some s) entry told = (t : Slot) × (entry ≡ Some t) × IsExecuted old new call number refusal s t told
+ExecutesIn old new call number refusal (Some s) entry told = (t : CallRecord) × (entry ≡ Some t) × IsExecuted old new call number refusal s t told
 
-abbrev pub HappensIn : GatewayValue → GatewayValue → (call line : ℕ) → LineEvent → Option Slot → Option Slot → Result (Unit {0}) Refusal → Type 0
+abbrev pub HappensIn : GatewayValue → GatewayValue → (call line : ℕ) → LineEvent → Option CallRecord → Option CallRecord → Result (Unit {0}) Refusal → Type 0
 HappensIn old new call line event None entry told = (entry ≡ None) × (told ≡ Err NotEnabled) × (new ≡ old)
-HappensIn old new call line event (Some s) entry told = (t : Slot) × (entry ≡ Some t) × IsHappenedOn old new call line event s t told
+HappensIn old new call line event (Some s) entry told = (t : CallRecord) × (entry ≡ Some t) × IsHappenedOn old new call line event s t told

@@ -27,16 +27,16 @@ use Rattle.mg_model.specs.declared.events.CallEvent.{CallEvent}
 use Rattle.mg_model.specs.declared.events.CallEvent.TheVariants as to_call
 use Rattle.call_messages.specs.Messages.{AreNumberedFrom, Messages, fits, answering, raising, reply_for, request_numbers, sending}
 use Rattle.agent.specs.Advancing.{IsAdvanced, advancing}
-use Rattle.shards.specs.declared.slot.Slot.{Slot}
+use Rattle.shards.specs.declared.call_record.CallRecord.{CallRecord}
 
 -- ---- what was sent
 
 -- all requests of the call, the latest first
-abbrev pub requests_of : Slot → List Request
+abbrev pub requests_of : CallRecord → List Request
 requests_of s = sent_in (agent_of s.agent).phase ++ reverse s.messages.sent.requests
 
 -- the request with this number, or the latest
-abbrev pub request_in : Slot → Option ℕ → Option Request
+abbrev pub request_in : CallRecord → Option ℕ → Option Request
 request_in s which = find (λ (r : Request). fits which r.number) (requests_of s)
 
 -- ---- notes that an agent never waits for again
@@ -54,7 +54,7 @@ pub record AreSettled (a : Agent) (notes : List SentNote) (count : ℕ) : Type 0
 
 -- the requests that were sent are numbered on, each has a place for its reply, the next one has the number after them, and the notes that
 -- are counted as settled are
-pub record IsTied (s : Slot) : Type 0 where
+pub record IsTied (s : CallRecord) : Type 0 where
   pub numbered : AreNumberedFrom s.messages.sent.first (request_numbers s.messages.sent.requests)
   pub places : length s.messages.sent.replies ≡ length s.messages.sent.requests + length (sent_in (agent_of s.agent).phase)
   pub awaited : (r : Request) → Contains (sent_in (agent_of s.agent).phase) r
@@ -65,14 +65,14 @@ pub record IsTied (s : Slot) : Type 0 where
 -- ---- a slot that is as it was
 
 -- but for memory that was made, and for how many notes are counted as settled, where they are
-pub record IsSameSlot (s t : Slot) : Type 0 where
+pub record IsSameSlot (s t : CallRecord) : Type 0 where
   pub agent : agent_of t.agent ≡ agent_of s.agent
   pub sent : t.messages.sent ≡ s.messages.sent
   pub events : t.events ≡ s.events
   pub settled : (t.settled ≡ s.settled) ⊎ AreSettled (agent_of s.agent) s.messages.sent.notes t.settled
 
 -- the agent stays, and there is one event more
-pub record IsCounted (s t : Slot) (all : Messages) : Type 0 where
+pub record IsCounted (s t : CallRecord) (all : Messages) : Type 0 where
   pub agent : t.agent ≡ s.agent
   pub sent : t.messages.sent ≡ all
   pub events : t.events ≡ s.events + 1
@@ -95,7 +95,7 @@ is_event answer.CannotHappen = false
 is_event answer.NoMemory = false
 
 -- the request with a number reaches the gateway, which answers
-pub record Executes (old new : GatewayValue) (call number : ℕ) (refusal : Option ChosenRefusal) (s t : Slot) : Type 0 where
+pub record Executes (old new : GatewayValue) (call number : ℕ) (refusal : Option ChosenRefusal) (s t : CallRecord) : Type 0 where
   pub request : Request
   pub told : Answer
   pub sent : request_in s (Some number) ≡ Some request
@@ -104,12 +104,12 @@ pub record Executes (old new : GatewayValue) (call number : ℕ) (refusal : Opti
   pub counted : IsCounted s t (after_answer s.messages.sent told)
 
 -- there is no such request, or the numbers of notes could run out
-abbrev pub CannotExecute : GatewayValue → ℕ → Slot → Type 0
+abbrev pub CannotExecute : GatewayValue → ℕ → CallRecord → Type 0
 CannotExecute old number s =
     (request_in s (Some number) ≡ None)
     ⊎ ((request : Request) × (request_in s (Some number) ≡ Some request) × HasNoRoom (gateway_of old) request)
 
-abbrev pub IsExecuted : GatewayValue → GatewayValue → (call number : ℕ) → Option ChosenRefusal → Slot → Slot → Result (Unit {0}) Refusal → Type 0
+abbrev pub IsExecuted : GatewayValue → GatewayValue → (call number : ℕ) → Option ChosenRefusal → CallRecord → CallRecord → Result (Unit {0}) Refusal → Type 0
 IsExecuted old new call number refusal s t (Ok _) = Executes old new call number refusal s t
 IsExecuted old new call number refusal s t (Err NotEnabled) = CannotExecute old number s × IsSame old new × IsSameSlot s t
 IsExecuted old new call number refusal s t (Err NoMemory) = IsSame old new × IsSameSlot s t
@@ -117,7 +117,7 @@ IsExecuted old new call number refusal s t (Err (Behind slot_count)) = ⊥
 
 -- ---- an event of a line
 
-pub record HappensOn (old new : GatewayValue) (call line : ℕ) (event : LineEvent) (s t : Slot) : Type 0 where
+pub record HappensOn (old new : GatewayValue) (call line : ℕ) (event : LineEvent) (s t : CallRecord) : Type 0 where
   pub note : Option SentNote
   pub held : holder_in old line ≡ Some call
   pub happens : Happens (gateway_of old) line event (gateway_of new) (note_listed note)
@@ -128,7 +128,7 @@ pub record HappensOn (old new : GatewayValue) (call line : ℕ) (event : LineEve
 abbrev pub CannotHappenOn : GatewayValue → (call line : ℕ) → LineEvent → Type 0
 CannotHappenOn old call line event = (holder_in old line ≡ Some call → ⊥) ⊎ CannotOccur old line event
 
-abbrev pub IsHappenedOn : GatewayValue → GatewayValue → (call line : ℕ) → LineEvent → Slot → Slot → Result (Unit {0}) Refusal → Type 0
+abbrev pub IsHappenedOn : GatewayValue → GatewayValue → (call line : ℕ) → LineEvent → CallRecord → CallRecord → Result (Unit {0}) Refusal → Type 0
 IsHappenedOn old new call line event s t (Ok _) = HappensOn old new call line event s t
 IsHappenedOn old new call line event s t (Err NotEnabled) = CannotHappenOn old call line event × IsSame old new × IsSameSlot s t
 IsHappenedOn old new call line event s t (Err NoMemory) = IsSame old new × IsSameSlot s t
@@ -151,7 +151,7 @@ IsDelivered m (to_call.Begin old) None = Unit {0}
 IsDelivered m event brought = ⊥
 
 -- the step of the slot and that of the call that is handed in
-pub record Steps (script : Script) (old : Next) (event : CallEvent) (s t : Slot) (new : Next) : Type 0 where
+pub record Steps (script : Script) (old : Next) (event : CallEvent) (s t : CallRecord) (new : Next) : Type 0 where
   pub brought : Delivery
   pub delivered : IsDelivered s.messages.sent event (Some brought)
   pub steps : stepped_by script (agent_of s.agent) brought ≡ Some (agent_of t.agent)
@@ -161,13 +161,13 @@ pub record Steps (script : Script) (old : Next) (event : CallEvent) (s t : Slot)
   pub advanced : IsAdvanced old brought new (Ok tt)
 
 -- nothing of that kind was sent, or one of the two can't take the step
-abbrev pub CannotStep : Script → Next → CallEvent → Slot → Type 0
+abbrev pub CannotStep : Script → Next → CallEvent → CallRecord → Type 0
 CannotStep script old event s =
     IsDelivered s.messages.sent event None
     ⊎ ((brought : Delivery) × IsDelivered s.messages.sent event (Some brought)
     × ((stepped_by script (agent_of s.agent) brought ≡ None) ⊎ (advancing old brought ≡ None)))
 
-abbrev pub IsStepped : Script → Next → CallEvent → Slot → Slot → Next → Result (Unit {0}) Refusal → Type 0
+abbrev pub IsStepped : Script → Next → CallEvent → CallRecord → CallRecord → Next → Result (Unit {0}) Refusal → Type 0
 IsStepped script old event s t new (Ok _) = Steps script old event s t new
 IsStepped script old event s t new (Err NotEnabled) = CannotStep script old event s × IsSameSlot s t × (new ≡ old)
 IsStepped script old event s t new (Err NoMemory) = IsSameSlot s t × (new ≡ old)

@@ -21,7 +21,7 @@ use Rattle.shards.specs.Shards.{HasHappened, IsUnchanged, IsWorldOf, ShardValue}
 use Rattle.gateway.specs.GatewayValue.{GatewayValue}
 use Rattle.shards.specs.SlotTable.{ExecutesIn, HappensIn, slot_in}
 use Rattle.agent.specs.Advancing.{IsSameCall}
-use Rattle.shards.specs.declared.slot.Slot.{Slot}
+use Rattle.shards.specs.declared.call_record.CallRecord.{CallRecord}
 use Rattle.shards.specs.declared.stepped.Stepped.{Stepped}
 use Rattle.shards.specs.declared.stepped.Stepped.TheVariants.{Done, Begun}
 
@@ -129,7 +129,7 @@ IsPossible v next event false = IsNotEnabled v next event
 
 -- the slot of the call counts so many events, and the transcript has another number of them
 pub record IsBehind (v : ShardValue) (next : Next) (slot_count : ℕ) : Type 0 where
-  pub slot : Slot
+  pub slot : CallRecord
   pub held : slot_in v.slots (call_in next) ≡ Some slot
   pub counted : slot_count ≡ slot.events
   pub differs : length (value_of next).transcript ≡ slot_count → ⊥
@@ -143,7 +143,7 @@ IsRefusedStep v next event NoMemory = Unit {0}
 
 -- the slot of the call counts as many events as its transcript has: no other step is taken
 pub record IsUpToDate (v : ShardValue) (next : Next) : Type 0 where
-  pub slot : Slot
+  pub slot : CallRecord
   pub held : slot_in v.slots (call_in next) ≡ Some slot
   pub agrees : length (value_of next).transcript ≡ slot.events
 
@@ -161,7 +161,7 @@ IsAtAgent (to_call.Begin old) = ⊥
 IsAtAgent event = Unit {0}
 
 -- an event at the gateway, in the entry of a call
-abbrev pub AtGateway : GatewayValue → GatewayValue → ℕ → CallEvent → Option Slot → Option Slot → Result (Unit {0}) Refusal → Type 0
+abbrev pub AtGateway : GatewayValue → GatewayValue → ℕ → CallEvent → Option CallRecord → Option CallRecord → Result (Unit {0}) Refusal → Type 0
 AtGateway old new call (to_call.OnLine line happens) entry after told = HappensIn old new call line.0 happens entry after told
 AtGateway old new call (to_call.Execute number chosen) entry after told = ExecutesIn old new call number chosen entry after told
 AtGateway old new call event entry after told = (told ≡ Err NotEnabled) × (new ≡ old) × (after ≡ entry)

@@ -3,7 +3,7 @@ ghost use Rattle.std.specs.Prelude.{◌≡◌, ◌+◌, ◌<◌};
 ghost use Rattle.agent.specs.Calls.{refusal_of};
 ghost use Rattle.shards.specs.Slots.{IsDelivered, IsStepped, IsTied};
 
-use crate::slot::Slot;
+use crate::call_record::CallRecord;
 use agent::{Delivery, Next, PlainFault, Refusal};
 use call_messages::Messages;
 use mg_model::events::CallEvent;
@@ -36,7 +36,7 @@ fn refusal(fault: PlainFault) -> Refusal
 /// The agent of a slot and a call that is handed in take a step. `NotEnabled` where nothing of that kind was sent, or where one of the two can't take
 /// it; `NoMemory` where memory ran out. Then both are as they were.
 pub(crate) fn step<'s>(
-    slot: &mut Slot,
+    slot: &mut CallRecord,
     script: &Script,
     next: Next<'s>,
     event: CallEvent,

@@ -4,7 +4,7 @@ ghost use Rattle.std.specs.Prelude.{◌≡◌, ◌+◌, ◌<◌, length, option_
 ghost use Rattle.gateway.specs.GatewayValue.{gateway_of};
 ghost use Rattle.shards.specs.Slots.{IsExecuted, IsHappenedOn, IsTied, request_in};
 
-use crate::slot::Slot;
+use crate::call_record::CallRecord;
 use agent::Refusal;
 use gateway::{Answer, Gateway};
 use mg_model::failures::ChosenRefusal;
@@ -13,7 +13,7 @@ use mg_names::identifiers::{CallNo, LineNo};
 use requests::Request;
 
 /// The request of a call with this number.
-pub(crate) fn request(slot: &Slot, number: u32) -> Option<&Request>
+pub(crate) fn request(slot: &CallRecord, number: u32) -> Option<&Request>
     ensures { option_map (λ r. r.now) result ≡ request_in slot.now (Some number) }
 {
     match slot.agent.request() {
@@ -26,7 +26,7 @@ pub(crate) fn request(slot: &Slot, number: u32) -> Option<&Request>
 /// run out; `NoMemory` where memory ran out.
 pub(crate) fn execute(
     gateway: &mut Gateway,
-    slot: &mut Slot,
+    slot: &mut CallRecord,
     call: CallNo,
     number: u32,
     refusal: Option<ChosenRefusal>,
@@ -63,7 +63,7 @@ pub(crate) fn execute(
 /// An event of a line that the call is to hold. `NotEnabled` where it doesn't, or where the event can't happen; `NoMemory` where memory ran out.
 pub(crate) fn happen(
     gateway: &mut Gateway,
-    slot: &mut Slot,
+    slot: &mut CallRecord,
     call: CallNo,
     line: LineNo,
     event: LineEvent,

@@ -7,8 +7,8 @@ ghost use Rattle.agent.specs.declared.call.Next.TheVariants as next;
 ghost use Rattle.shards.specs.Beginnings.{IsBegunBy, has_ended, refusal_of};
 ghost use Rattle.shards.specs.Stepping.{IsStep};
 
+use crate::call_record::CallRecord;
 use crate::shard::{self, Shard};
-use crate::slot::Slot;
 use crate::slots;
 use crate::stepped::Stepped;
 use agent::{Call, Ended, Next, Refusal};
@@ -18,7 +18,7 @@ use mg_names::identifiers::{Assoc, CallNo};
 use script_table::Script;
 
 /// Whether a call has ended in this association.
-pub(crate) fn has_ended(slot: &Slot, script: &Script, association: Assoc) -> bool
+pub(crate) fn has_ended(slot: &CallRecord, script: &Script, association: Assoc) -> bool
     ensures { result ≡ has_ended script.now (agent_of slot.now.agent) association.0 }
 {
     if !slot.agent.is_resting() {

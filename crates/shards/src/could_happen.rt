@@ -7,8 +7,8 @@ ghost use Rattle.agent.specs.declared.call.Next.TheVariants as next;
 ghost use Rattle.shards.specs.CouldHappen.{HasOwnSlot, IsPossibleOn, IsPossibleRequest, IsPossibleStep};
 ghost use Rattle.shards.specs.Stepping.{IsAtAgent, IsPossible};
 
+use crate::call_record::CallRecord;
 use crate::shard::Shard;
-use crate::slot::Slot;
 use crate::step::is_told;
 use crate::{at_agent, at_gateway, begin, slots};
 use agent::{Call, Ended, Next};
@@ -29,7 +29,7 @@ fn could_happen_on(gateway: &Gateway, call: CallNo, line: LineNo, event: LineEve
 }
 
 /// Whether a call sent a request with this number, and the gateway would take it.
-fn could_execute(gateway: &Gateway, slot: &Slot, call: CallNo, number: u32) -> bool
+fn could_execute(gateway: &Gateway, slot: &CallRecord, call: CallNo, number: u32) -> bool
     ensures { IsPossibleRequest gateway.now call.0 number slot.now result }
 {
     let Some(request) = at_gateway::request(slot, number) else {
@@ -39,7 +39,7 @@ fn could_execute(gateway: &Gateway, slot: &Slot, call: CallNo, number: u32) -> b
 }
 
 /// Whether what an event brings was sent, and the slot's agent and the call that is handed in can both take it.
-fn could_step(slot: &Slot, script: &Script, next: &Next<'_>, event: &CallEvent) -> bool
+fn could_step(slot: &CallRecord, script: &Script, next: &Next<'_>, event: &CallEvent) -> bool
     ensures { IsPossibleStep script.now next.now event.now slot.now result }
 {
     let Some(delivery) = at_agent::brought(&slot.messages, event) else {
@@ -53,7 +53,7 @@ fn could_step(slot: &Slot, script: &Script, next: &Next<'_>, event: &CallEvent) 
 
 impl<'s> Shard<'s> {
     /// The slot of the call that is handed in, where it is the call of the event.
-    fn own_slot(&self, next: &Next<'s>, call: CallNo) -> Option<&Slot>
+    fn own_slot(&self, next: &Next<'s>, call: CallNo) -> Option<&CallRecord>
         ensures { HasOwnSlot self.now next.now call.0 (option_map (λ s. s.now) result) }
     {
         if next.call().0 != call.0 {

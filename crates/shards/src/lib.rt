@@ -1,7 +1,7 @@
 //! Shards: a gateway with the calls that are on it, all that they sent each other, and the history that led there.
 //!
-//! The way of an event: a shard is opened with its calls (`opening`), each of which has a slot by its number: its agent, its messages, and how many events it
-//! had (`slot`, `slots`). A step of a plan means an event, which is looked up in what was sent (`meaning`). An event comes with the call that it is of, which has
+//! The way of an event: a shard is opened with its calls (`opening`), each of which has a record by its number: its agent, its messages, and how many events it
+//! had (`call_record`, `slots`). A step of a plan means an event, which is looked up in what was sent (`meaning`). An event comes with the call that it is of, which has
 //! to be as far as its slot (`step`; where it is behind, `could_happen` says whether that is why it is refused): one of its agent is taken by both
 //! (`at_agent`), one of a line and a request go to the gateway (`at_gateway`), and a beginning is one of the gateway, the slots and the call (`begin`). All that
 //! may want memory comes first, then it happens, and it is the last of the history (`shard`). `standing` tells where a call is, and `laws` what every shard keeps.
@@ -10,6 +10,7 @@
 mod at_agent;
 mod at_gateway;
 mod begin;
+mod call_record;
 mod could_happen;
 mod fault;
 mod laws;
@@ -17,7 +18,6 @@ mod meaning;
 mod opened;
 mod opening;
 mod shard;
-mod slot;
 mod slots;
 mod standing;
 mod step;

@@ -13,8 +13,8 @@ ghost use Rattle.shards.specs.Slots.{AreSettled, IsSameSlot, IsTied, is_settled,
 ghost use Rattle.shards.specs.SlotTable.{OthersStay, slot_in};
 
 use crate::at_gateway;
+use crate::call_record::{Boxed, CallRecord};
 use crate::shard::Shard;
-use crate::slot::{Boxed, Slot};
 use crate::slots::Slots;
 use agent::Plain;
 use mg_model::events::{CallEvent, Event};
@@ -22,11 +22,11 @@ use mg_model::failures::{ChosenRefusal, Refusal};
 use mg_model::line_events::{Hook, LineEvent};
 use mg_model::plans::PlanStep;
 use mg_names::identifiers::{Assoc, CallNo};
-use mg_names::slots::Slot as Place;
+use mg_names::slots::CallRecord as Place;
 use requests::{Request, SentNote};
 
 /// An event of the call of a slot.
-fn of_call(slot: &Slot, event: CallEvent) -> Event
+fn of_call(slot: &CallRecord, event: CallEvent) -> Event
     ensures { result ≡ events.OfCall (record { 0 = (agent_of slot.now.agent).call }) event }
 {
     Event::OfCall {
@@ -36,7 +36,7 @@ fn of_call(slot: &Slot, event: CallEvent) -> Event
 }
 
 /// An event of the gateway's line for a line of the script.
-fn on_line(slot: &Slot, line: Place, event: LineEvent) -> Option<Event>
+fn on_line(slot: &CallRecord, line: Place, event: LineEvent) -> Option<Event>
     ensures { result ≡ Some (on_slot slot.now line event) }
 {
     let line = slot.agent.line(line);
@@ -57,7 +57,7 @@ fn refusal(place: Option<u8>) -> Option<ChosenRefusal>
 }
 
 /// The request of this number, or the latest.
-fn request(slot: &Slot, which: Option<u32>) -> Option<&Request>
+fn request(slot: &CallRecord, which: Option<u32>) -> Option<&Request>
     ensures { option_map (λ r. r.now) result ≡ request_in slot.now which }
 {
     match which {
@@ -70,7 +70,7 @@ fn request(slot: &Slot, which: Option<u32>) -> Option<&Request>
 }
 
 /// A request reaches the gateway: the one of this number, or the latest.
-fn executes(slot: &Slot, which: Option<u32>, place: Option<u8>) -> Option<Event>
+fn executes(slot: &CallRecord, which: Option<u32>, place: Option<u8>) -> Option<Event>
     ensures { result ≡ event_in slot.now 0 0 (steps.Executes which place) }
 {
     let number = request(slot, which)?.number();
@@ -79,7 +79,7 @@ fn executes(slot: &Slot, which: Option<u32>, place: Option<u8>) -> Option<Event>
 }
 
 /// A reply reaches the call: the latest to the request of this number, or the latest of all.
-fn takes_reply(slot: &Slot, which: Option<u32>) -> Option<Event>
+fn takes_reply(slot: &CallRecord, which: Option<u32>) -> Option<Event>
     ensures { result ≡ event_in slot.now 0 0 (steps.TakesReply which) }
 {
     let number = slot.messages.reply(which)?.number();
@@ -129,7 +129,7 @@ fn settled_from(agent: &Plain, notes: &[SentNote], settled: usize) -> usize
 }
 
 /// Counts on over the notes that are settled, so that none is looked at once more.
-fn settle(slot: &mut Slot)
+fn settle(slot: &mut CallRecord)
     requires { IsTied slot.old }
     ensures same { IsSameSlot slot.old slot.new }
     ensures tied { IsTied slot.new }
@@ -139,7 +139,7 @@ fn settle(slot: &mut Slot)
 }
 
 /// The oldest note that waits for the agent, looked for past those that are settled.
-fn oldest(slot: &Slot) -> Option<&SentNote>
+fn oldest(slot: &CallRecord) -> Option<&SentNote>
     requires { IsTied slot.now }
     ensures { option_map (λ n. n.now) result ≡ note_in slot.now None }
 {
@@ -148,7 +148,7 @@ fn oldest(slot: &Slot) -> Option<&SentNote>
 }
 
 /// A note reaches the call: the one of this number, or the oldest that waits for the agent.
-fn takes_note(slot: &Slot, which: Option<u32>) -> Option<Event>
+fn takes_note(slot: &CallRecord, which: Option<u32>) -> Option<Event>
     requires { IsTied slot.now }
     ensures { result ≡ event_in slot.now 0 0 (steps.TakesNote which) }
 {
@@ -160,7 +160,7 @@ fn takes_note(slot: &Slot, which: Option<u32>) -> Option<Event>
 }
 
 /// A call of this number begins on the lines of the slot's.
-fn begins(slot: &Slot, next: CallNo) -> Event
+fn begins(slot: &CallRecord, next: CallNo) -> Event
     ensures { result ≡ world.begin next.0 (agent_of slot.now.agent).call }
 {
     let old = slot.agent.call();
@@ -171,7 +171,7 @@ fn begins(slot: &Slot, next: CallNo) -> Event
 }
 
 /// The event that a step means for the call of a slot, where the gateway is in this association and the next call to begin has this number.
-fn event(slot: &Slot, association: Assoc, next: CallNo, step: &PlanStep) -> Option<Event>
+fn event(slot: &CallRecord, association: Assoc, next: CallNo, step: &PlanStep) -> Option<Event>
     requires { IsTied slot.now }
     ensures { result ≡ event_in slot.now association.0 next.0 step.now }
 {

@@ -3,10 +3,10 @@ ghost use Rattle.std.specs.Prelude.{◌≡◌, ◌<◌, ◌≤◌, IfOk};
 ghost use Rattle.std.specs.List.{flat_map};
 ghost use Rattle.shards.specs.Opening.{AreOpenedSlots, IsOpenedOne, IsShardOpened};
 
+use crate::call_record::CallRecord;
 use crate::fault::OpenFault;
 use crate::opened::OpenedCall;
 use crate::shard::Shard;
-use crate::slot::Slot;
 use crate::slots::{self, Slots};
 use agent::{Call, Next, Plain};
 use call_messages::Messages;
@@ -57,7 +57,7 @@ fn open_one<'s>(
             return Err(OpenFault::Taken);
         }
     }
-    let slot = Slot {
+    let slot = CallRecord {
         agent: Plain::enter(alloc, script, call.call, lines),
         events: 0,
         messages: Messages::new(alloc, 1),

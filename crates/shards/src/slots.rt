@@ -4,7 +4,7 @@ ghost use Rattle.agent.specs.AgentValue.{agent_of};
 ghost use Rattle.shards.specs.Beginnings.{has_entry, HandsOver, IsBegunSlot};
 ghost use Rattle.shards.specs.SlotTable.{slot_in, CountsNotes, ExecutesIn, HappensIn, IsReady, OthersStay, StepsIn};
 
-use crate::slot::{Boxed, Slot};
+use crate::call_record::{Boxed, CallRecord};
 use crate::{at_agent, at_gateway};
 use agent::{Next, Refusal};
 use call_messages::Messages;
@@ -23,7 +23,7 @@ pub(crate) type Slots = BTreeMap<u32, Option<Boxed>>;
 
 /// The slot of a call.
 #[tactic(auto, unfolding(crate::specs::SlotTable::slot_in))]
-pub(crate) fn slot(slots: &Slots, call: CallNo) -> Option<&Slot>
+pub(crate) fn slot(slots: &Slots, call: CallNo) -> Option<&CallRecord>
     ensures { option_map (λ s. s.now) result ≡ slot_in slots.now.entries call.0 }
 {
     match slots.get(&call.0) {
@@ -163,7 +163,7 @@ pub(crate) fn put(
     slots: &mut Slots,
     alloc: Global,
     call: CallNo,
-    slot: Slot,
+    slot: CallRecord,
 ) -> Result<(), AllocError>
     ensures { OnOk result ((c : ℕ) → slot_in slots.new.entries c ≡ (if c == call.0 then Some slot else slot_in slots.old.entries c)) }
 {
@@ -196,7 +196,7 @@ fn fill(slots: &mut Slots, call: CallNo, slot: Boxed)
 }
 
 /// The slot becomes that of a call that begins on the lines of its own.
-fn renew(slot: &mut Slot, alloc: Global, script: &Script, call: CallNo)
+fn renew(slot: &mut CallRecord, alloc: Global, script: &Script, call: CallNo)
     ensures { IsBegunSlot script.now call.0 slot.old slot.new }
 {
     let first = slot.agent.next_number();
@@ -215,7 +215,7 @@ pub(crate) fn hand_over(
     call: CallNo,
 )
     requires { has_entry slots.old.entries call.0 ≡ true }
-    ensures { (s : Slot) → slot_in slots.old.entries old.0 ≡ Some s → HandsOver script.now slots.old.entries slots.new.entries old.0 call.0 s }
+    ensures { (s : CallRecord) → slot_in slots.old.entries old.0 ≡ Some s → HandsOver script.now slots.old.entries slots.new.entries old.0 call.0 s }
 {
     let Some(mut slot) = take(slots, old) else {
         return;

@@ -5,7 +5,7 @@ use std::marker::Model;
 
 /// What a shard keeps of a call: its agent, how many events happened to it, all that was sent to it and by it, and up to where its notes are settled.
 #[derive(Drop)]
-pub(crate) struct Slot {
+pub(crate) struct CallRecord {
     pub(crate) agent: Plain,
     pub(crate) events: usize,
     pub(crate) messages: Messages,
@@ -13,16 +13,16 @@ pub(crate) struct Slot {
     pub(crate) settled: usize,
 }
 
-/// A slot behind a pointer: where it stands among others it takes the room of one number.
+/// A call's record behind a pointer: where it stands among others it takes the room of one number.
 #[derive(Drop)]
 pub(crate) struct Boxed {
-    pub(crate) inner: Box<Slot>,
+    pub(crate) inner: Box<CallRecord>,
 }
 
 impl Model for Boxed {
-    ghost use Rattle.shards.specs.declared.slot.Slot.{Slot};
+    ghost use Rattle.shards.specs.declared.call_record.CallRecord.{CallRecord};
 
-    ghost Value = { Slot };
+    ghost Value = { CallRecord };
 
     ghost view = { λ b. b.inner.value };
 }
