@@ -1,6 +1,6 @@
 //! A request while it runs.
 ghost use Rattle.std.specs.Prelude.{◌≡◌, [], ◌∷◌, ◌++◌, map, IfOk, OnOk};
-ghost use Rattle.mg_model.specs.RequestRun.{RunsFrom, chosen_at, rearms, described};
+ghost use Rattle.mg_model.specs.RequestRun.{RunsFrom, chosen_at, has_new_events, descriptors_for};
 ghost use Rattle.requests.specs.Commands.{running, IsThere, notes_left, noted, finished, described_line, IsStep};
 ghost use Rattle.mg_model.specs.Members.{is_among};
 ghost use Rattle.requests.specs.Connected.{board_in, start_in};
@@ -48,8 +48,8 @@ fn is_among(gone: &[LineNo], line: LineNo) -> bool
 }
 
 /// Whether a command replaces the Events descriptor of a line.
-fn rearms(described: &Option<(LineNo, &LineDescriptors)>, line: LineNo) -> bool
-    ensures { result ≡ rearms (line_described described.now) line.0 }
+fn has_new_events(described: &Option<(LineNo, &LineDescriptors)>, line: LineNo) -> bool
+    ensures { result ≡ has_new_events (line_described described.now) line.0 }
 {
     match described {
         Some((described, descriptors)) => described.0 == line.0 && descriptors.events.is_some(),
@@ -65,7 +65,7 @@ fn keep_standing(
 )
     ensures { line_notes notes.new.items ≡ notes_left (map (λ l. l.0) gone.now) (line_described described.now) (line_notes notes.old.items) }
 {
-    notes.retain(|note| !(is_among(gone, note.line) || rearms(described, note.line)));
+    notes.retain(|note| !(is_among(gone, note.line) || has_new_events(described, note.line)));
 }
 
 /// Adds a note, if there is one.
@@ -106,7 +106,7 @@ impl Progress {
         done: Done,
         number: u32,
     ) -> Result<(), AllocError>
-        requires { IsThere (board_in self.old.connections) (described (command_of command.now)) }
+        requires { IsThere (board_in self.old.connections) (descriptors_for (command_of command.now)) }
         ensures { OnOk result (running self.new ≡ finished (running self.old) (described_line (command_of command.now)) done number) }
     {
         let described = described(command);
