@@ -76,6 +76,18 @@ fn json_place(alloc: Global, certificate: &[u8]) -> Result<String, AllocError> {
     }
 }
 
+/// What is said of a place of a document of this kind.
+fn told(
+    alloc: Global,
+    place: Option<document_places::Place>,
+    document: &str,
+) -> Result<String, AllocError> {
+    match place {
+        Some(place) => place.sentence(alloc, document),
+        None => String::from_str(alloc, NOWHERE),
+    }
+}
+
 /// Where a script has a fault, in a sentence. The only error is running out of memory.
 pub fn script_place(
     alloc: Global,
@@ -85,18 +97,25 @@ pub fn script_place(
     match fault {
         ScriptFault::NotToml => toml_place(alloc, script),
         ScriptFault::BadMap => map_place(alloc, script),
-        _ => String::from_str(alloc, NOWHERE),
+        _ => {
+            let place = document_places::script_place(alloc, *fault, script)?;
+            told(alloc, place, "script")
+        }
     }
 }
 
-/// Where a certificate has a fault, in a sentence. The only error is running out of memory.
+/// Where a certificate for a script has a fault, in a sentence. The only error is running out of memory.
 pub fn certificate_place(
     alloc: Global,
     fault: &CertFault,
+    script: &[u8],
     certificate: &[u8],
 ) -> Result<String, AllocError> {
     match fault {
         CertFault::NotJson => json_place(alloc, certificate),
-        _ => String::from_str(alloc, NOWHERE),
+        _ => {
+            let place = document_places::certificate_place(alloc, *fault, script, certificate)?;
+            told(alloc, place, "certificate")
+        }
     }
 }

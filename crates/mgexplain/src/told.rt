@@ -161,7 +161,7 @@ fn rule_and_place(
         CheckFault::Script(fault) => Ok((script_rule(fault), script_place(alloc, fault, script)?)),
         CheckFault::Cert(fault) => Ok((
             certificate_rule(fault),
-            certificate_place(alloc, fault, certificate)?,
+            certificate_place(alloc, fault, script, certificate)?,
         )),
         CheckFault::NoMemory => Err(AllocError),
     }
