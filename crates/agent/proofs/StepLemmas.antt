@@ -17,7 +17,7 @@ use Rattle.agent.specs.PreparedValue.{PreparedValue, in_newer, finished}
 use Rattle.agent.specs.Entering.{Starts, IsEntered, having, leads_from}
 use Rattle.agent.specs.Parts.{agent_in, bound_as}
 use Rattle.agent.specs.Preparing.{IsPreparedButForNote, IsNewNote, with_note}
-use Rattle.agent.specs.Steps.{is_passing, is_awaited, accepting}
+use Rattle.agent.specs.Steps.{given_up, is_passing, is_awaited, accepting}
 
 -- ---- what is put in place
 
