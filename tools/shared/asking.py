@@ -1,11 +1,11 @@
-"""What the tools share that are called by hand: their words, the files that they put together, and the program that answers. A tool's own statuses are 2
-for words that ask for nothing, 3 for a file that can't be read, and 127 where no program is there and none can be built; all others are the program's."""
+"""What the commands and tools share that are called by hand: their words, the files that they put together, the program that they ask, and how they end. The
+statuses of their own are 2 for words that ask for nothing, 3 for a file that can't be read or written, and 127 where no program is there; all others are the
+program's, and above 128 that of a signal. It is installed too, so it knows nothing of this repository."""
+import os
 import signal
 import subprocess
 import sys
 from pathlib import Path
-
-from shared import crates, programs
 
 WORDS, FILES, NO_PROGRAM = 2, 3, 127
 DIVIDER = b"%%\n"
@@ -34,12 +34,17 @@ def tell(lines):
     print(*lines, sep="\n", flush=True)
 
 
+def of_file(error):
+    """What is said of a file that can't be read or written."""
+    return f"{error.filename}: {error.strerror}" if error.filename is not None else str(error.strerror)
+
+
 def read(names):
     """The bytes of the files of these names."""
     try:
         return [Path(name).read_bytes() for name in names]
     except OSError as error:
-        return stop(f"{error.filename}: {error.strerror}", FILES)
+        return stop(of_file(error), FILES)
 
 
 def sections(texts):
@@ -48,14 +53,30 @@ def sections(texts):
     return b"".join(text + (b"" if text.endswith(b"\n") else b"\n") + DIVIDER for text in fronts) + last
 
 
-def answered(name, asked, texts):
-    """Gives a program of this name these words and texts, and says the status that it ends with. Where the program isn't proved here yet, one without
-    its proofs answers, and a note on standard error says so."""
-    given = sections(texts)
+def ask(program, asked, texts):
+    """Gives a program these words and texts, and says the status that it ends with: for a signal 128 and its number, as a shell does."""
     try:
-        program = programs.program(name)
-    except (crates.NoToolchain, programs.NotBuilt) as missing:
-        return stop(f"{name} isn't built here: {missing.code}", NO_PROGRAM)
-    if program == programs.unproved(name):
-        print("answered by a program that is not proved yet", file=sys.stderr)
-    return subprocess.run([program, *asked], input=given, check=False).returncode
+        status = subprocess.run([program, *asked], input=sections(texts), check=False).returncode
+    except OSError as error:
+        return stop(of_file(error), NO_PROGRAM)
+    return status if status >= 0 else 128 - status
+
+
+def run(main):
+    """Ends a tool with the status that its work gives. Where the toolchain or a program is missing, what is said of it tells its own status; a file that
+    can't be read or written has a line, and an output that nobody reads, or an interruption, ends the tool as a shell would."""
+    try:
+        status = main()
+        sys.stdout.flush()
+    except KeyboardInterrupt:
+        status = 128 + signal.SIGINT
+    except BrokenPipeError:
+        os.dup2(os.open(os.devnull, os.O_WRONLY), sys.stdout.fileno())
+        status = 128 + signal.SIGPIPE
+    except OSError as error:
+        stop(of_file(error), FILES)
+    except SystemExit as ended:
+        if not hasattr(ended, "status"):
+            raise
+        stop(ended.code, ended.status)
+    sys.exit(status)

@@ -20,7 +20,9 @@ class Unusable(Exception):
 
 
 class NoToolchain(SystemExit):
-    """`rt` isn't on the path. Where nobody takes it up, one line says so."""
+    """`rt` isn't on the path. Where nobody takes it up, one line says so; a tool that is called by hand ends with this status."""
+
+    status = 127
 
     def __init__(self):
         super().__init__("rt isn't on the path: README.md names the toolchain that has to be there")

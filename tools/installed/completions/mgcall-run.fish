@@ -1,0 +1,8 @@
+# Completions of mgcall-run for fish: its options, and files by what stands at their place.
+
+complete -c mgcall-run -f
+complete -c mgcall-run -f -n 'test (count (commandline -opc)) -eq 1' -l help -d 'say what it does'
+complete -c mgcall-run -f -n 'test (count (commandline -opc)) -eq 1' -l version -d 'say which version it is'
+complete -c mgcall-run -f -n 'test (count (commandline -opc)) -eq 1' -a '(__fish_complete_suffix .toml)' -d script
+complete -c mgcall-run -f -n 'test (count (commandline -opc)) -eq 2' -a '(__fish_complete_suffix .json)' -d certificate
+complete -c mgcall-run -f -n 'test (count (commandline -opc)) -eq 3' -a '(__fish_complete_suffix .toml)' -d plan

@@ -1,0 +1,9 @@
+# Completions of mgcall-why for fish: its options, and files by what stands at their place.
+
+complete -c mgcall-why -f
+complete -c mgcall-why -f -n 'test (count (commandline -opc)) -eq 1' -l help -d 'say what it does'
+complete -c mgcall-why -f -n 'test (count (commandline -opc)) -eq 1' -l version -d 'say which version it is'
+complete -c mgcall-why -f -n 'test (count (commandline -opc)) -eq 1' -a '(__fish_complete_suffix .toml)' -d script
+complete -c mgcall-why -f -n 'test (count (commandline -opc)) -eq 2' -a '(__fish_complete_suffix .json)' -d certificate
+complete -c mgcall-why -n 'test (count (commandline -opc)) -eq 3' -l json -d 'as one JSON value'
+complete -c mgcall-why -n 'test (count (commandline -opc)) -eq 3' -l dot -d 'as a text for Graphviz'

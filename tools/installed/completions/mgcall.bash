@@ -1,0 +1,47 @@
+# Completions of mgcall, mgexplain and the commands over files for bash: the words of their command lines, and files by what stands at their place.
+
+# Files whose names end so, and folders.
+_mgcall_files() {
+    local IFS=$'\n'
+    compopt -o filenames 2>/dev/null
+    COMPREPLY=($(compgen -f -X "!*.$1" -- "$2") $(compgen -d -- "$2"))
+}
+
+# What may stand at a place of a command over files: its options first, then a file for each kind.
+_mgcall_over_files() {
+    local current=$1 place=$2
+    shift 2
+    local kinds=("$@")
+    if [[ $place == 1 && $current == -* ]]; then
+        COMPREPLY=($(compgen -W '--help --version' -- "$current"))
+    elif ((place <= ${#kinds[@]})); then
+        _mgcall_files "${kinds[place - 1]}" "$current"
+    fi
+}
+
+_mgcall() {
+    local current=${COMP_WORDS[COMP_CWORD]} place=$COMP_CWORD
+    COMPREPLY=()
+    case ${1##*/} in
+    mgcall)
+        case $place,${COMP_WORDS[1]} in
+        1,*) COMPREPLY=($(compgen -W 'check run' -- "$current")) ;;
+        2,check) COMPREPLY=($(compgen -W '--pieces' -- "$current")) ;;
+        2,run) COMPREPLY=($(compgen -W '--workers' -- "$current")) ;;
+        esac
+        ;;
+    mgexplain) if ((place == 1)); then COMPREPLY=($(compgen -W '--json --dot' -- "$current")); fi ;;
+    mgcall-check) _mgcall_over_files "$current" "$place" toml json ;;
+    mgcall-run) _mgcall_over_files "$current" "$place" toml json toml ;;
+    mgcall-why)
+        if ((place == 3)); then
+            COMPREPLY=($(compgen -W '--json --dot' -- "$current"))
+        else
+            _mgcall_over_files "$current" "$place" toml json
+        fi
+        ;;
+    mgcall-picture) _mgcall_over_files "$current" "$place" toml ;;
+    esac
+}
+
+complete -F _mgcall mgcall mgexplain mgcall-check mgcall-run mgcall-why mgcall-picture

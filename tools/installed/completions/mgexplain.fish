@@ -1,0 +1,5 @@
+# Completions of mgexplain for fish: the words of its command line.
+
+complete -c mgexplain -f
+complete -c mgexplain -n 'test (count (commandline -opc)) -eq 1' -l json -d 'as one JSON value'
+complete -c mgexplain -n 'test (count (commandline -opc)) -eq 1' -l dot -d 'as a text for Graphviz'

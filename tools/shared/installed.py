@@ -1,0 +1,35 @@
+"""What the installed commands share: their version, and the program that answers. All stands below one folder, wherever that is put: this file in
+lib/mgcall/shared, the commands and the programs in bin."""
+import os
+import sys
+from pathlib import Path
+
+from shared import asking
+
+LIBRARY = Path(__file__).resolve().parents[1]
+PROGRAMS = LIBRARY.parents[1] / "bin"
+
+
+def is_proved():
+    """Whether the programs that are installed here are the proved ones."""
+    return not (LIBRARY / "not-proved").exists()
+
+
+def words(about, usage, least, most=None):
+    """The words that a command was given, from so many to so many. With --help it says what it does, and with --version which it is, with status 0."""
+    if "--version" in sys.argv[1:]:
+        [version] = asking.read([LIBRARY / "VERSION"])
+        print(usage.split()[0], version.decode().strip(), *([] if is_proved() else ["with programs that are not proved"]))
+        sys.exit(0)
+    return asking.words(about, usage, least, most)
+
+
+def answered(name, asked, texts):
+    """Gives the program of this name these words and texts, and says the status that it ends with. Where it isn't proved, a note on standard error says
+    so."""
+    program = PROGRAMS / name
+    if not os.access(program, os.X_OK) or program.is_dir():
+        asking.stop(f"{program}: no program is there", asking.NO_PROGRAM)
+    if not is_proved():
+        print("answered by a program that is not proved", file=sys.stderr)
+    return asking.ask(program, asked, texts)

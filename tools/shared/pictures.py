@@ -1,0 +1,66 @@
+"""A script's state machine as a text for Graphviz. It says what the script says, and checks nothing. It is installed too, so it knows nothing of this
+repository."""
+import tomllib
+
+from shared import asking
+
+KINDS = ("on", "of", "fl", "full", "part")
+
+
+def ways_out(state, lines):
+    """The ways out of a state, each with the state that it leads to: the reply's, the timer's, then the notes' by line and kind."""
+    for key in ("ok", "fault", "timer"):
+        if key in state:
+            yield key, state[key]
+    for line in lines:
+        for kind in KINDS:
+            if kind in state.get("on", {}).get(line, {}):
+                yield f"{line}.{kind}", state["on"][line][kind]
+
+
+def label(texts):
+    """Texts, one below the other."""
+    return '"' + "\\n".join(texts) + '"'
+
+
+def node(state):
+    """A state's node."""
+    told = label([state["name"], *(f"talk {pair}" for pair in state.get("talk", []))])
+    shape = "doublecircle" if state.get("end") else "box" if state.get("do") else "ellipse"
+    return f'  "{state["name"]}" [shape={shape}, label={told}];'
+
+
+def arcs(state, lines):
+    """A state's arcs, one for each state that it leads to."""
+    ways = {}
+    for word, target in ways_out(state, lines):
+        ways.setdefault(target, []).append(word)
+    for target, told in ways.items():
+        yield f'  "{state["name"]}" -> "{target}" [label={label(told)}];'
+
+
+def picture(script):
+    """The text for Graphviz."""
+    states = script.get("state", [])
+    yield "digraph machine {"
+    yield '  node [fontname="Helvetica", fontsize=12];'
+    yield '  edge [fontname="Helvetica", fontsize=10];'
+    for way in ("start", "restart"):
+        yield f'  "the {way}" [shape=plaintext, label="{way}"];'
+    yield from map(node, states)
+    for way in ("start", "restart"):
+        yield f'  "the {way}" -> "{script[way]}" [style=dashed];'
+    for state in states:
+        yield from arcs(state, script["lines"])
+    yield "}"
+
+
+def drawn(name, checker):
+    """Tells the picture of the script in the file of this name. Where the file is no script, one line says which command says why."""
+    [written] = asking.read([name])
+    try:
+        lines = [*picture(tomllib.loads(written.decode()))]
+    except (AttributeError, KeyError, RecursionError, TypeError, ValueError):
+        asking.stop(f"{name}: no script; {checker} says why", asking.FILES)
+    asking.tell(lines)
+    return 0
