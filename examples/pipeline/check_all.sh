@@ -1,51 +1,91 @@
 #!/bin/sh
-# Checks every script below the folders that are named: check_all.sh FOLDER..
+# Checks every script below the folders that are named: check_all.sh [--junit FILE] [--sarif FILE] [--codequality FILE] FOLDER..
 # A script is a file NAME.toml with its certificate NAME.json beside it, or script.toml with certificate.json. Each has a line: its path, and what
-# `mgcall check` says of it. The status is the highest of all, so 0 where each line is a yes. A folder without a script, or a script without a
-# certificate, counts as 3, an input that can't be read. MGCALL names the program, where it isn't `mgcall`.
+# `mgcall check` says of it. Where a report is kept beside it (NAME.report, or report), its plan (NAME.plan.toml, or plan.toml) is run after a yes, and
+# has a line too: another report than the one that is kept is a No. The status is the highest of all, so 0 where all is well. A folder without a script,
+# a script without its certificate, or a report without its plan counts as 3, an input that can't be read. MGCALL names the program, where it isn't
+# `mgcall`. With an option the answers are written to a file too, by reports.py, which stands beside this script and needs Python 3.
 set -u
 mgcall=${MGCALL:-mgcall}
+usage='usage: check_all.sh [--junit FILE] [--sarif FILE] [--codequality FILE] FOLDER..'
+junit='' sarif='' codequality=''
 worst=0
+answers=$(mktemp) || exit 6
+trap 'rm -f "$answers"' EXIT
 
-# Keeps the highest status.
-keep() {
-    if [ "$1" -gt "$worst" ]; then worst=$1; fi
+# Tells an answer: what was asked, the status, the file that was asked about, what belongs to it, and the line. The highest status is kept.
+tell() {
+    if [ "$2" -gt "$worst" ]; then worst=$2; fi
+    echo "$3: $5"
+    printf '%s\n' "$@" >> "$answers"
 }
 
-# A script with its certificate, as one input. The first `echo` ends the last line of the script, if that has no end.
+# Files as one input. Each first `echo` ends the last line of the file before it, if that has no end.
 joined() {
-    cat "$1" && echo && echo '%%' && cat "$2"
+    cat "$1" && shift && for file in "$@"; do echo && echo '%%' && cat "$file" || return; done
 }
 
+# Runs the plan of a script, if a report of it is kept, and compares.
+compare() {
+    if [ ! -e "$4" ]; then return; fi
+    if [ ! -r "$3" ] || [ ! -r "$4" ]; then
+        tell plan 3 "$3" "$4" "not there, or without $4"
+        return
+    fi
+    told=$(joined "$1" "$2" "$3" | "$mgcall" run)
+    status=$?
+    if [ $status -ne 0 ]; then
+        tell plan $status "$3" "$4" "$(printf '%s\n' "$told" | head -n 1)"
+    elif [ "$told" = "$(cat "$4")" ]; then
+        tell plan 0 "$3" "$4" "as $4"
+    else
+        place=$(printf '%s\n' "$told" | diff "$4" - | sed -n '1s/[^0-9].*//p')
+        tell plan 1 "$3" "$4" "another report than $4, from line $place"
+    fi
+}
+
+# Checks a script, and after a yes runs its plan.
 check() {
     case $1 in
-    */script.toml) certificate=${1%script.toml}certificate.json ;;
-    *) certificate=${1%.toml}.json ;;
+    */script.toml) front=${1%script.toml} certificate=${front}certificate.json plan=${front}plan.toml report=${front}report ;;
+    *) front=${1%.toml} certificate=$front.json plan=$front.plan.toml report=$front.report ;;
     esac
     if [ ! -r "$1" ] || [ ! -r "$certificate" ]; then
-        echo "$1: not there, or without $certificate"
-        keep 3
+        tell check 3 "$1" "$certificate" "not there, or without $certificate"
         return
     fi
     line=$(joined "$1" "$certificate" | "$mgcall" check)
-    keep $?
-    echo "$1: $line"
+    status=$?
+    tell check $status "$1" "$certificate" "$line"
+    if [ $status -eq 0 ]; then compare "$1" "$certificate" "$plan" "$report"; fi
 }
 
-if [ $# -eq 0 ]; then
-    echo "usage: check_all.sh FOLDER.." >&2
+while [ $# -gt 1 ]; do
+    case $1 in
+    --junit) junit=$2 ;;
+    --sarif) sarif=$2 ;;
+    --codequality) codequality=$2 ;;
+    *) break ;;
+    esac
+    shift 2
+done
+case ${1--} in -*)
+    echo "$usage" >&2
     exit 2
-fi
+    ;;
+esac
 for folder in "$@"; do
-    scripts=$(find "$folder" -name '*.toml' ! -name plan.toml | LC_ALL=C sort)
-    if [ -z "$scripts" ]; then
-        echo "$folder: no script"
-        keep 3
-    fi
+    scripts=$(find "$folder" -name '*.toml' ! -name plan.toml ! -name '*.plan.toml' | LC_ALL=C sort)
+    if [ -z "$scripts" ]; then tell folder 3 "$folder" "$folder" "no script"; fi
     while IFS= read -r script; do
         if [ -n "$script" ]; then check "$script"; fi
     done <<END
 $scripts
 END
 done
-exit $worst
+if [ -n "$junit$sarif$codequality" ]; then
+    python3 "$(dirname "$0")/reports.py" --junit "$junit" --sarif "$sarif" --codequality "$codequality" < "$answers"
+    status=$?
+    if [ "$status" -gt "$worst" ]; then worst=$status; fi
+fi
+exit "$worst"
