@@ -1,7 +1,7 @@
 """How the tools of this repository ask a program: the proved one where it is there, else one that is built without its proofs."""
 import sys
 
-from shared import asking, programs
+from shared import asking, crates, programs
 
 
 def answered(name, asked, texts):
@@ -9,7 +9,7 @@ def answered(name, asked, texts):
     its proofs answers, and a note on standard error says so."""
     try:
         program = programs.program(name)
-    except (programs.crates.NoToolchain, programs.NotBuilt) as missing:
+    except (crates.NoToolchain, programs.NotBuilt) as missing:
         return asking.stop(f"{name} isn't built here: {missing.code}", missing.status)
     if program == programs.unproved(name):
         print("answered by a program that is not proved yet", file=sys.stderr)

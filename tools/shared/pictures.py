@@ -1,8 +1,11 @@
 """A script's state machine as a text for Graphviz. It says what the script says, and checks nothing. It is installed too, so it knows nothing of this
 repository."""
-import tomllib
-
 from shared import asking
+
+try:
+    import tomllib
+except ImportError:
+    tomllib = None
 
 KINDS = ("on", "of", "fl", "full", "part")
 
@@ -57,6 +60,8 @@ def picture(script):
 
 def drawn(name, checker):
     """Tells the picture of the script in the file of this name. Where the file is no script, one line says which command says why."""
+    if tomllib is None:
+        asking.stop("a picture wants Python 3.11 or a later one, which reads TOML", asking.NO_PROGRAM)
     [written] = asking.read([name])
     try:
         lines = [*picture(tomllib.loads(written.decode()))]
