@@ -16,7 +16,7 @@ def shell():
 
 def make(*words):
     """Status, output and standard error of make in this repository."""
-    result = subprocess.run(["make", "-s", *map(str, words)], cwd=TOP, env=shell(), capture_output=True, text=True, timeout=120, check=False)
+    result = subprocess.run(["make", "-s", *map(str, words)], cwd=TOP, env=shell(), capture_output=True, text=True, timeout=600, check=False)
     return result.returncode, result.stdout, result.stderr
 
 
