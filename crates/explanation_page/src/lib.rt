@@ -3,9 +3,10 @@
 //!
 //! The way of a No: `explain` asks for what its first broken obligation is about, and puts it into a `page`: the rule (`rules`), the entry as the
 //! certificate has it (`listed`), what of the point breaks the obligation (`facts`). Of a fault of a document there are its rule and its place
-//! (`places`). This profile's own.
+//! (`places`, `dividers`). This profile's own.
 #![tactic(auto)]
 
+pub mod dividers;
 pub mod explain;
 mod facts;
 mod listed;

@@ -15,18 +15,41 @@ pub(crate) fn line_of(text: &[u8], byte: usize) -> usize {
     text[..end].iter().filter(|other| **other == b'\n').count() + 1
 }
 
+/// What a text seems to be that is no TOML, where that can be seen.
+fn taken_for_script(script: &[u8]) -> &'static str {
+    if script.trim_ascii_start().starts_with(b"{") {
+        return " It begins as a certificate does: the two documents may be exchanged.";
+    }
+    ""
+}
+
+/// What a text seems to be that is no JSON, where that can be seen.
+fn taken_for_certificate(alloc: Global, certificate: &[u8]) -> &'static str {
+    if certificate.starts_with(b"\xef\xbb\xbf") {
+        return " A byte order mark stands before it; a certificate has none.";
+    }
+    match toml::table_from_slice(alloc, certificate) {
+        Ok(table) if table.get("call").is_some() => " It is a plan, and no certificate.",
+        Ok(table) if table.get("state").is_some() => " It is a script, and no certificate.",
+        _ => "",
+    }
+}
+
 /// Where a text is no TOML.
 fn toml_place(alloc: Global, script: &[u8]) -> Result<String, AllocError> {
     match toml::table_from_slice(alloc, script) {
         Ok(_) => String::from_str(alloc, NOWHERE),
         Err(error) => {
             let message = error.message();
+            let more = taken_for_script(script);
             match error.span() {
                 Some(span) => {
                     let line = line_of(script, span.start);
-                    format!(in alloc; "At line {line} of the script, counted from 1: {message}.")
+                    format!(in alloc;
+                        "At line {line} of the script, counted from 1: {message}.{more}"
+                    )
                 }
-                None => format!(in alloc; "{message}."),
+                None => format!(in alloc; "{message}.{more}"),
             }
         }
     }
@@ -71,7 +94,10 @@ fn json_place(alloc: Global, certificate: &[u8]) -> Result<String, AllocError> {
         Ok(_) => String::from_str(alloc, NOWHERE),
         Err(error) => {
             let (line, column) = (error.line(), error.column());
-            format!(in alloc; "At line {line}, column {column} of the certificate, counted from 1.")
+            let more = taken_for_certificate(alloc, certificate);
+            format!(in alloc;
+                "At line {line}, column {column} of the certificate, counted from 1.{more}"
+            )
         }
     }
 }

@@ -17,6 +17,7 @@ use closure::steps::{opening, reset};
 use composition::{CheckFault, Checked, Refuted, Verdict, check};
 use explanation::locate;
 use explanation_page::Page;
+use explanation_page::dividers::dividers_told;
 use explanation_page::explain::{Documents, new_page, no_page};
 use explanation_page::places::{certificate_place, script_place};
 use explanation_page::rules::{YES_RULE, certificate_rule, script_rule};
@@ -217,7 +218,8 @@ fn input_told(alloc: Global, form: Form, input: &[u8]) -> Result<Said, AllocErro
         None => {
             let fault = InputFault::Sections;
             let reply = Reply::Input(fault);
-            unread(alloc, form, &reply, Some(input_rule(fault)), None)
+            let place = dividers_told(alloc, input)?;
+            unread(alloc, form, &reply, Some(input_rule(fault)), Some(place))
         }
     }
 }
