@@ -22,7 +22,7 @@ use mg_model::failures::{ChosenRefusal, Refusal};
 use mg_model::line_events::{Hook, LineEvent};
 use mg_model::plans::PlanStep;
 use mg_names::identifiers::{Assoc, CallNo};
-use mg_names::slots::CallRecord as Place;
+use mg_names::slots::Slot as Place;
 use requests::{Request, SentNote};
 
 /// An event of the call of a slot.
