@@ -1,7 +1,7 @@
 //! An entry as it stands in the text of a certificate.
 use crate::places::line_of;
-use document_places::entry_ends;
 use entry_table::Entry;
+use found_places::entry_ends;
 use script_table::Script;
 use script_words::entry_text::{EntryText, entry_text};
 use serde::Serialize;

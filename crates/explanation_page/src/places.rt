@@ -1,6 +1,7 @@
 //! Where a text breaks its format, as far as the library that reads it tells a place.
 use certificate::CertFault;
 use digits::DigitMap;
+use found_places::Place;
 use script_faults::ScriptFault;
 use serde_json::Value;
 use std::alloc::{AllocError, Global};
@@ -103,11 +104,7 @@ fn json_place(alloc: Global, certificate: &[u8]) -> Result<String, AllocError> {
 }
 
 /// What is said of a place of a document of this kind.
-fn told(
-    alloc: Global,
-    place: Option<document_places::Place>,
-    document: &str,
-) -> Result<String, AllocError> {
+fn told(alloc: Global, place: Option<Place>, document: &str) -> Result<String, AllocError> {
     match place {
         Some(place) => place.sentence(alloc, document),
         None => String::from_str(alloc, NOWHERE),
@@ -124,7 +121,7 @@ pub fn script_place(
         ScriptFault::NotToml => toml_place(alloc, script),
         ScriptFault::BadMap => map_place(alloc, script),
         _ => {
-            let place = document_places::script_place(alloc, *fault, script)?;
+            let place = script_places::script_place(alloc, *fault, script)?;
             told(alloc, place, "script")
         }
     }
@@ -140,7 +137,7 @@ pub fn certificate_place(
     match fault {
         CertFault::NotJson => json_place(alloc, certificate),
         _ => {
-            let place = document_places::certificate_place(alloc, *fault, script, certificate)?;
+            let place = certificate_places::certificate_place(alloc, *fault, script, certificate)?;
             told(alloc, place, "certificate")
         }
     }

@@ -1,6 +1,5 @@
 //! What a script or a state of it lacks, or has too much of.
-use crate::near::nearest;
-use crate::wrong::{InTable, Wrong, found_wrong};
+use found_places::{InTable, Wrong, found_wrong, nearest};
 use script_document::{Document, WrittenCommand, WrittenState};
 use std::alloc::{AllocError, Global};
 use typed_values::Word;

@@ -1,5 +1,5 @@
 //! What is wrong with the text of a command, of an item, of a signal or of a pair.
-use crate::near::nearest;
+use found_places::nearest;
 use std::alloc::{AllocError, Global};
 use typed_values::is_name;
 

@@ -1,12 +1,8 @@
 //! Where a certificate has a fault.
 use crate::entry_sets::{EntrySet, Found, Kind, Look, add_sets, key_wrong, not_this};
-use crate::entry_text::entry_ends;
 use crate::names::{ScriptNames, names_of};
-use crate::near::nearest;
-use crate::place::{Place, new_place};
-use crate::spots::spot_from;
-use crate::wrong::found_wrong;
 use certificate::CertFault;
+use found_places::{Place, entry_ends, found_wrong, nearest, new_place, spot_from};
 use script_document::read_document;
 use serde_json::Value;
 use std::alloc::{AllocError, Global};
@@ -212,7 +208,7 @@ fn in_entries(
     fault: CertFault,
     entries: &[Value],
     names: &ScriptNames<'_>,
-) -> Result<Option<(usize, crate::wrong::Wrong)>, AllocError> {
+) -> Result<Option<(usize, found_places::Wrong)>, AllocError> {
     if fault == CertFault::TooManyEntries {
         let Some(place) = past_the_last(entries) else {
             return Ok(None);

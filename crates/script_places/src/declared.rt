@@ -1,6 +1,5 @@
 //! The first name of a script that can't be one, that is declared twice, or that isn't declared as what its place asks for.
-use crate::near::nearest;
-use crate::wrong::{InTable, Wrong, found_wrong};
+use found_places::{InTable, Wrong, found_wrong, nearest};
 use script_document::{Document, Options, WrittenCommand, WrittenItem, WrittenState};
 use std::alloc::{AllocError, Global};
 use typed_values::{Word, is_name, is_reserved};

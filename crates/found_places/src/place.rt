@@ -17,11 +17,7 @@ pub struct Place {
 }
 
 /// The place of what is wrong.
-pub(crate) fn new_place(
-    alloc: Global,
-    wrong: Wrong,
-    spot: Option<Spot>,
-) -> Result<Place, AllocError> {
+pub fn new_place(alloc: Global, wrong: Wrong, spot: Option<Spot>) -> Result<Place, AllocError> {
     let Wrong {
         path,
         says,

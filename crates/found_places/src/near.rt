@@ -19,11 +19,7 @@ fn distance(alloc: Global, word: &str, other: &str) -> Result<usize, AllocError>
 }
 
 /// The nearest of these words to one that isn't among them; none where all are far.
-pub(crate) fn nearest(
-    alloc: Global,
-    word: &str,
-    known: &[&str],
-) -> Result<Option<String>, AllocError> {
+pub fn nearest(alloc: Global, word: &str, known: &[&str]) -> Result<Option<String>, AllocError> {
     let mut least = bound(word.len()).saturating_add(1);
     let mut found: Option<&str> = None;
     for other in known {

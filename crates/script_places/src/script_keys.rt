@@ -1,7 +1,6 @@
 //! The first bad key or value of a script: a key that isn't known or is missing, a value of the wrong kind, a text that isn't of its form.
-use crate::near::nearest;
 use crate::texts::{self, WrongText};
-use crate::wrong::{InTable, Wrong, found_wrong};
+use found_places::{InTable, Wrong, found_wrong, nearest};
 use mg_names::kinds::Kind;
 use script_document::{WrittenCommand, WrittenItem, WrittenPair, WrittenSignal};
 use std::alloc::{AllocError, Global};

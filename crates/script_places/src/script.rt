@@ -1,10 +1,8 @@
 //! Where a script has a fault.
 use crate::declared::{bad_name, duplicate, unknown};
-use crate::place::{Place, new_place};
 use crate::script_keys::bad_key;
 use crate::script_states::{Lack, lacking, no_state, too_many};
-use crate::spots::{Sought, spot_of};
-use crate::wrong::Wrong;
+use found_places::{Place, Sought, Wrong, new_place, spot_of};
 use script_document::{Document, read_document};
 use script_faults::ScriptFault;
 use std::alloc::{AllocError, Global};

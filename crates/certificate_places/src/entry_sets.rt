@@ -1,7 +1,6 @@
 //! The sets of an entry of a certificate, each with its path, and the first key or value that is no part of an entry.
 use crate::names::ScriptNames;
-use crate::near::nearest;
-use crate::wrong::{Wrong, found_wrong};
+use found_places::{Wrong, found_wrong, nearest};
 use serde_json::{Map, Value};
 use std::alloc::{AllocError, Global};
 

@@ -3,30 +3,30 @@ use std::alloc::{AllocError, Global};
 
 /// In which table of a TOML text a value stands: the name of the array of tables, and its place in it, from 0.
 #[derive(Clone, Copy, Debug)]
-pub(crate) struct InTable {
-    pub(crate) name: &'static str,
-    pub(crate) place: usize,
+pub struct InTable {
+    pub name: &'static str,
+    pub place: usize,
 }
 
 /// What is wrong with a value.
 #[derive(Drop)]
-pub(crate) struct Wrong {
+pub struct Wrong {
     /// The path of the value, in words.
-    pub(crate) path: String,
+    pub path: String,
     /// What is wrong with it, in words.
-    pub(crate) says: String,
+    pub says: String,
     /// The word of the text that is wrong; empty where something is missing.
-    pub(crate) word: String,
+    pub word: String,
     /// The text of the value that has the word, where it has more.
-    pub(crate) within: Option<String>,
+    pub within: Option<String>,
     /// A word that may have been meant.
-    pub(crate) near: Option<String>,
+    pub near: Option<String>,
     /// The table in which it stands; none at the top.
-    pub(crate) table: Option<InTable>,
+    pub table: Option<InTable>,
 }
 
 /// What is wrong with a word, and nothing near it.
-pub(crate) fn found_wrong(
+pub fn found_wrong(
     alloc: Global,
     path: String,
     says: String,

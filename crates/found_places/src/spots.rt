@@ -3,9 +3,9 @@ use crate::wrong::InTable;
 
 /// A place in a text: its line and its column, both from 1.
 #[derive(Clone, Copy, Debug)]
-pub(crate) struct Spot {
-    pub(crate) line: usize,
-    pub(crate) column: usize,
+pub struct Spot {
+    pub line: usize,
+    pub column: usize,
 }
 
 /// Whether a line of a TOML text begins a table of an array of this name.
@@ -37,9 +37,9 @@ fn begins_any(line: &str) -> bool {
 
 /// A word that is sought, and the text of the value that has it.
 #[derive(Clone, Copy)]
-pub(crate) struct Sought<'a> {
-    pub(crate) word: &'a str,
-    pub(crate) within: Option<&'a str>,
+pub struct Sought<'a> {
+    pub word: &'a str,
+    pub within: Option<&'a str>,
 }
 
 /// The byte of a line at which a word stands.
@@ -104,7 +104,7 @@ fn in_table(text: &str, table: InTable, sought: Sought<'_>) -> Option<Spot> {
 }
 
 /// Where a word of a table of a TOML text stands, or one at its top.
-pub(crate) fn spot_of(text: &str, table: Option<InTable>, sought: Sought<'_>) -> Option<Spot> {
+pub fn spot_of(text: &str, table: Option<InTable>, sought: Sought<'_>) -> Option<Spot> {
     match table {
         Some(table) => in_table(text, table, sought),
         None => at_top(text, sought),
@@ -112,7 +112,7 @@ pub(crate) fn spot_of(text: &str, table: Option<InTable>, sought: Sought<'_>) ->
 }
 
 /// Where a word stands in a text from a byte on.
-pub(crate) fn spot_from(text: &[u8], first: usize, word: &str) -> Spot {
+pub fn spot_from(text: &[u8], first: usize, word: &str) -> Spot {
     let rest = text.get(first..).unwrap_or(&[]);
     let place = place_in(rest, word.as_bytes())
         .unwrap_or(0)
