@@ -54,7 +54,7 @@ ended_in script w a association current is =
     let second = and_second (is_resting a.phase) _ is in
     record {
       is_end = and_first (state_of script a.state).is_end (a.association == association) second;
-      is_resting_is = is_resting_is a.phase (and_first (is_resting a.phase) _ is);
+      at_rest = is_resting_is a.phase (and_first (is_resting a.phase) _ is);
       current = eqb-true a.association association (and_second (state_of script a.state).is_end (a.association == association) second) ∙ sym current;
     }
 

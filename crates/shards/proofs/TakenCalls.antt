@@ -193,7 +193,7 @@ module _ (script : Script) (calls : List OpenedCall) (first stride : ℕ) (g : G
             earlier.1.0,
             inr (record {
               line = line;
-              of_one = subst (λ n. names_line earlier.0.lines.items n ≡ true) same (named earlier.0.lines.items by.1 within);
+              of_one = subst (λ n. names_line earlier.0.lines.items n ≡ true) same (named earlier.0.lines.items by.i within);
               of_other = found.1.0;
             }),
           )
