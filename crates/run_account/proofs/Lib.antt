@@ -2,6 +2,7 @@ pub mod AgreedTrails
 pub mod ApartParts
 pub mod CallReports
 pub mod CountLemmas
+pub mod DifferingTrails
 pub mod FinalLines
 pub mod FinalRuns
 pub mod FinishedRuns

@@ -86,6 +86,7 @@ pub record StrayAmong (count : ℕ) (histories trails : List (List Event)) (old 
   pub followed : FollowAll count front trails old places
   pub strays : StraysIn count (length front) history trails places
 
--- the histories aren't what the calls went through, or a trail is longer than places can be counted
+-- the histories aren't what the calls went through; or there are no shards, in one of which each call would stand; or a trail is longer than places can be counted
 abbrev pub Differ : (count : ℕ) → (histories trails : List (List Event)) → Type 0
-Differ count histories trails = (Agree count histories trails → ⊥) ⊎ ((number : ℕ) × (last_place < length (trail_at trails number)))
+Differ count histories trails =
+    (Agree count histories trails → ⊥) ⊎ ((count ≡ 0) ⊎ ((number : ℕ) × (last_place < length (trail_at trails number))))
