@@ -1,10 +1,10 @@
 //! The end of a run, once its threads are joined: the shards come out of their locks, their histories are compared with what the calls went through, and
 //! merged.
-ghost use Rattle.std.specs.Prelude.{◌≡◌, ◌≤◌, IfOk, IsTrue, length, map, vec_len};
+ghost use Rattle.std.specs.Prelude.{◌≡◌, ◌≤◌, false, IfOk, IsTrue, length, map, vec_len};
 ghost use Rattle.mg_model.specs.Numbers.{plan_calls};
 ghost use Rattle.mg_model.specs.Script.{Script};
 ghost use Rattle.plans.specs.Accepted.{IsPlanFor};
-ghost use Rattle.run_account.specs.Finishing.{AreFinished, IsFinished};
+ghost use Rattle.run_account.specs.Finishing.{AreFinished, HasUnfinished, IsFinished, IsUnfinished};
 ghost use Rattle.planned_calls.specs.RunShards.{AreOfRun};
 ghost use Rattle.run_account.specs.Runs.{IsRunOf};
 
@@ -27,7 +27,8 @@ const MOST_EXECUTES: usize = 10_000_000;
 
 /// Whether a shard was restarted so often, and executed no more than a plan may.
 fn has_finished(shard: &Shard<'_>, restarts: usize) -> bool
-    ensures { IsTrue result → IsFinished restarts shard.now }
+    ensures yes { IsTrue result → IsFinished restarts shard.now }
+    ensures no { result ≡ false → IsUnfinished restarts shard.now }
 {
     shard.keeps_its_run();
     shard.identifiers_lasted();
@@ -39,7 +40,8 @@ fn has_finished(shard: &Shard<'_>, restarts: usize) -> bool
 
 /// Whether all shards were restarted so often, and none executed more than a plan may.
 fn have_finished(shards: &[Shard<'_>], restarts: usize) -> bool
-    ensures { IsTrue result → AreFinished restarts shards.now }
+    ensures yes { IsTrue result → AreFinished restarts shards.now }
+    ensures no { result ≡ false → HasUnfinished restarts shards.now }
 {
     for shard in shards {
         if !has_finished(shard, restarts) {

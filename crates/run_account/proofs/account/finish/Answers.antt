@@ -24,8 +24,8 @@ invariant_of-result g c =
     let planned_calls = c.args.planned_calls.items in
     let histories = map (λ v. v.history) shards in
     let sized : length shards ≡ plan.shards = c.if-shards-from.false ∙ c.from.ensures ∙ c.shards.ensures in
-    let all : AreFinished restarts shards = c.if-not-have_finished.ensures (search rules) in
-    let agreed : Agree c.from-count.result histories (trails_of c.as_slice.result.now) = c.in_ok-agreed.ensures (search rules) in
+    let all : AreFinished restarts shards = c.if-not-have_finished.ensures.yes (search rules) in
+    let agreed : Agree c.from-count.result histories (trails_of c.as_slice.result.now) = c.in_ok-agreed.ensures.agree (search rules) in
     let agree : Agree plan.shards histories (trails_of planned_calls) =
     subst (λ (n : ℕ). Agree n histories (trails_of planned_calls)) (c.from-count.ensures ∙ c.shards-2.ensures)
     (subst (λ (cs : List PlannedCall). Agree c.from-count.result histories (trails_of cs)) c.as_slice.ensures.value agreed) in
@@ -45,8 +45,8 @@ returns g c =
     let planned_calls = c.args.planned_calls.items in
     let histories = map (λ v. v.history) shards in
     let sized : length shards ≡ plan.shards = c.if-shards-from.false ∙ c.from.ensures ∙ c.shards.ensures in
-    let all : AreFinished restarts shards = c.if-not-have_finished.ensures (search rules) in
-    let agreed : Agree c.from-count.result histories (trails_of c.as_slice.result.now) = c.in_ok-agreed.ensures (search rules) in
+    let all : AreFinished restarts shards = c.if-not-have_finished.ensures.yes (search rules) in
+    let agreed : Agree c.from-count.result histories (trails_of c.as_slice.result.now) = c.in_ok-agreed.ensures.agree (search rules) in
     let agree : Agree plan.shards histories (trails_of planned_calls) =
     subst (λ (n : ℕ). Agree n histories (trails_of planned_calls)) (c.from-count.ensures ∙ c.shards-2.ensures)
     (subst (λ (cs : List PlannedCall). Agree c.from-count.result histories (trails_of cs)) c.as_slice.ensures.value agreed) in

@@ -12,4 +12,4 @@ loop-shard-preserved c =
     let i = c.loop-shard.shard-index in
     subst (λ (vs : List ShardValue). AreFinished c.args.restarts vs)
     (ap (λ (v : ShardValue). take i shards ++ v ∷ []) c.shard-item.is ∙ sym (take_more shards i c.shard-item.result c.loop-shard-test.true))
-    (finished_more c.args.restarts (take i shards) c.shard-item.result c.loop-shard.invariant (c.if-not-has_finished.ensures (search rules)))
+    (finished_more c.args.restarts (take i shards) c.shard-item.result c.loop-shard.invariant (c.if-not-has_finished.ensures.yes (search rules)))
