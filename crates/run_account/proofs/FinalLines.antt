@@ -134,8 +134,8 @@ module _ (script : Script) (v : ShardValue) (trail : List Event) (call : ℕ) wh
       (subst (λ (n : ℕ). AreLeftSoFar script v trail call next n (take i lines ++ get_or lines i d ∷ [])) is
       (left_more place least next number (take i lines) (get_or lines i d) so_far line of below all leaves))
 
-  -- the place is the end of the transcripts
-  pub all_left : (place least : ℕ) (lines : List Line) → AreLeftSoFar script v trail call place least lines → length trail ≡ place
+  -- the transcripts end at the place, or before it
+  pub all_left : (place least : ℕ) (lines : List Line) → AreLeftSoFar script v trail call place least lines → length trail ≤ place
       → (l : Line) → Contains lines l → (l.call ≡ call) × IsLeftBy script v trail l
   all_left place least lines so_far whole l among =
       let is = so_far.each l among in (
@@ -148,7 +148,7 @@ module _ (script : Script) (v : ShardValue) (trail : List Event) (call : ℕ) wh
       )
 
   -- so each call in them has its line
-  pub all_have_lines : (place least : ℕ) (lines : List Line) → AreLeftSoFar script v trail call place least lines → length trail ≡ place → HaveLines trail lines
+  pub all_have_lines : (place least : ℕ) (lines : List Line) → AreLeftSoFar script v trail call place least lines → length trail ≤ place → HaveLines trail lines
   all_have_lines place least lines so_far whole number happens among =
       so_far.told number.0 (omega (
         arith,

@@ -11,6 +11,7 @@ pub mod FollowedTrails
 pub mod MergedAssociations
 pub mod MergedParts
 pub mod MergedPlaces
+pub mod OtherLine
 pub mod Passed
 pub mod SameEvents
 pub mod SameLines

@@ -4,4 +4,5 @@ pub mod FinalState
 pub mod FinalStates
 pub mod Finishing
 pub mod Merging
+pub mod OtherLines
 pub mod Runs

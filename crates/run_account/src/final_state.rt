@@ -1,13 +1,14 @@
 //! Whether the lines of a call of the plan tell where the run leaves it, and those that began within it: compared with what their shard shows, and with their
 //! transcripts.
-ghost use Rattle.std.specs.Prelude.{◌≡◌, ℕ, Contains, IfSome, IsTrue, Option, Some, slice_get, slice_index_or, []};
+ghost use Rattle.std.specs.Prelude.{◌≡◌, ℕ, ◌+◌, ◌<◌, ◌⊎◌, false, Contains, IfNone, IfSome, IsTrue, Option, Some, length, slice_get, slice_index_or, []};
 ghost use Rattle.mg_model.specs.declared.events.Event.TheVariants.{OfCall};
 ghost use Rattle.mg_model.specs.World.{begin};
 ghost use Rattle.mg_model.specs.declared.events.CallEvent.{CallEvent};
 ghost use Rattle.planned_calls.specs.declared.lines.Line.{Line};
-ghost use Rattle.run_account.specs.Comparing.{trail_of, trails_of};
+ghost use Rattle.run_account.specs.Comparing.{last_place, trail_of, trails_of};
 ghost use Rattle.run_account.specs.FinalStates.{AreAllOf, IsLineOf, Leaves, phase_standing};
 ghost use Rattle.run_account.specs.FinalState.{HaveLines, IsGone, IsLeftAmong, IsLeftBy, call_of};
+ghost use Rattle.run_account.specs.OtherLines.{AreLeftOtherwise, AreUnlike, IsInterrupted, IsLeftOtherwise, IsNoBeginningOn, IsNotGone, IsNotOf, IsOfNoCall, IsOtherStanding};
 
 use crate::compare::{ends_at, event_at};
 use mg_model::events::{CallEvent, Event};
@@ -20,6 +21,7 @@ use shards::{Shard, Standing};
 fn number_of(call: u32, line: &Line) -> Option<CallNo>
     ensures number { IfSome result (λ number. number.0 ≡ call_of line.now) }
     ensures own { IfSome result (λ number. IsLineOf call line.now) }
+    ensures none { IfNone result (IsOfNoCall call line.now) }
 {
     let begun = u32::try_from(line.begun).ok()?;
     let before = PLAN_CALLS.checked_mul(begun)?;
@@ -32,7 +34,8 @@ fn number_of(call: u32, line: &Line) -> Option<CallNo>
 
 /// Whether what happened at a place in the transcripts of a call of the plan happened to this one.
 fn happened_to(planned: &PlannedCall<'_>, place: usize, number: CallNo) -> bool
-    ensures { IsTrue result → (happens : CallEvent) × (slice_get (trail_of planned.now) place ≡ Some (OfCall number happens)) }
+    ensures yes { IsTrue result → (happens : CallEvent) × (slice_get (trail_of planned.now) place ≡ Some (OfCall number happens)) }
+    ensures no { result ≡ false → IsNotOf number.0 (trail_of planned.now) place }
 {
     match event_at(planned, place) {
         Some(Event::OfCall { call, .. }) => call == number,
@@ -47,7 +50,9 @@ fn place_behind(
     count: usize,
     number: CallNo,
 ) -> Option<usize>
-    ensures { IfSome result (λ next. AreAllOf (trail_of planned.now) number.0 from count next) }
+    ensures all { IfSome result (λ next. AreAllOf (trail_of planned.now) number.0 from count next) }
+    ensures next { IfSome result (λ next. next ≡ from + count) }
+    ensures none { IfNone result (IsInterrupted (trail_of planned.now) number.0 from count ⊎ (last_place < length (trail_of planned.now))) }
 {
     let mut place = from;
     for _ in 0..count {
@@ -61,7 +66,8 @@ fn place_behind(
 
 /// Whether what happened at a place in the transcripts of a call of the plan is that another call began on this one.
 fn is_begun_on(planned: &PlannedCall<'_>, place: usize, number: CallNo) -> bool
-    ensures { IsTrue result → (next : ℕ) × Contains (trail_of planned.now) (begin next number.0) }
+    ensures yes { IsTrue result → (next : ℕ) × Contains (trail_of planned.now) (begin next number.0) }
+    ensures no { result ≡ false → IsNoBeginningOn number.0 (trail_of planned.now) place }
 {
     match event_at(planned, place) {
         Some(
@@ -95,6 +101,7 @@ fn phase_of(script: &Script, standing: Standing, association: Assoc) -> CallPhas
 fn is_open_as(script: &Script, standing: Standing, association: Assoc, line: &Line) -> bool
     ensures state { IsTrue result → line.now.state ≡ standing.state }
     ensures phase { IsTrue result → line.now.phase ≡ phase_standing script.now standing association.0 }
+    ensures no { result ≡ false → IsOtherStanding script.now standing association.0 line.now }
 {
     line.state == standing.state && line.phase == phase_of(script, standing, association)
 }
@@ -108,7 +115,8 @@ fn is_gone(
     line: &Line,
 ) -> bool
     requires { number.0 ≡ call_of line.now }
-    ensures { IsTrue result → IsGone script.now (trail_of planned.now) line.now }
+    ensures yes { IsTrue result → IsGone script.now (trail_of planned.now) line.now }
+    ensures no { result ≡ false → IsNotGone script.now (trail_of planned.now) place line.now }
 {
     if line.phase != CallPhase::Retired || !script.ends_in(line.state) {
         return false;
@@ -126,7 +134,8 @@ fn is_left(
     line: &Line,
 ) -> bool
     requires { number.0 ≡ call_of line.now }
-    ensures { IsTrue result → Leaves script.now shard.now (trail_of planned.now) line.now }
+    ensures yes { IsTrue result → Leaves script.now shard.now (trail_of planned.now) line.now }
+    ensures no { result ≡ false → IsLeftOtherwise script.now shard.now (trail_of planned.now) place line.now }
 {
     match shard.standing(number) {
         Some(standing) => is_open_as(script, standing, shard.association(), line),
@@ -144,6 +153,7 @@ fn are_left_by(
 ) -> bool
     ensures left { IsTrue result → (l : Line) → Contains lines.now l → (l.call ≡ call) × IsLeftBy script.now shard.now (trail_of planned.now) l }
     ensures all { IsTrue result → HaveLines (trail_of planned.now) lines.now }
+    ensures no { result ≡ false → AreUnlike script.now shard.now (trail_of planned.now) call lines.now }
 {
     let mut place = 0;
     let mut least = 0;
@@ -177,6 +187,7 @@ pub(crate) fn are_left(
 ) -> bool
     ensures left { IsTrue result → (l : Line) → Contains lines.now l → IsLeftAmong script.now count shards.now (trails_of planned_calls.now) l }
     ensures all { IsTrue result → HaveLines (slice_index_or (trails_of planned_calls.now) call []) lines.now }
+    ensures no { result ≡ false → AreLeftOtherwise script.now count shards.now (trails_of planned_calls.now) call lines.now }
 {
     let Some(planned) = planned_calls.get(call as usize) else {
         return false;

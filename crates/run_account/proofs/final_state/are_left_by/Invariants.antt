@@ -1,8 +1,17 @@
--- The lines so far tell where the run leaves their calls.
-use Rattle.std.proofs.Common.{take}
+-- The lines so far tell where the run leaves their calls, and the place is behind the events that they tell.
+use Rattle.std.proofs.Common.{◌≡◌, ◌<◌, ◌≤◌, ℕ, take}
+use Rattle.std.specs.Prelude.{Contains}
 use Rattle.run_account.specs.Comparing.{trail_of}
+use Rattle.run_account.specs.FinalState.{call_of}
+use Rattle.run_account.specs.OtherLines.{events_told}
+use Rattle.planned_calls.specs.declared.lines.Line.{Line}
 use Rattle.run_account.proofs.FinalLines.{AreLeftSoFar}
+use Rattle.run_account.proofs.OtherLine.{IsBelow}
 use Rattle.run_account.proofs.final_state.are_left_by.Given as goal
 
 abbrev pub invariant-loop-line : goal.invariant-loop-line
-invariant-loop-line l = AreLeftSoFar l.script l.shard (trail_of l.planned) l.call l.place l.least (take l.line-index l.lines)
+invariant-loop-line l = record {
+  left : AreLeftSoFar l.script l.shard (trail_of l.planned) l.call l.place l.least (take l.line-index l.lines);
+  told : l.place ≡ events_told (take l.line-index l.lines);
+  below : IsBelow l.least (take l.line-index l.lines);
+}

@@ -8,7 +8,10 @@ use Rattle.run_account.proofs.final_state.place_behind.Goals as goal
 pub loop-preserved : goal.loop-preserved
 loop-preserved c =
     let trail = trail_of c.args.planned.now in
-    let told = c.if-not-happened_to.ensures (search rules) in
+    let told = c.if-not-happened_to.ensures.yes (search rules) in
     let next : c.loop.place + 1 ≡ c.in_ok-place.place = omega (arith, c.in_ok-place.ensures) in
-    subst (λ (n : ℕ). AreAllOf trail c.args.number.0 c.args.from (c.loop.counter + 1) n) next
-    (all_more trail c.args.from c.loop.counter c.loop.place c.args.number told.0 told.1 c.loop.invariant)
+    record {
+      all = subst (λ (n : ℕ). AreAllOf trail c.args.number.0 c.args.from (c.loop.counter + 1) n) next
+          (all_more trail c.args.from c.loop.counter c.loop.place c.args.number told.0 told.1 c.loop.invariant.all);
+      next = omega (arith, c.loop.invariant.next, next);
+    }
