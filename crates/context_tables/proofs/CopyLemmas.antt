@@ -1,8 +1,8 @@
 -- Lists by context, copied item by item.
-use Rattle.std.proofs.Common.{◌≡◌, ℕ, refl, ap, rules, List, Option, Some, None, Vec, nat_cmp}
+use Rattle.std.proofs.Common.{◌≡◌, ℕ, refl, ap, rules, List, Option, Some, None, Vec}
+use Rattle.std.specs.Prelude.{nat_eq}
 use Rattle.std.specs.List.{AllZip}
 use Rattle.std.specs.Option.{MatchOption, IsSomeAnd}
-use Rattle.std.specs.BTreeMap.{is_at}
 use Rattle.std.specs.Map.{lookup}
 use Rattle.std.proofs.lemmas.Map.Entries.{lookup_clone}
 use Rattle.context_tables.specs.Groups.{group_at, items_in}
@@ -17,4 +17,4 @@ module _ {X Z : Type 0} where
   pub groups_copied : (C : ℕ → ℕ → Type 0) (D : Vec X Z → Vec X Z → Type 0) → ((x y : ℕ) → C x y → y ≡ x) → ((v w : Vec X Z) → D v w → w.items ≡ v.items) →
       (es fs : List (ℕ × Vec X Z)) → AllZip (λ p q. C p.0 q.0 × D p.1 q.1) es fs → (c : ℕ) → group_at fs c ≡ group_at es c
   groups_copied C D keys same es fs zipped c =
-      by_found D same (lookup (is_at (nat_cmp c)) es) (lookup (is_at (nat_cmp c)) fs) (lookup_clone C D (is_at (nat_cmp c)) (λ x y e. ap (is_at (nat_cmp c)) (keys x y e)) es fs zipped)
+      by_found D same (lookup (nat_eq c) es) (lookup (nat_eq c) fs) (lookup_clone C D (nat_eq c) (λ x y e. ap (nat_eq c) (keys x y e)) es fs zipped)

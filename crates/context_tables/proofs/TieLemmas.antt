@@ -1,10 +1,10 @@
 -- Members and cuts tied to rows: what stays so when a termination enters a context, leaves it, or changes within it.
-use Rattle.std.proofs.Common.{◌≡◌, ℕ, ◌<◌, ◌==◌, Bool, true, false, not, ◌&&◌, ◌||◌, IsTrue, is_some, if◌then◌else◌, refl, ap, sym, ◌∙◌, arith, rules, List, [], ◌∷◌, ◌++◌, map, cond, Option, Some, None, Vec, nat_cmp, ◌↔◌, filter}
+use Rattle.std.proofs.Common.{◌≡◌, ℕ, ◌<◌, ◌==◌, Bool, true, false, not, ◌&&◌, ◌||◌, IsTrue, is_some, if◌then◌else◌, refl, ap, sym, ◌∙◌, arith, rules, List, [], ◌∷◌, ◌++◌, map, cond, Option, Some, None, Vec, ◌↔◌, filter}
 use Rattle.std.proofs.lemmas.Grind.{common_steps}
 use Rattle.std.proofs.lemmas.List.Folds.{list_any-append}
 use Rattle.std.proofs.lemmas.Map.Views.{any-filter_same}
 use Rattle.std.proofs.lemmas.Bool.{and_parts}
-use Rattle.std.specs.BTreeMap.{is_at}
+use Rattle.std.specs.Prelude.{nat_eq}
 use Rattle.std.specs.List.{list_any, IsDistinct}
 use Rattle.std.specs.Map.{lookup}
 use Rattle.mg_names.specs.declared.identifiers.TermId.{TermId}
@@ -22,10 +22,10 @@ use Rattle.context_tables.proofs.OnceLemmas.{once_none, once_with, once_without}
 -- the cuts that the view lists are those of the fields
 pub cuts_viewed : {Z : Type 0} (es : List (ℕ × Vec Cut Z)) (c : ℕ) → cuts_at (map (λ (e : ℕ × Vec Cut Z). (e.0, e.1.items)) es) c ≡ group_at es c
 cuts_viewed [] c = refl
-cuts_viewed {Z} (e ∷ es) c = by_test (is_at (nat_cmp c) e.0) (cuts_viewed es c)
+cuts_viewed {Z} (e ∷ es) c = by_test (nat_eq c e.0) (cuts_viewed es c)
   where
     by_test : (b : Bool) → cuts_at (map (λ (e : ℕ × Vec Cut Z). (e.0, e.1.items)) es) c ≡ group_at es c →
-        cond b (Some e.1.items) (cuts_at (map (λ (e : ℕ × Vec Cut Z). (e.0, e.1.items)) es) c) ≡ items_in (cond b (Some e.1) (lookup (is_at (nat_cmp c)) es))
+        cond b (Some e.1.items) (cuts_at (map (λ (e : ℕ × Vec Cut Z). (e.0, e.1.items)) es) c) ≡ items_in (cond b (Some e.1) (lookup (nat_eq c) es))
     by_test true more = refl
     by_test false more = more
 

@@ -1,8 +1,6 @@
 -- What a board shows: the table of terminations, and of each context its members and its cuts; from them the pointwise board. A reader should check that media is cut between two terminations where the context of the first
 -- one lists the pair.
-use Rattle.std.specs.Prelude.{◌≡◌, ℕ, ◌==◌, Bool, true, not, ◌&&◌, List, [], Option, Some, ◌⊎◌}
-use Rattle.std.specs.Ordering.{nat_cmp}
-use Rattle.std.specs.BTreeMap.{is_at}
+use Rattle.std.specs.Prelude.{◌≡◌, ℕ, nat_eq, ◌==◌, Bool, true, not, ◌&&◌, List, [], Option, Some, ◌⊎◌}
 use Rattle.std.specs.List.{IsDistinct}
 use Rattle.std.specs.Map.{lookup}
 use Rattle.mg_names.specs.declared.identifiers.TermId.{TermId}
@@ -21,7 +19,7 @@ pub record BoardValue : Type 0 where
   pub members : Stock (List TermId)
 
 abbrev pub cuts_at : List (ℕ × List Cut) → ℕ → Option (List Cut)
-cuts_at cuts c = lookup (is_at (nat_cmp c)) cuts
+cuts_at cuts c = lookup (nat_eq c) cuts
 
 abbrev pub cut_of : (TermId → Option Row) → (ℕ → Option (List Cut)) → TermId → TermId → Bool
 cut_of rows cuts t u = has_cut (cuts (place_in (rows t))) t u

@@ -1,8 +1,6 @@
 -- What a board keeps beside the rows, by context: its members, and the pairs of terminations between which media is cut. A reader
 -- should check that a context without members is not kept, and that a pair is cut the way in which it is listed.
-use Rattle.std.specs.Prelude.{ℕ, Bool, not, ◌&&◌, ◌||◌, if◌then◌else◌, List, [], ◌∷◌, ◌++◌, map, Option, Some, None, option_map, filter, Vec}
-use Rattle.std.specs.Ordering.{nat_cmp}
-use Rattle.std.specs.BTreeMap.{is_at}
+use Rattle.std.specs.Prelude.{ℕ, nat_eq, Bool, not, ◌&&◌, ◌||◌, if◌then◌else◌, List, [], ◌∷◌, ◌++◌, map, Option, Some, None, option_map, filter, Vec}
 use Rattle.std.specs.List.{list_any}
 use Rattle.std.specs.Map.{lookup}
 use Rattle.mg_names.specs.declared.identifiers.TermId.{TermId}
@@ -25,7 +23,7 @@ module _ {X Z : Type 0} where
 
   -- the list at a context
   abbrev pub group_at : List (ℕ × Vec X Z) → ℕ → Option (List X)
-  group_at groups c = items_in (lookup (is_at (nat_cmp c)) groups)
+  group_at groups c = items_in (lookup (nat_eq c) groups)
 
 -- a context that isn't kept has nothing
 abbrev pub listed : {X : Type 0} → Option (List X) → List X

@@ -8,7 +8,7 @@ ghost use Rattle.context_tables.specs.Groups.{group_at, listed, has_cut, is_betw
 use crate::same::is_same;
 use mg_names::identifiers::TermId;
 use std::alloc::{AllocError, Global};
-use std::collections::BTreeMap;
+use std::collections::HashMap;
 
 /// Media from the one termination to the other is cut.
 #[derive(Clone, Copy)]
@@ -30,7 +30,7 @@ pub struct CutPair {
     pub backward: bool,
 }
 
-pub type Cuts = BTreeMap<u32, Vec<Cut>>;
+pub type Cuts = HashMap<u32, Vec<Cut>>;
 
 /// Whether media from the one termination to the other is cut in a context.
 pub fn is_cut(cuts: &Cuts, context: u32, t: &TermId, u: &TermId) -> bool

@@ -1,19 +1,31 @@
 -- Numbers in rising order that pass a test.
-use Rattle.std.proofs.Common.{◌≡◌, ◌≢◌, ℕ, ◌==◌, Bool, true, false, ◌&&◌, ◌||◌, is_some, refl, subst, sym, List, Option, Some, None, nat_cmp, BTreeSet}
+use Rattle.std.proofs.Common.{◌≡◌, ◌≢◌, ℕ, zero, suc, ◌<◌, ◌==◌, Bool, true, false, ◌&&◌, ◌||◌, is_some, refl, subst, sym, arith, List, [], ◌∷◌, Contains, Option, Some, None, nat_cmp, Less, BTreeSet}
+use Rattle.std.proofs.lemmas.Grind.{common_steps}
 use Rattle.std.proofs.lemmas.Cmp.{nat_cmp_total}
 use Rattle.std.proofs.lemmas.Map.Views.{btree_set_contains_iff}
 use Rattle.std.proofs.lemmas.Map.Lookups.{exact_unsigned}
 use Rattle.std.proofs.lemmas.Bool.{eqb-true}
 use Rattle.std.specs.BTreeSet.{IsOrdered, contains}
+use Rattle.std.specs.List.{AllByRecursion}
+use Rattle.std.specs.List.Sorted.{IsStrictlySortedBy}
 use Rattle.mg_names.specs.declared.identifiers.TermId.{TermId}
 use Rattle.mg_model.specs.declared.rows.Row.{Row}
 use Rattle.mg_model.specs.Board.{Board, same_term, exists, place_of, place_in}
-use Rattle.mg_model.specs.Items.{Lists}
+use Rattle.mg_model.specs.Items.{IsRising, Lists}
 use Rattle.mg_model.proofs.Terminations.{same_term_is as same_is}
 use Rattle.contexts.specs.BoardValue.{stands_in}
 use Rattle.context_tables.proofs.TermLemmas.{by_value}
 use Rattle.contexts.proofs.MoveLemmas.{is_not}
-use Rattle.rising_keys.proofs.KeyLemmas.{rising}
+
+above_all : (x : ℕ) (xs : List ℕ) → AllByRecursion (λ y. nat_cmp x y ≡ Less) xs → (y : ℕ) → Contains xs y → x < y
+above_all x [] all y there = absurd (omega (arith, there.1))
+above_all x (z ∷ zs) all y (zero, h, e) = let k : nat_cmp x z ≡ Less = all.0 in let f : z ≡ y = e in grind (arith, common_steps)
+above_all x (z ∷ zs) all y (suc k, h, e) = above_all x zs all.1 y (k, omega (arith, h), e)
+
+rising : (xs : List ℕ) → IsStrictlySortedBy nat_cmp xs → IsRising xs
+unfolding IsStrictlySortedBy
+rising [] h = tt
+rising (x ∷ xs) h = (λ y there. above_all x xs h.0 y there, rising xs h.1)
 
 pub lists_keys : (s : BTreeSet ℕ) → IsOrdered nat_cmp s → Lists (λ n. contains nat_cmp s n) s.keys
 lists_keys s ordered = record {

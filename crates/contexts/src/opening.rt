@@ -12,7 +12,7 @@ use context_tables::{cuts, members};
 use identifiers::Identifiers;
 use mg_names::identifiers::{ContextId, LineNo, TermId};
 use std::alloc::{AllocError, Global};
-use std::collections::BTreeMap;
+use std::collections::HashMap;
 use terminations::Terms;
 
 /// The greatest number of a context.
@@ -68,7 +68,7 @@ impl Board {
             alloc,
             terms,
             members: Identifiers::new(alloc, first, stride, LAST_CONTEXT),
-            cuts: BTreeMap::new(alloc),
+            cuts: HashMap::new(alloc),
         })
     }
 }

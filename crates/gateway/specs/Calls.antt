@@ -1,8 +1,6 @@
 -- What a gateway keeps of each call that was opened, and which call holds a line, by number. A call that was retired keeps an empty
 -- entry. A reader should check that the number under which a reply is kept is the reply's own, and when a call is retired.
-use Rattle.std.specs.Prelude.{◌≡◌, ℕ, ◌==◌, Bool, true, false, if◌then◌else◌, List, [], Option, Some, None, is_some, option_map}
-use Rattle.std.specs.Ordering.{nat_cmp}
-use Rattle.std.specs.BTreeMap.{is_at}
+use Rattle.std.specs.Prelude.{◌≡◌, ℕ, nat_eq, ◌==◌, Bool, true, false, if◌then◌else◌, List, [], Option, Some, None, is_some, option_map}
 use Rattle.std.specs.Map.{lookup}
 use Rattle.mg_names.specs.declared.identifiers.LineNo.{LineNo}
 use Rattle.mg_model.specs.Delivery.{Link, offer, fresh}
@@ -27,7 +25,7 @@ new_call association lines = record { association = association; last = None; no
 
 -- the entry of a call: its state while it is open, empty once it was retired; nothing where no call of this number was opened
 unfoldable pub call_entry : List (ℕ × Option OpenCall) → ℕ → Option (Option OpenCall)
-call_entry calls n = lookup (is_at (nat_cmp n)) calls
+call_entry calls n = lookup (nat_eq n) calls
 
 abbrev pub open_entry : Option (Option OpenCall) → Option OpenCall
 open_entry None = None
@@ -52,7 +50,7 @@ is_taken_in calls n = is_some (call_entry calls n)
 
 -- the entry of a line: the call that holds it, if one does; nothing where there is no such line
 unfoldable pub line_entry : List (ℕ × Option ℕ) → ℕ → Option (Option ℕ)
-line_entry holders l = lookup (is_at (nat_cmp l)) holders
+line_entry holders l = lookup (nat_eq l) holders
 
 -- the link of a call of the gateway; of a call that isn't open nothing is kept, and no note was sent
 abbrev pub link_of : Option OpenCall → CallLink

@@ -1,8 +1,6 @@
 -- Which call created an ephemeral, by its number. A reader should check that a number at which no ephemeral exists has no creator,
 -- whatever was noted.
-use Rattle.std.specs.Prelude.{◌≡◌, ◌⊎◌, ℕ, ◌==◌, Bool, true, false, if◌then◌else◌, List, Option, Some, None}
-use Rattle.std.specs.Ordering.{nat_cmp}
-use Rattle.std.specs.BTreeMap.{is_at}
+use Rattle.std.specs.Prelude.{◌≡◌, ◌⊎◌, ℕ, nat_eq, ◌==◌, Bool, true, false, if◌then◌else◌, List, Option, Some, None}
 use Rattle.std.specs.List.{list_any}
 use Rattle.std.specs.Map.{lookup}
 use Rattle.mg_names.specs.declared.identifiers.TermId.TheVariants.{Eph}
@@ -11,7 +9,7 @@ use Rattle.mg_model.specs.Items.{Done}
 
 -- what was noted under a number
 unfoldable pub creator_at : List (ℕ × ℕ) → ℕ → Option ℕ
-creator_at creators k = lookup (is_at (nat_cmp k)) creators
+creator_at creators k = lookup (nat_eq k) creators
 
 -- the call that created the ephemeral of a number, where there is one
 abbrev pub creator_on : Board → List (ℕ × ℕ) → ℕ → Option ℕ

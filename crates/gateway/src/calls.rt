@@ -10,9 +10,9 @@ use contexts::Done;
 use mg_names::identifiers::{Assoc, CallNo, LineNo};
 use requests::Reply;
 use std::alloc::{AllocError, Global};
-use std::collections::BTreeMap;
+use std::collections::HashMap;
 
-pub(crate) type Calls = BTreeMap<u32, Option<CallState>>;
+pub(crate) type Calls = HashMap<u32, Option<CallState>>;
 
 /// An open call.
 #[tactic(auto, unfolding(crate::specs::Calls::call_entry))]

@@ -5,9 +5,9 @@ ghost use Rattle.gateway.specs.Creators.{creator_at, is_created, any_created, Is
 
 use contexts::Done;
 use std::alloc::AllocError;
-use std::collections::BTreeMap;
+use std::collections::HashMap;
 
-pub(crate) type Creators = BTreeMap<u32, u32>;
+pub(crate) type Creators = HashMap<u32, u32>;
 
 /// The call under a number.
 #[tactic(auto, unfolding(crate::specs::Creators::creator_at))]

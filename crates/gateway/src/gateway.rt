@@ -11,7 +11,7 @@ use crate::holders::{self, Holders};
 use contexts::Board;
 use mg_names::identifiers::{Assoc, LineNo};
 use std::alloc::{AllocError, Global};
-use std::collections::BTreeMap;
+use std::collections::HashMap;
 use std::marker::Model;
 
 /// A media gateway: its association, its connections, an entry for each line with the call that holds it, an entry for each call that was
@@ -67,8 +67,8 @@ impl Gateway {
             association: Assoc::FIRST,
             connections,
             holders,
-            calls: BTreeMap::new(alloc),
-            creators: BTreeMap::new(alloc),
+            calls: HashMap::new(alloc),
+            creators: HashMap::new(alloc),
         })
     }
 

@@ -6,9 +6,9 @@ ghost use Rattle.gateway.specs.Calls.{line_entry, holder_of};
 
 use mg_names::identifiers::LineNo;
 use std::alloc::{AllocError, Global};
-use std::collections::BTreeMap;
+use std::collections::HashMap;
 
-pub(crate) type Holders = BTreeMap<u32, Option<u32>>;
+pub(crate) type Holders = HashMap<u32, Option<u32>>;
 
 /// Adds a line that nobody holds.
 #[tactic(auto, unfolding(crate::specs::Calls::line_entry))]
@@ -24,7 +24,7 @@ fn add(holders: &mut Holders, line: u32) -> Result<(), AllocError>
 pub(crate) fn new(alloc: Global, lines: &[LineNo]) -> Result<Holders, AllocError>
     ensures { IfOk result (λ holders. (l : ℕ) → line_entry holders.entries l ≡ (if names_line lines.now l then Some None else None)) }
 {
-    let mut holders = BTreeMap::new(alloc);
+    let mut holders = HashMap::new(alloc);
     for line in lines {
         add(&mut holders, line.0)?;
     }

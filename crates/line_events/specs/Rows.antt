@@ -1,7 +1,5 @@
 -- The rows of the lines by number, and how a call changes the one row that it names.
-use Rattle.std.specs.Prelude.{◌≡◌, ℕ, Bool, true, false, List, Option, Some, None, Result, Ok, Err}
-use Rattle.std.specs.Ordering.{nat_cmp}
-use Rattle.std.specs.BTreeMap.{is_at}
+use Rattle.std.specs.Prelude.{◌≡◌, ℕ, nat_eq, Bool, true, false, List, Option, Some, None, Result, Ok, Err}
 use Rattle.std.specs.Map.{lookup}
 use Rattle.mg_model.specs.Updates.{with_at}
 use Rattle.mg_model.specs.LineEvents.{LineRow, Outcome}
@@ -11,7 +9,7 @@ use Rattle.line_events.specs.Answers.{Answer, row_after, answer}
 
 -- the row of a line; nothing where there is no such line
 unfoldable pub row_of : List (ℕ × LineRow) → ℕ → Option LineRow
-row_of rows n = lookup (is_at (nat_cmp n)) rows
+row_of rows n = lookup (nat_eq n) rows
 
 -- what happens on a line, by its row
 abbrev pub Happening : Type 0

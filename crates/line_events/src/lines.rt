@@ -12,7 +12,7 @@ use mg_names::identifiers::LineNo;
 use mg_names::signals::Signal;
 use mg_names::symbols::Symbol;
 use std::alloc::{AllocError, Global};
-use std::collections::BTreeMap;
+use std::collections::HashMap;
 use std::marker::Model;
 
 /// The lines of a gateway, each with its hook state, its Events descriptor and the signals that play. A call answers the note that
@@ -45,7 +45,7 @@ impl LineSet {
     {
         LineSet {
             alloc,
-            rows: BTreeMap::new(alloc),
+            rows: HashMap::new(alloc),
         }
     }
 

@@ -12,9 +12,9 @@ use mg_model::line_events::{Hook, SignalSet};
 use mg_names::signals::Signal;
 use mg_names::symbols::Symbol;
 use std::alloc::{AllocError, Global};
-use std::collections::BTreeMap;
+use std::collections::HashMap;
 
-pub(crate) type Rows = BTreeMap<u32, LineRow>;
+pub(crate) type Rows = HashMap<u32, LineRow>;
 
 /// The row of a line.
 #[tactic(auto, unfolding(crate::specs::Rows::row_of))]

@@ -1,8 +1,9 @@
-//! The numbers under which an ordered map keeps something, in rising order, bare or as names of lines, contexts and calls.
+//! The numbers under which a map keeps something, in rising order, bare or as names of lines, contexts and calls.
 #![tactic(auto)]
 
-ghost use Rattle.std.specs.Prelude.{◌≡◌, IfOk, OnOk, map};
-ghost use Rattle.std.specs.BTreeMap.{IsOrdered, keys};
+ghost use Rattle.std.specs.Prelude.{◌≡◌, IfOk, OnOk, map, nat_eq};
+ghost use Rattle.std.specs.HashMap.{IsUnique, keys};
+ghost use Rattle.std.specs.List.Sorted.{IsPermutation, IsSorted};
 ghost use Rattle.std.specs.Ordering.{nat_cmp};
 ghost use Rattle.mg_model.specs.Items.{Lists};
 ghost use Rattle.rising_keys.specs.Kept.{is_kept};
@@ -11,21 +12,24 @@ mod numbered;
 
 pub use numbered::Numbered;
 use std::alloc::{AllocError, Global};
-use std::collections::BTreeMap;
+use std::collections::HashMap;
 
-/// The keys of a map, as it goes over them.
-fn copied<V>(alloc: Global, from: &BTreeMap<u32, V>) -> Result<Vec<u32>, AllocError>
-    ensures keys { IfOk result (λ found. found.items ≡ keys from.now) }
-    ensures ordered { OnOk result (IsOrdered nat_cmp from.now) }
+/// The keys of a map, sorted.
+fn sorted<V>(alloc: Global, from: &HashMap<u32, V>) -> Result<Vec<u32>, AllocError>
+    ensures keys { IfOk result (λ found. IsPermutation (keys from.now) found.items) }
+    ensures sorted { IfOk result (λ found. IsSorted nat_cmp found.items) }
+    ensures unique { OnOk result (IsUnique nat_eq from.now) }
 {
-    from.keys().copied().collect(alloc)
+    let mut found: Vec<u32> = from.keys().copied().collect(alloc)?;
+    found.sort_unstable();
+    Ok(found)
 }
 
 /// The numbers under which a map keeps something, in rising order.
-fn numbers<V>(alloc: Global, from: &BTreeMap<u32, V>) -> Result<Vec<u32>, AllocError>
+fn numbers<V>(alloc: Global, from: &HashMap<u32, V>) -> Result<Vec<u32>, AllocError>
     ensures { IfOk result (λ found. Lists (is_kept from.now.entries) found.items) }
 {
-    let found = copied(alloc, from)?;
+    let found = sorted(alloc, from)?;
     Ok(found)
 }
 
@@ -41,7 +45,7 @@ pub fn named<N: Numbered>(alloc: Global, numbers: &[u32]) -> Result<Vec<N>, Allo
 }
 
 /// What is named by the numbers under which a map keeps something, in rising order of these numbers.
-pub fn names<N: Numbered, V>(alloc: Global, from: &BTreeMap<u32, V>) -> Result<Vec<N>, AllocError>
+pub fn names<N: Numbered, V>(alloc: Global, from: &HashMap<u32, V>) -> Result<Vec<N>, AllocError>
     ensures { IfOk result (λ found. Lists (is_kept from.now.entries) (map N.number_of found.items)) }
 {
     let numbers = numbers(alloc, from)?;

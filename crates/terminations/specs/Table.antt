@@ -1,8 +1,6 @@
 -- What a table of terminations shows: the rows of lines by number, and ephemerals with their identifiers; from them the row of a
 -- termination, and which numbers are used. A reader should check that each change speaks of the one row that it names.
-use Rattle.std.specs.Prelude.{◌≡◌, ℕ, ◌==◌, Bool, true, false, if◌then◌else◌, IsTrue, List, Option, Some, None, Result, Ok, Err, IfSome}
-use Rattle.std.specs.Ordering.{nat_cmp}
-use Rattle.std.specs.BTreeMap.{is_at}
+use Rattle.std.specs.Prelude.{◌≡◌, ℕ, nat_eq, ◌==◌, Bool, true, false, if◌then◌else◌, IsTrue, List, Option, Some, None, Result, Ok, Err, IfSome}
 use Rattle.std.specs.Map.{lookup}
 use Rattle.mg_names.specs.declared.codes.Code.{Code}
 use Rattle.mg_names.specs.declared.codes.Code.TheVariants.{UnknownTermination, AlreadyInContext}
@@ -23,7 +21,7 @@ pub record Table : Type 0 where
 
 -- the row at a number
 abbrev pub row_at : List (ℕ × Row) → ℕ → Option Row
-row_at rows n = lookup (is_at (nat_cmp n)) rows
+row_at rows n = lookup (nat_eq n) rows
 
 -- the row of a termination; nothing where it doesn't exist
 unfoldable pub row_of : Table → TermId → Option Row

@@ -1,6 +1,6 @@
 //! Rows of lines by number.
 ghost use Rattle.std.specs.Prelude.{◌≡◌, ℕ, ◌==◌, Some, None, OnOk, OnErr, IfOk, if◌then◌else◌};
-ghost use Rattle.std.specs.BTreeMap.{IsUnchanged};
+ghost use Rattle.std.specs.HashMap.{IsUnchanged};
 ghost use Rattle.terminations.specs.Table.{row_at, overwritten};
 ghost use Rattle.mg_model.specs.Board.{null_row};
 
@@ -8,9 +8,9 @@ use mg_model::rows::Row;
 use mg_names::identifiers::ContextId;
 use mg_names::modes::Mode;
 use std::alloc::AllocError;
-use std::collections::BTreeMap;
+use std::collections::HashMap;
 
-pub(crate) type Rows = BTreeMap<u32, Row>;
+pub(crate) type Rows = HashMap<u32, Row>;
 
 /// The row of a termination in the null context on which nothing is set.
 pub(crate) const IDLE: Row = Row {

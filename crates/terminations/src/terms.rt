@@ -13,7 +13,7 @@ use mg_names::codes::Code;
 use mg_names::identifiers::{ContextId, LineNo, TermId};
 use mg_names::modes::Mode;
 use std::alloc::{AllocError, Global};
-use std::collections::BTreeMap;
+use std::collections::HashMap;
 use std::marker::Model;
 
 /// The terminations of a gateway and their rows.
@@ -60,7 +60,7 @@ impl Terms {
         ensures class { result.ephemerals.class ≡ record { first = first; stride = stride; last = last_ephemeral } }
     {
         Terms {
-            lines: BTreeMap::new(alloc),
+            lines: HashMap::new(alloc),
             ephemerals: Identifiers::new(alloc, first, stride, LAST_EPHEMERAL),
         }
     }

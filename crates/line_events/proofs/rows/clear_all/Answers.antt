@@ -1,6 +1,6 @@
-use Rattle.std.proofs.Common.{rules, nat_cmp}
+use Rattle.std.proofs.Common.{rules}
+use Rattle.std.specs.Prelude.{nat_eq}
 use Rattle.std.proofs.lemmas.Map.Made.{map_same_pairs}
-use Rattle.std.specs.BTreeMap.{is_at}
 use Rattle.mg_model.specs.LineEvents.{cleared}
 use Rattle.line_events.specs.Rows.{row_of}
 use Rattle.line_events.proofs.RowsChanged.{lookup-changed}
@@ -10,4 +10,4 @@ pub returns : goal.returns
 unfolding row_of
 returns c =
     let same = map_same_pairs _ cleared _ (λ k v b w f' t. search rules) _ _ c.retain.ensures.filtered in
-    λ n. rw same (lookup-changed cleared (is_at (nat_cmp n)) c.args.rows.now.entries)
+    λ n. rw same (lookup-changed cleared (nat_eq n) c.args.rows.now.entries)

@@ -1,6 +1,6 @@
-use Rattle.std.proofs.Common.{rules, nat_cmp}
+use Rattle.std.proofs.Common.{rules}
+use Rattle.std.specs.Prelude.{nat_eq}
 use Rattle.std.proofs.lemmas.Map.Made.{map_same_pairs}
-use Rattle.std.specs.BTreeMap.{is_at}
 use Rattle.mg_model.specs.Board.{null_row}
 use Rattle.terminations.proofs.RowLemmas.{lookup-idle}
 use Rattle.terminations.proofs.rows.make_idle.Goals as goal
@@ -8,4 +8,4 @@ use Rattle.terminations.proofs.rows.make_idle.Goals as goal
 pub returns : goal.returns
 returns c =
     let same = map_same_pairs _ (λ row. null_row) _ (λ k v b w f' t. search rules) _ _ c.retain.ensures.filtered in
-    λ n. rw same (lookup-idle (is_at (nat_cmp n)) c.args.rows.now.entries)
+    λ n. rw same (lookup-idle (nat_eq n) c.args.rows.now.entries)
