@@ -57,8 +57,8 @@ module _ (v : ShardValue) (was : IsShard v) (value : CallValue) (new old : ℕ) 
   -- ---- it begins
 
   module _ (own : value.agent.call ≡ old) (s : CallRecord) (there : slot_in v.slots old ≡ Some s) (ended : has_ended v.script (agent_of s.agent) v.gateway.association ≡ true)
-      (before : List (ℕ × Option CallRecord)) (same : (c : ℕ) → slot_in before c ≡ slot_in v.slots c)
-      (h : GatewayValue) (b : IsBegun v.gateway old new h (Ok tt)) (entries : List (ℕ × Option CallRecord)) (x : HandsOver v.script before entries old new s)
+      (before : List (ℕ × CallRecord)) (same : (c : ℕ) → slot_in before c ≡ slot_in v.slots c)
+      (h : GatewayValue) (b : IsBegun v.gateway old new h (Ok tt)) (entries : List (ℕ × CallRecord)) (x : HandsOver v.script before entries old new s)
       (events : List Event) (history : events ≡ v.history ++ named ∷ []) where
     abbrev later : ShardValue
     later = record v { gateway = h; slots = entries; history = events }
@@ -134,7 +134,7 @@ module _ (v : ShardValue) (was : IsShard v) (value : CallValue) (new old : ℕ) 
     begun_taken after (Ok Done) is = absurd is
     begun_taken after (Err why) is = absurd is
 
-  module _ (before : List (ℕ × Option CallRecord)) (same : (c : ℕ) → slot_in before c ≡ slot_in v.slots c) where
+  module _ (before : List (ℕ × CallRecord)) (same : (c : ℕ) → slot_in before c ≡ slot_in v.slots c) where
     abbrev back : ShardValue
     back = record v { slots = before }
 
@@ -173,7 +173,7 @@ module _ (v : ShardValue) (was : IsShard v) (value : CallValue) (new old : ℕ) 
   same_after h fault.CannotHappen is = is.3
   same_after h fault.NoMemory is = is
 
-  module _ (before : List (ℕ × Option CallRecord)) (same : (c : ℕ) → slot_in before c ≡ slot_in v.slots c) (h : GatewayValue) (why : BeginFault)
+  module _ (before : List (ℕ × CallRecord)) (same : (c : ℕ) → slot_in before c ≡ slot_in v.slots c) (h : GatewayValue) (why : BeginFault)
       (b : IsBegun v.gateway old new h (Err why)) (after : Next) (handed_back : IsSameNext handed after) where
     abbrev behind : ShardValue
     behind = record v { gateway = h; slots = before }
@@ -194,7 +194,7 @@ module _ (v : ShardValue) (was : IsShard v) (value : CallValue) (new old : ℕ) 
 
 module _ (v u : ShardValue) (is : v ≡ u) (was : IsShard v) (value : CallValue) (new old : ℕ) where
   -- no entry was made for the new call
-  pub without_entry : (before : List (ℕ × Option CallRecord)) → ((c : ℕ) → slot_in before c ≡ slot_in v.slots c) → (events : List Event) → events ≡ v.history → (after : Next)
+  pub without_entry : (before : List (ℕ × CallRecord)) → ((c : ℕ) → slot_in before c ≡ slot_in v.slots c) → (events : List Event) → events ≡ v.history → (after : Next)
       → IsSameNext (next.Ended value) after
       → IsShard (record v { slots = before; history = events })
       × IsStep u (record v { slots = before; history = events }) (next.Ended value) after (begin new old) (Err NoMemory)
@@ -206,7 +206,7 @@ module _ (v u : ShardValue) (is : v ≡ u) (was : IsShard v) (value : CallValue)
       (back_kept v was value new old before same, (tt, (back_unchanged v was value new old before same, handed_back))))
 
   -- the gateway refused it
-  pub refused_by : (before : List (ℕ × Option CallRecord)) → ((c : ℕ) → slot_in before c ≡ slot_in v.slots c) → (h : GatewayValue) (why : BeginFault) → IsBegun v.gateway old new h (Err why)
+  pub refused_by : (before : List (ℕ × CallRecord)) → ((c : ℕ) → slot_in before c ≡ slot_in v.slots c) → (h : GatewayValue) (why : BeginFault) → IsBegun v.gateway old new h (Err why)
       → (told : Refusal) → told ≡ refusal_of why → (events : List Event) → events ≡ v.history → (after : Next) → IsSameNext (next.Ended value) after
       → IsShard (record v { gateway = h; slots = before; history = events })
       × IsStep u (record v { gateway = h; slots = before; history = events }) (next.Ended value) after (begin new old) (Err told)
@@ -221,8 +221,8 @@ module _ (v u : ShardValue) (is : v ≡ u) (was : IsShard v) (value : CallValue)
 
   -- it began
   module _ (own : value.agent.call ≡ old) (s : CallRecord) (there : slot_in v.slots old ≡ Some s) (ended : has_ended v.script (agent_of s.agent) v.gateway.association ≡ true)
-      (before : List (ℕ × Option CallRecord)) (same : (c : ℕ) → slot_in before c ≡ slot_in v.slots c)
-      (h : GatewayValue) (b : IsBegun v.gateway old new h (Ok tt)) (entries : List (ℕ × Option CallRecord)) (x : HandsOver v.script before entries old new s)
+      (before : List (ℕ × CallRecord)) (same : (c : ℕ) → slot_in before c ≡ slot_in v.slots c)
+      (h : GatewayValue) (b : IsBegun v.gateway old new h (Ok tt)) (entries : List (ℕ × CallRecord)) (x : HandsOver v.script before entries old new s)
       (events : List Event) (history : events ≡ v.history ++ begin new old ∷ []) where
     pub forward_kept : IsShard (record v { gateway = h; slots = entries; history = events })
     forward_kept = begun_kept v was value new old own s there ended before same h b entries x events history

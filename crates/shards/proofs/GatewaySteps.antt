@@ -115,7 +115,7 @@ logged_goes w next call (to_call.Hear association) a is own same = absurd (true�
 logged_goes w next call (to_call.Begin old) a is own same = absurd (true≢false (sym is))
 
 module _ (old : ShardValue) (was : IsShard old) (call : ℕ) (next : Next) (own : call_in next ≡ call) (event : CallEvent) (of_gateway : is_of_gateway event ≡ true)
-    (h : GatewayValue) (entries : List (ℕ × Option CallRecord)) (others : OthersStay old.slots call entries) where
+    (h : GatewayValue) (entries : List (ℕ × CallRecord)) (others : OthersStay old.slots call entries) where
   abbrev named : Event
   named = OfCall (record { 0 = call }) event
 
@@ -203,7 +203,7 @@ module _ (old : ShardValue) (was : IsShard old) (call : ℕ) (next : Next) (own 
 -- ---- the same with what is left of the old shard beside it
 
 pub gateway_back : (old v : ShardValue) → old ≡ v → IsShard old → (call : ℕ) (next after : Next) → call_in next ≡ call → (event : CallEvent) → is_of_gateway event ≡ true
-    → (h : GatewayValue) (entries : List (ℕ × Option CallRecord)) → OthersStay old.slots call entries → IsSameNext next after
+    → (h : GatewayValue) (entries : List (ℕ × CallRecord)) → OthersStay old.slots call entries → IsSameNext next after
     → (events : List Event) → events ≡ old.history → (why : Refusal)
     → AtGateway old.gateway h call event (slot_in old.slots call) (slot_in entries call) (Err why)
     → IsShard (record old { gateway = h; slots = entries; history = events }) × (IsRefusedStep v next (OfCall (record { 0 = call }) event) why
@@ -216,7 +216,7 @@ gateway_back old v is was call next after own event of_gateway h entries others 
     (gateway_refused old was call next own event of_gateway h entries others after same_next why steps))
 
 pub gateway_forward : (old v : ShardValue) → old ≡ v → IsShard old → (call : ℕ) (next after : Next) → call_in next ≡ call → (event : CallEvent) → is_of_gateway event ≡ true
-    → (h : GatewayValue) (entries : List (ℕ × Option CallRecord)) → OthersStay old.slots call entries → IsNext after
+    → (h : GatewayValue) (entries : List (ℕ × CallRecord)) → OthersStay old.slots call entries → IsNext after
     → IsWithEvent (OfCall (record { 0 = call }) event) (with_room (value_of next)) (value_of after)
     → (events : List Event) → events ≡ old.history ++ OfCall (record { 0 = call }) event ∷ []
     → AtGateway old.gateway h call event (slot_in old.slots call) (slot_in entries call) (Ok tt)

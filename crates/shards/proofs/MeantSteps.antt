@@ -128,7 +128,7 @@ pub tied_entry : (v : ShardValue) (call : ℕ) → IsShard v → IsTiedEntry (sl
 tied_entry v call was s there = (was.is_world.shows.calls call s there).tied
 
 -- where the slot of one call is as it was, nothing has changed
-module _ (v : ShardValue) (call : ℕ) (entries : List (ℕ × Option CallRecord)) (same : IsSameEntry (slot_in v.slots call) (slot_in entries call))
+module _ (v : ShardValue) (call : ℕ) (entries : List (ℕ × CallRecord)) (same : IsSameEntry (slot_in v.slots call) (slot_in entries call))
     (others : OthersStay v.slots call entries) where
   abbrev after : ShardValue
   after = record v { slots = entries }

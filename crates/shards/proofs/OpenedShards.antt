@@ -67,7 +67,7 @@ none_opened script first stride lines g gateway no_call = record {
   slots = λ c t is. absurd (none_is_some t is);
 }
 
-module _ (script : Script) (calls : List OpenedCall) (first stride : ℕ) (g h : GatewayValue) (old new : List (ℕ × Option CallRecord)) (one : OpenedCall)
+module _ (script : Script) (calls : List OpenedCall) (first stride : ℕ) (g h : GatewayValue) (old new : List (ℕ × CallRecord)) (one : OpenedCall)
     (was : AreOpenedOn script calls first stride g old) (x : OpensOne script g h old new one) where
   calls_are : (λ c. option_map (call_of script) (slot_in new c)) ≡ with_call (λ c. option_map (call_of script) (slot_in old c)) one.call.0 (call_of script x.slot)
   calls_are = same_calls (λ c. ap (option_map (call_of script)) (x.slots c) ∙ by_test c (c == one.call.0))
@@ -149,7 +149,7 @@ module _ (script : Script) (xs ys : List Opened) (w : World) (has : (o : Opened)
 
 -- ---- the shard
 
-module _ (script : Script) (calls : List OpenedCall) (first stride : ℕ) (g : GatewayValue) (entries : List (ℕ × Option CallRecord))
+module _ (script : Script) (calls : List OpenedCall) (first stride : ℕ) (g : GatewayValue) (entries : List (ℕ × CallRecord))
     (x : AreOpenedOn script calls first stride g entries) where
   abbrev system : System
   system = system_of script g entries

@@ -41,7 +41,7 @@ keeps_all g = record { open_calls = λ call. refl; retired = λ call. refl }
 
 -- ---- an event happens
 
-module _ (old : ShardValue) (h : GatewayValue) (entries : List (ℕ × Option CallRecord)) (events : List Event) (call : ℕ) (happens : CallEvent) (s t : CallRecord)
+module _ (old : ShardValue) (h : GatewayValue) (entries : List (ℕ × CallRecord)) (events : List Event) (call : ℕ) (happens : CallEvent) (s t : CallRecord)
     (there : slot_in old.slots call ≡ Some s) (here : slot_in entries call ≡ Some t) (others : OthersStay old.slots call entries)
     (history : events ≡ old.history ++ OfCall (record { 0 = call }) happens ∷ []) where
   abbrev event : Event
@@ -132,12 +132,12 @@ same_shown w call s t same shows = record {
     }
 
 -- the slot of each call is as it was
-abbrev pub AreSameSlots : List (ℕ × Option CallRecord) → List (ℕ × Option CallRecord) → Type 0
+abbrev pub AreSameSlots : List (ℕ × CallRecord) → List (ℕ × CallRecord) → Type 0
 AreSameSlots old new =
     ((call : ℕ) (t : CallRecord) → slot_in new call ≡ Some t → (s : CallRecord) × (slot_in old call ≡ Some s) × IsSameSlot s t)
     × ((call : ℕ) → is_some (slot_in new call) ≡ is_some (slot_in old call))
 
-module _ (old : ShardValue) (h : GatewayValue) (entries : List (ℕ × Option CallRecord)) (same : IsSame old.gateway h) (slots : AreSameSlots old.slots entries) where
+module _ (old : ShardValue) (h : GatewayValue) (entries : List (ℕ × CallRecord)) (same : IsSame old.gateway h) (slots : AreSameSlots old.slots entries) where
   abbrev pub refused : ShardValue
   refused = record old { gateway = h; slots = entries }
 
@@ -172,7 +172,7 @@ module _ (old : ShardValue) (h : GatewayValue) (entries : List (ℕ × Option Ca
   }
 
 -- where one slot is as it was, and the others stay, each is
-pub one_same : (old new : List (ℕ × Option CallRecord)) (call : ℕ) (s t : CallRecord) → slot_in old call ≡ Some s → slot_in new call ≡ Some t → IsSameSlot s t
+pub one_same : (old new : List (ℕ × CallRecord)) (call : ℕ) (s t : CallRecord) → slot_in old call ≡ Some s → slot_in new call ≡ Some t → IsSameSlot s t
     → OthersStay old call new → AreSameSlots old new
 one_same old new call s t there here same others = (λ c x is. at c x is (c == call) refl, λ c. stands c (c == call) refl)
   where
@@ -212,7 +212,7 @@ shard_unchanged old new was unchanged counts = record {
 }
 
 -- where a call had no slot and has none, and the others stay, each is as it was
-pub none_same : (old new : List (ℕ × Option CallRecord)) (call : ℕ) → OthersStay old call new → slot_in old call ≡ None → slot_in new call ≡ None → AreSameSlots old new
+pub none_same : (old new : List (ℕ × CallRecord)) (call : ℕ) → OthersStay old call new → slot_in old call ≡ None → slot_in new call ≡ None → AreSameSlots old new
 none_same old new call others there here = (λ c x is. at c x is (c == call) refl, λ c. open_as c (c == call) refl)
   where
     at : (c : ℕ) (x : CallRecord) → slot_in new c ≡ Some x → (test : Bool) → (c == call) ≡ test → (y : CallRecord) × (slot_in old c ≡ Some y) × IsSameSlot y x

@@ -128,7 +128,7 @@ one_more_has_all script calls one have has other among = elim (Contains-append_c
   | inr here ↦ subst (λ (x : OpenedCall). length x.lines.items ≡ length script.lines) (only_one one other here) has
 ]
 
-module _ (script : Script) (calls : List OpenedCall) (first stride : ℕ) (g : GatewayValue) (entries : List (ℕ × Option CallRecord))
+module _ (script : Script) (calls : List OpenedCall) (first stride : ℕ) (g : GatewayValue) (entries : List (ℕ × CallRecord))
     (x : AreOpenedOn script calls first stride g entries) (have : HaveAllLines script calls) (one : OpenedCall)
     (there : (l : ℕ) → names_line one.lines.items l ≡ true → has_line (gateway_of g).board l ≡ true) where
   abbrev system : System
@@ -229,7 +229,7 @@ parts_at : (calls : List OpenedCall) (i : ℕ) (one : OpenedCall) → take i cal
 parts_at calls i one here =
     sym (take-append-drop (i + 1) calls) ∙ ap (λ front. front ++ drop (i + 1) calls) (sym here) ∙ append_assoc (take i calls) (one ∷ []) (drop (i + 1) calls)
 
-module _ (script : Script) (calls : List OpenedCall) (i : ℕ) (first stride : ℕ) (g h : GatewayValue) (old new : List (ℕ × Option CallRecord)) (one : OpenedCall)
+module _ (script : Script) (calls : List OpenedCall) (i : ℕ) (first stride : ℕ) (g h : GatewayValue) (old new : List (ℕ × CallRecord)) (one : OpenedCall)
     (among : Contains calls one) (here : take i calls ++ one ∷ [] ≡ take (i + 1) calls) (x : AreOpenedOn script (take i calls) first stride g old)
     (have : HaveAllLines script (take i calls)) (there : AreThere calls (gateway_of g)) where
   pub not_opened : (why : shard_fault.OpenFault) → IsOpenedOne script g h old new one (Err why) → AreOpenedSlots script calls first stride (Err why)

@@ -115,7 +115,7 @@ no_beginning call to_call.Timer is = refl
 no_beginning call (to_call.Hear association) is = refl
 
 module _ (old : ShardValue) (was : IsShard old) (call : ℕ) (next after : Next) (own : call_in next ≡ call) (event : CallEvent) (of_agent : IsAtAgent event)
-    (entries : List (ℕ × Option CallRecord)) (others : OthersStay old.slots call entries) where
+    (entries : List (ℕ × CallRecord)) (others : OthersStay old.slots call entries) where
   abbrev named : Event
   named = OfCall (record { 0 = call }) event
 
@@ -194,7 +194,7 @@ module _ (old : ShardValue) (was : IsShard old) (call : ℕ) (next after : Next)
 -- ---- the same with what is left of the old shard beside it
 
 pub agent_back : (old v : ShardValue) → old ≡ v → IsShard old → (call : ℕ) (next after : Next) → call_in next ≡ call → (event : CallEvent) → IsAtAgent event
-    → (entries : List (ℕ × Option CallRecord)) → OthersStay old.slots call entries → (events : List Event) → events ≡ old.history → (why : Refusal)
+    → (entries : List (ℕ × CallRecord)) → OthersStay old.slots call entries → (events : List Event) → events ≡ old.history → (why : Refusal)
     → StepsIn old.script next event (slot_in old.slots call) (slot_in entries call) after (Err why)
     → IsShard (record old { slots = entries; history = events }) × (IsRefusedStep v next (OfCall (record { 0 = call }) event) why
     × (IsUnchanged v (record old { slots = entries; history = events }) × IsSameNext next after))
@@ -206,7 +206,7 @@ agent_back old v is was call next after own event of_agent entries others events
     (agent_refused old was call next after own event of_agent entries others why steps))
 
 pub agent_forward : (old v : ShardValue) → old ≡ v → IsShard old → (call : ℕ) (next after : Next) → call_in next ≡ call → (event : CallEvent) → IsAtAgent event
-    → (entries : List (ℕ × Option CallRecord)) → OthersStay old.slots call entries → is_told old.gateway.association event ≡ true
+    → (entries : List (ℕ × CallRecord)) → OthersStay old.slots call entries → is_told old.gateway.association event ≡ true
     → (events : List Event) → events ≡ old.history ++ OfCall (record { 0 = call }) event ∷ []
     → StepsIn old.script next event (slot_in old.slots call) (slot_in entries call) after (Ok tt)
     → IsShard (record old { slots = entries; history = events })

@@ -1,9 +1,6 @@
 -- A call that begins on the lines of one that has ended, in a shard. A reader should check that the call of the slot has to have ended in the association of
 -- the gateway, and that the new slot has the number after the old call's last request, and no message.
-use Rattle.std.specs.Prelude.{◌≡◌, ℕ, ◌==◌, ◌&&◌, Bool, if◌then◌else◌, is_some, List, Option, Some, None, Result, Ok}
-use Rattle.std.specs.Ordering.{nat_cmp}
-use Rattle.std.specs.BTreeMap.{is_at}
-use Rattle.std.specs.Map.{lookup}
+use Rattle.std.specs.Prelude.{◌≡◌, ℕ, ◌==◌, ◌&&◌, Bool, if◌then◌else◌, List, Option, Some, None, Result, Ok}
 use Rattle.gateway.specs.declared.fault.BeginFault.{BeginFault}
 use Rattle.gateway.specs.declared.fault.BeginFault.TheVariants as fault
 use Rattle.mg_model.specs.Agent.{Agent, begun, is_resting}
@@ -35,10 +32,6 @@ refusal_of fault.NoMemory = NoMemory
 
 -- ---- the slots
 
--- a call has an entry, if only an empty one
-unfoldable pub has_entry : List (ℕ × Option CallRecord) → ℕ → Bool
-has_entry slots call = is_some (lookup (is_at (nat_cmp call)) slots)
-
 -- the slot of the call that began: its beginning is the one event, nothing was sent, and no note is settled
 pub record IsBegunSlot (script : Script) (call : ℕ) (old new : CallRecord) : Type 0 where
   pub agent : agent_of new.agent ≡ begun script call (agent_of old.agent)
@@ -47,7 +40,7 @@ pub record IsBegunSlot (script : Script) (call : ℕ) (old new : CallRecord) : T
   pub settled : new.settled ≡ 0
 
 -- the new call has its slot in place of the old one's, which has none
-pub record HandsOver (script : Script) (old new : List (ℕ × Option CallRecord)) (from call : ℕ) (s : CallRecord) : Type 0 where
+pub record HandsOver (script : Script) (old new : List (ℕ × CallRecord)) (from call : ℕ) (s : CallRecord) : Type 0 where
   pub slot : CallRecord
   pub begun_slot : IsBegunSlot script call s slot
   pub slots : (c : ℕ) → slot_in new c ≡ (if c == call then Some slot else if c == from then None else slot_in old c)

@@ -91,7 +91,7 @@ pub record IsFirstSlot (script : Script) (one : OpenedCall) (t : CallRecord) : T
   pub sent : t.messages.sent ≡ none_sent 1
   pub settled : t.settled ≡ 0
 
-pub record OpensOne (script : Script) (g h : GatewayValue) (old new : List (ℕ × Option CallRecord)) (one : OpenedCall) : Type 0 where
+pub record OpensOne (script : Script) (g h : GatewayValue) (old new : List (ℕ × CallRecord)) (one : OpenedCall) : Type 0 where
   pub all_lines : length one.lines.items ≡ length script.lines
   pub may : gateway.opening (gateway_of g) (is_taken g one.call.0) one.lines.items ≡ Ok tt
   pub gateway : gateway_of h ≡ gateway.opened (gateway_of g) one.call.0 one.lines.items
@@ -100,7 +100,7 @@ pub record OpensOne (script : Script) (g h : GatewayValue) (old new : List (ℕ 
   pub first : IsFirstSlot script one slot
   pub slots : (c : ℕ) → slot_in new c ≡ (if c == one.call.0 then Some slot else slot_in old c)
 
-abbrev pub IsOpenedOne : Script → GatewayValue → GatewayValue → List (ℕ × Option CallRecord) → List (ℕ × Option CallRecord) → OpenedCall → Result Next OpenFault → Type 0
+abbrev pub IsOpenedOne : Script → GatewayValue → GatewayValue → List (ℕ × CallRecord) → List (ℕ × CallRecord) → OpenedCall → Result Next OpenFault → Type 0
 IsOpenedOne script g h old new one (Ok next) = OpensOne script g h old new one × IsEntered script one next
 IsOpenedOne script g h old new one (Err WrongLines) = length one.lines.items ≢ length script.lines
 IsOpenedOne script g h old new one (Err Taken) =
@@ -113,12 +113,12 @@ IsOpenedOne script g h old new one (Err NoMemory) = Unit {0}
 abbrev pub call_of : Script → CallRecord → CallValue
 call_of script t = record { script = script; agent = t.agent; transcript = []; room = false }
 
-abbrev pub system_of : Script → GatewayValue → List (ℕ × Option CallRecord) → System
+abbrev pub system_of : Script → GatewayValue → List (ℕ × CallRecord) → System
 system_of script g entries =
     record { gateway = g; call = λ c. option_map (call_of script) (slot_in entries c); requests = []; replies = []; notes = [] }
 
 -- these calls were opened, in some order, on a new gateway of this class
-pub record AreOpenedOn (script : Script) (calls : List OpenedCall) (first stride : ℕ) (g : GatewayValue) (entries : List (ℕ × Option CallRecord)) : Type 0 where
+pub record AreOpenedOn (script : Script) (calls : List OpenedCall) (first stride : ℕ) (g : GatewayValue) (entries : List (ℕ × CallRecord)) : Type 0 where
   pub done : List Opened
   pub opened : AreOpened script done (system_of script g entries)
   pub has : (o : Opened) → Contains done o → Contains (map opened_as calls) o

@@ -30,7 +30,7 @@ pub record ShardValue : Type 0 where
   -- the calls of its opening
   pub calls : List OpenedCall
   pub gateway : GatewayValue
-  pub slots : List (ℕ × Option CallRecord)
+  pub slots : List (ℕ × CallRecord)
   pub history : List Event
 
 -- a call of the opening, as the model has it

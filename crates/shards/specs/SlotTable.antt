@@ -1,8 +1,6 @@
 -- Slots by the numbers of their calls. A reader should check that where a call is stepped no other slot changes, and that a call without a slot isn't
 -- enabled.
-use Rattle.std.specs.Prelude.{◌≡◌, ℕ, ◌+◌, ◌<◌, length, List, Option, Some, None, Result, Err}
-use Rattle.std.specs.Ordering.{nat_cmp}
-use Rattle.std.specs.BTreeMap.{is_at}
+use Rattle.std.specs.Prelude.{◌≡◌, ℕ, nat_eq, ◌+◌, ◌<◌, length, List, Option, Some, None, Result, Err}
 use Rattle.std.specs.Map.{lookup}
 use Rattle.mg_model.specs.declared.events.CallEvent.{CallEvent}
 use Rattle.mg_model.specs.declared.failures.ChosenRefusal.{ChosenRefusal}
@@ -15,16 +13,12 @@ use Rattle.agent.specs.declared.refusal.Refusal.TheVariants.{NotEnabled}
 use Rattle.shards.specs.Slots.{IsExecuted, IsHappenedOn, IsStepped, IsTied}
 use Rattle.shards.specs.declared.call_record.CallRecord.{CallRecord}
 
-abbrev pub slot_entry : Option (Option CallRecord) → Option CallRecord
-slot_entry None = None
-slot_entry (Some entry) = entry
-
 -- the slot of a call; none where no call of this number is open
-unfoldable pub slot_in : List (ℕ × Option CallRecord) → ℕ → Option CallRecord
-slot_in slots call = slot_entry (lookup (is_at (nat_cmp call)) slots)
+unfoldable pub slot_in : List (ℕ × CallRecord) → ℕ → Option CallRecord
+slot_in slots call = lookup (nat_eq call) slots
 
 -- the slots of all calls but one stay
-abbrev pub OthersStay : List (ℕ × Option CallRecord) → ℕ → List (ℕ × Option CallRecord) → Type 0
+abbrev pub OthersStay : List (ℕ × CallRecord) → ℕ → List (ℕ × CallRecord) → Type 0
 OthersStay old call new = (c : ℕ) → (c ≡ call → ⊥) → slot_in new c ≡ slot_in old c
 
 -- ---- a call is stepped

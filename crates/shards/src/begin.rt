@@ -80,7 +80,7 @@ impl<'s> Shard<'s> {
         let Ok(()) = ended.room() else {
             return (Next::Ended(ended), Err(Refusal::NoMemory));
         };
-        let Ok(()) = slots::reserve(&mut self.slots, call) else {
+        let Ok(()) = slots::reserve(&mut self.slots) else {
             return (Next::Ended(ended), Err(Refusal::NoMemory));
         };
         if let Err(fault) = self.gateway.begin(old, call) {

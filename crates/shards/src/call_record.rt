@@ -1,7 +1,6 @@
 //! What a shard keeps of a call.
 use agent::Plain;
 use call_messages::Messages;
-use std::marker::Model;
 
 /// What a shard keeps of a call: its agent, how many events happened to it, all that was sent to it and by it, and up to where its notes are settled.
 #[derive(Drop)]
@@ -11,18 +10,4 @@ pub(crate) struct CallRecord {
     pub(crate) messages: Messages,
     /// How many of its notes, from the first on, are known to be settled: the agent never waits for them again.
     pub(crate) settled: usize,
-}
-
-/// A call's record behind a pointer: where it stands among others it takes the room of one number.
-#[derive(Drop)]
-pub(crate) struct Boxed {
-    pub(crate) inner: Box<CallRecord>,
-}
-
-impl Model for Boxed {
-    ghost use Rattle.shards.specs.declared.call_record.CallRecord.{CallRecord};
-
-    ghost Value = { CallRecord };
-
-    ghost view = { λ b. b.inner.value };
 }

@@ -13,7 +13,7 @@ ghost use Rattle.shards.specs.Slots.{AreSettled, IsSameSlot, IsTied, is_settled,
 ghost use Rattle.shards.specs.SlotTable.{OthersStay, slot_in};
 
 use crate::at_gateway;
-use crate::call_record::{Boxed, CallRecord};
+use crate::call_record::CallRecord;
 use crate::shard::Shard;
 use crate::slots::Slots;
 use agent::Plain;
@@ -193,27 +193,6 @@ fn event(slot: &CallRecord, association: Assoc, next: CallNo, step: &PlanStep) -
     }
 }
 
-/// The event that a step means for the call in an entry.
-fn event_of_entry(
-    entry: &mut Option<Boxed>,
-    association: Assoc,
-    next: CallNo,
-    step: &PlanStep,
-) -> Option<Event>
-    requires { IsTiedEntry entry.old }
-    ensures means { result ≡ event_of_entry entry.old association.0 next.0 step.now }
-    ensures numbered { HasNumberedNotes entry.old }
-    ensures same { IsSameEntry entry.old entry.new }
-{
-    match entry {
-        Some(slot) => {
-            settle(&mut slot.inner);
-            event(&slot.inner, association, next, step)
-        }
-        None => None,
-    }
-}
-
 /// The event that a step means for a call.
 #[tactic(auto, unfolding(crate::specs::SlotTable::slot_in))]
 fn event_of(
@@ -230,7 +209,10 @@ fn event_of(
     ensures others { OthersStay slots.old.entries call.0 slots.new.entries }
 {
     match slots.get_mut(&call.0) {
-        Some(entry) => event_of_entry(entry, association, next, step),
+        Some(slot) => {
+            settle(slot);
+            event(slot, association, next, step)
+        }
         None => None,
     }
 }

@@ -15,7 +15,7 @@ use gateway::Gateway;
 use mg_names::identifiers::LineNo;
 use script_table::Script;
 use std::alloc::{AllocError, Global};
-use std::collections::BTreeMap;
+use std::collections::HashMap;
 
 /// A gateway with the slots of the calls that are open on it, and those calls.
 #[derive(Drop)]
@@ -63,7 +63,7 @@ fn open_one<'s>(
         messages: Messages::new(alloc, 1),
         settled: 0,
     };
-    let Ok(()) = slots::put(slots, alloc, call.call, slot) else {
+    let Ok(()) = slots::put(slots, call.call, slot) else {
         return Err(OpenFault::NoMemory);
     };
     match Call::enter(alloc, script, call.call, lines) {
@@ -89,7 +89,7 @@ fn open_all<'s>(
     let Ok(mut gateway) = Gateway::with_ids(alloc, lines.as_slice(), first, stride) else {
         return Err(OpenFault::NoMemory);
     };
-    let mut slots = BTreeMap::new(alloc);
+    let mut slots = HashMap::new(alloc);
     let mut nexts = Vec::new(alloc);
     for call in calls {
         let next = match open_one(alloc, &mut gateway, &mut slots, script, call) {

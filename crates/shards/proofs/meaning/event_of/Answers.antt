@@ -1,8 +1,8 @@
--- The entry is that of the call's slot.
-use Rattle.std.proofs.Common.{◌∙◌, sym, ap}
-use Rattle.shards.specs.SlotTable.{slot_entry, slot_in}
+-- The slot that is found is that of the call, so it is tied.
+use Rattle.std.proofs.Common.{sym}
+use Rattle.shards.specs.SlotTable.{slot_in}
 use Rattle.shards.proofs.meaning.event_of.Goals as goal
 
-pub event_of_entry-requires : goal.event_of_entry-requires
+pub settle-requires : goal.settle-requires
 unfolding slot_in
-event_of_entry-requires c = λ s is. c.requires s (ap slot_entry (sym c.in-Some.ensures.value) ∙ is)
+settle-requires c = c.requires _ (sym c.in-Some.ensures.value)

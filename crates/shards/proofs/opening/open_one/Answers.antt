@@ -21,7 +21,7 @@ returns-in-Ok-enter c = (
       sent = c.new.ensures;
       settled = refl;
     };
-    slots = c.in-Ok-put.ensures;
+    slots = c.in-Ok-put.ensures.put;
   },
   record {
     kind = c.in-Ok-enter.ensures.kind;

@@ -1,8 +1,12 @@
--- The entry is that of the call's slot.
-use Rattle.std.proofs.Common.{◌∙◌, sym, ap}
-use Rattle.shards.specs.SlotTable.{slot_entry, slot_in}
+-- The slot that is found is that of the call, so it is ready.
+use Rattle.std.proofs.Common.{sym}
+use Rattle.shards.specs.SlotTable.{slot_in}
 use Rattle.shards.proofs.slots.execute.Goals as goal
 
-pub execute_in-requires-clause-ready : goal.execute_in-requires-clause-ready
+pub execute-requires-clause-tied : goal.execute-requires-clause-tied
 unfolding slot_in
-execute_in-requires-clause-ready c = λ s is. c.requires.ready s (ap slot_entry (sym c.in-Some.ensures.value) ∙ is)
+execute-requires-clause-tied c = (c.requires.ready _ (sym c.in-Some.ensures.value)).0
+
+pub execute-requires-clause-events : goal.execute-requires-clause-events
+unfolding slot_in
+execute-requires-clause-events c = (c.requires.ready _ (sym c.in-Some.ensures.value)).1

@@ -1,8 +1,8 @@
--- The entry is that of the call's slot.
-use Rattle.std.proofs.Common.{◌∙◌, sym, ap}
-use Rattle.shards.specs.SlotTable.{slot_entry, slot_in}
+-- The slot that is found is that of the call, so it is ready.
+use Rattle.std.proofs.Common.{sym}
+use Rattle.shards.specs.SlotTable.{slot_in}
 use Rattle.shards.proofs.slots.happen.Goals as goal
 
-pub happen_in-requires-clause-ready : goal.happen_in-requires-clause-ready
+pub happen-requires-clause-events : goal.happen-requires-clause-events
 unfolding slot_in
-happen_in-requires-clause-ready c = λ s is. c.requires.ready s (ap slot_entry (sym c.in-Some.ensures.value) ∙ is)
+happen-requires-clause-events c = (c.requires.ready _ (sym c.in-Some.ensures.value)).1

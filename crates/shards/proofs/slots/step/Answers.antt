@@ -1,8 +1,12 @@
--- The entry is that of the call's slot.
-use Rattle.std.proofs.Common.{◌∙◌, sym, ap}
-use Rattle.shards.specs.SlotTable.{slot_entry, slot_in}
+-- The slot that is found is that of the call, so it is ready.
+use Rattle.std.proofs.Common.{sym}
+use Rattle.shards.specs.SlotTable.{slot_in}
 use Rattle.shards.proofs.slots.step.Goals as goal
 
-pub step_in-requires : goal.step_in-requires
+pub step-requires-clause-tied : goal.step-requires-clause-tied
 unfolding slot_in
-step_in-requires c = λ s is. c.requires s (ap slot_entry (sym c.in-Some.ensures.value) ∙ is)
+step-requires-clause-tied c = (c.requires _ (sym c.in-Some.ensures.value)).0
+
+pub step-requires-clause-events : goal.step-requires-clause-events
+unfolding slot_in
+step-requires-clause-events c = (c.requires _ (sym c.in-Some.ensures.value)).1
