@@ -1,4 +1,4 @@
-//! `mgexplain [--json | --dot]`: reads a script and a certificate from standard input, as `mgcall check` does, and says in words what that
+//! `mgexplain [--json | --dot | --help | --version]`: reads a script and a certificate from standard input, as `mgcall check` does, and says in words what that
 //! program's line says. The first line is that line, by the same calls, and the exit status is the same. `--json` says the same facts as one JSON
 //! value; `--dot` writes the script's state machine as Graphviz text, with what a No names marked.
 //!
@@ -11,7 +11,7 @@ mod told;
 mod words;
 
 use crate::told::{Outcome, told_of};
-use crate::words::{Form, read_form};
+use crate::words::{Asked, Form, read_words};
 use program_rim::host::Host;
 use program_rim::input::read_all;
 use program_rim::sink::write_all;
@@ -23,6 +23,19 @@ use std::{env, io};
 /// How the program is called.
 const USAGE: &str = "usage: mgexplain [--json | --dot]\n";
 
+/// What it says where help is asked for.
+const HELP: &str = "usage: mgexplain [--json | --dot]
+Reads a script, a line %% and a certificate from standard input, as mgcall check does, and says in words what that program's line says.
+  --json     the same as one JSON value
+  --dot      the script as a picture for Graphviz, with what a no names in red
+  --help     this
+  --version  which version it is
+The status is that of mgcall check.
+";
+
+/// Which version it is.
+const VERSION: &str = "mgexplain 0.1.0\n";
+
 /// The words that the process was called with, its own name first.
 fn arguments(rt: &HostRuntime) -> io::Result<Vec<String>> {
     let words = env::args(rt)?.collect(rt.alloc())?;
@@ -30,9 +43,9 @@ fn arguments(rt: &HostRuntime) -> io::Result<Vec<String>> {
 }
 
 /// What the words ask for; `None` where they ask for nothing that the program does.
-fn form(rt: &HostRuntime) -> Option<Form> {
+fn asked(rt: &HostRuntime) -> Option<Asked> {
     match arguments(rt) {
-        Ok(words) => read_form(words.as_slice()),
+        Ok(words) => read_words(words.as_slice()),
         Err(_) => None,
     }
 }
@@ -52,14 +65,21 @@ fn send(rt: &HostRuntime, text: &str, status: Status) -> Status {
     }
 }
 
-fn run(alloc: Global, rt: &HostRuntime) -> Status {
-    let Some(form) = form(rt) else {
-        return send(rt, USAGE, Status::Usage);
-    };
+/// Says what is to be said of standard input.
+fn say(alloc: Global, rt: &HostRuntime, form: Form) -> Status {
     match input_outcome(alloc, rt, form) {
         Outcome::Told(said) => send(rt, said.text.as_str(), said.status),
         Outcome::NoMemory => send(rt, "no memory\n", Status::NoMemory),
         Outcome::ReadFailed => Status::DeviceFailed,
+    }
+}
+
+fn run(alloc: Global, rt: &HostRuntime) -> Status {
+    match asked(rt) {
+        Some(Asked::Saying(form)) => say(alloc, rt, form),
+        Some(Asked::Help) => send(rt, HELP, Status::Yes),
+        Some(Asked::Version) => send(rt, VERSION, Status::Yes),
+        None => send(rt, USAGE, Status::Usage),
     }
 }
 

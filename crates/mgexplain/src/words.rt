@@ -1,6 +1,6 @@
 //! The words of the command line.
 ghost use Rattle.std.specs.Prelude.{◌≡◌, map, string_bytes};
-ghost use Rattle.mgexplain.specs.Forms.{form_named, form_of};
+ghost use Rattle.mgexplain.specs.Forms.{asked_by, asked_of};
 
 /// In which form the program answers.
 #[derive(Clone, Copy, Debug, PartialEq, Eq)]
@@ -13,26 +13,43 @@ pub(crate) enum Form {
     Dot,
 }
 
-/// The form that a word names.
-fn form_named(word: &str) -> Option<Form>
-    ensures { result ≡ form_named word.now }
+/// What the words ask for.
+#[derive(Clone, Copy, Debug, PartialEq, Eq)]
+pub(crate) enum Asked {
+    /// What is said of standard input, in a form.
+    Saying(Form),
+    /// How the program is called.
+    Help,
+    /// Which version it is.
+    Version,
+}
+
+/// What a word asks for.
+fn asked_by(word: &str) -> Option<Asked>
+    ensures { result ≡ asked_by word.now }
 {
     if word == "--json" {
-        return Some(Form::Json);
+        return Some(Asked::Saying(Form::Json));
     }
     if word == "--dot" {
-        return Some(Form::Dot);
+        return Some(Asked::Saying(Form::Dot));
+    }
+    if word == "--help" {
+        return Some(Asked::Help);
+    }
+    if word == "--version" {
+        return Some(Asked::Version);
     }
     None
 }
 
-/// The form that the words ask for, the program's name first. `None` where they ask for nothing that the program does, or for help.
-pub(crate) fn read_form(words: &[String]) -> Option<Form>
-    ensures { result ≡ form_of (map string_bytes words.now) }
+/// What the words ask for, the program's name first. `None` where they ask for nothing that the program does.
+pub(crate) fn read_words(words: &[String]) -> Option<Asked>
+    ensures { result ≡ asked_of (map string_bytes words.now) }
 {
     match words {
-        [_] => Some(Form::Text),
-        [_, word] => form_named(word.as_str()),
+        [_] => Some(Asked::Saying(Form::Text)),
+        [_, word] => asked_by(word.as_str()),
         _ => None,
     }
 }

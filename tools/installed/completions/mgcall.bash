@@ -30,12 +30,12 @@ _mgcall() {
         2,run) COMPREPLY=($(compgen -W '--workers' -- "$current")) ;;
         esac
         ;;
-    mgexplain) if ((place == 1)); then COMPREPLY=($(compgen -W '--json --dot' -- "$current")); fi ;;
+    mgexplain) if ((place == 1)); then COMPREPLY=($(compgen -W '--json --dot --help --version' -- "$current")); fi ;;
     mgcall-check) _mgcall_over_files "$current" "$place" toml json ;;
     mgcall-run) _mgcall_over_files "$current" "$place" toml json toml ;;
     mgcall-why)
         if ((place == 3)); then
-            COMPREPLY=($(compgen -W '--json --dot' -- "$current"))
+            COMPREPLY=($(compgen -W '--json --dot --help --version' -- "$current"))
         else
             _mgcall_over_files "$current" "$place" toml json
         fi

@@ -3,3 +3,5 @@
 complete -c mgexplain -f
 complete -c mgexplain -n 'test (count (commandline -opc)) -eq 1' -l json -d 'as one JSON value'
 complete -c mgexplain -n 'test (count (commandline -opc)) -eq 1' -l dot -d 'as a text for Graphviz'
+complete -c mgexplain -n 'test (count (commandline -opc)) -eq 1' -l help -d 'say how it is called'
+complete -c mgexplain -n 'test (count (commandline -opc)) -eq 1' -l version -d 'say which version it is'
