@@ -4,13 +4,17 @@ import sys
 from shared import asking, crates, programs
 
 
-def answered(name, asked, texts):
-    """Gives a program of this name these words and texts, and says the status that it ends with. Where the program isn't proved here yet, one without
-    its proofs answers, and a note on standard error says so."""
+def program(name):
+    """The program of this name. Where it isn't proved here yet, it is one without its proofs, and a note on standard error says so."""
     try:
-        program = programs.program(name)
+        found = programs.program(name)
     except (crates.NoToolchain, programs.NotBuilt) as missing:
         return asking.stop(f"{name} isn't built here: {missing.code}", missing.status)
-    if program == programs.unproved(name):
+    if found == programs.unproved(name):
         print("answered by a program that is not proved yet", file=sys.stderr)
-    return asking.ask(program, asked, texts)
+    return found
+
+
+def answered(name, asked, texts):
+    """Gives the program of this name these words and texts, and says the status that it ends with."""
+    return asking.ask(program(name), asked, texts)

@@ -1,6 +1,7 @@
-"""What the commands and tools share that are called by hand: their words, the files that they put together, the program that they ask, and how they end. The
-statuses of their own are 2 for words that ask for nothing, 3 for a file that can't be read or written, and 127 where no program is there; all others are the
-program's, and above 128 that of a signal. It is installed too, so it knows nothing of this repository."""
+"""What the commands and tools share that are called by hand: their words, the files that they put together or write, the program that they ask, and how they
+end. The statuses of their own are 2 for words that ask for nothing, 3 for a file that can't be read or written, and 127 where no program is there; all others
+are the program's, and above 128 that of a signal. It is installed too, so it knows nothing of this repository."""
+import contextlib
 import os
 import signal
 import subprocess
@@ -47,19 +48,49 @@ def read(names):
         return stop(of_file(error), FILES)
 
 
+@contextlib.contextmanager
+def written(name):
+    """A text to write, standard output where no name is given. A file has its name once the text is whole; where the work ends before, or fails, what had the
+    name keeps it. What is no file, such as a device, is written as it stands."""
+    if name is None or Path(name).exists() and not Path(name).is_file():
+        with contextlib.nullcontext(sys.stdout) if name is None else open(name, "w") as text:
+            yield text
+            text.flush()
+        return
+    target = Path(name).resolve()
+    beside = target.with_name(f".{target.name}.{os.getpid()}.new")
+    try:
+        with open(beside, "x") as text:
+            yield text
+        beside.replace(target)
+    except OSError as error:
+        if error.filename in (None, str(beside)):
+            error.filename = name
+        raise
+    finally:
+        beside.unlink(missing_ok=True)
+
+
 def sections(texts):
     """Texts as the sections of an input, each but the last with an end of its last line."""
     *fronts, last = texts
     return b"".join(text + (b"" if text.endswith(b"\n") else b"\n") + DIVIDER for text in fronts) + last
 
 
-def ask(program, asked, texts):
-    """Gives a program these words and texts, and says the status that it ends with: for a signal 128 and its number, as a shell does."""
+def told(program, asked, texts, output=subprocess.PIPE):
+    """Gives a program these words and texts, and says the status that it ends with, for a signal 128 and its number, as a shell does; and what it wrote, unless
+    that goes elsewhere."""
     try:
-        status = subprocess.run([program, *asked], input=sections(texts), check=False).returncode
+        result = subprocess.run([program, *asked], input=sections(texts), stdout=output, check=False)
     except OSError as error:
         return stop(of_file(error), NO_PROGRAM)
-    return status if status >= 0 else 128 - status
+    status = result.returncode
+    return status if status >= 0 else 128 - status, (result.stdout or b"").decode()
+
+
+def ask(program, asked, texts):
+    """The same with what the program writes on standard output; says the status alone."""
+    return told(program, asked, texts, None)[0]
 
 
 def run(main):

@@ -24,12 +24,16 @@ def words(about, usage, least, most=None):
     return asking.words(about, usage, least, most)
 
 
-def answered(name, asked, texts):
-    """Gives the program of this name these words and texts, and says the status that it ends with. Where it isn't proved, a note on standard error says
-    so."""
-    program = PROGRAMS / name
-    if not os.access(program, os.X_OK) or program.is_dir():
-        asking.stop(f"{program}: no program is there", asking.NO_PROGRAM)
+def program(name):
+    """The program of this name. Where it isn't proved, a note on standard error says so."""
+    found = PROGRAMS / name
+    if not os.access(found, os.X_OK) or found.is_dir():
+        asking.stop(f"{found}: no program is there", asking.NO_PROGRAM)
     if not is_proved():
         print("answered by a program that is not proved", file=sys.stderr)
-    return asking.ask(program, asked, texts)
+    return found
+
+
+def answered(name, asked, texts):
+    """Gives the program of this name these words and texts, and says the status that it ends with."""
+    return asking.ask(program(name), asked, texts)

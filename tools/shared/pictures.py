@@ -1,11 +1,6 @@
 """A script's state machine as a text for Graphviz. It says what the script says, and checks nothing. It is installed too, so it knows nothing of this
 repository."""
-from shared import asking
-
-try:
-    import tomllib
-except ImportError:
-    tomllib = None
+from shared import asking, scripts
 
 KINDS = ("on", "of", "fl", "full", "part")
 
@@ -60,11 +55,10 @@ def picture(script):
 
 def drawn(name, checker):
     """Tells the picture of the script in the file of this name. Where the file is no script, one line says which command says why."""
-    if tomllib is None:
-        asking.stop("a picture wants Python 3.11 or a later one, which reads TOML", asking.NO_PROGRAM)
+    scripts.can_read()
     [written] = asking.read([name])
     try:
-        lines = [*picture(tomllib.loads(written.decode()))]
+        lines = [*picture(scripts.read(written))]
     except (AttributeError, KeyError, RecursionError, TypeError, ValueError):
         asking.stop(f"{name}: no script; {checker} says why", asking.FILES)
     asking.tell(lines)

@@ -1,0 +1,137 @@
+"""A certificate that is made by doing what `mgexplain` says, from No to No. An entry is put in so that it brings no configuration but the one that is lacking:
+a wider one where that holds of it, else the entry of one point. So, from nothing, every configuration of a draft is one that a call comes to by the check's
+own steps, and a No of K3, K4, K5 or K7 is about the script. It is installed too, so it knows nothing of this repository."""
+import functools
+import itertools
+import json
+import sys
+from collections import namedtuple
+
+from shared import asking, certificates, scripts
+
+WIDE, TARGET = "--wide", "-o"
+USAGE = f"SCRIPT [CERTIFICATE] [{TARGET} FILE] [{WIDE}]"
+# What is asked for: the files' names, None where one isn't named, and whether entries are joined.
+Wanted = namedtuple("Wanted", "script certificate target is_wide")
+# What doing what is said comes to: the last page, the entries that it is about, how many were put in, and whether what the page says to put in was put in
+# before, or finds no room.
+Followed = namedtuple("Followed", "page entries count is_again is_full")
+
+
+def followed(page_of, entries, put, most=None):
+    """Does what is said from No to No, from these entries on: until a page says nothing to put in, or what was put in for that same configuration before,
+    or until `put` finds no room and gives None, or so many were put in."""
+    seen = set()
+    for count in itertools.count():
+        page = page_of(entries)
+        lacking = json.dumps(page.get("uncovered", page.get("step", {}).get("result")))
+        is_again = "entry" in page and lacking in seen
+        if "entry" not in page or is_again or count == most:
+            return Followed(page, entries, count, is_again, False)
+        seen.add(lacking)
+        more = put(entries, page)
+        if more is None:
+            return Followed(page, entries, count, False, True)
+        entries = more
+
+
+def exactly(script, is_wide, entries, page):
+    """Entries with the configuration of a page put in, and no other beside it: in the place of the entry that it widens where that gets no other one, else
+    behind the last. Where its state has all the entries that it may have, entries are joined if that is asked for; None where there is no room."""
+    place, wider = page.get("widens"), certificates.normal(script, page["entry"])
+    if place is not None and size(script, wider) == size(script, entries[place]) + 1:
+        return [*entries[:place], wider, *entries[place + 1 :]]
+    new = certificates.normal(script, page.get("alone", wider))
+    if has_room(entries, new["state"]):
+        return [*entries, new]
+    fewer = certificates.joined(script, entries) if is_wide else entries
+    return [*fewer, new] if has_room(fewer, new["state"]) else None
+
+
+def size(script, entry):
+    """How many points an entry has, well formed or not."""
+    return certificates.product(certificates.sets(script, entry))
+
+
+def has_room(entries, state):
+    """Whether a state may have another entry."""
+    return sum(entry["state"] == state for entry in entries) < certificates.ENTRIES
+
+
+def wanted(given, usage):
+    """What the words of a tool ask for."""
+    words, files, targets = iter(given), [], []
+    for word in words:
+        if word == TARGET:
+            targets.append(next(words, ""))
+        elif word != WIDE:
+            files.append(word)
+    if not 1 <= len(files) <= 2 or len(targets) > 1 or any(not name or name.startswith("-") for name in files + targets):
+        asking.stop(f"usage: {usage}", asking.WORDS)
+    return Wanted(*(files + [None])[:2], *(targets or [None]), WIDE in given)
+
+
+def page_of(program, texts):
+    """What `mgexplain` says of a script and a certificate, as a page. Where it can't say anything, the tool ends with its status."""
+    status, output = asking.told(program, ["--json"], texts)
+    if status not in (0, 1, 3):
+        asking.stop(output.strip() or f"{program} ended with status {status}", status)
+    return json.loads(output)
+
+
+def begun(names, texts):
+    """The script, and the entries to begin with, of what `mgexplain` has read."""
+    try:
+        script = scripts.read(texts[0])
+        return script, [certificates.normal(script, entry) for entry in json.loads(texts[1])["entries"]]
+    except (AttributeError, KeyError, RecursionError, TypeError, ValueError) as error:
+        return asking.stop(f"{' and '.join(filter(None, names))}: not as this Python reads them: {error}", asking.FILES)
+
+
+def became(end, is_wide):
+    """The line on what became of a draft."""
+    after = f"after {end.count} edit{'' if end.count == 1 else 's'}"
+    if end.page["status"] == 0:
+        return f"yes {after}"
+    if end.is_full:
+        most = f"state {end.page['entry']['state']} has {certificates.ENTRIES} entries, and may have no more"
+        return f"{end.page['line']} {after}: {most}{', and none can be joined' if is_wide else f'; {WIDE} joins entries'}"
+    if end.is_again:
+        return f"{end.page['line']} {after}: what there is to put in was put in before, and is refused again"
+    if end.page["status"] == 3:
+        return f"{end.page['line']} {after}"
+    return f"{end.page['line']} {after}: {end.page['line'].split()[1]} asks for what no entry mends, and a person has to decide"
+
+
+def made(program, texts, asked):
+    """What drafting from a script and a certificate comes to. Where they can't be read, the tool ends with what `mgexplain` says of that."""
+    if page_of(program, texts)["status"] == 3:
+        asking.stop(asking.told(program, [], texts)[1].rstrip("\n"), 1)
+    script, entries = begun(asked[:2], texts)
+
+    def page_of_entries(entries):
+        return page_of(program, [texts[0], certificates.text(entries).encode()])
+
+    end = followed(page_of_entries, entries, functools.partial(exactly, script, asked.is_wide))
+    if not asked.is_wide or end.page["status"]:
+        return end
+    fewer = certificates.joined(script, end.entries)
+    page = page_of_entries(fewer)
+    return end if page["status"] else end._replace(page=page, entries=fewer)
+
+
+def drafted(asked, find):
+    """Drafts a certificate with the program that `find` finds, writes it, and says what became of it; the status is 0 where that is a yes, else 1."""
+    scripts.can_read()
+    given = asking.read([asked.script, *([asked.certificate] if asked.certificate else [])])
+    with asking.written(asked.target) as file:
+        program = find("mgexplain")
+        end = made(program, [*given, certificates.text([]).encode()][:2], asked)
+        draft = certificates.text(end.entries)
+        file.write(draft)
+    print(became(end, asked.is_wide), file=sys.stderr)
+    if end.page["status"] == 0:
+        return 0
+    words = asking.told(program, [], [given[0], draft.encode()])[1]
+    print(words.partition("\n")[2].rstrip("\n"), file=sys.stderr)
+    return 1
