@@ -40,8 +40,17 @@ _mgcall() {
             _mgcall_over_files "$current" "$place" toml json
         fi
         ;;
+    mgcall-draft)
+        if [[ ${COMP_WORDS[COMP_CWORD - 1]} == -o ]]; then
+            _mgcall_files json "$current"
+        elif ((place > 1)) && [[ $current == -* ]]; then
+            COMPREPLY=($(compgen -W '-o --wide' -- "$current"))
+        else
+            _mgcall_over_files "$current" "$place" toml json
+        fi
+        ;;
     mgcall-picture) _mgcall_over_files "$current" "$place" toml ;;
     esac
 }
 
-complete -F _mgcall mgcall mgexplain mgcall-check mgcall-run mgcall-why mgcall-picture
+complete -F _mgcall mgcall mgexplain mgcall-check mgcall-run mgcall-why mgcall-draft mgcall-picture
