@@ -1,0 +1,162 @@
+"""The clauses of the crates' functions, and the definitions that each comes to: those of `specs/` that it names, and those that these name."""
+import functools
+import re
+from collections import namedtuple
+
+from shared import crates
+
+# A clause: what has the function (a type or a trait, or nothing), the function, whether a user of the crate can call it, `requires` or `ensures`, the
+# clause's name (or nothing), its text, and the file.
+Clause = namedtuple("Clause", "owner function is_public kind name text path")
+FUNCTION = re.compile(r"(\s*)(pub(?:\([^)]*\))? )?(?:const )?(?:unsafe )?fn (\w+)")
+OWNER = re.compile(r"(?:pub(?:\([^)]*\))? )?(impl|trait)\b\s*(.* for )?&?(\w+)")
+CLAUSE = re.compile(r"\s*(requires|ensures)\*? (?:(\w+) )?\{")
+DEFINITION = re.compile(r"\s*(?:(?:abbrev|unfoldable|opaque) pub|pub (?:record|data)) ([^\s:]+)")
+IMPORT = re.compile(r"Rattle\.(\w+)\.specs\.([A-Z]\w*(?:\.[A-Z]\w*)*)")
+
+
+def depth(text):
+    """How many braces are open behind a text."""
+    return text.count("{") - text.count("}")
+
+
+def contract(lines, indentation):
+    """The lines of a function's clauses: they end at its body, or for a method without a body with a semicolon."""
+    found, opened = [], 0
+    for line in lines:
+        if not found and line.lstrip().startswith("ghost "):
+            continue
+        is_clause = opened == 0 and CLAUSE.match(line)
+        if line in (f"{indentation}{{", f"{indentation}{{}}") or not found and not is_clause and line.endswith(("{", "}", ";")):
+            break
+        if found or is_clause:
+            found.append(line)
+            opened += depth(line)
+            if opened == 0 and line.endswith(";"):
+                break
+    return found
+
+
+def split(lines):
+    """The clauses of these lines: kind, name or nothing, and text."""
+    found, opened = [], 0
+    for line in lines:
+        if opened == 0 and (head := CLAUSE.match(line)):
+            found.append([head[1], head[2], ""])
+        opened += depth(line)
+        found[-1][2] += f"{line}\n"
+    return found
+
+
+def owner_of(line):
+    """What an item has functions for, where it is such an item, and whether it is a trait's."""
+    plain = line.replace("->", "")
+    while (less := re.sub(r"<[^<>]*>", "", plain)) != plain:
+        plain = less
+    head = OWNER.match(plain)
+    return (head[3], head[1] == "trait" or bool(head[2])) if head else (None, False)
+
+
+def is_open(root, path):
+    """Whether each module that leads to a file is public."""
+    parts = path.relative_to(root).with_suffix("").parts
+    for place, name in enumerate(parts):
+        holder = root.joinpath(*parts[:place]).with_suffix(".rt") if place else root / "lib.rt"
+        if not holder.is_file() or not re.search(rf"^pub mod {name};", holder.read_text(), re.MULTILINE):
+            return path == root / "lib.rt"
+    return True
+
+
+@functools.cache
+def exported(root):
+    """The names that a crate's own file hands on."""
+    text = (root / "lib.rt").read_text() if (root / "lib.rt").is_file() else ""
+    return frozenset(name for use in re.findall(r"^pub use ([^;]*);", text, re.MULTILINE) for name in re.findall(r"\w+", use))
+
+
+@functools.cache
+def clauses(crate):
+    """All clauses of a crate's functions."""
+    root, found = crates.folder(crate) / "src", []
+    files = sorted(root.rglob("*.rt"))
+    open_files = {path for path in files if is_open(root, path)}
+    open_types = {name for path in open_files for name in re.findall(r"^pub (?:struct|enum|trait) (\w+)", path.read_text(), re.MULTILINE)}
+    seen = open_types | exported(root)
+    for path in files:
+        owner, of_trait = None, False
+        lines = path.read_text().splitlines()
+        for place, line in enumerate(lines):
+            if not line.startswith((" ", "\t", "}")) and line.rstrip().endswith("{"):
+                owner, of_trait = owner_of(line)
+            if head := FUNCTION.match(line):
+                own = owner if head[1] else None
+                is_pub = head[2] == "pub " or of_trait and own is not None
+                is_public = is_pub and (own in seen if own else path in open_files or head[3] in seen)
+                found += [Clause(own, head[3], is_public, *one, path) for one in split(contract(lines[place + 1 :], head[1]))]
+    return found
+
+
+def named(crate, function, name):
+    """The clauses of this name, or where it is nothing the lone clauses without one, of the functions of a crate that have this name, with or without
+    what has them. `Type::*` are all public functions of a type."""
+    owner, _, bare = function.rpartition("::")
+    of = [one for one in clauses(crate) if (not owner or one.owner == owner) and (one.is_public if bare == "*" else one.function == bare)]
+    if name:
+        return [one for one in of if one.name == name]
+    return [one for one in of if one.kind == "ensures" and one.name is None]
+
+
+# ---- definitions
+
+
+def imports(text):
+    """The files of definitions that a text names, each as a crate and a path."""
+    return {(crate, module.replace(".", "/")) for crate, module in IMPORT.findall(text) if "declared" not in module}
+
+
+@functools.cache
+def definitions(crate, module):
+    """The definitions of a file, each with its text, and the files that it hands on; nothing where there is no such file."""
+    path = crates.folder(crate) / "specs" / f"{module}.antt"
+    if not path.is_file():
+        return {}, frozenset(), frozenset()
+    text = path.read_text()
+    found, name = {}, None
+    for line in text.splitlines():
+        if head := DEFINITION.match(line):
+            name = head[1]
+        if name and not line.lstrip().startswith("--"):
+            found[name] = f"{found.get(name, '')}{line}\n"
+    handed = "\n".join(line for line in text.splitlines() if re.match(r"(?:unfoldable )?pub use ", line))
+    return found, frozenset(imports(text)), frozenset(imports(handed))
+
+
+def handed_on(files):
+    """These files with those that they hand on."""
+    found, waiting = set(), [*files]
+    while waiting:
+        file = waiting.pop()
+        if file not in found:
+            found.add(file)
+            waiting += definitions(*file)[2]
+    return found
+
+
+def reached(text, files):
+    """The definitions that a text comes to which names things of these files, each as crate, path and name."""
+    found, waiting = set(), [(text, files)]
+    while waiting:
+        text, files = waiting.pop()
+        words = set(re.findall(r"[^\W\d][\w']*", text))
+        for file in handed_on(files):
+            own, others, _ = definitions(*file)
+            for name in words & own.keys():
+                if (*file, name) not in found:
+                    found.add((*file, name))
+                    waiting.append((own[name], others | {file}))
+    return found
+
+
+def reached_by(clause):
+    """The definitions that a clause comes to."""
+    return reached(clause.text, imports(clause.path.read_text()))
