@@ -69,7 +69,8 @@ impl Walk {
     }
 }
 
-/// The first and the last byte of an entry, by its place in the certificate. Of two arrays with one key the last counts.
+/// The first and the last byte of an entry, by its place in the certificate, all three from 0; none where there is no such entry. Of two arrays with one key
+/// the last counts.
 pub fn entry_ends(certificate: &[u8], entry: usize) -> Option<(usize, usize)> {
     let mut walk = Walk {
         depth: 0,

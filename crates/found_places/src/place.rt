@@ -8,15 +8,15 @@ use std::alloc::{AllocError, Global};
 pub struct Place {
     /// The path of the value, and what is wrong with it.
     pub says: String,
-    /// The line of the text, from 1, where it was found.
+    /// The line of the text, from 1; none where the place has no spot in it.
     pub line: Option<usize>,
-    /// The column of the line, from 1.
+    /// The byte of that line, from 1; none where the place has no spot.
     pub column: Option<usize>,
-    /// The word that may have been meant.
+    /// The word that may have been meant; none where none is near.
     pub meant: Option<String>,
 }
 
-/// The place of what is wrong.
+/// The place of what is wrong, at a spot of the text where one was found. The only error is that there is no memory.
 pub fn new_place(alloc: Global, wrong: Wrong, spot: Option<Spot>) -> Result<Place, AllocError> {
     let Wrong {
         path,
@@ -36,7 +36,7 @@ pub fn new_place(alloc: Global, wrong: Wrong, spot: Option<Spot>) -> Result<Plac
 }
 
 impl Place {
-    /// The place in sentences, in a document of this kind.
+    /// The place in sentences, in a document that is called so, as `script`. The only error is that there is no memory.
     pub fn sentence(&self, alloc: Global, document: &str) -> Result<String, AllocError> {
         let says = &self.says;
         let mut text = match (self.line, self.column) {

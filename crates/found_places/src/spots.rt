@@ -1,10 +1,12 @@
 //! Where a word stands in the text of a document.
 use crate::wrong::InTable;
 
-/// A place in a text: its line and its column, both from 1.
+/// A place in a text.
 #[derive(Clone, Copy, Debug)]
 pub struct Spot {
+    /// The line, from 1.
     pub line: usize,
+    /// The byte of the line, from 1.
     pub column: usize,
 }
 
@@ -35,10 +37,12 @@ fn begins_any(line: &str) -> bool {
     line.trim_start().starts_with('[')
 }
 
-/// A word that is sought, and the text of the value that has it.
+/// A word that is sought in a text.
 #[derive(Clone, Copy)]
 pub struct Sought<'a> {
+    /// The word; an empty one is found nowhere.
     pub word: &'a str,
+    /// The text of the value that has the word, where it has more: the word is sought in it alone.
     pub within: Option<&'a str>,
 }
 
@@ -103,7 +107,8 @@ fn in_table(text: &str, table: InTable, sought: Sought<'_>) -> Option<Spot> {
     head
 }
 
-/// Where a word of a table of a TOML text stands, or one at its top.
+/// Where a word of a table of a TOML text stands, or of its top where no table is given. A table's first line is given where its word isn't found there, and
+/// nothing where the table isn't found either, or the top hasn't the word.
 pub fn spot_of(text: &str, table: Option<InTable>, sought: Sought<'_>) -> Option<Spot> {
     match table {
         Some(table) => in_table(text, table, sought),
@@ -111,7 +116,7 @@ pub fn spot_of(text: &str, table: Option<InTable>, sought: Sought<'_>) -> Option
     }
 }
 
-/// Where a word stands in a text from a byte on.
+/// Where a word first stands in a text from a byte on, which counts from 0; the place of this byte where it doesn't.
 pub fn spot_from(text: &[u8], first: usize, word: &str) -> Spot {
     let rest = text.get(first..).unwrap_or(&[]);
     let place = place_in(rest, word.as_bytes())
