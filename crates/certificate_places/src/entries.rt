@@ -1,8 +1,8 @@
 //! Where a certificate has a fault.
-use crate::entry_sets::{EntrySet, Found, Kind, Look, add_sets, key_wrong, not_this};
+use crate::entry_sets::{EntrySet, Kind, Look, add_sets, key_wrong, not_this};
 use crate::names::{ScriptNames, names_of};
 use certificate::CertFault;
-use found_places::{Place, entry_ends, found_wrong, nearest, new_place, spot_from};
+use found_places::{Found, Place, Wrong, entry_ends, found_wrong, nearest, new_place, spot_from};
 use script_document::read_document;
 use serde_json::Value;
 use std::alloc::{AllocError, Global};
@@ -208,7 +208,7 @@ fn in_entries(
     fault: CertFault,
     entries: &[Value],
     names: &ScriptNames<'_>,
-) -> Result<Option<(usize, found_places::Wrong)>, AllocError> {
+) -> Result<Option<(usize, Wrong)>, AllocError> {
     if fault == CertFault::TooManyEntries {
         let Some(place) = past_the_last(entries) else {
             return Ok(None);

@@ -1,6 +1,6 @@
 //! The sets of an entry of a certificate, each with its path, and the first key or value that is no part of an entry.
 use crate::names::ScriptNames;
-use found_places::{Wrong, found_wrong, nearest};
+use found_places::{Found, found_wrong, nearest};
 use serde_json::{Map, Value};
 use std::alloc::{AllocError, Global};
 
@@ -40,9 +40,6 @@ const EPHEMERAL: [(&str, Kind); 3] = [
     ("mode", Kind::Mode),
     ("remote", Kind::Remote),
 ];
-
-/// What is wrong, if anything is; the only error is running out of memory.
-pub(crate) type Found = Result<Option<Wrong>, AllocError>;
 
 /// The members of an object.
 type Object = Map<String, Value>;

@@ -13,4 +13,4 @@ pub use entry_text::entry_ends;
 pub use near::nearest;
 pub use place::{Place, new_place};
 pub use spots::{Sought, Spot, spot_from, spot_of};
-pub use wrong::{InTable, Wrong, found_wrong};
+pub use wrong::{Found, InTable, Wrong, found_wrong};

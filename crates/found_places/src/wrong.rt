@@ -27,6 +27,9 @@ pub struct Wrong {
     pub table: Option<InTable>,
 }
 
+/// What is wrong, if anything is. The only error is that there is no memory.
+pub type Found = Result<Option<Wrong>, AllocError>;
+
 /// What is wrong with a word, and nothing near it. The only error is that there is no memory.
 pub fn found_wrong(
     alloc: Global,
