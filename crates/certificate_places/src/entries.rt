@@ -6,6 +6,7 @@ use found_places::{Found, Place, Wrong, entry_ends, found_wrong, nearest, new_pl
 use script_document::read_document;
 use serde_json::Value;
 use std::alloc::{AllocError, Global};
+use typed_values::Missing;
 
 /// How many entries a state may have, and how many points an entry.
 const MOST_ENTRIES: usize = 256;
@@ -258,7 +259,7 @@ fn top_wrong(alloc: Global, fault: CertFault, value: &Value) -> Found {
     }
 }
 
-/// Where a certificate for a script has this fault; nothing where its reader alone can tell.
+/// Where a certificate for a script has this fault; nothing where its reader alone can tell. The only error is that there is no memory.
 pub fn certificate_place(
     alloc: Global,
     fault: CertFault,
@@ -268,8 +269,10 @@ pub fn certificate_place(
     let Ok(table) = toml::table_from_slice(alloc, script) else {
         return Ok(None);
     };
-    let Ok(document) = read_document(alloc, &table) else {
-        return Ok(None);
+    let document = match read_document(alloc, &table) {
+        Ok(document) => document,
+        Err(Missing::Memory) => return Err(AllocError),
+        Err(Missing::Nothing) => return Ok(None),
     };
     let Ok(value) = Value::from_slice(alloc, certificate) else {
         return Ok(None);
