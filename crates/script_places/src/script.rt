@@ -1,35 +1,56 @@
 //! Where a script has a fault.
-use crate::declared::{bad_name, duplicate, unknown};
+use crate::in_document::in_document;
+use crate::known::{names_for, words_for};
 use crate::script_keys::bad_key;
-use crate::script_states::{Lack, lacking, no_state, too_many};
-use found_places::{Place, Sought, Wrong, new_place, spot_of};
+use crate::writer::written;
+use found_places::{Found, Place, Sought, Wrong, new_place, spot_of};
 use script_document::{Document, read_document};
 use script_faults::ScriptFault;
 use std::alloc::{AllocError, Global};
+use toml::Table;
 use typed_values::Missing;
 
 /// What is wrong with a document that is read.
-fn in_document(
-    alloc: Global,
-    fault: ScriptFault,
-    document: &Document,
-) -> Result<Option<Wrong>, AllocError> {
-    match fault {
-        ScriptFault::BadName => bad_name(alloc, document),
-        ScriptFault::Duplicate => duplicate(alloc, document),
-        ScriptFault::Unknown => unknown(alloc, document),
-        ScriptFault::NoStart => no_state(alloc, document, "start", &document.start),
-        ScriptFault::NoRestart => no_state(alloc, document, "restart", &document.restart),
-        ScriptFault::NoFault => lacking(alloc, document, Lack::NoFault),
-        ScriptFault::OkWithoutActions => lacking(alloc, document, Lack::OutcomeWithoutCommands),
-        ScriptFault::EndWithTransitions => lacking(alloc, document, Lack::EndThatGoesOn),
-        ScriptFault::MadeAndSubtracted => lacking(alloc, document, Lack::MadeAndSubtracted),
-        ScriptFault::TooMany => too_many(alloc, document),
-        ScriptFault::NotToml | ScriptFault::BadKey | ScriptFault::BadMap => Ok(None),
+fn document_wrong(alloc: Global, fault: ScriptFault, document: &Document) -> Found {
+    let Some(finding) = in_document(fault, document) else {
+        return Ok(None);
+    };
+    let known = names_for(alloc, document, finding.flaw)?;
+    Ok(Some(written(alloc, &finding, known.as_slice())?))
+}
+
+/// What is wrong with the keys and values of a script.
+fn keys_wrong(alloc: Global, script: &Table) -> Found {
+    let Some(finding) = bad_key(alloc, script) else {
+        return Ok(None);
+    };
+    let known = words_for(alloc, &finding)?;
+    Ok(Some(written(alloc, &finding, known.as_slice())?))
+}
+
+/// What is wrong with a script that has this fault.
+fn script_wrong(alloc: Global, fault: ScriptFault, script: &Table) -> Found {
+    if fault == ScriptFault::BadKey {
+        return keys_wrong(alloc, script);
+    }
+    match read_document(alloc, script) {
+        Ok(document) => document_wrong(alloc, fault, &document),
+        Err(Missing::Memory) => Err(AllocError),
+        Err(Missing::Nothing) => Ok(None),
     }
 }
 
-/// Where a script has this fault; nothing where its reader alone can tell.
+/// What is wrong, with where its word stands in the text of the script.
+fn placed(alloc: Global, wrong: Wrong, text: &str) -> Result<Place, AllocError> {
+    let sought = Sought {
+        word: wrong.word.as_str(),
+        within: wrong.within.as_ref().map(|within| within.as_str()),
+    };
+    let spot = spot_of(text, wrong.table, sought);
+    new_place(alloc, wrong, spot)
+}
+
+/// Where a script has this fault; nothing where its reader alone can tell. The only error is that there is no memory.
 pub fn script_place(
     alloc: Global,
     fault: ScriptFault,
@@ -41,24 +62,8 @@ pub fn script_place(
     let Ok(text) = str::from_utf8(script) else {
         return Ok(None);
     };
-    let found = if fault == ScriptFault::BadKey {
-        bad_key(alloc, &table)?
-    } else {
-        match read_document(alloc, &table) {
-            Ok(document) => in_document(alloc, fault, &document)?,
-            Err(Missing::Memory) => return Err(AllocError),
-            Err(Missing::Nothing) => None,
-        }
-    };
-    match found {
-        Some(wrong) => {
-            let sought = Sought {
-                word: wrong.word.as_str(),
-                within: wrong.within.as_ref().map(|within| within.as_str()),
-            };
-            let spot = spot_of(text, wrong.table, sought);
-            Ok(Some(new_place(alloc, wrong, spot)?))
-        }
+    match script_wrong(alloc, fault, &table)? {
+        Some(wrong) => Ok(Some(placed(alloc, wrong, text)?)),
         None => Ok(None),
     }
 }

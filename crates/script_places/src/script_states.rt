@@ -1,52 +1,35 @@
-//! What a script or a state of it lacks, or has too much of.
-use found_places::{InTable, Wrong, found_wrong, nearest};
-use script_document::{Document, WrittenCommand, WrittenState};
-use std::alloc::{AllocError, Global};
-use typed_values::Word;
+//! What a state lacks, or has too much of.
+use crate::finding::{At, Finding};
+use crate::flaw::{Flaw, StateFlaw};
+use script_document::{WrittenCommand, WrittenState};
+use script_faults::ScriptFault;
 
-/// What is wrong, if anything is; the only error is running out of memory.
-type Found = Result<Option<Wrong>, AllocError>;
-
-/// A state at the top that is missing, or that no state of the script is.
-pub(crate) fn no_state(
-    alloc: Global,
-    document: &Document,
-    key: &str,
-    named: &Option<Word>,
-) -> Found {
-    let path = String::from_str(alloc, "the top of the script")?;
-    let Some(named) = named else {
-        let says = format!(in alloc; "the key `{key}` is missing")?;
-        return Ok(Some(found_wrong(alloc, path, says, "", None)?));
-    };
-    let word = named.as_str();
-    let says = format!(in alloc; "`{key}` names no state: there is no `{word}`")?;
-    let mut states: Vec<&str> = Vec::new(alloc);
-    for state in &document.states {
-        states.push(state.name.as_str())?;
-    }
-    let mut found = found_wrong(alloc, path, says, word, None)?;
-    found.near = nearest(alloc, word, states.as_slice())?;
-    Ok(Some(found))
-}
+/// How many commands a state may have.
+const MOST_COMMANDS: usize = 16;
 
 /// Whether a state leads anywhere.
 fn leads(state: &WrittenState) -> bool {
     state.ok.is_some() || state.fault.is_some() || state.timer.is_some() || !state.on.is_empty()
 }
 
-/// Whether a state creates an ephemeral and subtracts it, or creates a context and subtracts all of it.
-fn undoes(state: &WrittenState, word: &str, of_context: bool) -> bool {
-    state.commands.iter().any(|command| match command {
-        WrittenCommand::Subtract { name, .. } => !of_context && name.as_str() == word,
-        WrittenCommand::SubtractAll { context } => of_context && context.as_str() == word,
-        _ => false,
-    })
+/// Whether commands subtract an ephemeral, or all of a context.
+fn undo(commands: &[WrittenCommand], word: &str, is_context: bool) -> bool {
+    for command in commands {
+        let is_undone = match command {
+            WrittenCommand::Subtract { name, .. } => !is_context && name.as_str() == word,
+            WrittenCommand::SubtractAll { context } => is_context && context.as_str() == word,
+            _ => false,
+        };
+        if is_undone {
+            return true;
+        }
+    }
+    false
 }
 
-/// What a state creates and subtracts.
-fn made_and_subtracted(state: &WrittenState) -> Option<&str> {
-    for command in &state.commands {
+/// What commands create and subtract.
+fn created_and_subtracted(commands: &[WrittenCommand]) -> Option<&str> {
+    for command in commands {
         if let WrittenCommand::Add {
             create,
             context,
@@ -55,10 +38,10 @@ fn made_and_subtracted(state: &WrittenState) -> Option<&str> {
             ..
         } = command
         {
-            if *create && undoes(state, context.as_str(), true) {
+            if *create && undo(commands, context.as_str(), true) {
                 return Some(context.as_str());
             }
-            if *own && undoes(state, name.as_str(), false) {
+            if *own && undo(commands, name.as_str(), false) {
                 return Some(name.as_str());
             }
         }
@@ -66,96 +49,48 @@ fn made_and_subtracted(state: &WrittenState) -> Option<&str> {
     None
 }
 
-/// What a fault of states is about.
-#[derive(Clone, Copy)]
-pub(crate) enum Lack {
-    NoFault,
-    OutcomeWithoutCommands,
-    EndThatGoesOn,
-    MadeAndSubtracted,
+/// The key of an outcome that a state without commands has.
+fn outcome_of(state: &WrittenState) -> Option<&'static str> {
+    if !state.commands.is_empty() {
+        None
+    } else if state.ok.is_some() {
+        Some("ok")
+    } else if state.fault.is_some() {
+        Some("fault")
+    } else {
+        None
+    }
 }
 
-/// What a state lacks of this, in words, with the word that it is about.
-fn lacked(
-    alloc: Global,
-    state: &WrittenState,
-    lack: Lack,
-) -> Result<Option<(String, String)>, AllocError> {
+/// How a state has a fault that is seen at one of its keys, with this key.
+fn lack_of(fault: ScriptFault, state: &WrittenState) -> Option<(&'static str, StateFlaw)> {
     let has_commands = !state.commands.is_empty();
-    let found = match lack {
-        Lack::NoFault if has_commands && state.fault.is_none() => {
-            ("it has commands, so it needs the key `fault`", "do")
+    match fault {
+        ScriptFault::NoFault if has_commands && state.fault.is_none() => {
+            Some(("do", StateFlaw::NoFault))
         }
-        Lack::OutcomeWithoutCommands if !has_commands && state.ok.is_some() => {
-            ("it has no commands, so it can't have `ok`", "ok")
+        ScriptFault::OkWithoutActions => Some((outcome_of(state)?, StateFlaw::NoCommands)),
+        ScriptFault::EndWithTransitions if state.is_end && (has_commands || leads(state)) => {
+            Some(("end", StateFlaw::EndThatGoesOn))
         }
-        Lack::OutcomeWithoutCommands if !has_commands && state.fault.is_some() => {
-            ("it has no commands, so it can't have `fault`", "fault")
+        ScriptFault::TooMany if state.commands.len() > MOST_COMMANDS => {
+            let count = state.commands.len();
+            Some(("do", StateFlaw::TooMany(count, "command", MOST_COMMANDS)))
         }
-        Lack::EndThatGoesOn if state.is_end && (has_commands || leads(state)) => {
-            ("an end state has no commands and leads nowhere", "end")
-        }
-        Lack::MadeAndSubtracted => {
-            let Some(word) = made_and_subtracted(state) else {
-                return Ok(None);
-            };
-            let says = format!(in alloc; "it creates `{word}` and subtracts it")?;
-            return Ok(Some((says, String::from_str(alloc, word)?)));
-        }
-        _ => return Ok(None),
-    };
-    Ok(Some((
-        String::from_str(alloc, found.0)?,
-        String::from_str(alloc, found.1)?,
-    )))
+        _ => None,
+    }
 }
 
-/// The first state that lacks this.
-pub(crate) fn lacking(alloc: Global, document: &Document, what: Lack) -> Found {
-    for (place, state) in document.states.iter().enumerate() {
-        if let Some((says, word)) = lacked(alloc, state, what)? {
-            let name = state.name.as_str();
-            let path = format!(in alloc; "state `{name}`")?;
-            let table = InTable {
-                name: "state",
-                place,
-            };
-            return Ok(Some(found_wrong(alloc, path, says, word.as_str(), Some(table))?));
-        }
+/// How a state has a fault that is one of a state alone.
+pub(crate) fn lacking<'a>(
+    fault: ScriptFault,
+    at: At<'a>,
+    state: &'a WrittenState,
+) -> Option<Finding<'a>> {
+    if fault == ScriptFault::MadeAndSubtracted {
+        let word = created_and_subtracted(state.commands.as_slice())?;
+        return Some(Finding::new(at, word, Flaw::State(StateFlaw::CreatedAndSubtracted)));
     }
-    Ok(None)
-}
-
-/// What a script has more of than it may.
-pub(crate) fn too_many(alloc: Global, document: &Document) -> Found {
-    let counts = [
-        ("lines", document.lines.len(), 4usize),
-        ("contexts", document.contexts.len(), 4),
-        ("ephemerals", document.ephemerals.len(), 4),
-        ("events lists", document.events.len(), 16),
-        ("signals lists", document.signals.len(), 16),
-        ("maps", document.maps.len(), 16),
-        ("states", document.states.len(), 64),
-    ];
-    for (what, count, most) in counts {
-        if count > most {
-            let path = String::from_str(alloc, "the script")?;
-            let says = format!(in alloc; "it has {count} {what}, and {most} at most may be there")?;
-            return Ok(Some(found_wrong(alloc, path, says, "", None)?));
-        }
-    }
-    for (place, state) in document.states.iter().enumerate() {
-        let count = state.commands.len();
-        if count > 16 {
-            let name = state.name.as_str();
-            let path = format!(in alloc; "state `{name}`")?;
-            let says = format!(in alloc; "it has {count} commands, and 16 at most may be there")?;
-            let table = InTable {
-                name: "state",
-                place,
-            };
-            return Ok(Some(found_wrong(alloc, path, says, "do", Some(table))?));
-        }
-    }
-    Ok(None)
+    let (word, flaw) = lack_of(fault, state)?;
+    Some(Finding::new(at, word, Flaw::State(flaw)))
 }

@@ -1,161 +1,132 @@
-//! What is wrong with the text of a command, of an item, of a signal or of a pair.
-use found_places::nearest;
-use std::alloc::{AllocError, Global};
-use typed_values::is_name;
+//! What is wrong with the text of a command, of an item, of a signal or of a pair that can't be read, and the word of it that is.
+use crate::flaw::{TextFlaw, Vocabulary};
+use crate::keys::Form;
+use crate::known::words_of;
+use typed_values::{is_among, is_name};
 
-/// What is wrong with a text: a word of it, in words, and the word that may have been meant.
-#[derive(Drop)]
-pub(crate) struct WrongText {
-    pub(crate) word: String,
-    pub(crate) says: String,
-    pub(crate) near: Option<String>,
+/// Whether a word is one of these.
+fn is_one(of: Vocabulary, word: &str) -> bool {
+    is_among(word, words_of(of))
 }
 
-const VERBS: [&str; 5] = ["add", "modify", "move", "subtract", "topology"];
-
-const OPTIONS: [&str; 4] = ["mode", "events", "signals", "remote"];
-
-const MODES: [&str; 4] = ["Inactive", "SendOnly", "ReceiveOnly", "SendReceive"];
-
-const TOPOLOGIES: [&str; 3] = ["isolate", "oneway", "bothway"];
-
-const EVENTS: [&str; 4] = ["al/on", "al/of", "al/fl", "dd/ce"];
-
-const STRICTNESS: [&str; 2] = ["exact", "state"];
-
-const SIGNALS: [&str; 5] = ["al/ri", "cg/dt", "cg/rt", "cg/bt", "cg/ct"];
-
-/// A word that isn't among those that may stand there.
-fn unknown(alloc: Global, word: &str, what: &str, known: &[&str]) -> Result<WrongText, AllocError> {
-    Ok(WrongText {
-        word: String::from_str(alloc, word)?,
-        says: format!(in alloc; "`{word}` is no {what}")?,
-        near: nearest(alloc, word, known)?,
-    })
-}
-
-/// A text that lacks something, or has too much.
-fn misshapen(alloc: Global, word: &str, says: &str) -> Result<WrongText, AllocError> {
-    Ok(WrongText {
-        word: String::from_str(alloc, word)?,
-        says: String::from_str(alloc, says)?,
-        near: None,
-    })
-}
-
-/// What is wrong with a word that has to be a name.
-fn name_wrong(alloc: Global, word: &str) -> Result<Option<WrongText>, AllocError> {
+/// A word that has to be a name and isn't.
+fn bad_name(word: &str) -> Option<(&str, TextFlaw)> {
     if is_name(word) {
-        return Ok(None);
+        None
+    } else {
+        Some((word, TextFlaw::NoSuch(Vocabulary::Name)))
     }
-    Ok(Some(unknown(alloc, word, "name", &[])?))
 }
 
-/// What is wrong with the words that name the place and the terminations of a command.
-fn names_wrong(alloc: Global, words: &[&str]) -> Result<Option<WrongText>, AllocError> {
-    for word in words {
-        let bare = word.strip_prefix('$').unwrap_or(word);
-        if *word != "-"
-            && *word != "*"
-            && let Some(found) = name_wrong(alloc, bare)?
-        {
-            return Ok(Some(found));
-        }
+/// The same of a word that names a place or a termination of a command.
+fn bad_place(word: &str) -> Option<(&str, TextFlaw)> {
+    if word == "-" || word == "*" {
+        None
+    } else {
+        bad_name(word.strip_prefix('$').unwrap_or(word))
     }
-    Ok(None)
 }
 
 /// What is wrong with an option of a command.
-fn option_wrong(alloc: Global, word: &str) -> Result<Option<WrongText>, AllocError> {
+fn bad_option(word: &str) -> Option<(&str, TextFlaw)> {
     let Some((key, value)) = word.split_once('=') else {
-        return Ok(Some(misshapen(alloc, word, "an option is a key, `=` and a value")?));
+        return Some((word, TextFlaw::NoOption));
     };
-    if !OPTIONS.contains(&key) {
-        return Ok(Some(unknown(alloc, key, "option", &OPTIONS)?));
+    if !is_one(Vocabulary::Option, key) {
+        return Some((key, TextFlaw::NoSuch(Vocabulary::Option)));
     }
     if key != "mode" {
-        return name_wrong(alloc, value);
+        return bad_name(value);
     }
-    if MODES.contains(&value) {
-        return Ok(None);
+    if is_one(Vocabulary::Mode, value) {
+        return None;
     }
-    Ok(Some(unknown(alloc, value, "mode", &MODES)?))
+    Some((value, TextFlaw::NoSuch(Vocabulary::Mode)))
 }
 
-/// What is wrong with the options of a command.
-fn options_wrong(alloc: Global, words: &[&str]) -> Result<WrongText, AllocError> {
-    for word in words {
-        if let Some(found) = option_wrong(alloc, word)? {
-            return Ok(found);
+/// How many words behind a verb name a place or a termination.
+fn names_of(verb: &str) -> usize {
+    if verb == "topology" { 3 } else { 2 }
+}
+
+/// How many words a verb wants behind it at least.
+fn least_of(verb: &str) -> usize {
+    if verb == "topology" { 4 } else { 2 }
+}
+
+/// What is wrong with the word at a place behind a verb, of so many words there.
+fn word_flaw<'a>(
+    verb: &str,
+    count: usize,
+    place: usize,
+    word: &'a str,
+) -> Option<(&'a str, TextFlaw)> {
+    if place < names_of(verb) {
+        return bad_place(word);
+    }
+    match verb {
+        "topology" if count == 4 => Some((word, TextFlaw::NoSuch(Vocabulary::Topology))),
+        "topology" | "subtract" => Some((word, TextFlaw::TooManyWords)),
+        _ => bad_option(word),
+    }
+}
+
+/// What is wrong with the words behind a verb, which are so many.
+fn words_flaw<'a>(verb: &str, count: usize, words: &'a str) -> Option<(&'a str, TextFlaw)> {
+    for (place, word) in words.split(' ').enumerate() {
+        let found = word_flaw(verb, count, place, word);
+        if found.is_some() {
+            return found;
         }
     }
-    misshapen(
-        alloc,
-        "",
-        "an option comes twice, or a line has `remote`, or an ephemeral `events` or `signals`",
-    )
+    None
 }
 
-/// What is wrong with the words of a command behind its verb.
-fn rest_wrong(alloc: Global, verb: &str, rest: &[&str]) -> Result<WrongText, AllocError> {
-    let wanted = if verb == "topology" { 4 } else { 2 };
-    if rest.len() < wanted {
-        let says = format!(in alloc; "`{verb}` wants more words behind it")?;
-        return misshapen(alloc, verb, says.as_str());
-    }
-    let (names, others) = rest.split_at(if verb == "topology" { 3 } else { 2 });
-    if let Some(found) = names_wrong(alloc, names)? {
-        return Ok(found);
-    }
-    match others {
-        [word] if verb == "topology" => unknown(alloc, word, "topology", &TOPOLOGIES),
-        [word, ..] if verb == "topology" || verb == "subtract" => {
-            misshapen(alloc, word, "there are too many words")
+/// Whether a text has two spaces side by side, or one at an end.
+fn has_empty_word(text: &str) -> bool {
+    for word in text.split(' ') {
+        if word.is_empty() {
+            return true;
         }
-        _ => options_wrong(alloc, others),
     }
+    false
 }
 
-/// What is wrong with the text of a command that can't be read.
-pub(crate) fn command_wrong(alloc: Global, text: &str) -> Result<WrongText, AllocError> {
-    let words: Vec<&str> = text.split(' ').collect(alloc)?;
-    let [verb, rest @ ..] = words.as_slice() else {
-        return misshapen(alloc, text, "there is no command");
-    };
-    if words.iter().any(|word| word.is_empty()) {
-        return misshapen(alloc, text, "words have one space between them");
+/// What is wrong with the text of a command.
+fn command_flaw(text: &str) -> (&str, TextFlaw) {
+    if has_empty_word(text) {
+        return (text, TextFlaw::Spaces);
     }
-    if !VERBS.contains(verb) {
-        return unknown(alloc, verb, "command", &VERBS);
+    let (verb, words) = text.split_once(' ').unwrap_or((text, ""));
+    if !is_one(Vocabulary::Command, verb) {
+        return (verb, TextFlaw::NoSuch(Vocabulary::Command));
     }
-    rest_wrong(alloc, verb, rest)
+    let count = words.split(' ').count();
+    if count < least_of(verb) {
+        return (verb, TextFlaw::TooFewWords);
+    }
+    words_flaw(verb, count, words).unwrap_or(("", TextFlaw::BadOptions))
 }
 
-/// What is wrong with the text of an item that can't be read.
-pub(crate) fn item_wrong(alloc: Global, text: &str) -> Result<WrongText, AllocError> {
+/// What is wrong with the text of an item.
+fn item_flaw(text: &str) -> (&str, TextFlaw) {
     let (event, value) = text.split_once('=').unwrap_or((text, ""));
-    if !EVENTS.contains(&event) {
-        return unknown(alloc, event, "event", &EVENTS);
+    if !is_one(Vocabulary::Event, event) {
+        return (event, TextFlaw::NoSuch(Vocabulary::Event));
     }
-    if event == "al/fl" {
-        return misshapen(alloc, text, "`al/fl` has no value");
+    match event {
+        "al/fl" => (text, TextFlaw::FlashWithValue),
+        "dd/ce" => (text, TextFlaw::DigitsWithoutMap),
+        _ => (value, TextFlaw::NoSuch(Vocabulary::Strictness)),
     }
-    if event == "dd/ce" {
-        return misshapen(
-            alloc,
-            text,
-            "`dd/ce` wants the name of a map, as `dd/ce=MAP`",
-        );
-    }
-    unknown(alloc, value, "strictness", &STRICTNESS)
 }
 
-/// What is wrong with the text of a signal that can't be read.
-pub(crate) fn signal_wrong(alloc: Global, text: &str) -> Result<WrongText, AllocError> {
-    unknown(alloc, text, "signal", &SIGNALS)
-}
-
-/// What is wrong with the text of a pair that can't be read.
-pub(crate) fn pair_wrong(alloc: Global, text: &str) -> Result<WrongText, AllocError> {
-    misshapen(alloc, text, "a pair is two lines with `-` between them")
+/// What is wrong with a text that isn't of its form.
+pub(crate) fn text_flaw(form: Form, text: &str) -> (&str, TextFlaw) {
+    match form {
+        Form::Command => command_flaw(text),
+        Form::Item => item_flaw(text),
+        Form::Signal => (text, TextFlaw::NoSuch(Vocabulary::Signal)),
+        Form::Name | Form::Pair => (text, TextFlaw::NoPair),
+    }
 }
