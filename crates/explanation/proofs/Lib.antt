@@ -1,4 +1,5 @@
 pub mod Added
+pub mod Bared
 pub mod Lacks
 pub mod NearestSoFar
 pub mod Picked

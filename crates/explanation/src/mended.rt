@@ -1,10 +1,12 @@
 //! An entry that has a configuration.
-ghost use Rattle.std.specs.Prelude.{◌≡◌, IfOk, IfSome, OnOk};
+ghost use Rattle.std.specs.Prelude.{◌≡◌, ◌++◌, ◌∷◌, [], IfOk, IfSome, OnOk, map};
+ghost use Rattle.std.specs.List.{flat_map};
 ghost use Rattle.mg_model.specs.Configuration.{IsWellFormed};
-ghost use Rattle.mg_model.specs.Entries.{Includes, size_of};
+ghost use Rattle.mg_model.specs.Entries.{Includes, modes, size_of, spots};
 ghost use Rattle.configuration.specs.Config.{configuration_of};
 ghost use Rattle.entry_table.specs.Shown.{shown, shown_all};
-ghost use Rattle.explanation.specs.Alone.{AreOnly, IsMended, IsOnly};
+ghost use Rattle.explanation.specs.Alone.{AreOnly, IsMended, IsOnly, bare, bare_all, bare_components, terminations_of};
+ghost use Rattle.explanation.specs.Alone.{context_component, cut_components, ephemeral_components, line_components};
 
 use crate::nearest::find_nearest;
 use crate::only::{
@@ -29,7 +31,9 @@ pub struct Mended {
 }
 
 /// The terminations that a script names.
-fn terminations(alloc: Global, script: &Script) -> Result<Vec<Termination>, AllocError> {
+fn terminations(alloc: Global, script: &Script) -> Result<Vec<Termination>, AllocError>
+    ensures { IfOk result (λ all. all.items ≡ terminations_of script.now) }
+{
     let mut all = Vec::new(alloc);
     let slots = Slot::all();
     all.extend_from_slice(&[
@@ -57,7 +61,8 @@ fn add_only(
 ) -> Result<(), AllocError>
     requires only { IsOnly (configuration_of config.now) (shown component) }
     requires so_far { AreOnly (configuration_of config.now) (shown_all components.old.items) }
-    ensures { OnOk result (AreOnly (configuration_of config.now) (shown_all components.new.items)) }
+    ensures only { OnOk result (AreOnly (configuration_of config.now) (shown_all components.new.items)) }
+    ensures adds { OnOk result (bare_all components.new.items ≡ bare_all components.old.items ++ bare (shown component) ∷ []) }
 {
     let _ = config;
     components.push(component)?;
@@ -72,7 +77,8 @@ fn add_place(
     config: &Config,
 ) -> Result<(), AllocError>
     requires { AreOnly (configuration_of config.now) (shown_all components.old.items) }
-    ensures { OnOk result (AreOnly (configuration_of config.now) (shown_all components.new.items)) }
+    ensures only { OnOk result (AreOnly (configuration_of config.now) (shown_all components.new.items)) }
+    ensures adds { OnOk result (bare_all components.new.items ≡ bare_all components.old.items ++ spots termination.now [] ∷ modes termination.now [] ∷ []) }
 {
     add_only(components, only_spot(alloc, config, termination)?, config)?;
     add_only(components, only_mode(alloc, config, termination)?, config)?;
@@ -87,7 +93,8 @@ fn add_lines(
     config: &Config,
 ) -> Result<(), AllocError>
     requires { AreOnly (configuration_of config.now) (shown_all components.old.items) }
-    ensures { OnOk result (AreOnly (configuration_of config.now) (shown_all components.new.items)) }
+    ensures only { OnOk result (AreOnly (configuration_of config.now) (shown_all components.new.items)) }
+    ensures adds { OnOk result (bare_all components.new.items ≡ bare_all components.old.items ++ flat_map line_components lines.now) }
 {
     for line in lines {
         add_place(alloc, components, &Termination::Line(*line), config)?;
@@ -105,7 +112,8 @@ fn add_contexts(
     config: &Config,
 ) -> Result<(), AllocError>
     requires { AreOnly (configuration_of config.now) (shown_all components.old.items) }
-    ensures { OnOk result (AreOnly (configuration_of config.now) (shown_all components.new.items)) }
+    ensures only { OnOk result (AreOnly (configuration_of config.now) (shown_all components.new.items)) }
+    ensures adds { OnOk result (bare_all components.new.items ≡ bare_all components.old.items ++ map context_component contexts.now) }
 {
     for context in contexts {
         add_only(components, only_context(alloc, config, *context)?, config)?;
@@ -121,7 +129,8 @@ fn add_ephemerals(
     config: &Config,
 ) -> Result<(), AllocError>
     requires { AreOnly (configuration_of config.now) (shown_all components.old.items) }
-    ensures { OnOk result (AreOnly (configuration_of config.now) (shown_all components.new.items)) }
+    ensures only { OnOk result (AreOnly (configuration_of config.now) (shown_all components.new.items)) }
+    ensures adds { OnOk result (bare_all components.new.items ≡ bare_all components.old.items ++ flat_map ephemeral_components ephemerals.now) }
 {
     for ephemeral in ephemerals {
         add_place(
@@ -144,7 +153,8 @@ fn add_cuts_from(
     config: &Config,
 ) -> Result<(), AllocError>
     requires { AreOnly (configuration_of config.now) (shown_all components.old.items) }
-    ensures { OnOk result (AreOnly (configuration_of config.now) (shown_all components.new.items)) }
+    ensures only { OnOk result (AreOnly (configuration_of config.now) (shown_all components.new.items)) }
+    ensures adds { OnOk result (bare_all components.new.items ≡ bare_all components.old.items ++ cut_components terminations.now source.now) }
 {
     for sink in terminations {
         if !is_same(source, sink) {
@@ -162,7 +172,8 @@ fn add_cuts(
     config: &Config,
 ) -> Result<(), AllocError>
     requires { AreOnly (configuration_of config.now) (shown_all components.old.items) }
-    ensures { OnOk result (AreOnly (configuration_of config.now) (shown_all components.new.items)) }
+    ensures only { OnOk result (AreOnly (configuration_of config.now) (shown_all components.new.items)) }
+    ensures adds { OnOk result (bare_all components.new.items ≡ bare_all components.old.items ++ flat_map (cut_components terminations.now) terminations.now) }
 {
     for source in terminations {
         add_cuts_from(alloc, components, source, terminations, config)?;
@@ -176,6 +187,7 @@ pub fn alone(alloc: Global, script: &Script, config: &Config) -> Result<Entry, A
     requires { IsWellFormed (configuration_of config.now) }
     ensures includes { IfOk result (λ entry. Includes entry (configuration_of config.now)) }
     ensures one { IfOk result (λ entry. size_of entry.components ≡ 1) }
+    ensures whole { IfOk result (λ entry. map bare entry.components ≡ bare_components script.now) }
 {
     let slots = Slot::all();
     let mut components = Vec::new(alloc);

@@ -1,8 +1,9 @@
 //! Components that have one value each, a configuration's.
 ghost use Rattle.std.specs.Prelude.{◌≡◌, ◌∷◌, [], IfOk};
+ghost use Rattle.mg_model.specs.Entries.{links, spots, modes, events, plays, contexts, remotes, cuts};
 ghost use Rattle.configuration.specs.Config.{configuration_of};
 ghost use Rattle.entry_table.specs.Shown.{shown};
-ghost use Rattle.explanation.specs.Alone.{IsOnly};
+ghost use Rattle.explanation.specs.Alone.{IsOnly, bare};
 
 use crate::widened::values_with;
 use configuration::config::Config;
@@ -21,7 +22,8 @@ fn only<T: Copy>(alloc: Global, value: T) -> Result<Vec<T>, AllocError>
 /// How far the state's request has come.
 #[tactic(auto, using(crate::proofs::Single::has_one, crate::proofs::Single::counts_one))]
 pub(crate) fn only_link(alloc: Global, config: &Config) -> Result<Component, AllocError>
-    ensures { IfOk result (λ component. IsOnly (configuration_of config.now) (shown component)) }
+    ensures only { IfOk result (λ component. IsOnly (configuration_of config.now) (shown component)) }
+    ensures which { IfOk result (λ component. bare (shown component) ≡ links []) }
 {
     let values = only(alloc, config.link())?;
     Ok(Component::Links(values))
@@ -34,7 +36,8 @@ pub(crate) fn only_spot(
     config: &Config,
     termination: &Termination,
 ) -> Result<Component, AllocError>
-    ensures { IfOk result (λ component. IsOnly (configuration_of config.now) (shown component)) }
+    ensures only { IfOk result (λ component. IsOnly (configuration_of config.now) (shown component)) }
+    ensures which { IfOk result (λ component. bare (shown component) ≡ spots termination.now []) }
 {
     let values = only(alloc, config.spot(*termination))?;
     Ok(Component::Spots(*termination, values))
@@ -47,7 +50,8 @@ pub(crate) fn only_mode(
     config: &Config,
     termination: &Termination,
 ) -> Result<Component, AllocError>
-    ensures { IfOk result (λ component. IsOnly (configuration_of config.now) (shown component)) }
+    ensures only { IfOk result (λ component. IsOnly (configuration_of config.now) (shown component)) }
+    ensures which { IfOk result (λ component. bare (shown component) ≡ modes termination.now []) }
 {
     let values = only(alloc, config.mode(*termination))?;
     Ok(Component::Modes(*termination, values))
@@ -60,7 +64,8 @@ pub(crate) fn only_events(
     config: &Config,
     line: Slot,
 ) -> Result<Component, AllocError>
-    ensures { IfOk result (λ component. IsOnly (configuration_of config.now) (shown component)) }
+    ensures only { IfOk result (λ component. IsOnly (configuration_of config.now) (shown component)) }
+    ensures which { IfOk result (λ component. bare (shown component) ≡ events line []) }
 {
     let values = only(alloc, config.events(line))?;
     Ok(Component::Events(line, values))
@@ -73,7 +78,8 @@ pub(crate) fn only_plays(
     config: &Config,
     line: Slot,
 ) -> Result<Component, AllocError>
-    ensures { IfOk result (λ component. IsOnly (configuration_of config.now) (shown component)) }
+    ensures only { IfOk result (λ component. IsOnly (configuration_of config.now) (shown component)) }
+    ensures which { IfOk result (λ component. bare (shown component) ≡ plays line []) }
 {
     let values = only(alloc, config.plays(line))?;
     Ok(Component::Plays(line, values))
@@ -86,7 +92,8 @@ pub(crate) fn only_context(
     config: &Config,
     context: Slot,
 ) -> Result<Component, AllocError>
-    ensures { IfOk result (λ component. IsOnly (configuration_of config.now) (shown component)) }
+    ensures only { IfOk result (λ component. IsOnly (configuration_of config.now) (shown component)) }
+    ensures which { IfOk result (λ component. bare (shown component) ≡ contexts context []) }
 {
     let values = only(alloc, config.context(context))?;
     Ok(Component::Contexts(context, values))
@@ -99,7 +106,8 @@ pub(crate) fn only_remote(
     config: &Config,
     ephemeral: Slot,
 ) -> Result<Component, AllocError>
-    ensures { IfOk result (λ component. IsOnly (configuration_of config.now) (shown component)) }
+    ensures only { IfOk result (λ component. IsOnly (configuration_of config.now) (shown component)) }
+    ensures which { IfOk result (λ component. bare (shown component) ≡ remotes ephemeral []) }
 {
     let values = only(alloc, config.remote(ephemeral))?;
     Ok(Component::Remotes(ephemeral, values))
@@ -113,7 +121,8 @@ pub(crate) fn only_cut(
     source: &Termination,
     sink: &Termination,
 ) -> Result<Component, AllocError>
-    ensures { IfOk result (λ component. IsOnly (configuration_of config.now) (shown component)) }
+    ensures only { IfOk result (λ component. IsOnly (configuration_of config.now) (shown component)) }
+    ensures which { IfOk result (λ component. bare (shown component) ≡ cuts source.now sink.now []) }
 {
     let values = only(alloc, config.cut(*source, *sink))?;
     Ok(Component::Cuts(*source, *sink, values))

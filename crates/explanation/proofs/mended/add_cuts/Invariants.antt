@@ -1,8 +1,14 @@
--- All that was added so far has the configuration's value alone.
+-- All that was added so far has the configuration's value alone; with what is left it is the whole.
+use Rattle.std.proofs.Common.{◌≡◌, ◌++◌, drop}
+use Rattle.std.specs.List.{flat_map}
 use Rattle.configuration.specs.Config.{configuration_of}
 use Rattle.entry_table.specs.Shown.{shown_all}
-use Rattle.explanation.specs.Alone.{AreOnly}
+use Rattle.explanation.specs.Alone.{AreOnly, bare_all, cut_components}
 use Rattle.explanation.proofs.mended.add_cuts.Given as goal
 
 abbrev pub invariant-loop-source : goal.invariant-loop-source
-invariant-loop-source l = AreOnly (configuration_of l.config) (shown_all l.components.items)
+invariant-loop-source l = record {
+  only : AreOnly (configuration_of l.config) (shown_all l.components.items);
+  adds : bare_all l.components.items ++ flat_map (cut_components l.terminations) (drop l.source-index l.terminations)
+      ≡ bare_all l.initial.components.items ++ flat_map (cut_components l.terminations) l.terminations;
+}
