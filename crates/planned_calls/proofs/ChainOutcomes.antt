@@ -1,6 +1,6 @@
 -- What a step of a chain of calls comes to, by what its shard answers.
-use Rattle.std.proofs.Common.{◌≡◌, ◌+◌, [], ◌∷◌, ℕ, Option, Some, None, Result, Ok, Err, refl, sym, ap, subst}
-use Rattle.std.specs.Prelude.{IfOk}
+use Rattle.std.proofs.Common.{◌≡◌, ◌∙◌, ◌+◌, [], ◌∷◌, Option, Some, None, Result, Ok, Err, refl, sym, subst}
+use Rattle.std.specs.Prelude.{IfErr, IfOk}
 use Rattle.mg_names.specs.declared.identifiers.CallNo.{CallNo}
 use Rattle.mg_model.specs.declared.events.Event.{Event}
 use Rattle.mg_model.specs.declared.plans.PlanStep.{PlanStep}
@@ -15,17 +15,21 @@ use Rattle.agent.specs.Calls.{IsRetired, value_of}
 use Rattle.agent.specs.declared.call.Next.{Next}
 use Rattle.agent.specs.declared.retired.Retired.{Retired}
 use Rattle.agent.specs.declared.refusal.Refusal.{Refusal}
+use Rattle.agent.specs.declared.refusal.Refusal.TheVariants as refusal
 use Rattle.shards.specs.Meaning.{IsMeant}
-use Rattle.shards.specs.Shards.{IsUnchanged, ShardValue}
-use Rattle.shards.specs.Stepping.{HasBegun, HasStepped, IsNotEnabled, IsSameNext, IsStep}
+use Rattle.shards.specs.Shards.{IsShard, IsUnchanged, ShardValue}
+use Rattle.shards.specs.Stepping.{HasBegun, HasStepped, IsNotEnabled, IsRefusedStep, IsSameNext, IsStep}
 use Rattle.shards.specs.declared.stepped.Stepped.{Stepped}
 use Rattle.shards.specs.declared.stepped.Stepped.TheVariants.{Done, Begun}
 use Rattle.mg_reports.proofs.Placings.{one_event}
-use Rattle.planned_calls.specs.CallChains.{EndsWithoutTimer, GoesBy, IsIdler, IsRenewed, SettlesAs}
+use Rattle.planned_calls.specs.CallChains.{EndsWithoutTimer, GoesBy, IsIdler, IsRenewed, SettlesAs, StaysInAssociation}
+use Rattle.planned_calls.specs.Disagreements.{IsBecause, IsNotIdle, IsNotTaken, counts_otherwise, idle_count_ends}
 use Rattle.planned_calls.specs.declared.call_chain.CallChain.{CallChain}
 use Rattle.planned_calls.specs.declared.fault.RunFault.{RunFault}
 use Rattle.planned_calls.proofs.StepMeanings.{own_of, sorted}
+use Rattle.planned_calls.proofs.Associations.{event_stays, unchanged_stays}
 use Rattle.planned_calls.proofs.ChainSteps.{begun_after, happens_after, idle_after, meant, means_none, not_enabled}
+use Rattle.planned_calls.proofs.Faults.{because}
 
 pub if_ok : {A E : Type 0} (r : Result A E) (P Q : A → Type 0) → ((x : A) → P x → Q x) → IfOk r P → IfOk r Q
 if_ok (Ok x) P Q on is = on x is
@@ -94,3 +98,42 @@ module _ (v0 v : ShardValue) (a : CallChain) (step : PlanStep) (next : CallNo) (
     settled ends (Ok Done) b (Err fault) stepped counted = tt
     settled ends (Ok (Begun retired)) b (Err fault) stepped counted = tt
     settled ends (Err why) b (Err fault) stepped counted = tt
+
+    -- ---- the association, and why it isn't counted
+
+    -- whatever it came to, the gateway stays in its association
+    pub stays : (done : Result Stepped Refusal) → IsStep v w a.next after event done → StaysInAssociation v0 w
+    stays (Ok Done) stepped world is =
+        event_stays v w world event a.next (agent_of (value_of after).agent) (same_v.worlds world is) stepped.shard (stepped.goes world (same_v.worlds world is))
+        ∙ unchanged_stays v0 v world is same_v
+    stays (Ok (Begun retired)) begun world is =
+        event_stays v w world event a.next (agent_of (value_of after).agent) (same_v.worlds world is) begun.0.shard (begun.0.goes world (same_v.worlds world is))
+        ∙ unchanged_stays v0 v world is same_v
+    stays (Err why) refused world is = unchanged_stays v w world (same_v.worlds world is) refused.1.0 ∙ unchanged_stays v0 v world is same_v
+
+    not_idle : (why : Refusal) → IsShard v → IsRefusedStep v a.next event why → IsNotIdle why (record a { next = after }) → IsNotTaken v0 a step
+    not_idle refusal.NotEnabled kept refused ends = idle_count_ends ends
+    not_idle (refusal.Behind slot_count) kept refused is = counts_otherwise (record {
+      event = event;
+      begins = next;
+      number = number;
+      means = told;
+      same = v;
+      unchanged = same_v;
+      kept = kept;
+      slot_count = slot_count;
+      behind = refused.0;
+      could = refused.1;
+    })
+    not_idle refusal.NoMemory kept refused never = absurd never
+
+    -- where it is not counted, the step isn't taken
+    pub not_settled : IsShard v → (done : Result Stepped Refusal) (b : CallChain) (left : Result (Option Retired) RunFault)
+        → IsStep v w a.next after event done → SettlesAs done next (record a { next = after }) b left → IfErr left (IsBecause (IsNotTaken v0 a step))
+    not_settled kept (Ok Done) b (Ok left) stepped counted = tt
+    not_settled kept (Ok (Begun retired)) b (Ok left) stepped counted = tt
+    not_settled kept (Err why) b (Ok left) stepped counted = tt
+    not_settled kept (Ok Done) b (Err fault) stepped counted = absurd counted
+    not_settled kept (Ok (Begun retired)) b (Err fault) begun counted = because ⊥ (IsNotTaken v0 a step) fault (λ never. absurd never) counted
+    not_settled kept (Err why) b (Err fault) stepped counted =
+        because (IsNotIdle why (record a { next = after })) (IsNotTaken v0 a step) fault (not_idle why kept stepped.0) counted

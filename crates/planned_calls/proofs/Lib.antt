@@ -1,7 +1,9 @@
 pub mod AgentEvents
 pub mod ChainOutcomes
 pub mod AloneRestarts
+pub mod Associations
 pub mod ChainSteps
+pub mod Faults
 pub mod OpenedAlone
 pub mod PartCalls
 pub mod Replayed
@@ -9,3 +11,4 @@ pub mod ReportedAlone
 pub mod RunShardsLemmas
 pub mod StepMeanings
 pub mod TurnLemmas
+pub mod Unturned

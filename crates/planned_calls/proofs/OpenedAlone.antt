@@ -36,7 +36,7 @@ none_ran : (script : Script) (start end : World) → Runs script [] start end �
 unfolding Runs
 none_ran script start end ran = ran
 
-no_events : (script : Script) (history : List Event) (start end : World) → history ≡ [] → Runs script history start end → end ≡ start
+pub no_events : (script : Script) (history : List Event) (start end : World) → history ≡ [] → Runs script history start end → end ≡ start
 no_events script history start end none runs = none_ran script start end (subst (λ (events : List Event). Runs script events start end) none runs)
 
 pub opened_alone : (script : Script) (one : Opened) (first : OpenedCall) (v : ShardValue) (chain : CallChain) → IsShard v → IsNewShard script (first ∷ []) 0 1 v

@@ -22,6 +22,7 @@ use Rattle.shards.specs.declared.stepped.Stepped.TheVariants.{Done, Begun}
 use Rattle.planned_calls.specs.declared.call_chain.CallChain.{CallChain}
 use Rattle.planned_calls.specs.declared.call_chain.RetiredCall.{RetiredCall}
 use Rattle.planned_calls.specs.declared.fault.RunFault.{RunFault}
+use Rattle.planned_calls.specs.Disagreements.{IsBecause, IsNotIdle}
 use Rattle.planned_calls.specs.ReportLines.{gone_line}
 
 -- ---- a chain alone
@@ -63,6 +64,10 @@ abbrev pub GoesBy : List PlanStep → ShardValue → CallChain → ShardValue �
 GoesBy more v a w b =
     (script : Script) (one : Opened) (steps : List PlanStep) (others : ℕ) → IsAlone script one steps others v a → IsAlone script one (steps ++ more) others w b
 
+-- whatever world its shard showed, the gateway is in the association that it was in
+abbrev pub StaysInAssociation : ShardValue → ShardValue → Type 0
+StaysInAssociation v w = (world : World) → IsWorldOf v world → w.gateway.association ≡ v.gateway.association
+
 -- one idle step more
 pub record IsIdler (a b : CallChain) : Type 0 where
   pub next : b.next ≡ a.next
@@ -86,4 +91,6 @@ abbrev pub SettlesAs : Result Stepped Refusal → CallNo → CallChain → CallC
 SettlesAs (Ok Done) begins a b (Ok left) = (b ≡ a) × (left ≡ None)
 SettlesAs (Ok (Begun retired)) begins a b (Ok left) = IsRenewed a retired begins b × (left ≡ Some retired)
 SettlesAs (Err why) begins a b (Ok left) = (why ≡ NotEnabled) × IsIdler a b × (left ≡ None)
-SettlesAs done begins a b (Err fault) = Unit {0}
+SettlesAs (Ok Done) begins a b (Err fault) = ⊥
+SettlesAs (Ok (Begun retired)) begins a b (Err fault) = IsBecause ⊥ fault
+SettlesAs (Err why) begins a b (Err fault) = IsBecause (IsNotIdle why a) fault

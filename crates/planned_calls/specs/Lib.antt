@@ -1,7 +1,9 @@
 pub mod CallChains
+pub mod Disagreements
 pub mod FaultNames
 pub mod Parts
 pub mod Replays
 pub mod ReportLines
 pub mod RunShards
+pub mod Turnings
 pub mod Turns

@@ -1,11 +1,12 @@
 //! A call of the plan with all that begin within it, one on the other's lines: the one that stands, and what is left of those before it. The step of a plan
 //! is taken here, whether the call is one of many in its shard or alone on a gateway of its own.
-ghost use Rattle.std.specs.Prelude.{◌≡◌, ◌∷◌, ◌+◌, [], true, false, IfOk, IfSome, OnOk};
+ghost use Rattle.std.specs.Prelude.{◌≡◌, ◌∷◌, ◌+◌, ◌<◌, ◌≤◌, [], true, false, IfErr, IfNone, IfOk, IfSome, OnOk};
 ghost use Rattle.mg_model.specs.Numbers.{plan_calls};
 ghost use Rattle.mg_model.specs.declared.plans.PlanStep.TheVariants as steps;
 ghost use Rattle.agent.specs.declared.refusal.Refusal.TheVariants.{NotEnabled};
 ghost use Rattle.shards.specs.Shards.{HasSameOpening};
-ghost use Rattle.planned_calls.specs.CallChains.{EndsWithoutTimer, GoesBy, IsIdler, IsRenewed, SettlesAs};
+ghost use Rattle.planned_calls.specs.CallChains.{EndsWithoutTimer, GoesBy, IsIdler, IsRenewed, SettlesAs, StaysInAssociation};
+ghost use Rattle.planned_calls.specs.Disagreements.{EndsWithTimer, IsBecause, IsNotIdle, IsNotTaken, last_count, last_number};
 
 use crate::fault::RunFault;
 use agent::{Next, Refusal, Retired};
@@ -52,14 +53,16 @@ pub fn is_restart(step: &PlanStep) -> bool
 
 /// The number of the next call to begin within a call of the plan, behind the one that stands; nothing where the numbers end.
 fn number_after(standing: CallNo) -> Option<CallNo>
-    ensures { IfSome result (λ next. next.0 ≡ standing.0 + plan_calls) }
+    ensures next { IfSome result (λ next. next.0 ≡ standing.0 + plan_calls) }
+    ensures none { IfNone result (last_number < standing.0 + plan_calls) }
 {
     Some(CallNo(standing.0.checked_add(PLAN_CALLS)?))
 }
 
 /// Whether a call has ended in a state with a timer, which no script has that was read.
 fn ends_with_timer(script: &Script, next: &Next<'_>) -> bool
-    ensures { result ≡ false → EndsWithoutTimer script.now next.now }
+    ensures yes { result ≡ true → EndsWithTimer script.now next.now }
+    ensures no { result ≡ false → EndsWithoutTimer script.now next.now }
 {
     match next {
         Next::Ended(call) => script.timer_of(call.state()).is_some(),
@@ -85,7 +88,8 @@ impl<'s> CallChain<'s> {
 
     /// Counts a step that can't happen. `Disagree` where the count ends.
     fn count_idle(&mut self) -> Result<(), RunFault>
-        ensures { OnOk result (IsIdler self.old self.new) }
+        ensures idler { OnOk result (IsIdler self.old self.new) }
+        ensures not_idle { IfErr result (IsBecause (last_count ≤ self.old.idle)) }
     {
         let Some(idle) = self.idle.checked_add(1) else {
             return Err(RunFault::Disagree);
@@ -96,7 +100,8 @@ impl<'s> CallChain<'s> {
 
     /// Counts a step whose event is refused, where it can't happen. `Disagree` where the shard counts another number of events.
     fn count_refused(&mut self, why: Refusal) -> Result<(), RunFault>
-        ensures { OnOk result ((why ≡ NotEnabled) × IsIdler self.old self.new) }
+        ensures idler { OnOk result ((why ≡ NotEnabled) × IsIdler self.old self.new) }
+        ensures not_idle { IfErr result (IsBecause (IsNotIdle why self.old)) }
     {
         match why {
             Refusal::NotEnabled => self.count_idle(),
@@ -107,7 +112,8 @@ impl<'s> CallChain<'s> {
 
     /// Another call begins on the lines of the one that stands.
     fn renew(&mut self, retired: &Retired, call: CallNo) -> Result<(), RunFault>
-        ensures { OnOk result (IsRenewed self.old retired.now call self.new) }
+        ensures renewed { OnOk result (IsRenewed self.old retired.now call self.new) }
+        ensures no_memory { IfErr result (IsBecause ⊥) }
     {
         let last = RetiredCall {
             state: retired.state,
@@ -152,6 +158,8 @@ impl<'s> CallChain<'s> {
         requires { step.now ≡ steps.Restarts → ⊥ }
         ensures opening { HasSameOpening shard.old shard.new }
         ensures goes { IfOk result.1 (λ _. GoesBy (step.now ∷ []) shard.old self.entry shard.new result.0) }
+        ensures association { StaysInAssociation shard.old shard.new }
+        ensures not_taken { IfErr result.1 (IsBecause (IsNotTaken shard.old self.entry step.now)) }
     {
         let mut chain = self;
         if ends_with_timer(shard.script(), &chain.next) {
@@ -166,6 +174,7 @@ impl<'s> CallChain<'s> {
             }
             return (chain, Ok(None));
         };
+        shard.keeps_its_run();
         let CallChain {
             next,
             standing,

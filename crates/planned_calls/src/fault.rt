@@ -50,12 +50,22 @@ impl RunFault {
 }
 
 impl From<AllocError> for RunFault {
+    ghost use Rattle.std.specs.Prelude.{◌≡◌};
+    ghost use Rattle.planned_calls.specs.declared.fault.RunFault.TheVariants.{NoMemory};
+
+    ghost from_gives = { λ _ fault. fault ≡ NoMemory };
+
     fn from(_: AllocError) -> RunFault {
         RunFault::NoMemory
     }
 }
 
 impl<T: Drop> From<AllocFailed<T>> for RunFault {
+    ghost use Rattle.std.specs.Prelude.{◌≡◌};
+    ghost use Rattle.planned_calls.specs.declared.fault.RunFault.TheVariants.{NoMemory};
+
+    ghost from_gives = { λ _ fault. fault ≡ NoMemory };
+
     fn from(_: AllocFailed<T>) -> RunFault {
         RunFault::NoMemory
     }
@@ -63,6 +73,11 @@ impl<T: Drop> From<AllocFailed<T>> for RunFault {
 
 /// That there is no association left can't come of a plan, which has too few restarts for it.
 impl From<RestartFault> for RunFault {
+    ghost use Rattle.std.specs.Prelude.{◌≡◌};
+    ghost use Rattle.planned_calls.specs.FaultNames.{of_restart};
+
+    ghost from_gives = { λ why fault. fault ≡ of_restart why };
+
     fn from(fault: RestartFault) -> RunFault {
         match fault {
             RestartFault::NoMemory => RunFault::NoMemory,

@@ -1,6 +1,7 @@
 //! A plan with what is counted over all of its calls: how many epochs it has, and how many of its steps are restarts. It is counted once, and not for each call.
-ghost use Rattle.std.specs.Prelude.{◌≡◌, ◌∷◌, [], IfSome};
+ghost use Rattle.std.specs.Prelude.{◌≡◌, ◌∷◌, ◌<◌, [], IfNone, IfSome};
 ghost use Rattle.mg_model.specs.Plans as plans;
+ghost use Rattle.planned_calls.specs.Disagreements.{last_count};
 
 use crate::turns::epochs_of;
 use mg_model::plans::PlanStep;
@@ -38,7 +39,8 @@ fn restarts_of(step: &PlanStep) -> usize
 
 /// How many of these steps are restarts.
 fn restarts_among(steps: &[PlanStep]) -> Option<usize>
-    ensures { IfSome result (λ restarts. restarts ≡ plans.restarts_among steps.now) }
+    ensures counted { IfSome result (λ restarts. restarts ≡ plans.restarts_among steps.now) }
+    ensures none { IfNone result (last_count < plans.restarts_among steps.now) }
 {
     let mut restarts: usize = 0;
     for step in steps {
@@ -49,7 +51,8 @@ fn restarts_among(steps: &[PlanStep]) -> Option<usize>
 
 /// How many steps of a call are restarts.
 pub fn restarts_asked(call: &PlanCall) -> Option<usize>
-    ensures { IfSome result (λ restarts. restarts ≡ plans.restarts_asked call.now.epochs) }
+    ensures counted { IfSome result (λ restarts. restarts ≡ plans.restarts_asked call.now.epochs) }
+    ensures none { IfNone result (last_count < plans.restarts_asked call.now.epochs) }
 {
     let mut restarts: usize = 0;
     for epoch in call.epochs() {
@@ -60,7 +63,8 @@ pub fn restarts_asked(call: &PlanCall) -> Option<usize>
 
 /// How many steps of all calls are restarts.
 fn restarts_of_all(plan: &Plan) -> Option<usize>
-    ensures { IfSome result (λ restarts. restarts ≡ plans.restarts_of_all plan.now.calls) }
+    ensures counted { IfSome result (λ restarts. restarts ≡ plans.restarts_of_all plan.now.calls) }
+    ensures none { IfNone result (last_count < plans.restarts_of_all plan.now.calls) }
 {
     let mut restarts: usize = 0;
     for call in plan.calls() {
@@ -72,7 +76,8 @@ fn restarts_of_all(plan: &Plan) -> Option<usize>
 impl<'a> PlanTotals<'a> {
     /// A plan, totals. Nothing, where it has more restarts than can be counted.
     pub fn new(plan: &'a Plan) -> Option<PlanTotals<'a>>
-        ensures { IfSome result (λ totals. totals ≡ plan.now) }
+        ensures totals { IfSome result (λ totals. totals ≡ plan.now) }
+        ensures none { IfNone result (last_count < plans.restarts_of_all plan.now.calls) }
     {
         let restarts = restarts_of_all(plan)?;
         Some(PlanTotals {

@@ -1,8 +1,9 @@
 //! A call of the plan on its way through a run: its chain, and what is written down of it on the way.
-ghost use Rattle.std.specs.Prelude.{◌≡◌, ◌∷◌, ◌++◌, [], IfOk, OnOk};
+ghost use Rattle.std.specs.Prelude.{◌≡◌, ◌∷◌, ◌++◌, [], IfErr, IfOk, OnOk};
 ghost use Rattle.mg_model.specs.declared.plans.PlanStep.TheVariants as steps;
 ghost use Rattle.shards.specs.Shards.{HasSameOpening};
 ghost use Rattle.planned_calls.specs.CallChains.{GoesBy};
+ghost use Rattle.planned_calls.specs.Disagreements.{IsBecause, IsNotTaken};
 
 use crate::call_chain::CallChain;
 use crate::fault::RunFault;
@@ -38,6 +39,7 @@ impl CallLog {
     fn keep(&mut self, left: Option<Retired>) -> Result<(), RunFault>
         ensures marks { self.new.marks ≡ self.old.marks }
         ensures place { self.new.place ≡ self.old.place }
+        ensures no_memory { IfErr result (IsBecause ⊥) }
     {
         if let Some(retired) = left {
             self.trail.extend_from_slice(retired.transcript.as_slice())?;
@@ -67,6 +69,7 @@ impl<'s> PlannedCall<'s> {
         ensures chain { self.new.chain ≡ self.old.chain }
         ensures marked { OnOk result (self.new.log.marks.items ≡ self.old.log.marks.items ++ association ∷ []) }
         ensures place { self.new.log.place ≡ self.old.log.place }
+        ensures no_memory { IfErr result (IsBecause ⊥) }
     {
         self.log.marks.push(association)?;
         Ok(())
@@ -83,6 +86,7 @@ impl<'s> PlannedCall<'s> {
         ensures goes { IfOk result.1 (λ _. GoesBy (step.now ∷ []) shard.old self.entry.chain shard.new result.0.chain) }
         ensures marked { IfOk result.1 (λ _. result.0.log.marks.items ≡ self.entry.log.marks.items ++ record { 0 = shard.old.gateway.association } ∷ []) }
         ensures place { result.0.log.place ≡ self.entry.log.place }
+        ensures not_taken { IfErr result.1 (IsBecause (IsNotTaken shard.old self.entry.chain step.now)) }
     {
         let PlannedCall { chain, mut log } = self;
         let Ok(()) = log.marks.push(shard.association()) else {

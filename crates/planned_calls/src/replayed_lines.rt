@@ -1,10 +1,12 @@
 //! The line of a call of the plan, by a run of it alone: its steps on a gateway of its own, with the restarts where the call was marked in the run.
-ghost use Rattle.std.specs.Prelude.{◌∷◌, [], IfOk, map};
+ghost use Rattle.std.specs.Prelude.{◌≡◌, ◌∷◌, [], IfErr, IfOk, OnOk, map};
 ghost use Rattle.mg_model.specs.Plans as plans;
 ghost use Rattle.mg_model.specs.Script.{Script};
 ghost use Rattle.mg_model.specs.Reports.{IsReported};
+ghost use Rattle.planned_calls.specs.Disagreements.{IsBecause};
 ghost use Rattle.planned_calls.specs.Replays.{ReplaysBy, TellsOf};
 ghost use Rattle.planned_calls.specs.ReportLines.{AreNumbered, line_of};
+ghost use Rattle.planned_calls.specs.Turnings.{HasNotTurned, IsNotAlone, IsNotReplayed, IsNotTurned, at_mark, behind_turns};
 ghost use Rattle.planned_calls.specs.Turns.{steps_of};
 
 use crate::call_chain::is_restart;
@@ -21,7 +23,9 @@ use std::alloc::Global;
 
 /// A step in turn: the restarts of other calls before it, and the step itself.
 fn take<'s>(shard: &mut Shard<'s>, alone: Replay<'s>, turn: &Turn) -> Result<Replay<'s>, RunFault>
-    ensures { IfOk result (λ after. ReplaysBy (turn.now.step ∷ []) shard.old alone.entry shard.new after) }
+    ensures replays { IfOk result (λ after. ReplaysBy (turn.now.step ∷ []) shard.old alone.entry shard.new after) }
+    ensures association { OnOk result (shard.new.gateway.association ≡ at_mark shard.old.gateway.association turn.now.mark) }
+    ensures not_turned { IfErr result (IsBecause (IsNotTurned shard.old alone.entry turn.now)) }
 {
     let mut alone = alone;
     if is_restart(&turn.step) {
@@ -42,7 +46,9 @@ fn take_all<'s>(
     alone: Replay<'s>,
     turns: &[Turn],
 ) -> Result<Replay<'s>, RunFault>
-    ensures { IfOk result (λ after. ReplaysBy (steps_of turns.now) shard.old alone.entry shard.new after) }
+    ensures replays { IfOk result (λ after. ReplaysBy (steps_of turns.now) shard.old alone.entry shard.new after) }
+    ensures association { OnOk result (shard.new.gateway.association ≡ behind_turns shard.old.gateway.association turns.now) }
+    ensures not_turned { IfErr result (IsBecause (HasNotTurned shard.old alone.entry turns.now)) }
 {
     let mut alone = alone;
     for turn in turns {
@@ -75,7 +81,8 @@ fn go<'s>(
     turns: &[Turn],
     marked: &Marked<'_>,
 ) -> Result<Vec<Line>, RunFault>
-    ensures { IfOk result (λ lines. ((script : Script) → TellsOf script (steps_of turns.now) marked.now.others shard.old alone.entry (map (line_of script) lines.items)) × AreNumbered marked.now.number lines.items) }
+    ensures told { IfOk result (λ lines. ((script : Script) → TellsOf script (steps_of turns.now) marked.now.others shard.old alone.entry (map (line_of script) lines.items)) × AreNumbered marked.now.number lines.items) }
+    ensures not_replayed { IfErr result (IsBecause (IsNotReplayed shard.old alone.entry turns.now marked.now.others marked.now.last.0)) }
 {
     let mut alone = take_all(shard, alone, turns)?;
     alone.wait_for(shard, marked.last)?;
@@ -94,7 +101,8 @@ pub fn lines_alone(
     totals: &PlanTotals<'_>,
     marked: &Marked<'_>,
 ) -> Result<Vec<Line>, RunFault>
-    ensures { IfOk result (λ lines. IsReported checked.now.table (plans.opened_as marked.now.number marked.now.call.now) (plans.steps_in (plans.epochs_of totals.now.calls) marked.now.call.now.epochs) marked.now.others (map (line_of checked.now.table) lines.items) × AreNumbered marked.now.number lines.items) }
+    ensures told { IfOk result (λ lines. IsReported checked.now.table (plans.opened_as marked.now.number marked.now.call.now) (plans.steps_in (plans.epochs_of totals.now.calls) marked.now.call.now.epochs) marked.now.others (map (line_of checked.now.table) lines.items) × AreNumbered marked.now.number lines.items) }
+    ensures not_alone { IfErr result (IsBecause (IsNotAlone checked.now.table (plans.epochs_of totals.now.calls) marked.now)) }
 {
     let turns = turns::of(alloc, totals.epochs(), marked.call, marked.marks)?;
     let (mut shard, alone) = replay::open(alloc, checked, marked.number, marked.call)?;

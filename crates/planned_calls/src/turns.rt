@@ -1,6 +1,8 @@
 //! The steps of a call of the plan in turn, epoch after epoch, each with the association in which it was done in the run.
-ghost use Rattle.std.specs.Prelude.{◌≡◌, ◌++◌, [], IfOk, OnOk, slice_index_or};
+ghost use Rattle.std.specs.Prelude.{◌≡◌, ◌+◌, ◌<◌, ◌++◌, [], IfErr, IfOk, OnOk, drop, length, slice_index_or};
 ghost use Rattle.mg_model.specs.Plans as plans;
+ghost use Rattle.planned_calls.specs.Disagreements.{IsBecause};
+ghost use Rattle.planned_calls.specs.Turnings.{ending_turns, marked_steps, steps_within, turns_in};
 ghost use Rattle.planned_calls.specs.Turns.{ending, steps_of};
 
 use crate::fault::RunFault;
@@ -39,7 +41,8 @@ fn steps_in(call: &PlanCall, epoch: usize) -> &[PlanStep]
 
 /// The end of the epoch before this one: all gateways restart.
 fn push_ending(turns: &mut Vec<Turn>, epoch: usize) -> Result<(), AllocError>
-    ensures { OnOk result (steps_of turns.new.items ≡ steps_of turns.old.items ++ ending epoch) }
+    ensures steps { OnOk result (steps_of turns.new.items ≡ steps_of turns.old.items ++ ending epoch) }
+    ensures turns { OnOk result (turns.new.items ≡ turns.old.items ++ ending_turns epoch) }
 {
     if epoch == 0 {
         return Ok(());
@@ -58,7 +61,10 @@ fn push_steps(
     marks: &[Assoc],
     place: usize,
 ) -> Result<usize, RunFault>
-    ensures { OnOk result (steps_of turns.new.items ≡ steps_of turns.old.items ++ steps.now) }
+    ensures steps { OnOk result (steps_of turns.new.items ≡ steps_of turns.old.items ++ steps.now) }
+    ensures turns { OnOk result (turns.new.items ≡ turns.old.items ++ marked_steps steps.now (drop place marks.now)) }
+    ensures place { IfOk result (λ behind. behind ≡ place + length steps.now) }
+    ensures few_marks { IfErr result (IsBecause (length marks.now < place + length steps.now)) }
 {
     let mut place = place;
     for step in steps {
@@ -83,7 +89,9 @@ pub(crate) fn of(
     call: &PlanCall,
     marks: &[Assoc],
 ) -> Result<Vec<Turn>, RunFault>
-    ensures { IfOk result (λ turns. steps_of turns.items ≡ plans.steps_in epochs call.now.epochs) }
+    ensures steps { IfOk result (λ turns. steps_of turns.items ≡ plans.steps_in epochs call.now.epochs) }
+    ensures turns { IfOk result (λ turns. turns.items ≡ turns_in epochs call.now.epochs marks.now) }
+    ensures other_marks { IfErr result (IsBecause (length marks.now ≡ steps_within epochs call.now.epochs → ⊥)) }
 {
     let mut turns = Vec::new(alloc);
     let mut place = 0;

@@ -62,7 +62,7 @@ returns g c =
     is_outcome plan restarts shards c.in_ok-history.history.items (trails_of planned_calls) some sized all agree merges in
     let table = c.args.run.checked.now.table in
     let lines = c.in_ok-report.report.items in
-    let totals : c.in-Some.totals ≡ plan = c.in-Some.ensures in
+    let totals : c.in-Some.totals ≡ plan = c.in-Some.ensures.totals in
     let reported : IsReportOf table plan lines = subst (λ (p : Plan). IsReportOf table p lines) totals c.in_ok-report.ensures.report in
     let told : (number : ℕ) → number < length plan.calls → HaveLines (slice_index_or (trails_of planned_calls) number []) lines =
     λ number below. subst (λ (cs : List PlannedCall). HaveLines (slice_index_or (trails_of cs) number []) lines) c.as_slice-3.ensures.value
