@@ -1,10 +1,11 @@
 -- What is added behind a list, if it is.
-use Rattle.std.proofs.Common.{◌≡◌, ◌∙◌, ◌++◌, ◌∷◌, [], List, Bool, true, false, not, if◌then◌else◌, refl, sym, ap, rules}
+use Rattle.std.proofs.Common.{◌≡◌, ◌∙◌, ◌+◌, ◌++◌, ◌∷◌, [], ℕ, List, Bool, true, false, not, if◌then◌else◌, length, map, refl, sym, ap, rules, arith, length-append, append-nil}
 use Rattle.mg_model.specs.Configuration.{is_null}
 use Rattle.mg_model.specs.declared.components.Spot.{Spot}
 use Rattle.mg_model.specs.declared.components.Spot.TheVariants.{Null}
 use Rattle.std.specs.List.{All}
 use Rattle.std.specs.Prelude.{Contains}
+use Rattle.std.proofs.lemmas.List.{map-append}
 use Rattle.std.proofs.lemmas.List.Elements.{All-append, All-push, Contains-append_left, Contains-push}
 
 pub all_with : {X : Type 0} (P : X → Type 0) (xs : List X) (holds : Bool) (x : X) → All P xs → (holds ≡ true → P x)
@@ -30,3 +31,9 @@ has_with xs false x is = Contains-append_left xs [] x (is refl)
 -- what was there is there still
 pub kept_with : {X : Type 0} (xs : List X) (wanted : Bool) (x y : X) → Contains xs y → Contains (xs ++ (if wanted then x ∷ [] else [])) y
 kept_with xs wanted x y has = Contains-append_left xs (if wanted then x ∷ [] else []) y has
+
+-- so many values make one more choice where one was added
+pub counted_with : {X Y : Type 0} (f : X → Y) (xs : List X) (wanted : Bool) (x : X)
+    → length (map f (xs ++ (if wanted then x ∷ [] else []))) ≡ length (map f xs) + (if wanted then 1 else 0)
+counted_with f xs true x = ap length (map-append f xs (x ∷ [])) ∙ length-append (map f xs) (f x ∷ [])
+counted_with f xs false x = ap length (map-append f xs []) ∙ length-append (map f xs) []

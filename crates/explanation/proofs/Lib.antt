@@ -5,4 +5,5 @@ pub mod NearestSoFar
 pub mod Picked
 pub mod Single
 pub mod StepsShown
+pub mod Widths
 pub mod Ways

@@ -1,6 +1,6 @@
 -- Entries that have a configuration: of one point, or another entry's configurations with it. A reader should compare the order of a script's
--- components with the page on formats.
-use Rattle.std.specs.Prelude.{◌≡◌, ◌++◌, ℕ, not, List, [], ◌∷◌, length, map, filter, take, Option, Some, None, slice_get}
+-- components, and the limit of an entry's points, with the page on formats.
+use Rattle.std.specs.Prelude.{◌≡◌, ◌⊎◌, ◌+◌, ◌*◌, ◌<◌, ◌++◌, ℕ, not, List, [], ◌∷◌, length, map, filter, take, Option, Some, None, slice_get}
 use Rattle.std.specs.List.{All, flat_map}
 use Rattle.mg_model.specs.declared.commands.Termination.{Termination}
 use Rattle.mg_model.specs.declared.commands.Termination.TheVariants.{Line, Ephemeral}
@@ -62,6 +62,31 @@ bare_components script = links [] ∷ flat_map line_components (places (length s
     ++ map context_component (places (length script.contexts))
     ++ flat_map ephemeral_components (places (length script.ephemerals))
     ++ flat_map (cut_components (terminations_of script)) (terminations_of script)
+
+-- ---- how many points components have with a configuration's values added
+
+-- an entry may have so many points
+abbrev pub most_points : ℕ
+most_points = 65536
+
+abbrev pub count_of : Component → ℕ
+count_of component = length (choices_of component)
+
+-- with the configuration's value among its own the component has so many: as many as it has where that is one of them, else one more
+abbrev pub IsWidened : Configuration → Component → ℕ → Type 0
+IsWidened c component count =
+    (Allows c component × (count ≡ count_of component))
+    ⊎ ((Allows c component → ⊥) × (count ≡ count_of component + 1))
+
+-- with the configuration's value among those of each the components have so many points
+abbrev pub AreWidened : Configuration → List Component → ℕ → Type 0
+AreWidened c [] size = size ≡ 1
+AreWidened c (component ∷ more) size =
+    (count : ℕ) × ((rest : ℕ) × (IsWidened c component count × (AreWidened c more rest × (size ≡ count * rest))))
+
+-- these are more points than an entry may have
+abbrev pub AreTooWide : Configuration → List Component → Type 0
+AreTooWide c components = (size : ℕ) × (AreWidened c components size × (most_points < size))
 
 -- ---- no public clause speaks of the words below
 

@@ -1,11 +1,12 @@
 //! Components with a configuration's value among theirs.
-ghost use Rattle.std.specs.Prelude.{◌≡◌, ◌++◌, ◌∷◌, [], false, IfOk, IfSome, if◌then◌else◌};
+ghost use Rattle.std.specs.Prelude.{◌≡◌, ◌≤◌, ◌+◌, ◌++◌, ◌∷◌, [], false, IfNone, IfOk, IfSome, if◌then◌else◌, map};
 ghost use Rattle.std.specs.List.{All};
 ghost use Rattle.mg_model.specs.Configuration.{IsWellFormed};
-ghost use Rattle.mg_model.specs.Entries.{Allows, Includes};
+ghost use Rattle.mg_model.specs.Entries.{Allows, Includes, size_of};
 ghost use Rattle.configuration.specs.Config.{configuration_of};
 ghost use Rattle.entry_table.specs.Shown.{shown, shown_all};
 ghost use Rattle.explanation.specs.Alone.{HasAllOf, KeepAll, Keeps};
+ghost use Rattle.explanation.specs.Alone.{AreTooWide, AreWidened, IsWidened, bare, bare_all, count_of, most_points};
 
 use configuration::config::Config;
 use entry_table::{Component, Entry, product_of};
@@ -33,7 +34,7 @@ pub(crate) fn values_with<T: Copy>(
 }
 
 /// A component with a configuration's value behind its own, if that is wanted.
-#[tactic(auto, using(crate::proofs::Added::has_with, crate::proofs::Added::kept_with))]
+#[tactic(auto, using(crate::proofs::Added::counted_with, crate::proofs::Added::has_with, crate::proofs::Added::kept_with))]
 fn component_with(
     alloc: Global,
     component: &Component,
@@ -43,6 +44,8 @@ fn component_with(
     requires { wanted ≡ false → Allows (configuration_of config.now) (shown component.now) }
     ensures has { IfOk result (λ wide. Allows (configuration_of config.now) (shown wide)) }
     ensures keeps { IfOk result (λ wide. Keeps (shown component.now) (shown wide)) }
+    ensures counts { IfOk result (λ wide. count_of (shown wide) ≡ count_of (shown component.now) + (if wanted then 1 else 0)) }
+    ensures which { IfOk result (λ wide. bare (shown wide) ≡ bare (shown component.now)) }
 {
     match component {
         Component::Links(values) => {
@@ -88,6 +91,8 @@ fn widened_component(
 ) -> Result<Component, AllocError>
     ensures has { IfOk result (λ wide. Allows (configuration_of config.now) (shown wide)) }
     ensures keeps { IfOk result (λ wide. Keeps (shown component.now) (shown wide)) }
+    ensures counts { IfOk result (λ wide. IsWidened (configuration_of config.now) (shown component.now) (count_of (shown wide))) }
+    ensures which { IfOk result (λ wide. bare (shown wide) ≡ bare (shown component.now)) }
 {
     component_with(alloc, component, !component.allows(config), config)
 }
@@ -100,6 +105,8 @@ fn widened_components(
 ) -> Result<Vec<Component>, AllocError>
     ensures have { IfOk result (λ wide. All (Allows (configuration_of config.now)) (shown_all wide.items)) }
     ensures keep { IfOk result (λ wide. KeepAll (shown_all components.now) (shown_all wide.items)) }
+    ensures sizes { IfOk result (λ wide. AreWidened (configuration_of config.now) (shown_all components.now) (size_of (shown_all wide.items))) }
+    ensures which { IfOk result (λ wide. bare_all wide.items ≡ bare_all components.now) }
 {
     let mut wide = Vec::new(alloc);
     for component in components {
@@ -120,10 +127,14 @@ pub fn widen(
     requires state { entry.now.state ≡ (configuration_of config.now).state }
     ensures includes { IfOk result (λ found. IfSome found (λ wide. Includes wide (configuration_of config.now))) }
     ensures keeps { IfOk result (λ found. IfSome found (λ wide. HasAllOf wide entry.now)) }
+    ensures whole { IfOk result (λ found. IfSome found (λ wide. map bare wide.components ≡ map bare entry.now.components)) }
+    ensures sizes { IfOk result (λ found. IfSome found (λ wide. AreWidened (configuration_of config.now) entry.now.components (size_of wide.components))) }
+    ensures fits { IfOk result (λ found. IfSome found (λ wide. size_of wide.components ≤ most_points)) }
+    ensures none { IfOk result (λ found. IfNone found (AreTooWide (configuration_of config.now) entry.now.components)) }
 {
     let components = widened_components(alloc, entry.components(), config)?;
     let size = product_of(components.as_slice());
-    if size == 0 || size > POINTS {
+    if size > POINTS {
         return Ok(None);
     }
     let wide = Entry::new(alloc, config.state(), script.lines(), components)?;

@@ -1,8 +1,15 @@
--- What the entry has is of the state, and no component lost a value.
+-- What the entry has is of the state, and no component lost a value; so it has a point.
 use Rattle.std.proofs.Common.{◌∙◌, sym, subst}
 use Rattle.std.specs.List.{All}
 use Rattle.mg_model.specs.Entries.{Allows, Entry, Includes}
+use Rattle.configuration.specs.Config.{configuration_of}
+use Rattle.entry_table.specs.Shown.{shown_all}
+use Rattle.explanation.proofs.Widths.{some_points}
 use Rattle.explanation.proofs.widened.widen.Goals as goal
+
+pub new-requires-clause-some : goal.new-requires-clause-some
+new-requires-clause-some c =
+    some_points (configuration_of c.args.config.now) (shown_all c.in_ok-components.components.items) c.in_ok-components.ensures.have
 
 pub returns-clause-keeps : goal.returns-clause-keeps
 returns-clause-keeps c = λ d is.
