@@ -1,6 +1,7 @@
 pub mod Added
 pub mod Bared
 pub mod Lacks
+pub mod NearestOnce
 pub mod NearestSoFar
 pub mod Picked
 pub mod Single

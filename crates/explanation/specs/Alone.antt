@@ -10,6 +10,7 @@ use Rattle.mg_model.specs.Entries.{Component, links, spots, modes, events, plays
 use Rattle.mg_model.specs.Entries.{Entry, Allows, Includes, choices_of, size_of}
 use Rattle.entry_table.specs.declared.component.Component as declared
 use Rattle.entry_table.specs.Shown.{shown_all}
+use Rattle.explanation.specs.Nearest.{IsNearest}
 
 -- the one has all configurations of the other
 abbrev pub HasAllOf : Entry → Entry → Type 0
@@ -87,6 +88,11 @@ AreWidened c (component ∷ more) size =
 -- these are more points than an entry may have
 abbrev pub AreTooWide : Configuration → List Component → Type 0
 AreTooWide c components = (size : ℕ) × (AreWidened c components size × (most_points < size))
+
+-- where the nearest entry lacks one component's value alone, it would have too many with that one added
+abbrev pub NoneWidens : List Entry → Configuration → Type 0
+NoneWidens entries c =
+    (place : ℕ) (entry : Entry) → slice_get entries place ≡ Some entry → IsNearest entries c place 1 → AreTooWide c entry.components
 
 -- ---- no public clause speaks of the words below
 

@@ -1,12 +1,13 @@
 //! An entry that has a configuration.
-ghost use Rattle.std.specs.Prelude.{◌≡◌, ◌++◌, ◌∷◌, [], IfOk, IfSome, OnOk, map};
+ghost use Rattle.std.specs.Prelude.{◌≡◌, ◌++◌, ◌∷◌, [], ℕ, IfNone, IfOk, IfSome, IsSome, OnOk, Some, map, slice_get};
 ghost use Rattle.std.specs.List.{flat_map};
 ghost use Rattle.mg_model.specs.Configuration.{IsWellFormed};
-ghost use Rattle.mg_model.specs.Entries.{Includes, modes, size_of, spots};
+ghost use Rattle.mg_model.specs.Entries.{Entry as Listed, Includes, modes, size_of, spots};
 ghost use Rattle.configuration.specs.Config.{configuration_of};
 ghost use Rattle.entry_table.specs.Shown.{shown, shown_all};
-ghost use Rattle.explanation.specs.Alone.{AreOnly, IsMended, IsOnly, bare, bare_all, bare_components, terminations_of};
+ghost use Rattle.explanation.specs.Alone.{AreOnly, AreTooWide, IsMended, IsOnly, NoneWidens, bare, bare_all, bare_components, terminations_of};
 ghost use Rattle.explanation.specs.Alone.{context_component, cut_components, ephemeral_components, line_components};
+ghost use Rattle.explanation.specs.Nearest.{IsNearest};
 
 use crate::nearest::find_nearest;
 use crate::only::{
@@ -206,7 +207,11 @@ pub fn alone(alloc: Global, script: &Script, config: &Config) -> Result<Entry, A
 }
 
 /// The place of the nearest entry of a configuration, if one of its components alone doesn't have the configuration's value.
-fn near_miss(cert: &Cert, config: &Config) -> Option<usize> {
+#[tactic(auto, using(crate::proofs::NearestOnce::none_nearest, crate::proofs::NearestOnce::none_other))]
+fn near_miss(cert: &Cert, config: &Config) -> Option<usize>
+    ensures some { IfSome result (λ place. IsNearest cert.now (configuration_of config.now) place 1) }
+    ensures none { IfNone result ((place : ℕ) → IsNearest cert.now (configuration_of config.now) place 1 → ⊥) }
+{
     let found = find_nearest(cert, config)?;
     if found.missing != 1 {
         return None;
@@ -224,7 +229,10 @@ fn widened_at(
     config: &Config,
 ) -> Result<Option<Mended>, AllocError>
     requires { IsWellFormed (configuration_of config.now) }
-    ensures { IfOk result (λ found. IfSome found (λ mended. IsMended cert.now (configuration_of config.now) mended.widens mended.entry)) }
+    ensures mends { IfOk result (λ found. IfSome found (λ mended. IsMended cert.now (configuration_of config.now) mended.widens mended.entry)) }
+    ensures place { IfOk result (λ found. IfSome found (λ mended. mended.widens ≡ Some place)) }
+    ensures none { IfOk result (λ found. IfNone found ((entry : Listed) → slice_get cert.now place ≡ Some entry
+        → entry.state ≡ (configuration_of config.now).state → AreTooWide (configuration_of config.now) entry.components)) }
 {
     let Some(entry) = cert.entries().get(place) else {
         return Ok(None);
@@ -241,6 +249,28 @@ fn widened_at(
     }))
 }
 
+/// The nearest entry of a configuration with its value added, where one of its components alone lacks it. `None` where none does, or that would
+/// have more points than an entry may. The only error is running out of memory.
+#[tactic(auto, using(crate::proofs::NearestOnce::none_widens))]
+fn nearest_widened(
+    alloc: Global,
+    script: &Script,
+    cert: &Cert,
+    config: &Config,
+) -> Result<Option<Mended>, AllocError>
+    requires { IsWellFormed (configuration_of config.now) }
+    ensures mends { IfOk result (λ found. IfSome found (λ mended. IsMended cert.now (configuration_of config.now) mended.widens mended.entry)) }
+    ensures nearest { IfOk result (λ found. IfSome found (λ mended.
+        IfSome mended.widens (λ place. IsNearest cert.now (configuration_of config.now) place 1))) }
+    ensures widens { IfOk result (λ found. IfSome found (λ mended. IsSome mended.widens)) }
+    ensures none { IfOk result (λ found. IfNone found (NoneWidens cert.now (configuration_of config.now))) }
+{
+    let Some(place) = near_miss(cert, config) else {
+        return Ok(None);
+    };
+    widened_at(alloc, script, cert, place, config)
+}
+
 /// An entry that has a configuration: the nearest one with the configuration's value added, where one of its components alone lacks it and it
 /// doesn't get too many points; else one that has one point, this configuration. An entry that lacks more would, with all of them added, have
 /// configurations that no call comes to. The only error is running out of memory.
@@ -251,12 +281,13 @@ pub fn mend(
     config: &Config,
 ) -> Result<Mended, AllocError>
     requires { IsWellFormed (configuration_of config.now) }
-    ensures { IfOk result (λ mended. IsMended cert.now (configuration_of config.now) mended.widens mended.entry) }
+    ensures mends { IfOk result (λ mended. IsMended cert.now (configuration_of config.now) mended.widens mended.entry) }
+    ensures nearest { IfOk result (λ mended. IfSome mended.widens (λ place. IsNearest cert.now (configuration_of config.now) place 1)) }
+    ensures none { IfOk result (λ mended. IfNone mended.widens (NoneWidens cert.now (configuration_of config.now))) }
+    ensures whole { IfOk result (λ mended. IfNone mended.widens (map bare mended.entry.components ≡ bare_components script.now)) }
 {
-    if let Some(place) = near_miss(cert, config) {
-        if let Some(mended) = widened_at(alloc, script, cert, place, config)? {
-            return Ok(mended);
-        }
+    if let Some(mended) = nearest_widened(alloc, script, cert, config)? {
+        return Ok(mended);
     }
     let entry = alone(alloc, script, config)?;
     Ok(Mended {

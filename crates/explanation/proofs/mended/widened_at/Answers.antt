@@ -5,8 +5,8 @@ use Rattle.std.proofs.lemmas.Option.{slice_get_read}
 use Rattle.mg_model.specs.Entries.{Entry}
 use Rattle.explanation.proofs.mended.widened_at.Goals as goal
 
-pub returns : goal.returns
-returns c =
+pub returns-clause-mends : goal.returns-clause-mends
+returns-clause-mends c =
     let entries : List Entry = c.entries.result.now in
     let entry : Entry = c.in-Some.entry.now in
     let there = c.in-Some.ensures.lookup in
