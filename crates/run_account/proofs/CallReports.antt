@@ -1,21 +1,24 @@
 -- What is told of each call of a plan is the plan's report.
 use Rattle.std.proofs.Common.{◌≡◌, ◌∙◌, ◌+◌, ◌<◌, ◌++◌, ℕ, suc, zero, List, [], ◌∷◌, length, map, inl, inr, refl, sym, ap, subst, arith}
 use Rattle.std.specs.List.{AllZip, flat_map, range_with_len}
-use Rattle.std.specs.Prelude.{Contains, IfOk, MatchResult, Result, Ok, Err, slice_get, slice_index_or}
+use Rattle.std.specs.Prelude.{Contains, IfErr, IfOk, MatchResult, Result, Ok, Err, slice_get, slice_index_or}
 use Rattle.std.specs.declared.alloc.Global.{Global}
 use Rattle.std.specs.declared.vec.Vec.{Vec}
 use Rattle.std.proofs.lemmas.List.Elements.{Contains-append_cases, Contains-append_left, Contains-append_right}
 use Rattle.std.proofs.lemmas.Option.{same_Some}
-use Rattle.mg_model.proofs.Single.{none_in}
+use Rattle.mg_model.proofs.Single.{first_in, first_or_later, later_in, none_in}
 use Rattle.mg_model.specs.declared.events.Event.{Event}
 use Rattle.mg_model.specs.declared.events.Event.TheVariants.{OfCall}
 use Rattle.mg_model.specs.Plans.{Plan, PlanCall, epochs_of, opened_as, restarts_of_others, steps_in}
 use Rattle.mg_model.specs.Reports.{AreReported, IsReported}
 use Rattle.mg_model.specs.Script.{Script}
 use Rattle.shards.specs.Shards.{ShardValue}
+use Rattle.planned_calls.proofs.Faults.{because}
 use Rattle.run_account.specs.FinalState.{HaveLines, IsLeftAmong}
+use Rattle.planned_calls.specs.Disagreements.{IsBecause}
 use Rattle.planned_calls.specs.ReportLines.{AreAllNumbered, line_of}
 use Rattle.run_account.specs.CallReport.{IsTold}
+use Rattle.planned_calls.specs.declared.fault.RunFault.{RunFault}
 use Rattle.planned_calls.specs.declared.lines.Line.{Line}
 
 -- ---- two lists, item by item
@@ -40,6 +43,51 @@ pub if_all : {X Y E : Type 0} (R : X → Y → Type 0) (xs : List X) (rs : List 
 if_all R xs rs (Ok v) all (ys, same, items) =
     subst (AllZip R xs) (sym items) (back (λ x one. IfOk one (R x)) Ok xs ys (subst (AllZip (λ x one. IfOk one (R x)) xs) same all))
 if_all R xs rs (Err e) all is = tt
+
+pub ranged : (a n k : ℕ) → Contains (range_with_len a n) k → k < a + n
+ranged a zero k among = absurd (none_in k among)
+ranged a (suc n) k among = elim (first_or_later a (range_with_len (a + 1) n) k among) [
+  | inl is ↦ omega (arith, is)
+  | inr later ↦ omega (arith, ranged (a + 1) n k later)
+]
+
+-- of each item, what is said where it is Ok, and where it isn't
+module _ {X Y E : Type 0} (P : X → Y → Type 0) (Q : X → E → Type 0) where
+  pub all_ok : (xs : List X) (rs : List (Result Y E)) → AllZip (λ x one. MatchResult one (P x) (Q x)) xs rs → AllZip (λ x one. IfOk one (P x)) xs rs
+  all_ok [] [] all = tt
+  all_ok [] (r ∷ rs) all = absurd all
+  all_ok (x ∷ xs) [] all = absurd all
+  all_ok (x ∷ xs) (Ok y ∷ rs) (one, all) = (one, all_ok xs rs all)
+  all_ok (x ∷ xs) (Err e ∷ rs) (one, all) = (tt, all_ok xs rs all)
+
+  pub all_err : (xs : List X) (rs : List (Result Y E)) → AllZip (λ x one. MatchResult one (P x) (Q x)) xs rs → AllZip (λ x one. IfErr one (Q x)) xs rs
+  all_err [] [] all = tt
+  all_err [] (r ∷ rs) all = absurd all
+  all_err (x ∷ xs) [] all = absurd all
+  all_err (x ∷ xs) (Ok y ∷ rs) (one, all) = (tt, all_err xs rs all)
+  all_err (x ∷ xs) (Err e ∷ rs) (one, all) = (one, all_err xs rs all)
+
+-- where one isn't Ok, its fault is that of its place
+pub fault_among : {X Y : Type 0} (why : X → Type 0) (xs : List X) (rs : List (Result Y RunFault)) (fault : RunFault)
+    → AllZip (λ x one. IfErr one (IsBecause (why x))) xs rs → Contains rs (Err fault) → (x : X) × (Contains xs x × IsBecause (why x) fault)
+fault_among {Y = Y} why [] [] fault all among = absurd (none_in (Err fault) among)
+fault_among {Y = Y} why [] (r ∷ rs) fault all among = absurd all
+fault_among {Y = Y} why (x ∷ xs) [] fault all among = absurd all
+fault_among {Y = Y} why (x ∷ xs) (r ∷ rs) fault (one, all) among = elim (first_or_later r rs (Err fault) among) [
+  | inl here ↦ (x, (first_in x xs, fault_at r here one))
+  | inr later ↦ let found = fault_among why xs rs fault all later in (found.0, (later_in x xs found.0 found.1.0, found.1.1))
+]
+  where
+    fault_at : (r : Result Y RunFault) → r ≡ Err fault → IfErr r (IsBecause (why x)) → IsBecause (why x) fault
+    fault_at r is not = subst (λ (one : Result Y RunFault). IfErr one (IsBecause (why x))) is not
+
+-- where the whole isn't Ok, its fault is that of some item
+pub if_one : {X Y Z : Type 0} (why : X → Type 0) (Q : Type 0) (P : Z → Type 0) (xs : List X) (rs : List (Result Y RunFault)) (r : Result Z RunFault)
+    → AllZip (λ x one. IfErr one (IsBecause (why x))) xs rs → MatchResult r P (λ fault. Contains rs (Err fault))
+    → ((x : X) → Contains xs x → why x → Q) → IfErr r (IsBecause Q)
+if_one why Q P xs rs (Ok z) all is on = tt
+if_one why Q P xs rs (Err fault) all is on =
+    let found = fault_among why xs rs fault all is in because (why found.0) Q fault (on found.0 found.1.0) found.1.1
 
 -- ---- all calls of a plan
 

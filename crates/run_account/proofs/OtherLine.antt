@@ -1,16 +1,16 @@
 -- The lines in front of one that tells otherwise: how many events they tell, and that their numbers are below the next one.
-use Rattle.std.proofs.Common.{◌≡◌, ◌∙◌, ◌+◌, ◌<◌, ◌≤◌, ◌++◌, ◌⊎◌, inl, inr, ℕ, zero, suc, List, [], ◌∷◌, length, get_or, take, drop, refl, sym, ap, subst, arith}
+use Rattle.std.proofs.Common.{◌≡◌, ◌∙◌, ◌+◌, ◌<◌, ◌≤◌, ◌⊎◌, inl, inr, ℕ, List, [], length, get_or, take, drop, sym, ap, subst, arith}
 use Rattle.std.specs.Prelude.{Contains}
 use Rattle.std.proofs.lemmas.List.{take_more}
 use Rattle.std.proofs.lemmas.List.Sums.{sum_by_more}
-use Rattle.std.proofs.lemmas.List.Elements.{Contains-append_left, Contains-push}
-use Rattle.mg_model.proofs.Single.{none_in}
+use Rattle.std.proofs.lemmas.List.Elements.{Contains-push}
 use Rattle.mg_model.specs.declared.events.Event.{Event}
 use Rattle.mg_model.specs.Script.{Script}
 use Rattle.shards.specs.Shards.{ShardValue}
+use Rattle.planned_calls.specs.Disagreements.{last_number}
 use Rattle.run_account.specs.Comparing.{last_place}
 use Rattle.run_account.specs.FinalState.{call_of}
-use Rattle.run_account.specs.OtherLines.{AreUnlike, HasUnlike, IsInterrupted, IsLeftOtherwise, IsUnlike, events_told, last_number, a_line_is, left_otherwise, not_above, numbers_end, other_events, too_long}
+use Rattle.run_account.specs.OtherLines.{AreUnlike, HasUnlike, IsInterrupted, IsLeftOtherwise, IsUnlike, events_told, a_line_is, left_otherwise, not_above, numbers_end, other_events, too_long}
 use Rattle.planned_calls.specs.declared.lines.Line.{Line}
 use Rattle.run_account.proofs.DifferingTrails.{split_at}
 

@@ -1,5 +1,6 @@
 pub mod CallReport
 pub mod Comparing
+pub mod Disagreements
 pub mod FinalState
 pub mod FinalStates
 pub mod Finishing

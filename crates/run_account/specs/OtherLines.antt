@@ -15,14 +15,11 @@ use Rattle.shards.specs.declared.standing.Standing.{Standing}
 use Rattle.run_account.specs.Comparing.{last_place}
 use Rattle.run_account.specs.FinalState.{call_of}
 use Rattle.run_account.specs.FinalStates.{IsLineOf, phase_standing}
+use Rattle.planned_calls.specs.Disagreements.{last_number}
 use Rattle.planned_calls.specs.declared.lines.CallPhase.TheVariants.{Retired}
 use Rattle.planned_calls.specs.declared.lines.Line.{Line}
 
 -- ---- one thing that a line tells
-
--- the greatest number of a call
-abbrev pub last_number : ℕ
-last_number = 4294967295
 
 -- it is of another call of the plan than this, or its number is past the last
 abbrev pub IsOfNoCall : (call : ℕ) → Line → Type 0

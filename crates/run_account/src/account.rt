@@ -1,11 +1,13 @@
 //! The end of a run, once its threads are joined: the shards come out of their locks, their histories are compared with what the calls went through, and
 //! merged.
-ghost use Rattle.std.specs.Prelude.{◌≡◌, ◌≤◌, false, IfOk, IsTrue, length, map, vec_len};
+ghost use Rattle.std.specs.Prelude.{◌≡◌, ◌≤◌, false, IfErr, IfOk, IsTrue, length, map, vec_len};
 ghost use Rattle.mg_model.specs.Numbers.{plan_calls};
 ghost use Rattle.mg_model.specs.Script.{Script};
 ghost use Rattle.plans.specs.Accepted.{IsPlanFor};
 ghost use Rattle.run_account.specs.Finishing.{AreFinished, HasUnfinished, IsFinished, IsUnfinished};
+ghost use Rattle.planned_calls.specs.Disagreements.{IsBecause};
 ghost use Rattle.planned_calls.specs.RunShards.{AreOfRun};
+ghost use Rattle.run_account.specs.Disagreements.{Disagreement, association_after, restarts_of_first};
 ghost use Rattle.run_account.specs.Runs.{IsRunOf};
 
 use crate::compare::{self, agree};
@@ -52,7 +54,9 @@ fn have_finished(shards: &[Shard<'_>], restarts: usize) -> bool
 }
 
 /// How often the first shard was restarted.
-fn restarts_of(shards: &[Shard<'_>]) -> usize {
+fn restarts_of(shards: &[Shard<'_>]) -> usize
+    ensures { result ≡ restarts_of_first shards.now }
+{
     match shards.first() {
         Some(shard) => compare::restarts_in(shard.history()),
         None => 0,
@@ -60,7 +64,9 @@ fn restarts_of(shards: &[Shard<'_>]) -> usize {
 }
 
 /// The association of gateways that were restarted so often, from 1.
-fn association_after(restarts: usize) -> Assoc {
+fn association_after(restarts: usize) -> Assoc
+    ensures { result ≡ association_after restarts }
+{
     Assoc((restarts as u64).saturating_add(1))
 }
 
@@ -98,7 +104,8 @@ pub fn finish<'a, 's, R: Threads + Sync>(
     requires few { length run.plan.now.calls ≤ plan_calls }
     requires kept { AreOfRun run.checked.now.table run.plan.now.calls run.plan.now.shards 0 shards.now }
     requires all { vec_len planned_calls ≡ length run.plan.now.calls }
-    ensures { IfOk result (λ outcome. IsRunOf run.entry.checked.now.table run.entry.plan.now outcome) }
+    ensures run { IfOk result (λ outcome. IsRunOf run.entry.checked.now.table run.entry.plan.now outcome) }
+    ensures disagreement { IfErr result (IsBecause (Disagreement run.entry.checked.now.table run.entry.plan.now shards.now planned_calls.entry.items)) }
 {
     laws::merges_are_runs();
     let PlannedRun { checked, plan } = run;

@@ -1,14 +1,16 @@
 //! The report of a run: for each call of the plan the lines that a run of it alone tells, which have to be those that the run itself tells, and what its shards
 //! and transcripts leave. The runs alone have nothing to do with each other, so threads tell them.
-ghost use Rattle.std.specs.Prelude.{◌≡◌, ◌<◌, ℕ, [], Contains, IfOk, length, map, slice_index_or};
+ghost use Rattle.std.specs.Prelude.{◌≡◌, ◌<◌, ℕ, [], Contains, IfErr, IfOk, MatchResult, length, map, slice_index_or};
 ghost use Rattle.std.specs.List.{flat_map, range_with_len, AllZip};
 ghost use Rattle.mg_model.specs.Plans as plans;
 ghost use Rattle.mg_model.specs.Script.{Script};
 ghost use Rattle.mg_model.specs.Reports.{IsReported};
 ghost use Rattle.run_account.specs.Comparing.{trails_of};
 ghost use Rattle.run_account.specs.FinalState.{HaveLines, IsLeftAmong};
+ghost use Rattle.planned_calls.specs.Disagreements.{IsBecause};
 ghost use Rattle.planned_calls.specs.ReportLines.{AreNumbered, IsReportOf, line_of, lines_told};
 ghost use Rattle.run_account.specs.CallReport.{IsTold};
+ghost use Rattle.run_account.specs.Disagreements.{HasNotTold, IsNotAgreed, IsNotTold};
 
 use crate::final_state::are_left;
 use composition::Checked;
@@ -49,6 +51,7 @@ fn agreed_lines(
     ensures reported { IfOk result (λ lines. IsReported source.now.checked.now.table (plans.opened_as number call.now) (plans.steps_in (plans.epochs_of source.now.totals.calls) call.now.epochs) (plans.restarts_of_others source.now.totals call.now) (map (line_of source.now.checked.now.table) lines.items)) }
     ensures numbered { IfOk result (λ lines. AreNumbered number lines.items) }
     ensures kept { IfOk result (λ lines. (script : Script) → map (line_of script) lines.items ≡ lines_told script planned.now.chain source.now.last.0) }
+    ensures not_agreed { IfErr result (IsBecause (IsNotAgreed source.now.checked.now.table source.now.totals number call.now planned.now source.now.last)) }
 {
     let Some(own) = restarts_asked(call) else {
         return Err(RunFault::Disagree);
@@ -71,7 +74,8 @@ fn agreed_lines(
 
 /// The lines of the call of the plan with a number, as a run of it alone tells them and as the run leaves it.
 fn call_report(alloc: Global, source: &Source<'_, '_>, place: usize) -> Result<Vec<Line>, RunFault>
-    ensures { IfOk result (λ lines. IsTold source.now.checked.now.table source.now.totals source.now.shards.now (trails_of source.now.planned_calls.now) place lines.items) }
+    ensures told { IfOk result (λ lines. IsTold source.now.checked.now.table source.now.totals source.now.shards.now (trails_of source.now.planned_calls.now) place lines.items) }
+    ensures not_told { IfErr result (IsBecause (IsNotTold source.now.checked.now.table source.now.totals source.now.shards.now source.now.planned_calls.now source.now.last place)) }
 {
     let plan = source.totals.plan();
     let Some(call) = plan.calls().get(place) else {
@@ -105,7 +109,8 @@ fn all_reports<R: Threads + Sync>(
     source: &Source<'_, '_>,
     workers: usize,
 ) -> Result<Vec<Vec<Line>>, RunFault>
-    ensures { IfOk result (λ all. AllZip (λ place lines. IsTold source.now.checked.now.table source.now.totals source.now.shards.now (trails_of source.now.planned_calls.now) place lines.items) (range_with_len 0 (length source.now.totals.calls)) all.items) }
+    ensures told { IfOk result (λ all. AllZip (λ place lines. IsTold source.now.checked.now.table source.now.totals source.now.shards.now (trails_of source.now.planned_calls.now) place lines.items) (range_with_len 0 (length source.now.totals.calls)) all.items) }
+    ensures not_told { IfErr result (IsBecause (HasNotTold source.now.checked.now.table source.now.totals source.now.shards.now source.now.planned_calls.now source.now.last)) }
 {
     let count = source.totals.plan().calls().len();
     let least = count.div_ceil(workers.max(1)).max(1);
@@ -114,7 +119,7 @@ fn all_reports<R: Threads + Sync>(
         .with_min_len(least)
         .map(
             |place: usize| -> Result<Vec<Line>, RunFault>
-                ensures { IfOk result (λ lines. IsTold source.entry.now.checked.now.table source.entry.now.totals source.entry.now.shards.now (trails_of source.entry.now.planned_calls.now) place lines.items) }
+                ensures { MatchResult result (λ lines. IsTold source.entry.now.checked.now.table source.entry.now.totals source.entry.now.shards.now (trails_of source.entry.now.planned_calls.now) place lines.items) (IsBecause (IsNotTold source.entry.now.checked.now.table source.entry.now.totals source.entry.now.shards.now source.entry.now.planned_calls.now source.entry.now.last place)) }
             { call_report(alloc, source, place) },
         )
         .collect(rt, alloc)?;
@@ -142,6 +147,7 @@ pub(crate) fn report<R: Threads + Sync>(
     ensures report { IfOk result (λ lines. IsReportOf source.now.checked.now.table source.now.totals lines.items) }
     ensures all { IfOk result (λ lines. (number : ℕ) → number < length source.now.totals.calls → HaveLines (slice_index_or (trails_of source.now.planned_calls.now) number []) lines.items) }
     ensures left { IfOk result (λ lines. (l : Line) → Contains lines.items l → IsLeftAmong source.now.checked.now.table source.now.totals.shards source.now.shards.now (trails_of source.now.planned_calls.now) l) }
+    ensures not_told { IfErr result (IsBecause (HasNotTold source.now.checked.now.table source.now.totals source.now.shards.now source.now.planned_calls.now source.now.last)) }
 {
     laws::reports_add_up();
     let all = all_reports(rt, alloc, source, workers)?;

@@ -1,4 +1,5 @@
--- The shards share nothing and finished alike, so their merge is a run of the plan's calls; and they agree with what the calls went through.
+-- The shards share nothing and finished alike, so their merge is a run of the plan's calls; and they agree with what the calls went through. Or where they
+-- disagree.
 use Rattle.std.proofs.Common.{◌≡◌, ◌∙◌, ◌<◌, ℕ, List, length, map, rules, sym, ap, subst, arith}
 use Rattle.std.specs.Prelude.{[], Contains, slice_index_or}
 use Rattle.std.proofs.lemmas.List.{length-map}
@@ -6,8 +7,13 @@ use Rattle.std.proofs.lemmas.Simd.{map-map}
 use Rattle.mg_model.specs.declared.events.Event.{Event}
 use Rattle.mg_model.specs.Plans.{Plan}
 use Rattle.mg_model.specs.Shards.{History, cut_at_restarts, merged}
-use Rattle.run_account.specs.Comparing.{Agree, trail_of, trails_of}
-use Rattle.run_account.specs.Finishing.{AreFinished}
+use Rattle.mg_model.specs.Script.{Script}
+use Rattle.mg_names.specs.declared.identifiers.Assoc.{Assoc}
+use Rattle.shards.specs.Shards.{ShardValue}
+use Rattle.run_account.specs.Comparing.{Agree, Differ, trail_of, trails_of}
+use Rattle.run_account.specs.Disagreements.{Disagreement, HasNotTold, association_after, differ, not_told, other_count, restarts_of_first, unfinished}
+use Rattle.run_account.specs.Finishing.{AreFinished, HasUnfinished}
+use Rattle.planned_calls.proofs.Faults.{handed_on}
 use Rattle.run_account.specs.FinalState.{HaveLines, IsLeftAmong}
 use Rattle.run_account.specs.Runs.{IsOutcome}
 use Rattle.planned_calls.specs.ReportLines.{IsReportOf}
@@ -15,6 +21,10 @@ use Rattle.planned_calls.specs.declared.planned_call.PlannedCall.{PlannedCall}
 use Rattle.planned_calls.specs.declared.lines.Line.{Line}
 use Rattle.run_account.proofs.FinishedRuns.{is_outcome, is_run}
 use Rattle.run_account.proofs.account.finish.Goals as goal
+
+through_first : (script : Script) (plan : Plan) (shards : List ShardValue) (planned_calls : List PlannedCall)
+    → HasNotTold script plan shards planned_calls (association_after (restarts_of_first shards)) → Disagreement script plan shards planned_calls
+through_first script plan shards planned_calls (number, within) = not_told number within.0 within.1
 
 pub invariant_of-result : goal.invariant_of-result
 invariant_of-result g c =
@@ -37,8 +47,8 @@ invariant_of-result g c =
     let some : 0 < plan.shards = omega (arith, c.requires.plan.some_shard) in
     is_outcome plan restarts shards c.in_ok-history.history.items (trails_of planned_calls) some sized all agree merges
 
-pub returns : goal.returns
-returns g c =
+pub returns-clause-run : goal.returns-clause-run
+returns-clause-run g c =
     let shards = c.args.shards.now in
     let plan = c.args.run.plan.now in
     let restarts = c.restarts_of-restarts.result in
@@ -74,3 +84,33 @@ returns g c =
     is_run c.args.run.checked.now.table plan restarts c.requires.few c.merges_are_runs.ensures shards
     (record { history = c.in_ok-history.history.items; trails = trails_of planned_calls; lines = c.in_ok-report.report.items }) c.requires.plan sized c.requires.kept all agree merges calls
     outcome reported left told
+
+-- ---- where they disagree
+
+pub returns-then-shards-from-clause-disagreement : goal.returns-then-shards-from-clause-disagreement
+returns-then-shards-from-clause-disagreement g c = other_count (λ same. c.if-shards-from.true (same ∙ sym (c.from.ensures ∙ c.shards.ensures)))
+
+pub returns-then-not-have_finished-clause-disagreement : goal.returns-then-not-have_finished-clause-disagreement
+returns-then-not-have_finished-clause-disagreement g c =
+    unfinished (subst (λ (n : ℕ). HasUnfinished n c.args.shards.now) c.restarts_of-restarts.ensures (c.if-not-have_finished.ensures.no (search rules)))
+
+pub returns-then-not-agreed-clause-disagreement : goal.returns-then-not-agreed-clause-disagreement
+returns-then-not-agreed-clause-disagreement g c =
+    let histories = map (λ v. v.history) c.args.shards.now in
+    let other : Differ c.from-count.result histories (trails_of c.as_slice.result.now) = c.in_ok-agreed.ensures.differ (search rules) in
+    differ (subst (λ (n : ℕ). Differ n histories (trails_of c.args.planned_calls.items)) (c.from-count.ensures ∙ c.shards-2.ensures)
+    (subst (λ (cs : List PlannedCall). Differ c.from-count.result histories (trails_of cs)) c.as_slice.ensures.value other))
+
+pub returns-in_err-report-clause-disagreement : goal.returns-in_err-report-clause-disagreement
+returns-in_err-report-clause-disagreement g c =
+    let table = c.args.run.checked.now.table in
+    let plan = c.args.run.plan.now in
+    let shards = c.args.shards.now in
+    let last = association_after (restarts_of_first shards) in
+    let ends : c.association_after.result ≡ last = c.association_after.ensures ∙ ap association_after c.restarts_of-restarts.ensures in
+    handed_on _ _ c.from_residual-in_err-report.result c.in_err-report.field-0.0 c.from_residual-in_err-report.ensures.1
+    (λ not. through_first table plan shards c.args.planned_calls.items
+    (subst (λ (p : Plan). HasNotTold table p shards c.args.planned_calls.items last) c.in-Some.ensures.totals
+    (subst (λ (cs : List PlannedCall). HasNotTold table c.in-Some.totals shards cs last) c.as_slice-3.ensures.value
+    (subst (λ (l : Assoc). HasNotTold table c.in-Some.totals shards c.as_slice-3.result.now l) ends not))))
+    c.in_err-report.ensures.not_told

@@ -1,10 +1,9 @@
 -- What is told of each call is the report of all.
 use Rattle.std.proofs.Common.{◌≡◌, ◌∙◌, ◌+◌, ℕ, List, length, map, sym, ap, subst, arith}
-use Rattle.std.specs.List.{AllZip, flat_map, range_with_len}
+use Rattle.std.specs.List.{flat_map, range_with_len}
 use Rattle.std.specs.Prelude.{[], Contains, slice_get, slice_index_or}
 use Rattle.std.specs.declared.alloc.Global.{Global}
 use Rattle.std.specs.declared.vec.Vec.{Vec}
-use Rattle.mg_model.specs.Plans.{Plan}
 use Rattle.mg_model.specs.Reports.{IsReport}
 use Rattle.run_account.specs.Comparing.{trails_of}
 use Rattle.planned_calls.specs.ReportLines.{line_of}
@@ -24,7 +23,7 @@ returns-clause-report g c =
     let items : Vec Line Global → List Line = λ v. v.items in
     let all = map items owned in
     let told = through (IsTold script plan c.args.source.now.shards.now trails) items (range_with_len 0 (length plan.calls)) owned
-    c.in_ok-all.ensures in
+    c.in_ok-all.ensures.told in
     let reported : IsReport script plan (map (λ (own : List Line). map (line_of script) own) all) =
     are_reported script plan c.args.source.now.shards.now trails 0 plan.calls all (λ i. ap (λ (k : ℕ). slice_get plan.calls k) (let same : i ≡ 0 + i = omega arith in same)) told in
     record {
@@ -43,7 +42,7 @@ returns-clause-left g c l among =
     let owned = c.in_ok-all.all.items in
     let items : Vec Line Global → List Line = λ v. v.items in
     let told = through (IsTold script plan c.args.source.now.shards.now trails) items (range_with_len 0 (length plan.calls)) owned
-    c.in_ok-all.ensures in
+    c.in_ok-all.ensures.told in
     are_left script plan c.args.source.now.shards.now trails 0 (length plan.calls) (map items owned) told l
     (subst (λ (lines : List Line). Contains lines l) (c.in_ok-lines.ensures ∙ ap (flat_map items) c.as_slice.ensures.value ∙ lines_owned items owned) among)
 
@@ -55,7 +54,7 @@ returns-clause-all g c number below =
     let owned = c.in_ok-all.all.items in
     let items : Vec Line Global → List Line = λ v. v.items in
     let told = through (IsTold script plan c.args.source.now.shards.now trails) items (range_with_len 0 (length plan.calls)) owned
-    c.in_ok-all.ensures in
+    c.in_ok-all.ensures.told in
     subst (λ (lines : List Line). HaveLines (slice_index_or trails number []) lines)
     (sym (c.in_ok-lines.ensures ∙ ap (flat_map items) c.as_slice.ensures.value ∙ lines_owned items owned))
     (subst (λ (n : ℕ). HaveLines (slice_index_or trails n []) (flat_map (λ (own : List Line). own) (map items owned)))
