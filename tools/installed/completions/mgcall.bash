@@ -35,7 +35,7 @@ _mgcall() {
     mgcall-run) _mgcall_over_files "$current" "$place" toml json toml ;;
     mgcall-why)
         if ((place == 3)); then
-            COMPREPLY=($(compgen -W '--json --dot --help --version' -- "$current"))
+            COMPREPLY=($(compgen -W '--json --dot' -- "$current"))
         else
             _mgcall_over_files "$current" "$place" toml json
         fi
