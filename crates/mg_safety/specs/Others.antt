@@ -28,7 +28,7 @@ OthersAreLeftAlone =
     → (calls : List Opened) (events : List Event) (opening end after : World) → IsOpening script calls opening → Runs script events opening end
     → (call other : ℕ) (happens : CallEvent) → OccursTo script end call happens after → (call ≡ other → ⊥) → IsLeftAlone end after other
 
--- and in every run it leaves the agent, the link and the messages of another one as they were, but of the one that it retires
+-- and in every run it leaves the agent and the link of another one as they were, and no message of it is new, but of the one that it retires
 abbrev pub OthersAreKept : Type 0
 OthersAreKept =
     (script : Script) (calls : List Opened) (events : List Event) (opening end after : World) → IsOpening script calls opening

@@ -32,7 +32,8 @@ pub fn others_are_left_alone()
     ensures { OthersAreLeftAlone }
 {}
 
-/// In every run an event of one call leaves the agent, the link and the messages of every other call as they were, but of the one that it retires.
+/// In every run an event of one call leaves the agent and the link of every other call as they were, and no message of it is new; but of the one that it
+/// retires.
 pub fn others_are_kept()
     ensures { OthersAreKept }
 {}

@@ -8,13 +8,15 @@ ghost use Rattle.plans.specs.Accepted.{IsPlanFor};
 
 mod meeting;
 mod stopping;
+mod tour_gate;
 
 use crate::meeting::Meeting;
 use crate::stopping::Stopping;
+use crate::tour_gate::TourGate;
 use composition::{CheckFault, Checked, Verdict, check};
 use mg_names::identifiers::CallNo;
 use plans::Plan;
-use runner::{Gate, Line, NoGate, Outcome, RunFault, run};
+use runner::{Line, Outcome, RunFault, run};
 use script_table::Script;
 use std::alloc::{AllocError, AllocFailed, Global};
 use std::env;
@@ -144,14 +146,14 @@ fn tell(
     Ok(())
 }
 
-/// A run of a plan.
-fn go<G: Gate, T: Threads + Wait + Sync>(
+/// What a run through a gate came to.
+fn go<T: Threads + Wait + Sync>(
     rt: &HostRuntime,
     threads: &T,
     checked: &Checked,
     plan: &Plan,
     asked: Asked,
-    gate: &G,
+    gate: &TourGate<'_>,
 ) -> Result<(), Failure>
     requires { IsPlanFor checked.now.table plan.now }
 {
@@ -168,36 +170,22 @@ fn tell_fault(rt: &HostRuntime, fault: RunFault) -> Result<(), Failure> {
     Ok(())
 }
 
-/// A run whose calls 1 and 2 meet.
-fn meet<T: Threads + Wait + Sync>(
-    rt: &HostRuntime,
-    threads: &T,
-    checked: &Checked,
-    plan: &Plan,
-    asked: Asked,
-) -> Result<(), Failure>
-    requires { IsPlanFor checked.now.table plan.now }
-{
-    let gate = Meeting::new();
-    go(rt, threads, checked, plan, asked, &gate)?;
-    let told = if gate.was_late() { "late" } else { "met" };
-    writeln!(rt.stdout(), "{told}")?;
-    Ok(())
+/// The gate that the words ask for.
+fn gate_of(rt: &HostRuntime, kind: Kind) -> TourGate<'_> {
+    match kind {
+        Kind::Meet => TourGate::Meeting(Meeting::new()),
+        Kind::Stop { seed } => TourGate::Stopping(Stopping::new(rt, seed)),
+        Kind::Lines | Kind::Count => TourGate::Open,
+    }
 }
 
-/// A run whose workers are stopped at random.
-fn stop<T: Threads + Wait + Sync>(
-    rt: &HostRuntime,
-    threads: &T,
-    checked: &Checked,
-    plan: &Plan,
-    asked: Asked,
-    seed: u64,
-) -> Result<(), Failure>
-    requires { IsPlanFor checked.now.table plan.now }
-{
-    let gate = Stopping::new(rt, seed);
-    go(rt, threads, checked, plan, asked, &gate)
+/// Whether calls met, where they were to.
+fn tell_meeting(rt: &HostRuntime, gate: &TourGate<'_>) -> Result<(), Failure> {
+    if let TourGate::Meeting(meeting) = gate {
+        let told = if meeting.was_late() { "late" } else { "met" };
+        writeln!(rt.stdout(), "{told}")?;
+    }
+    Ok(())
 }
 
 /// A plan for this script, read and run.
@@ -213,11 +201,9 @@ fn tour<T: Threads + Wait + Sync>(
         Err(Unread::NoMemory) => return Err(Failure::Memory),
         Err(Unread::Fault(_)) => return Err(Failure::Refused),
     };
-    match asked.kind {
-        Kind::Meet => meet(rt, threads, checked, &plan, asked),
-        Kind::Stop { seed } => stop(rt, threads, checked, &plan, asked, seed),
-        Kind::Lines | Kind::Count => go(rt, threads, checked, &plan, asked, &NoGate),
-    }
+    let gate = gate_of(rt, asked.kind);
+    go(rt, threads, checked, &plan, asked, &gate)?;
+    tell_meeting(rt, &gate)
 }
 
 /// What the words ask for.

@@ -1,6 +1,4 @@
 //! A gate at which two calls wait for each other.
-use runner::Gate;
-use std::sync::Wait;
 use std::sync::atomic::{AtomicU64, Ordering};
 use std::thread;
 
@@ -30,6 +28,15 @@ impl Meeting {
         self.late.load(Ordering::SeqCst) != 0
     }
 
+    /// Before a step of a call: the first one of calls 1 and 2 waits.
+    pub(crate) fn pass(&self, call: u32, step: usize) {
+        match (call, step) {
+            (1, 0) => self.wait(&self.first, &self.second),
+            (2, 0) => self.wait(&self.second, &self.first),
+            _ => {}
+        }
+    }
+
     /// Marks one, and waits for the other.
     fn wait(&self, own: &AtomicU64, other: &AtomicU64) {
         own.store(1, Ordering::SeqCst);
@@ -40,17 +47,5 @@ impl Meeting {
             thread::yield_now();
         }
         self.late.store(1, Ordering::SeqCst);
-    }
-}
-
-impl Gate for Meeting {
-    ghost was_asked = { λ call step. Unit {0} };
-
-    fn pass<R: Wait>(&self, _rt: &R, call: u32, step: usize) {
-        match (call, step) {
-            (1, 0) => self.wait(&self.first, &self.second),
-            (2, 0) => self.wait(&self.second, &self.first),
-            _ => {}
-        }
     }
 }

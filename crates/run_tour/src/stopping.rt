@@ -1,8 +1,6 @@
 //! A gate that stops workers at random.
-use runner::Gate;
-use std::sync::Wait;
 use std::thread;
-use std::time::{Clock, Duration};
+use std::time::Duration;
 
 /// How long a worker is stopped at most, in microseconds.
 const LONGEST: u64 = 2_000;
@@ -10,14 +8,14 @@ const LONGEST: u64 = 2_000;
 /// A gate at which a step in sixteen waits a while and half of the others let another thread go first. Which and how long, a seed says; which thread
 /// comes next, the machine.
 #[derive(Drop)]
-pub(crate) struct Stopping<'r, C> {
-    clock: &'r C,
+pub(crate) struct Stopping<'r> {
+    clock: &'r HostRuntime,
     seed: u64,
 }
 
-impl<'r, C> Stopping<'r, C> {
+impl<'r> Stopping<'r> {
     /// The gate of a seed.
-    pub(crate) fn new(clock: &'r C, seed: u64) -> Stopping<'r, C> {
+    pub(crate) fn new(clock: &'r HostRuntime, seed: u64) -> Stopping<'r> {
         Stopping { clock, seed }
     }
 
@@ -33,12 +31,9 @@ impl<'r, C> Stopping<'r, C> {
         let mixed = (mixed ^ (mixed >> 31)).wrapping_mul(0xBF58_476D_1CE4_E5B9);
         mixed ^ (mixed >> 29)
     }
-}
 
-impl<C: Clock + Sync> Gate for Stopping<'_, C> {
-    ghost was_asked = { λ call step. Unit {0} };
-
-    fn pass<R: Wait>(&self, _rt: &R, call: u32, step: usize) {
+    /// Before a step of a call: it waits a while, lets another thread go first, or goes on.
+    pub(crate) fn pass(&self, call: u32, step: usize) {
         let drawn = self.drawn(call, step);
         match drawn % 16 {
             0 => thread::sleep(self.clock, Duration::from_micros(drawn / 16 % LONGEST)),

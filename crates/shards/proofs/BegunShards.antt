@@ -194,11 +194,11 @@ module _ (v : ShardValue) (was : IsShard v) (value : CallValue) (new old : ℕ) 
 
 module _ (v u : ShardValue) (is : v ≡ u) (was : IsShard v) (value : CallValue) (new old : ℕ) where
   -- no entry was made for the new call
-  pub without_entry : (before : List (ℕ × CallRecord)) → ((c : ℕ) → slot_in before c ≡ slot_in v.slots c) → (events : List Event) → events ≡ v.history → (after : Next)
+  pub only_more_room : (before : List (ℕ × CallRecord)) → ((c : ℕ) → slot_in before c ≡ slot_in v.slots c) → (events : List Event) → events ≡ v.history → (after : Next)
       → IsSameNext (next.Ended value) after
       → IsShard (record v { slots = before; history = events })
       × IsStep u (record v { slots = before; history = events }) (next.Ended value) after (begin new old) (Err NoMemory)
-  without_entry before same events history after handed_back =
+  only_more_room before same events history after handed_back =
       subst (λ (x : ShardValue). IsShard (record v { slots = before; history = events })
       × IsStep x (record v { slots = before; history = events }) (next.Ended value) after (begin new old) (Err NoMemory)) is
       (subst (λ (es : List Event). IsShard (record v { slots = before; history = es })

@@ -1,4 +1,4 @@
--- The call has ended on both sides, so another begins on its lines; or all is as it was, but for room and an empty entry.
+-- The call has ended on both sides, so another begins on its lines; or all is as it was, but for room.
 use Rattle.std.proofs.Common.{◌≡◌, ◌∙◌, ◌++◌, List, [], ◌∷◌, Some, inl, refl, sym, ap, subst}
 use Rattle.std.specs.Prelude.{option_map}
 use Rattle.mg_model.specs.declared.events.CallEvent.TheVariants.{Begin}
@@ -7,7 +7,7 @@ use Rattle.mg_model.specs.declared.events.Event.TheVariants.{OfCall}
 use Rattle.gateway.specs.Beginnings.{IsBegun}
 use Rattle.agent.specs.AgentValue.{agent_of}
 use Rattle.agent.specs.declared.call.Next.TheVariants as next
-use Rattle.shards.proofs.BegunShards.{forward_kept, forward_taken, not_ended, not_own, refused_by, with_more_room, without_entry}
+use Rattle.shards.proofs.BegunShards.{forward_kept, forward_taken, not_ended, not_own, refused_by, with_more_room, only_more_room}
 use Rattle.shards.proofs.ShardSteps.{stays_unchanged}
 use Rattle.shards.proofs.TakenSteps.{back_as}
 use Rattle.shards.proofs.ValueSteps.{call_is}
@@ -33,12 +33,12 @@ returns-then-not-has_ended c = (
 
 pub invariant_of-self-in_default-reserve : goal.invariant_of-self-in_default-reserve
 invariant_of-self-in_default-reserve c =
-    (without_entry _ _ c.self.view_is c.self.invariant c.args.ended c.args.call.0 c.args.old.0 c.reserve.new.slots.entries c.reserve.ensures.same
+    (only_more_room _ _ c.self.view_is c.self.invariant c.args.ended c.args.call.0 c.args.old.0 c.reserve.new.slots.entries c.reserve.ensures.same
     c.room.new.history.items c.room.ensures.items (next.Ended c.room-2.new.self) (with_more_room c.args.ended c.room-2.new.self c.in-Ok-room.ensures.made)).0
 
 pub returns-in_default-reserve : goal.returns-in_default-reserve
 returns-in_default-reserve c =
-    (without_entry _ _ c.self.view_is c.self.invariant c.args.ended c.args.call.0 c.args.old.0 c.reserve.new.slots.entries c.reserve.ensures.same
+    (only_more_room _ _ c.self.view_is c.self.invariant c.args.ended c.args.call.0 c.args.old.0 c.reserve.new.slots.entries c.reserve.ensures.same
     c.room.new.history.items c.room.ensures.items (next.Ended c.room-2.new.self) (with_more_room c.args.ended c.room-2.new.self c.in-Ok-room.ensures.made)).1
 
 pub invariant_of-self-in-Err : goal.invariant_of-self-in-Err
