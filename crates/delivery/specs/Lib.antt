@@ -1,3 +1,4 @@
 pub mod Offers
 pub mod Inboxes
 pub mod Laws
+pub mod Rising

@@ -2,10 +2,9 @@
 ghost use Rattle.std.specs.Prelude.{◌≡◌, IfOk, OnOk, OnErr};
 ghost use Rattle.mg_model.specs.Delivery.{new_inbox, arrival, after_arrival, arrives_new, without_accepted};
 
-use crate::numbers;
+use crate::numbers::Numbers;
 use mg_names::identifiers::Assoc;
 use std::alloc::{AllocError, Global};
-use std::collections::BTreeSet;
 use std::marker::Model;
 
 /// What an inbox says of a note that arrives.
@@ -23,7 +22,7 @@ pub enum Arrival {
 #[derive(Drop)]
 pub struct Inbox {
     association: Assoc,
-    accepted: BTreeSet<u32>,
+    accepted: Numbers,
 }
 
 impl Model for Inbox {
@@ -31,7 +30,7 @@ impl Model for Inbox {
 
     ghost Value = { Accepted };
 
-    ghost view = { λ i. record { association = i.association.0; numbers = i.accepted.keys } };
+    ghost view = { λ i. record { association = i.association.0; numbers = i.accepted } };
 }
 
 impl Inbox {
@@ -43,7 +42,7 @@ impl Inbox {
     {
         Inbox {
             association,
-            accepted: BTreeSet::new(alloc),
+            accepted: Numbers::new(alloc),
         }
     }
 
@@ -53,7 +52,7 @@ impl Inbox {
     {
         Ok(Inbox {
             association: self.association,
-            accepted: self.accepted.clone()?,
+            accepted: self.accepted.copy()?,
         })
     }
 
@@ -71,7 +70,7 @@ impl Inbox {
         if association != self.association {
             return Arrival::Old;
         }
-        if numbers::has(&self.accepted, note) {
+        if self.accepted.has(note) {
             Arrival::Seen
         } else {
             Arrival::New
@@ -88,7 +87,7 @@ impl Inbox {
         if association != self.association {
             return Ok(Arrival::Old);
         }
-        if numbers::add(&mut self.accepted, note)? {
+        if self.accepted.add(note)? {
             Ok(Arrival::New)
         } else {
             Ok(Arrival::Seen)
@@ -100,7 +99,7 @@ impl Inbox {
     pub fn forget(&mut self, note: u32)
         ensures { inbox_of self.new ≡ without_accepted (inbox_of self.old) note }
     {
-        numbers::remove(&mut self.accepted, note);
+        self.accepted.remove(note);
     }
 
     /// A new association begins: no note was accepted.
