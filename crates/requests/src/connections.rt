@@ -26,12 +26,12 @@ use std::alloc::{AllocError, Global};
 use std::marker::Model;
 
 /// The connection model of a gateway with its lines: the part on which a request runs (H.248.1 section 6). Each line of the board
-/// has its hook state, its Events descriptor and its signals.
+/// has its hook state, its Events descriptor and its signals. It is moved often, so what is large stands in boxes.
 #[derive(Drop)]
 pub struct Connections {
     pub(crate) alloc: Global,
-    pub(crate) board: Board,
-    pub(crate) lines: LineSet,
+    pub(crate) board: Box<Board>,
+    pub(crate) lines: Box<LineSet>,
 }
 
 impl Model for Connections {
@@ -41,9 +41,9 @@ impl Model for Connections {
 
     ghost Value = { Connected };
 
-    ghost view = { λ c. record { board_value = c.board; lines = c.lines } };
+    ghost view = { λ c. record { board_value = c.board.value; lines = c.lines.value } };
 
-    ghost invariant = { λ c. IsMatched (board_of c.board) (row_of c.lines) };
+    ghost invariant = { λ c. IsMatched (board_of c.board.value) (row_of c.lines.value) };
 }
 
 /// Adds a line, unless it is there.
@@ -92,8 +92,8 @@ impl Connections {
         add_lines(&mut rows, lines)?;
         Ok(Connections {
             alloc,
-            board,
-            lines: rows,
+            board: Box::new(alloc, board)?,
+            lines: Box::new(alloc, rows)?,
         })
     }
 
@@ -106,8 +106,8 @@ impl Connections {
         let lines = self.lines.copy()?;
         Ok(Connections {
             alloc: self.alloc,
-            board,
-            lines,
+            board: Box::new(self.alloc, board)?,
+            lines: Box::new(self.alloc, lines)?,
         })
     }
 
@@ -115,7 +115,7 @@ impl Connections {
     pub fn board(&self) -> &Board
         ensures { result.now ≡ self.now.board_value }
     {
-        &self.board
+        &*self.board
     }
 
     /// The row of a line; `None` where it isn't there.
@@ -186,8 +186,8 @@ impl Connections {
         ensures lines { OnOk result (line_in self.new ≡ row_in (map (λ l. l.0) gone.now) (line_described described.now) (line_in self.old) number) }
         ensures note { IfOk result (λ note. noted note ≡ raised_on (line_in self.old) (line_described described.now) number) }
     {
-        let note = set_described(&mut self.lines, described, number)?;
-        clear_lines(&mut self.lines, gone);
+        let note = set_described(&mut *self.lines, described, number)?;
+        clear_lines(&mut *self.lines, gone);
         Ok(note)
     }
 }

@@ -3,6 +3,7 @@ use Rattle.mg_names.specs.declared.codes.Code.{Code}
 use Rattle.mg_model.specs.declared.failures.Refusal.{Refusal}
 use Rattle.mg_model.specs.declared.items.Item.{Item}
 use Rattle.mg_model.specs.Failures.{code_of}
+use Rattle.mg_model.specs.Items.{Applies}
 use Rattle.mg_model.specs.RequestRun.{IsRefusedWith}
 use Rattle.contexts.specs.BoardValue.{board_of}
 use Rattle.requests.specs.Connected.{Connected, board_in}
@@ -17,5 +18,7 @@ seen v w item chosen code other same is refused =
     (subst (λ (x : Connected). IsRefusedWith (board_in x) item (Some chosen) code) same refused)
 
 pub returns-in-None : goal.returns-in-None
-returns-in-None c = seen _ _ c.args.item.now c.args.chosen (code_of c.args.chosen) _ c.self.view_is c.code.ensures
-    (refused_legal (board_of c.self.inside.board) c.args.item.now c.args.chosen c.in-None.ensures)
+returns-in-None c =
+    seen _ _ c.args.item.now c.args.chosen (code_of c.args.chosen) _ c.self.view_is c.code.ensures
+    (refused_legal (board_of c.self.inside.board.value) c.args.item.now c.args.chosen
+    (λ code. subst (λ b. Applies (board_of b) c.args.item.now code → ⊥) c.deref.ensures (c.in-None.ensures code)))
