@@ -29,7 +29,7 @@ impl Refusal {
 #[derive(Clone, Copy, Debug, PartialEq, Eq)]
 pub struct ChosenRefusal {
     /// The place of the command in its request, from 0.
-    pub place: usize,
+    pub place: u32,
     /// Which refusal.
     pub refusal: Refusal,
 }

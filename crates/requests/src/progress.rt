@@ -32,7 +32,7 @@ fn chosen_at(chosen: Option<ChosenRefusal>, place: usize) -> Option<Refusal>
     let Some(chosen) = chosen else {
         return None;
     };
-    if chosen.place == place {
+    if chosen.place as usize == place {
         return Some(chosen.refusal);
     }
     None

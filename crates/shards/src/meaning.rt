@@ -49,7 +49,7 @@ fn refusal(place: Option<u8>) -> Option<ChosenRefusal>
 {
     match place {
         Some(place) => Some(ChosenRefusal {
-            place: place as usize,
+            place: u32::from(place),
             refusal: Refusal::InternalFailure,
         }),
         None => None,

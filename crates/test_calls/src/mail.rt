@@ -71,7 +71,7 @@ pub(crate) fn chosen(words: &[&str]) -> Result<Option<ChosenRefusal>, Failure> {
     match words {
         [] => Ok(None),
         ["refuse", place] => Ok(Some(ChosenRefusal {
-            place: wanted(place.parse::<usize>().ok())?,
+            place: wanted(place.parse::<u32>().ok())?,
             refusal: Refusal::InternalFailure,
         })),
         _ => Err(Failure::Unreadable),

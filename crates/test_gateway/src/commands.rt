@@ -177,7 +177,7 @@ pub(crate) fn chosen(words: &mut Words<'_>) -> Option<ChosenRefusal> {
         _ => return None,
     };
     Some(ChosenRefusal {
-        place: place as usize,
+        place,
         refusal,
     })
 }
