@@ -1,4 +1,5 @@
 //! Which lines of an input divide it, where it has another number of sections than it should.
+use crate::place_text::PlaceText;
 use std::alloc::{AllocError, Global};
 
 /// What a line of an input is.
@@ -45,8 +46,8 @@ fn listed(alloc: Global, numbers: &[usize]) -> Result<String, AllocError> {
     Ok(text)
 }
 
-/// Which lines divide an input, in a sentence. The only error is running out of memory.
-pub fn dividers_told(alloc: Global, input: &[u8]) -> Result<String, AllocError> {
+/// Which lines divide an input. The only error is running out of memory.
+pub fn dividers_told(alloc: Global, input: &[u8]) -> Result<PlaceText, AllocError> {
     let found = numbers_of(alloc, input, Line::Divider)?;
     let nearly = numbers_of(alloc, input, Line::Nearly)?;
     let lines = listed(alloc, found.as_slice())?;
@@ -64,5 +65,5 @@ pub fn dividers_told(alloc: Global, input: &[u8]) -> Result<String, AllocError> 
         )?;
         text.push_str(more.as_str())?;
     }
-    Ok(text)
+    Ok(PlaceText::said(text))
 }

@@ -1,8 +1,9 @@
 //! The page on a No: what the first broken obligation is about.
 use crate::facts::facts;
 use crate::listed::listed_text;
-use crate::page::{Lack, NearText, Page, PointText};
-use crate::rules::{advice, obligation_rule};
+use crate::page::{FORMAT, FaultText, Lack, NearText, Page, PointText};
+use crate::place_text::PlaceText;
+use crate::rules::{advice, obligation_key, obligation_rule};
 use closure::steps::{opening, reset};
 use configuration::config::Config;
 use configuration::well_formed::is_well_formed;
@@ -29,17 +30,21 @@ pub struct Documents<'a> {
     pub certificate: &'a [u8],
 }
 
-/// A page with a line, the rule that is broken, and where.
+/// A page with a line and a rule, and of a fault which it is and where.
 pub fn new_page<'a>(
     alloc: Global,
     line: String,
     status: Status,
     rule: Option<&'static str>,
-    place: Option<String>,
+    fault: Option<FaultText>,
+    place: Option<PlaceText>,
 ) -> Page<'a> {
     Page {
+        format: FORMAT,
         line,
         status: status.code(),
+        obligation: None,
+        fault,
         rule,
         place,
         point: None,
@@ -65,7 +70,7 @@ fn lack<'a>(
     Ok(Lack {
         component: text.path,
         has: text.words,
-        lacks: word_in(script, component, config),
+        value: word_in(script, component, config),
     })
 }
 
@@ -99,7 +104,7 @@ fn near_text<'a>(
         return Ok(None);
     };
     Ok(Some(NearText {
-        entry: place,
+        entry_place: place,
         listed: listed_text(alloc, script, documents.certificate, place, entry)?,
         lacks: lacks(alloc, script, entry.components(), config)?,
     }))
@@ -162,8 +167,8 @@ fn add_point<'a>(
     let script = documents.script;
     if let Some(entry) = documents.cert.entries().get(point.place) {
         page.point = Some(PointText {
-            entry: point.place,
-            number: point.number,
+            entry_place: point.place,
+            point_number: point.number,
             listed: listed_text(alloc, script, documents.certificate, point.place, entry)?,
             configuration: config_text(alloc, script, &point.config)?,
         });
@@ -196,7 +201,8 @@ pub fn no_page<'a>(
 ) -> Result<Page<'a>, AllocError> {
     let obligation = fault.obligation;
     let rule = obligation_rule(obligation);
-    let mut page = new_page(alloc, line, Status::No, Some(rule), None);
+    let mut page = new_page(alloc, line, Status::No, Some(rule), None, None);
+    page.obligation = Some(obligation_key(obligation));
     page.advice = advice(obligation);
     let Some(point) = locate(documents.cert, fault) else {
         add_whole(alloc, &mut page, documents, obligation)?;

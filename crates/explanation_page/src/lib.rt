@@ -3,7 +3,7 @@
 //!
 //! The way of a No: `explain` asks for what its first broken obligation is about, and puts it into a `page`: the rule (`rules`), the entry as the
 //! certificate has it (`listed`), what of the point breaks the obligation (`facts`). Of a fault of a document there are its rule and its place
-//! (`places`, `dividers`). This profile's own.
+//! (`places`, `dividers`, as a `place_text`). This profile's own.
 #![tactic(auto)]
 
 pub mod dividers;
@@ -11,7 +11,9 @@ pub mod explain;
 mod facts;
 mod listed;
 mod page;
+mod place_text;
 pub mod places;
 pub mod rules;
 
-pub use page::Page;
+pub use page::{FaultText, Page};
+pub use place_text::PlaceText;

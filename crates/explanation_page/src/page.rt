@@ -1,6 +1,7 @@
 //! What is said of a script and a certificate under the line of the check: as text paragraph by paragraph, and as one JSON value with that line.
 use crate::facts::Fact;
 use crate::listed::ListedText;
+use crate::place_text::PlaceText;
 use script_words::config_text::ConfigText;
 use script_words::entry_text::EntryText;
 use script_words::step_text::StepText;
@@ -15,13 +16,14 @@ pub(crate) struct Lack<'a> {
     /// The values that the entry has.
     pub(crate) has: Vec<&'a str>,
     /// The value of the configuration.
-    pub(crate) lacks: &'a str,
+    pub(crate) value: &'a str,
 }
 
 /// The entry of a configuration's state that comes nearest to it.
 #[derive(Drop, Serialize)]
 pub(crate) struct NearText<'a> {
-    pub(crate) entry: usize,
+    /// Its place in the certificate, from 0.
+    pub(crate) entry_place: usize,
     pub(crate) listed: ListedText,
     pub(crate) lacks: Vec<Lack<'a>>,
 }
@@ -29,25 +31,49 @@ pub(crate) struct NearText<'a> {
 /// A point with its entry.
 #[derive(Drop, Serialize)]
 pub(crate) struct PointText<'a> {
-    pub(crate) entry: usize,
-    pub(crate) number: u32,
+    /// The place of its entry in the certificate, from 0.
+    pub(crate) entry_place: usize,
+    /// Its number in the entry, from 0.
+    pub(crate) point_number: u32,
     pub(crate) listed: ListedText,
     pub(crate) configuration: ConfigText<'a>,
 }
 
+/// The fault for which an input or a document of it isn't read.
+#[derive(Clone, Copy, Debug, Serialize)]
+pub struct FaultText {
+    /// What isn't read: `input`, `script` or `certificate`.
+    pub of: &'static str,
+    /// The fault's number.
+    pub fault_number: u8,
+    /// Its name.
+    pub fault_name: &'static str,
+}
+
+/// Which keys the JSON value has, with which meanings: another number where one goes or means something else.
+pub(crate) const FORMAT: u8 = 1;
+
 /// All that is said. Its JSON value has the line; the text stands under it.
 #[derive(Drop, Serialize)]
 pub struct Page<'a> {
+    /// Which keys this has.
+    pub(crate) format: u8,
     /// The line of the check.
     pub(crate) line: String,
     /// The exit status that goes with it.
     pub(crate) status: u8,
-    /// The rule that is broken.
+    /// The obligation that is broken.
+    #[serde(skip_serializing_if = "Option::is_none")]
+    pub(crate) obligation: Option<&'static str>,
+    /// The fault for which something isn't read.
+    #[serde(skip_serializing_if = "Option::is_none")]
+    pub(crate) fault: Option<FaultText>,
+    /// The rule that is broken, or what a yes says.
     #[serde(skip_serializing_if = "Option::is_none")]
     pub(crate) rule: Option<&'static str>,
-    /// Where a text breaks it.
+    /// Where a document breaks it.
     #[serde(skip_serializing_if = "Option::is_none")]
-    pub(crate) place: Option<String>,
+    pub(crate) place: Option<PlaceText>,
     /// The point that a No names.
     #[serde(skip_serializing_if = "Option::is_none")]
     pub(crate) point: Option<PointText<'a>>,
@@ -79,8 +105,8 @@ pub struct Page<'a> {
 
 impl fmt::Display for Lack<'_> {
     fn fmt<W: fmt::Write>(&self, f: &mut fmt::Formatter<W>) -> fmt::Result {
-        let (component, lacks) = (&self.component, self.lacks);
-        write!(f, "  {component} lacks {lacks}; it has")?;
+        let (component, value) = (&self.component, self.value);
+        write!(f, "  {component} lacks {value}; it has")?;
         for word in self.has.as_slice() {
             write!(f, " {word}")?;
         }
@@ -90,7 +116,7 @@ impl fmt::Display for Lack<'_> {
 
 impl fmt::Display for NearText<'_> {
     fn fmt<W: fmt::Write>(&self, f: &mut fmt::Formatter<W>) -> fmt::Result {
-        let (entry, listed, line) = (self.entry, &self.listed, self.listed.at_line);
+        let (entry, listed, line) = (self.entry_place, &self.listed, self.listed.at_line);
         writeln!(
             f,
             "The nearest entry of that state is entry {entry}, at line {line} of the certificate:"
@@ -106,7 +132,7 @@ impl fmt::Display for NearText<'_> {
 
 impl fmt::Display for PointText<'_> {
     fn fmt<W: fmt::Write>(&self, f: &mut fmt::Formatter<W>) -> fmt::Result {
-        let (entry, number) = (self.entry, self.number);
+        let (entry, number) = (self.entry_place, self.point_number);
         let (listed, line) = (&self.listed, self.listed.at_line);
         writeln!(
             f,

@@ -1,4 +1,5 @@
 //! Where a text breaks its format, as far as the library that reads it tells a place.
+use crate::place_text::PlaceText;
 use certificate::CertFault;
 use digits::DigitMap;
 use found_places::Place;
@@ -36,24 +37,24 @@ fn taken_for_certificate(alloc: Global, certificate: &[u8]) -> &'static str {
     }
 }
 
+/// What is said where the reader tells no place.
+fn nowhere(alloc: Global) -> Result<PlaceText, AllocError> {
+    Ok(PlaceText::said(String::from_str(alloc, NOWHERE)?))
+}
+
 /// Where a text is no TOML.
-fn toml_place(alloc: Global, script: &[u8]) -> Result<String, AllocError> {
-    match toml::table_from_slice(alloc, script) {
-        Ok(_) => String::from_str(alloc, NOWHERE),
-        Err(error) => {
-            let message = error.message();
-            let more = taken_for_script(script);
-            match error.span() {
-                Some(span) => {
-                    let line = line_of(script, span.start);
-                    format!(in alloc;
-                        "At line {line} of the script, counted from 1: {message}.{more}"
-                    )
-                }
-                None => format!(in alloc; "{message}.{more}"),
-            }
-        }
-    }
+fn toml_place(alloc: Global, script: &[u8]) -> Result<PlaceText, AllocError> {
+    let Err(error) = toml::table_from_slice(alloc, script) else {
+        return nowhere(alloc);
+    };
+    let message = error.message();
+    let more = taken_for_script(script);
+    let Some(span) = error.span() else {
+        return Ok(PlaceText::said(format!(in alloc; "{message}.{more}")?));
+    };
+    let line = line_of(script, span.start);
+    let says = format!(in alloc; "At line {line} of the script, counted from 1: {message}.{more}")?;
+    Ok(PlaceText::at(says, line, None))
 }
 
 /// Where the text of a map of a script is no digit map.
@@ -69,54 +70,53 @@ fn fault_of_map(alloc: Global, map: &toml::Value) -> Result<Option<String>, Allo
 }
 
 /// Where the first of some maps is no digit map.
-fn fault_of_maps(alloc: Global, maps: &[toml::Value]) -> Result<String, AllocError> {
+fn fault_of_maps(alloc: Global, maps: &[toml::Value]) -> Result<PlaceText, AllocError> {
     for map in maps {
-        if let Some(place) = fault_of_map(alloc, map)? {
-            return Ok(place);
+        if let Some(says) = fault_of_map(alloc, map)? {
+            return Ok(PlaceText::said(says));
         }
     }
-    String::from_str(alloc, NOWHERE)
+    nowhere(alloc)
 }
 
 /// Where a digit map of a script can't be read.
-fn map_place(alloc: Global, script: &[u8]) -> Result<String, AllocError> {
+fn map_place(alloc: Global, script: &[u8]) -> Result<PlaceText, AllocError> {
     let Ok(table) = toml::table_from_slice(alloc, script) else {
         return Err(AllocError);
     };
     match table.get("maps").and_then(toml::Value::as_array) {
         Some(maps) => fault_of_maps(alloc, maps.as_slice()),
-        None => String::from_str(alloc, NOWHERE),
+        None => nowhere(alloc),
     }
 }
 
 /// Where a text is no JSON.
-fn json_place(alloc: Global, certificate: &[u8]) -> Result<String, AllocError> {
-    match Value::from_slice(alloc, certificate) {
-        Ok(_) => String::from_str(alloc, NOWHERE),
-        Err(error) => {
-            let (line, column) = (error.line(), error.column());
-            let more = taken_for_certificate(alloc, certificate);
-            format!(in alloc;
-                "At line {line}, column {column} of the certificate, counted from 1.{more}"
-            )
-        }
-    }
+fn json_place(alloc: Global, certificate: &[u8]) -> Result<PlaceText, AllocError> {
+    let Err(error) = Value::from_slice(alloc, certificate) else {
+        return nowhere(alloc);
+    };
+    let (line, column) = (error.line(), error.column());
+    let more = taken_for_certificate(alloc, certificate);
+    let says = format!(in alloc;
+        "At line {line}, column {column} of the certificate, counted from 1.{more}"
+    )?;
+    Ok(PlaceText::at(says, line, Some(column)))
 }
 
 /// What is said of a place of a document of this kind.
-fn told(alloc: Global, place: Option<Place>, document: &str) -> Result<String, AllocError> {
+fn told(alloc: Global, place: Option<Place>, document: &str) -> Result<PlaceText, AllocError> {
     match place {
-        Some(place) => place.sentence(alloc, document),
-        None => String::from_str(alloc, NOWHERE),
+        Some(place) => PlaceText::of(alloc, place, document),
+        None => nowhere(alloc),
     }
 }
 
-/// Where a script has a fault, in a sentence. The only error is running out of memory.
+/// Where a script has a fault. The only error is running out of memory.
 pub fn script_place(
     alloc: Global,
     fault: &ScriptFault,
     script: &[u8],
-) -> Result<String, AllocError> {
+) -> Result<PlaceText, AllocError> {
     match fault {
         ScriptFault::NotToml => toml_place(alloc, script),
         ScriptFault::BadMap => map_place(alloc, script),
@@ -127,13 +127,13 @@ pub fn script_place(
     }
 }
 
-/// Where a certificate for a script has a fault, in a sentence. The only error is running out of memory.
+/// Where a certificate for a script has a fault. The only error is running out of memory.
 pub fn certificate_place(
     alloc: Global,
     fault: &CertFault,
     script: &[u8],
     certificate: &[u8],
-) -> Result<String, AllocError> {
+) -> Result<PlaceText, AllocError> {
     match fault {
         CertFault::NotJson => json_place(alloc, certificate),
         _ => {

@@ -7,6 +7,19 @@ use script_faults::ScriptFault;
 pub const YES_RULE: &str =
     "Every obligation holds at each point and for each step from it. The numbers are those of the script's states, of the certificate's entries, and of their points.";
 
+/// The short name of an obligation, as the line of a no has it.
+pub(crate) fn obligation_key(obligation: Obligation) -> &'static str {
+    match obligation {
+        Obligation::OpeningCovered => "K1",
+        Obligation::StepsCovered => "K2",
+        Obligation::JoinedMarked => "K3",
+        Obligation::EndedCleared => "K4",
+        Obligation::CreatedUnbound => "K5",
+        Obligation::ResetCovered => "K6",
+        Obligation::NamesLive => "K7",
+    }
+}
+
 /// What an obligation asks.
 pub(crate) fn obligation_rule(obligation: Obligation) -> &'static str {
     match obligation {

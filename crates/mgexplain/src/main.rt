@@ -11,7 +11,7 @@ mod told;
 mod words;
 
 use crate::told::{Outcome, told_of};
-use crate::words::{Asked, Form, read_words};
+use crate::words::{Asked, Form, name_json, read_words};
 use program_rim::host::Host;
 use program_rim::input::read_all;
 use program_rim::sink::write_all;
@@ -22,6 +22,16 @@ use std::{env, io};
 
 /// How the program is called.
 const USAGE: &str = "usage: mgexplain [--json | --dot]\n";
+
+/// The same as a JSON value.
+const USAGE_AS_JSON: &str =
+    "{\"format\":1,\"line\":\"usage: mgexplain [--json | --dot]\",\"status\":2}\n";
+
+/// What it says where there was no memory.
+const NO_MEMORY: &str = "no memory\n";
+
+/// The same as a JSON value.
+const NO_MEMORY_AS_JSON: &str = "{\"format\":1,\"line\":\"no memory\",\"status\":4}\n";
 
 /// What it says where help is asked for.
 const HELP: &str = "usage: mgexplain [--json | --dot]
@@ -42,11 +52,23 @@ fn arguments(rt: &HostRuntime) -> io::Result<Vec<String>> {
     Ok(words)
 }
 
-/// What the words ask for; `None` where they ask for nothing that the program does.
-fn asked(rt: &HostRuntime) -> Option<Asked> {
-    match arguments(rt) {
-        Ok(words) => read_words(words.as_slice()),
-        Err(_) => None,
+/// What the words ask for; where they ask for nothing that the program does, how it is called, as JSON where a word asks for that.
+fn asked(rt: &HostRuntime) -> Result<Asked, &'static str> {
+    let Ok(words) = arguments(rt) else {
+        return Err(USAGE);
+    };
+    match read_words(words.as_slice()) {
+        Some(asked) => Ok(asked),
+        None if name_json(words.as_slice()) => Err(USAGE_AS_JSON),
+        None => Err(USAGE),
+    }
+}
+
+/// What is said in a form where there was no memory.
+fn no_memory(form: Form) -> &'static str {
+    match form {
+        Form::Json => NO_MEMORY_AS_JSON,
+        Form::Text | Form::Dot => NO_MEMORY,
     }
 }
 
@@ -69,17 +91,17 @@ fn send(rt: &HostRuntime, text: &str, status: Status) -> Status {
 fn say(alloc: Global, rt: &HostRuntime, form: Form) -> Status {
     match input_outcome(alloc, rt, form) {
         Outcome::Told(said) => send(rt, said.text.as_str(), said.status),
-        Outcome::NoMemory => send(rt, "no memory\n", Status::NoMemory),
+        Outcome::NoMemory => send(rt, no_memory(form), Status::NoMemory),
         Outcome::ReadFailed => Status::DeviceFailed,
     }
 }
 
 fn run(alloc: Global, rt: &HostRuntime) -> Status {
     match asked(rt) {
-        Some(Asked::Saying(form)) => say(alloc, rt, form),
-        Some(Asked::Help) => send(rt, HELP, Status::Yes),
-        Some(Asked::Version) => send(rt, VERSION, Status::Yes),
-        None => send(rt, USAGE, Status::Usage),
+        Ok(Asked::Saying(form)) => say(alloc, rt, form),
+        Ok(Asked::Help) => send(rt, HELP, Status::Yes),
+        Ok(Asked::Version) => send(rt, VERSION, Status::Yes),
+        Err(usage) => send(rt, usage, Status::Usage),
     }
 }
 

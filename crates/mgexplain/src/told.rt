@@ -16,11 +16,11 @@ use check_lines::reply::{InputFault, Reply};
 use closure::steps::{opening, reset};
 use composition::{CheckFault, Checked, Refuted, Verdict, check};
 use explanation::locate;
-use explanation_page::Page;
 use explanation_page::dividers::dividers_told;
 use explanation_page::explain::{Documents, new_page, no_page};
 use explanation_page::places::{certificate_place, script_place};
 use explanation_page::rules::{YES_RULE, certificate_rule, script_rule};
+use explanation_page::{FaultText, Page, PlaceText};
 use mg_names::obligations::Obligation;
 use program_rim::input::Input;
 use program_rim::sections::two_sections;
@@ -82,13 +82,33 @@ fn input_rule(fault: InputFault) -> &'static str {
     }
 }
 
+/// The fault that a reply names, for which something isn't read.
+fn fault_in(reply: &Reply) -> Option<FaultText> {
+    let (of, number, name) = match reply {
+        Reply::Input(InputFault::Sections) => ("input", 1, "Sections"),
+        Reply::Input(InputFault::TooLong) => ("input", 2, "TooLong"),
+        Reply::Checked(Answer::ScriptFault { number, name }) => ("script", *number, *name),
+        Reply::Checked(Answer::CertificateFault { number, name }) => (
+            "certificate",
+            *number,
+            *name,
+        ),
+        _ => return None,
+    };
+    Some(FaultText {
+        of,
+        fault_number: number,
+        fault_name: name,
+    })
+}
+
 /// What is said where no script is read.
 fn unread(
     alloc: Global,
     form: Form,
     reply: &Reply,
     rule: Option<&'static str>,
-    place: Option<String>,
+    place: Option<PlaceText>,
 ) -> Result<Said, AllocError>
     ensures { IfOk result (IsUnder form (line_of reply.now)) }
 {
@@ -96,7 +116,7 @@ fn unread(
         return picture_told(alloc, reply, None, None);
     }
     let line = line(alloc, reply)?;
-    let page = new_page(alloc, line, reply.status(), rule, place);
+    let page = new_page(alloc, line, reply.status(), rule, fault_in(reply), place);
     page_told(alloc, form, reply, &page)
 }
 
@@ -108,7 +128,7 @@ fn yes_told(alloc: Global, form: Form, reply: &Reply, checked: &Checked) -> Resu
         return picture_told(alloc, reply, Some(checked.script()), None);
     }
     let line = line(alloc, reply)?;
-    let page = new_page(alloc, line, reply.status(), Some(YES_RULE), None);
+    let page = new_page(alloc, line, reply.status(), Some(YES_RULE), None, None);
     page_told(alloc, form, reply, &page)
 }
 
@@ -157,7 +177,7 @@ fn rule_and_place(
     script: &[u8],
     certificate: &[u8],
     fault: &CheckFault,
-) -> Result<(&'static str, String), AllocError> {
+) -> Result<(&'static str, PlaceText), AllocError> {
     match fault {
         CheckFault::Script(fault) => Ok((script_rule(fault), script_place(alloc, fault, script)?)),
         CheckFault::Cert(fault) => Ok((

@@ -53,3 +53,8 @@ pub(crate) fn read_words(words: &[String]) -> Option<Asked>
         _ => None,
     }
 }
+
+/// Whether a word asks for JSON, whatever the others are.
+pub(crate) fn name_json(words: &[String]) -> bool {
+    words.iter().any(|word| word.as_str() == "--json")
+}

@@ -13,7 +13,7 @@ use std::fmt;
 #[derive(Drop, Serialize)]
 pub(crate) struct Sent {
     /// Its place, from 0.
-    place: usize,
+    command_place: usize,
     /// The command, as the script writes it.
     command: String,
     /// What becomes of it in a step.
@@ -22,7 +22,7 @@ pub(crate) struct Sent {
 
 impl fmt::Display for Sent {
     fn fmt<W: fmt::Write>(&self, f: &mut fmt::Formatter<W>) -> fmt::Result {
-        let (place, command, mark) = (self.place, &self.command, self.mark);
+        let (place, command, mark) = (self.command_place, &self.command, self.mark);
         writeln!(f, "  {place}  {command}    <- {mark}")
     }
 }
@@ -63,7 +63,7 @@ pub(crate) fn request_text(
             command: &command,
         };
         sent.push(Sent {
-            place,
+            command_place: place,
             command: format!(in alloc; "{text}")?,
             mark: mark(step, place),
         })?;

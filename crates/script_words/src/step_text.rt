@@ -16,7 +16,7 @@ use std::fmt;
 #[derive(Drop, Serialize)]
 pub struct StepText<'a> {
     /// Its words, as the check writes them.
-    name: String,
+    step: String,
     /// What happens.
     says: String,
     /// The state whose request this is.
@@ -29,8 +29,8 @@ pub struct StepText<'a> {
 
 impl fmt::Display for StepText<'_> {
     fn fmt<W: fmt::Write>(&self, f: &mut fmt::Formatter<W>) -> fmt::Result {
-        let (name, says, state) = (&self.name, &self.says, self.state);
-        writeln!(f, "The step `{name}`: {says}.")?;
+        let (step, says, state) = (&self.step, &self.says, self.state);
+        writeln!(f, "The step `{step}`: {says}.")?;
         if !self.request.is_empty() {
             writeln!(f, "The request of state {state} is")?;
         }
@@ -97,7 +97,7 @@ pub fn step_text<'a>(
 ) -> Result<StepText<'a>, AllocError> {
     let state = step.result.state();
     Ok(StepText {
-        name: script.step_words(alloc, &step.name)?,
+        step: script.step_words(alloc, &step.name)?,
         says: says(alloc, script, config.link(), step)?,
         state: state_name(script, state),
         request: request_text(alloc, script, config, state, &step.name)?,
