@@ -1,4 +1,4 @@
-"""The grammar of the program's answers, written from docs/FORMATS.md: which lines there are, which status goes with each, what a report
+"""The grammar of the program's answers, written from docs/use/FORMATS.md: which lines there are, which status goes with each, what a report
 looks like, and what a section of an input says of them. The tools that try inputs nobody has an answer for judge by it."""
 import json
 import re

@@ -1,5 +1,5 @@
 //! `embedding`: checks a script with its certificate, runs a plan of it, and prints what happened to the plan's first call and the state that it is left in.
-//! Standard input has the three documents, divided by lines `%%`. `docs/EMBED.md` walks through it. It promises nothing of its own.
+//! Standard input has the three documents, divided by lines `%%`. `docs/change/EMBED.md` walks through it. It promises nothing of its own.
 #![tactic(auto)]
 
 use composition::{Verdict, check};
