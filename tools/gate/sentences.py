@@ -1,21 +1,39 @@
 """The pages as their sentences: what stands in a paragraph, an item of a list or a row of a table, without the signs of its markup."""
 import re
 
+# What a line of a page is of, where it isn't fenced.
+PROSE, INDENTED = "prose", "indented"
 ITEM = re.compile(r"\s*(?:[-*]|\d+\.) ")
 END = re.compile(r"(?:(?<=[.?!])|(?<=[.?!]\*\*)|(?<=[.?!][)`]))\s+(?=[A-Z`(\[*])")
 ESCAPES = ((r"\\f[BIRP]", ""), (r"\\-", "-"), (r"\\\(ha", "^"), (r"\\\(ti", "~"), (r"\\\(aq", "'"), (r"\\[%&]", ""), (r"\\~", " "))
 
 
+def kinds(text):
+    """The lines of a page, each with its number and with what it is: of a code block that is indented, or that is fenced with this word, or of none. Of a fence
+    itself nothing stands there."""
+    fence = None
+    is_code, is_open = False, True
+    for number, line in enumerate(text.splitlines(), 1):
+        if line.lstrip().startswith("```"):
+            fence = line.strip(" `") if fence is None else None
+            yield number, "", PROSE
+        else:
+            is_code = fence is None and line.startswith("    ") and (is_open or is_code)
+            yield number, line, fence if fence is not None else INDENTED if is_code else PROSE
+        is_open = not line.strip() or is_code and is_open
+
+
 def prose(text):
     """The lines of a page, each with its number; of code blocks, indented or fenced, nothing stands in them."""
-    is_fenced = is_code = False
-    is_open = True
-    for number, line in enumerate(text.splitlines(), 1):
-        fence = line.lstrip().startswith("```")
-        is_code = not is_fenced and line.startswith("    ") and (is_open or is_code)
-        yield number, "" if fence or is_fenced or is_code else line
-        is_fenced ^= fence
-        is_open = not line.strip() or is_code and is_open
+    for number, line, kind in kinds(text):
+        yield number, line if kind == PROSE else ""
+
+
+def spans(lines):
+    """What stands in backquotes, also over the end of a line, with the line where it begins."""
+    text = "\n".join(line for _, line in lines)
+    for found in re.finditer(r"(?<!`)`([^`]+)`(?!`)", text):
+        yield lines[text.count("\n", 0, found.start())][0], found[1]
 
 
 def man_lines(text):
