@@ -1,5 +1,5 @@
 //! Where calls are run: the shards, each under its lock, the plan, the epoch, and the gate.
-ghost use Rattle.std.specs.Prelude.{◌≡◌, ◌%◌, IfSome, length};
+ghost use Rattle.std.specs.Prelude.{◌≡◌, ◌+◌, ◌<◌, ◌%◌, IfSome, length};
 ghost use Rattle.mg_model.specs.declared.plans.PlanStep.TheVariants as steps;
 ghost use Rattle.workers.specs.PlanSteps.{step_at};
 
@@ -98,7 +98,9 @@ impl<'a, 's, G: Gate, B: Running> Workplace<'a, 's, G, B> {
         number: u32,
         planned: PlannedCall<'s>,
         step: &PlanStep,
-    ) -> (PlannedCall<'s>, Result<(), RunFault>) {
+    ) -> (PlannedCall<'s>, Result<(), RunFault>)
+        ensures { planned.entry.log.place + 1 < 18446744073709551616 → result.0.log.place ≡ planned.entry.log.place + 1 }
+    {
         self.gate.pass(rt, number, planned.log.marks.len());
         let mut planned = planned;
         planned.log.place = planned.log.place.saturating_add(1);
