@@ -2,6 +2,8 @@ pub mod ClearedLemmas
 pub mod CoverLemmas
 pub mod FindingLemmas
 pub mod LiveLemmas
+pub mod MarkLemmas
+pub mod NumberedState
 pub mod ObligationOrder
 pub mod OneFinding
 pub mod RequestLemmas

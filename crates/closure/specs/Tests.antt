@@ -1,10 +1,12 @@
 -- Words of the tests that the obligations of a configuration are made of. No public clause speaks of them.
-use Rattle.std.specs.Prelude.{ℕ, ◌<◌, Bool, true, false, not, ◌&&◌, ◌||◌, nat_lt, IsTrue}
+use Rattle.std.specs.Prelude.{ℕ, ◌<◌, ◌==◌, Bool, true, false, not, ◌&&◌, ◌||◌, nat_lt, IsTrue, List, [], ◌∷◌}
+use Rattle.std.specs.List.{list_all}
 use Rattle.mg_names.specs.declared.context_values.ContextValue.{ContextValue}
 use Rattle.mg_names.specs.declared.context_values.ContextValue.TheVariants.{Free, Live, Stale}
 use Rattle.mg_model.specs.declared.commands.Termination.TheVariants.{Line, Ephemeral}
 use Rattle.mg_model.specs.declared.components.Remote.{Remote}
 use Rattle.mg_model.specs.declared.components.Remote.TheVariants.{Unset, Gone, To}
+use Rattle.mg_model.specs.declared.transitions.Pair.{Pair}
 use Rattle.mg_model.specs.Script.{Script}
 use Rattle.mg_model.specs.Tables.{state_of, items_of, is_armed_list, is_marked}
 use Rattle.mg_model.specs.Configuration.{Configuration, is_null, is_present}
@@ -17,6 +19,14 @@ PairIsMarked script c i j = AreJoined c i j → IsTrue (is_marked (state_of scri
 -- the same of two among so many lines
 abbrev pub PairBelowIsMarked : Script → Configuration → ℕ → ℕ → ℕ → Type 0
 PairBelowIsMarked script c lines i j = i < lines → j < lines → PairIsMarked script c i j
+
+-- two lines are one, or aren't both among so many, or are marked
+abbrev pub marks_pair : List Pair → ℕ → ℕ → ℕ → Bool
+marks_pair talk lines i j = i == j || (not (nat_lt i lines) || (not (nat_lt j lines) || is_marked talk i j))
+
+-- the same of a line and each of the four
+abbrev pub marks_with : List Pair → ℕ → ℕ → Bool
+marks_with talk lines i = list_all (marks_pair talk lines i) (0 ∷ 1 ∷ 2 ∷ 3 ∷ [])
 
 abbrev pub line_is_cleared : Script → Configuration → ℕ → ℕ → Bool
 line_is_cleared script c lines i =

@@ -8,6 +8,7 @@ pub mod cover;
 mod covering;
 pub mod effects;
 pub mod first_fault;
+mod marks;
 pub mod obligations;
 pub mod requests;
 pub mod steps;
