@@ -23,3 +23,4 @@ pub mod NumberLemmas
 pub mod AgreementLemmas
 pub mod RegionLemmas
 pub mod ValueSetLemmas
+pub mod FormedLemmas

@@ -7,6 +7,7 @@ mod codes;
 pub mod config;
 mod cuts;
 mod fields;
+pub mod formed;
 mod numbers;
 mod places;
 pub mod region;

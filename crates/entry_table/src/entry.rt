@@ -150,6 +150,14 @@ impl Entry {
         is_well_formed(config)
     }
 
+    /// Whether it has a configuration that is well formed: it is one of the entry's state, and has each component in its set.
+    pub fn contains_formed(&self, config: &Config) -> bool
+        requires { IsWellFormed (configuration_of config.now) }
+        ensures { IsTrue result ↔ Includes self.now (configuration_of config.now) }
+    {
+        self.region.has(config)
+    }
+
     /// What its points are made of: the configuration with a number is the one in which the components have the choices with this number.
     pub fn points_by_component(&self) -> PointsByComponent<'_>
         ensures size { size_of (shown_all result.components.now) ≡ size_of self.now.components }

@@ -6,6 +6,15 @@ use Rattle.closure.proofs.CoveringLemmas.{one_more_covered, first_uncovered}
 use Rattle.closure.proofs.FindingLemmas.{refuted}
 use Rattle.closure.proofs.covering.CoveringVisitor.visit.Goals as goal
 
+pub covers_first-covered-requires : goal.covers_first-covered-requires
+covers_first-covered-requires c = record { formed = c.take_up.ensures.0 c.if-not-take_up.false }
+
+pub returns-then-not-take_up : goal.returns-then-not-take_up
+returns-then-not-take_up c entries before later told =
+    let result = configuration_of c.args.leads_to.now in
+    first_uncovered entries before (c.args.name, result) later told.1
+    (λ covered. refuted c.take_up.result c.if-not-take_up.true (c.take_up.ensures.1 covered.1.1.1))
+
 pub returns-then-covered : goal.returns-then-covered
 returns-then-covered c entries before told =
     let result = configuration_of c.args.leads_to.now in (
