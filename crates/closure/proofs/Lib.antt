@@ -5,6 +5,7 @@ pub mod LiveLemmas
 pub mod MarkLemmas
 pub mod NumberedState
 pub mod ObligationOrder
+pub mod OptionLemmas
 pub mod OneFinding
 pub mod RequestLemmas
 pub mod RunLemmas

@@ -1,16 +1,21 @@
 -- Words for what one turn of a loop does. No public clause speaks of them.
-use Rattle.std.specs.Prelude.{ℕ, false, List, [], ◌∷◌, if◌then◌else◌}
+use Rattle.std.specs.Prelude.{ℕ, false, List, [], ◌∷◌, if◌then◌else◌, Option, unwrap_or}
 use Rattle.mg_names.specs.declared.topologies.Topology.{Topology}
+use Rattle.mg_model.specs.declared.commands.EventsName.{EventsName}
+use Rattle.mg_model.specs.declared.commands.SignalsName.{SignalsName}
+use Rattle.mg_model.specs.declared.commands.RemoteOption.{RemoteOption}
 use Rattle.mg_model.specs.declared.commands.Termination.{Termination}
 use Rattle.mg_model.specs.declared.components.Remote.{Remote}
 use Rattle.mg_model.specs.declared.components.Remote.TheVariants.{Unset, Gone}
 use Rattle.mg_model.specs.declared.components.Spot.TheVariants.{Absent, Null}
 use Rattle.mg_model.specs.declared.commands.EventsName.TheVariants.{Empty}
 use Rattle.mg_model.specs.declared.commands.Termination.TheVariants.{Line, Ephemeral}
+use Rattle.mg_names.specs.declared.modes.Mode.{Mode}
 use Rattle.mg_names.specs.declared.modes.Mode.TheVariants.{Inactive}
+use Rattle.mg_model.specs.Script.{Script}
 use Rattle.mg_model.specs.Configuration.{Configuration, with_of, value_of, stands_in, is_to, is_in, is_same}
 use Rattle.mg_model.specs.Updates.{with_at}
-use Rattle.mg_model.specs.Effects.{with_pair, cuts_forward, cuts_backward, without_terminations}
+use Rattle.mg_model.specs.Effects.{with_pair, cuts_forward, cuts_backward, without_terminations, plays_after, remote_set}
 
 -- one context name says what the places of the terminations make it
 abbrev pub settled_at : Configuration → ℕ → Configuration
@@ -65,3 +70,16 @@ subtracted_from j c t = if is_in (c.spot t) j then without_terminations c (is_sa
 abbrev pub subtracted_each : ℕ → Configuration → List Termination → Configuration
 subtracted_each j c [] = c
 subtracted_each j c (t ∷ ts) = subtracted_each j (subtracted_from j c t) ts
+
+-- one of the options of a command; what isn't given stays
+abbrev pub with_mode_option : Configuration → Termination → Option Mode → Configuration
+with_mode_option c t mode = record c { mode = with_of c.mode t (unwrap_or mode (c.mode t)) }
+
+abbrev pub with_events_option : Configuration → ℕ → Option EventsName → Configuration
+with_events_option c i events = record c { events = with_at c.events i (unwrap_or events (c.events i)) }
+
+abbrev pub with_signals_option : Script → Configuration → ℕ → Option SignalsName → Configuration
+with_signals_option script c i signals = record c { plays = with_at c.plays i (plays_after script signals (c.plays i)) }
+
+abbrev pub with_remote_option : Configuration → ℕ → Option RemoteOption → Configuration
+with_remote_option c k remote = record c { remote = with_at c.remote k (remote_set remote (c.remote k)) }

@@ -1,13 +1,17 @@
 //! What the options of a command set (H.248.1 section 7.1): on a line the mode, the Events and the Signals descriptor, on
 //! an ephemeral the mode and the Remote descriptor. What a command leaves out stays.
-ghost use Rattle.std.specs.Prelude.{◌≡◌};
-ghost use Rattle.mg_model.specs.Effects.{remote_legal, plays_after, remote_set, with_line_options, with_ephemeral_options};
+ghost use Rattle.std.specs.Prelude.{◌≡◌, Some};
+ghost use Rattle.mg_model.specs.Effects.{remote_legal, remote_set, with_line_options, with_ephemeral_options};
+ghost use Rattle.closure.specs.Elementwise.{with_mode_option, with_events_option, with_signals_option, with_remote_option};
 ghost use Rattle.configuration.specs.Config.{configuration_of};
 
 use configuration::config::Config;
 use configuration::spots;
-use mg_model::commands::{EphemeralOptions, LineOptions, RemoteOption, SignalsName, Termination};
+use mg_model::commands::{
+    EphemeralOptions, EventsName, LineOptions, RemoteOption, SignalsName, Termination,
+};
 use mg_model::components::Remote;
+use mg_names::modes::Mode;
 use mg_names::slots::Slot;
 use script_table::Script;
 
@@ -24,13 +28,38 @@ pub(super) fn is_remote_legal(config: &Config, remote: &Option<RemoteOption>) ->
     }
 }
 
-/// Whether a line may play once a Signals descriptor is processed.
-fn plays_after(script: &Script, signals: &Option<SignalsName>, was: bool) -> bool
-    ensures { result ≡ plays_after script.now signals.now was }
+/// Sets a termination's mode where one is given.
+fn set_mode_option(config: &mut Config, termination: &Termination, mode: &Option<Mode>)
+    ensures { configuration_of config.new ≡ with_mode_option (configuration_of config.old) termination.now mode.now }
+{
+    match *mode {
+        Some(mode) => config.set_mode(*termination, mode),
+        None => {}
+    }
+}
+
+/// Sets a line's events list where one is given.
+fn set_events_option(config: &mut Config, line: Slot, events: &Option<EventsName>)
+    ensures { configuration_of config.new ≡ with_events_option (configuration_of config.old) line events.now }
+{
+    match *events {
+        Some(events) => config.set_events(line, events),
+        None => {}
+    }
+}
+
+/// Sets whether a line may play once a Signals descriptor is processed, where one is given.
+fn set_signals_option(
+    script: &Script,
+    config: &mut Config,
+    line: Slot,
+    signals: &Option<SignalsName>,
+)
+    ensures { configuration_of config.new ≡ with_signals_option script.now (configuration_of config.old) line signals.now }
 {
     match *signals {
-        None => was,
-        Some(signals) => !script.signals_empty(signals),
+        Some(signals) => config.set_plays(line, !script.signals_empty(signals)),
+        None => {}
     }
 }
 
@@ -43,22 +72,28 @@ pub(super) fn set_line_options(
 )
     ensures { configuration_of config.new ≡ with_line_options script.now (configuration_of config.old) line options.now }
 {
-    let mode = options.mode.unwrap_or(config.mode(Termination::Line(line)));
-    let events = options.events.unwrap_or(config.events(line));
-    let plays = plays_after(script, &options.signals, config.plays(line));
-    config.set_mode(Termination::Line(line), mode);
-    config.set_events(line, events);
-    config.set_plays(line, plays);
+    set_mode_option(config, &Termination::Line(line), &options.mode);
+    set_events_option(config, line, &options.events);
+    set_signals_option(script, config, line, &options.signals);
 }
 
-/// The Remote that an option sets.
-fn remote_set(remote: &Option<RemoteOption>, was: Remote) -> Remote
-    ensures { result ≡ remote_set remote.now was }
+/// The Remote that a command gives.
+fn remote_given(remote: &RemoteOption) -> Remote
+    ensures { (was : Remote) → result ≡ remote_set (Some remote.now) was }
 {
     match *remote {
-        None => was,
-        Some(RemoteOption::NoneGiven) => Remote::Unset,
-        Some(RemoteOption::Peer(peer)) => Remote::To(peer),
+        RemoteOption::NoneGiven => Remote::Unset,
+        RemoteOption::Peer(peer) => Remote::To(peer),
+    }
+}
+
+/// Sets an ephemeral's Remote where one is given.
+fn set_remote_option(config: &mut Config, ephemeral: Slot, remote: &Option<RemoteOption>)
+    ensures { configuration_of config.new ≡ with_remote_option (configuration_of config.old) ephemeral remote.now }
+{
+    match *remote {
+        Some(given) => config.set_remote(ephemeral, remote_given(&given)),
+        None => {}
     }
 }
 
@@ -70,10 +105,6 @@ pub(super) fn set_ephemeral_options(
 )
     ensures { configuration_of config.new ≡ with_ephemeral_options (configuration_of config.old) ephemeral options.now }
 {
-    let mode = options
-        .mode
-        .unwrap_or(config.mode(Termination::Ephemeral(ephemeral)));
-    let remote = remote_set(&options.remote, config.remote(ephemeral));
-    config.set_mode(Termination::Ephemeral(ephemeral), mode);
-    config.set_remote(ephemeral, remote);
+    set_mode_option(config, &Termination::Ephemeral(ephemeral), &options.mode);
+    set_remote_option(config, ephemeral, &options.remote);
 }
