@@ -1,0 +1,3 @@
+-- Agents that are alike step alike.
+pub mod Requests
+pub mod Steps

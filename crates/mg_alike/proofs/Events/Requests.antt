@@ -1,0 +1,265 @@
+-- A request of a call that reaches both gateways: both execute it, or both send its reply once more, or both drop it.
+use Rattle.std.proofs.Common.{◌≡◌, ◌∙◌, ◌+◌, ◌<◌, ◌++◌, ℕ, suc, true, List, [], ◌∷◌, length, Option, Some, refl, sym, ap, subst, arith, inl, inr}
+use Rattle.std.specs.Prelude.{◌==◌, ◌&&◌, Contains}
+use Rattle.std.proofs.lemmas.Bool.{eq-eqb, eqb-true}
+use Rattle.mg_model.specs.declared.commands.Command.{Command}
+use Rattle.mg_model.specs.declared.failures.ChosenRefusal.{ChosenRefusal}
+use Rattle.mg_model.specs.Accepted.{IsScript}
+use Rattle.mg_model.specs.Agent.{Agent, Made, Phase, awaits_reply, answers, built_by, commands_of, made_after, none_made}
+use Rattle.mg_model.specs.Delivery.{Offer, fresh, kept, discard}
+use Rattle.mg_model.specs.Entries.{Entry}
+use Rattle.mg_model.specs.Gateway.{Gateway, last_executed, offer_to, start_of, after_request, reply_of, sent_notes}
+use Rattle.mg_model.specs.Messages.{Request, RequestCommand, Reply, SentNote}
+use Rattle.mg_model.specs.Obligations.{IsLive}
+use Rattle.mg_model.specs.RequestRun.{RunsFrom}
+use Rattle.mg_model.specs.Script.{Script}
+use Rattle.mg_model.specs.Shards.{AreLeft, IsContextLeft, IsEphemeralLeft, HasIdentifiersLeft}
+use Rattle.mg_model.specs.World.{World, with_gateway, Executes, IsFirst, IsRepeat, IsRequestOf}
+use Rattle.mg_model.proofs.Cases.{and_first, and_second, the_some}
+use Rattle.mg_model.proofs.Offered.{fresh_at, number_of}
+use Rattle.mg_merge.proofs.Commands.IdentifiersLeft.{Remain}
+use Rattle.mg_safety.specs.MessageNumbers.{AreNamedByNumber}
+use Rattle.mg_safety.proofs.Events.Executing.{IsDue, is_due}
+use Rattle.mg_safety.proofs.Events.ExecutedCalls.{world_after}
+use Rattle.mg_safety.proofs.Events.Others.{is_call_of}
+use Rattle.mg_safety.proofs.Invariant.Shown.{naming, Seen, Shown}
+use Rattle.mg_safety.proofs.Invariant.Sound.{is_call, owned_in, IsSound, IsReplySound, CallIsSound}
+use Rattle.mg_safety.proofs.Invariant.Statements.{IsClosed}
+use Rattle.mg_safety.proofs.Requests.Starting.{shown_at_start}
+use Rattle.mg_safety.proofs.GoodWorlds.Beginning.{reached}
+use Rattle.mg_safety.proofs.Certificate.Closed.{closed}
+use Rattle.mg_safety.proofs.Messages.NamedMessages.{named_by_number}
+use Rattle.mg_alike.specs.Agents.{PhasesAlike}
+use Rattle.mg_alike.specs.Laws.{ExecutesAlike}
+use Rattle.mg_alike.specs.Messages.{CommandsAlike, RequestsAlike}
+use Rattle.mg_alike.specs.Renaming.{Renaming, OptionsAlike, Pairwise}
+use Rattle.mg_alike.specs.Worlds.{is_awaited, KeptAlike, CallAlike, TreatAlike}
+use Rattle.mg_alike.proofs.Agents.Requests.{built_same, commands_alike}
+use Rattle.mg_alike.proofs.Events.Executed.{one_more, after_alike}
+use Rattle.mg_alike.proofs.Events.Offers.{OffersAlike, offers_alike}
+use Rattle.mg_alike.proofs.Requests.Runs.{IsUnderway, HaveEnded, runs_alike}
+use Rattle.mg_alike.proofs.Requests.Starting.{by_names, small_contexts, small_ephemerals, starts_alike}
+use Rattle.mg_alike.proofs.Shared.Options.{options_more}
+
+-- a request has as many commands as were built
+as_many : (script : Script) (a : Agent) (made : Made) (place : ℕ) (commands : List Command) → length (commands_of script a made place commands) ≡ length commands
+as_many script a made place [] = refl
+as_many script a made place (command ∷ more) = ap (λ (n : ℕ). suc n) (as_many script a (made_after made command place) (place + 1) more)
+
+-- a world in which a request was executed, written out
+executed_world : World → Gateway → Reply → List SentNote → World
+executed_world w g answer sent = record (with_gateway w g) { replies = answer ∷ w.replies; notes = sent ++ w.notes }
+
+same_world : (w : World) (g h : Gateway) (answer other : Reply) (sent more : List SentNote) → g ≡ h → answer ≡ other → sent ≡ more
+    → executed_world w g answer sent ≡ executed_world w h other more
+same_world w g h answer other sent more first second third = cc
+
+-- what one world has of a call of which it executes a request
+record IsStarted (script : Script) (entries : List Entry) (w : World) (call : ℕ) (a : Agent) (q : Request) : Type 0 where
+  due : IsDue script entries w.gateway a q
+  shown : Shown script (owned_in w.gateway call) (naming a) w.gateway.board due.k.c
+  live : IsLive due.k.c
+  remain : Remain w.gateway.board (length (built_by script a a.state))
+
+module _ (script : Script) (entries : List Entry) (closes : IsClosed script entries) (w : World) (sound : IsSound script entries w) (left : HasIdentifiersLeft w)
+    (call : ℕ) (a : Agent) (open_call : w.agent call ≡ Some a) (q : Request) (there : Contains w.requests q) (of : q.call ≡ call) (is_fresh : offer_to w.gateway q ≡ fresh) where
+  own : CallIsSound script entries w call a
+  own = sound.calls call a open_call
+
+  offered : (q.association ≡ w.gateway.association) × (last_executed w.gateway q.call < q.number)
+  offered = fresh_at w.gateway q is_fresh
+
+  due_now : IsDue script entries w.gateway a q
+  due_now = is_due script entries w q a (subst (λ (n : ℕ). CallIsSound script entries w n a) (sym of) own) (own.requests q there of) offered.0 offered.1
+
+  seen_now : Seen script (owned_in w.gateway call) (naming a) w.gateway.board due_now.k.c
+  seen_now =
+      subst (λ (n : ℕ). Seen script (owned_in w.gateway n) (naming a) w.gateway.board due_now.k.c) own.numbered
+      (subst (λ (x : Agent). Seen script (owned_in w.gateway a.call) (naming x) w.gateway.board due_now.k.c) due_now.effective due_now.k.shown)
+
+  live_now : IsLive due_now.k.c
+  live_now = closes.live due_now.k.c due_now.k.stands (inl due_now.link)
+
+  counted : length q.commands ≡ length (built_by script a a.state)
+  counted = ap (λ (commands : List RequestCommand). length commands) due_now.outstanding.commands ∙ as_many script a none_made 0 (built_by script a a.state)
+
+  started : IsStarted script entries w call a q
+  started = record {
+    due = due_now;
+    shown = shown_at_start script (owned_in w.gateway call) (naming a) w.gateway.board due_now.k.c seen_now due_now.k.stands.covered.1.1.1 due_now.k.stands.of_script
+        sound.gateway.accounted live_now;
+    live = live_now;
+    remain = record {
+      contexts = subst (λ (n : ℕ). AreLeft (IsContextLeft w.gateway.board) n) counted (left.contexts q there);
+      ephemerals = subst (λ (n : ℕ). AreLeft (IsEphemeralLeft w.gateway.board) n) counted (left.ephemerals q there);
+    };
+  }
+
+  -- no reply to it was sent
+  unanswered : (x : Reply) → Contains w.replies x → x.call ≡ call → is_awaited a.phase x ≡ true → ⊥
+  unanswered x sent its e =
+      let answered : answers x q ≡ true = subst (λ (phase : Phase). is_awaited phase x ≡ true) due_now.outstanding.phase e in
+      let same = and_second (x.call == q.call) ((x.association == q.association) && x.number == q.number) answered in
+      let now : x.association ≡ q.association = eqb-true x.association q.association (and_first (x.association == q.association) (x.number == q.number) same) in
+      let number : x.number ≡ q.number = eqb-true x.number q.number (and_second (x.association == q.association) (x.number == q.number) same) in
+      let is_sound : IsReplySound w.gateway x = (sound.gateway.replies x sent).1 (a, ap w.agent its ∙ open_call) in
+      let newer : last_executed w.gateway x.call < q.number = subst (λ (n : ℕ). last_executed w.gateway n < q.number) (of ∙ sym its) offered.1 in
+      elim (is_sound.kept (now ∙ offered.0)) [
+        | inl last ↦ (let kept : last_executed w.gateway x.call ≡ x.number = ap number_of last in omega (arith, kept, number, newer))
+        | inr older ↦ omega (arith, older, number, newer)
+      ]
+
+module _ (script : Script) (entries : List Entry) (is_script : IsScript script) (closes : IsClosed script entries) (w v : World) (sound : IsSound script entries w)
+    (also_sound : IsSound script entries v) (once : AreNamedByNumber v) (left : HasIdentifiersLeft w) (also_left : HasIdentifiersLeft v) (call number : ℕ) (chosen : Option ChosenRefusal)
+    (r : Renaming) (a b : Agent) (alike : CallAlike r w v call a b) (q p : Request) (of : IsRequestOf w call number q) (its : IsRequestOf v call number p) where
+  numbers : p.number ≡ q.number
+  numbers = its.2 ∙ sym of.2
+
+  associations : p.association ≡ q.association
+  associations =
+      let other = alike.requests.onward q of.0 of.1 in
+      let same : other.0 ≡ p = once.requests other.0 p other.1 its.0 (other.2.call ∙ of.1 ∙ sym its.1) (other.2.number ∙ sym numbers) in
+      sym (ap (λ (x : Request). x.association) same) ∙ other.2.association
+
+  offers : OffersAlike r (offer_to w.gateway q) (offer_to v.gateway p)
+  offers = offers_alike r w.gateway v.gateway q p
+      (ap v.gateway.retired its.1 ∙ also_sound.gateway.retired call b alike.open_other ∙ sym (ap w.gateway.retired of.1 ∙ sound.gateway.retired call a alike.open_one))
+      associations alike.association
+      (subst (λ (n : ℕ). KeptAlike r (w.gateway.link n).last (v.gateway.link p.call).last) (sym of.1)
+      (subst (λ (n : ℕ). KeptAlike r (w.gateway.link call).last (v.gateway.link n).last) (sym its.1) alike.kept)) numbers
+
+  -- what can't be said of the two at once
+  clash : (o s : Offer Reply) → offer_to w.gateway q ≡ o → offer_to v.gateway p ≡ s → OffersAlike r o s
+  clash o s first second = subst (λ (x : Offer Reply). OffersAlike r x s) first (subst (λ (x : Offer Reply). OffersAlike r (offer_to w.gateway q) x) second offers)
+
+  -- ---- both execute it
+
+  module _ (after next : World) (f : IsFirst w q chosen after) (g : IsFirst v p chosen next) where
+    one : IsStarted script entries w call a q
+    one = started script entries closes w sound left call a alike.open_one q of.0 of.1 f.executed.is_fresh
+
+    other : IsStarted script entries v call b p
+    other = started script entries closes v also_sound also_left call b alike.open_other p its.0 its.1 g.executed.is_fresh
+
+    held_of : (l : ℕ) → is_call (w.gateway.holder l) call ≡ true → (i : ℕ) × (i < length script.lines) × (a.lines i ≡ l)
+    held_of l held =
+        let it = sound.gateway.held l call (is_call_of (w.gateway.holder l) call held) in
+        (it.1, it.3, ap (λ (x : Agent). x.lines it.1) (the_some a it.0 (sym alike.open_one ∙ it.2)) ∙ it.4)
+
+    own_line : (i : ℕ) → i < length script.lines → is_call (w.gateway.holder (a.lines i)) call ≡ true
+    own_line i within = ap (λ (o : Option ℕ). is_call o call) ((sound.calls call a alike.open_one).held i within) ∙ eq-eqb call call refl
+
+    built : built_by script b b.state ≡ built_by script a a.state
+    built = ap (λ (n : ℕ). built_by script b n) alike.agents.state ∙ built_same script r a b alike.agents a.state
+
+    begins : IsUnderway script (λ l. is_call (w.gateway.holder l) call) a b (by_names script a b) (start_of w.gateway) (start_of v.gateway) 0 (built_by script a a.state) none_made
+    begins = starts_alike script is_script w v call r a b alike one.due.k.c other.due.k.c one.shown other.shown one.due.k.stands.of_script one.live
+        sound.gateway.accounted also_sound.gateway.accounted held_of a.state one.remain
+        (subst (λ (commands : List Command). Remain v.gateway.board (length commands)) built other.remain)
+
+    ended : HaveEnded (λ l. is_call (w.gateway.holder l) call) (by_names script a b) f.executed.end g.executed.end f.executed.failure g.executed.failure
+    ended = runs_alike script (λ l. is_call (w.gateway.holder l) call) a b own_line alike.agents.lines q.number chosen (built_by script a a.state) (by_names script a b)
+        (start_of w.gateway) (start_of v.gateway) 0 none_made begins f.executed.end g.executed.end f.executed.failure g.executed.failure
+        (subst (λ (commands : List RequestCommand). RunsFrom q.number chosen (start_of w.gateway) 0 commands f.executed.end f.executed.failure) one.due.outstanding.commands f.executed.runs)
+        (subst (λ (n : ℕ). RunsFrom n chosen (start_of v.gateway) 0 (commands_of script b none_made 0 (built_by script a a.state)) g.executed.end g.executed.failure) numbers
+        (subst (λ (commands : List RequestCommand). RunsFrom p.number chosen (start_of v.gateway) 0 commands g.executed.end g.executed.failure)
+        (other.due.outstanding.commands ∙ ap (λ (list : List Command). commands_of script b none_made 0 list) built) g.executed.runs))
+
+    contexts_wide : (j : ℕ) → OptionsAlike ended.wide.contexts (a.contexts j) (b.contexts j)
+    contexts_wide j = options_more (by_names script a b).contexts ended.wide.contexts ended.wider.contexts (a.contexts j) (b.contexts j)
+        (small_contexts script is_script w v call r a b alike one.due.k.c other.due.k.c one.shown other.shown one.due.k.stands.of_script one.live
+        sound.gateway.accounted also_sound.gateway.accounted held_of j)
+
+    ephemerals_wide : (k : ℕ) → OptionsAlike ended.wide.ephemerals (a.ephemerals k) (b.ephemerals k)
+    ephemerals_wide k = options_more (by_names script a b).ephemerals ended.wide.ephemerals ended.wider.ephemerals (a.ephemerals k) (b.ephemerals k)
+        (small_ephemerals script is_script w v call r a b alike one.due.k.c other.due.k.c one.shown other.shown one.due.k.stands.of_script one.live
+        sound.gateway.accounted also_sound.gateway.accounted held_of k)
+
+    outstanding_wide : RequestsAlike ended.wide q p
+    outstanding_wide = record {
+      call = its.1 ∙ sym of.1;
+      association = associations;
+      number = numbers;
+      commands =
+          subst (λ (commands : List RequestCommand). Pairwise (CommandsAlike ended.wide) commands p.commands) (sym one.due.outstanding.commands)
+          (subst (λ (commands : List RequestCommand). Pairwise (CommandsAlike ended.wide) (commands_of script a none_made 0 (built_by script a a.state)) commands)
+          (sym (other.due.outstanding.commands ∙ ap (λ (list : List Command). commands_of script b none_made 0 list) built))
+          (commands_alike script ended.wide a b alike.agents.lines contexts_wide ephemerals_wide none_made 0 (built_by script a a.state)));
+    }
+
+    phases_wide : PhasesAlike ended.wide a.phase b.phase
+    phases_wide =
+        subst (λ (phase : Phase). PhasesAlike ended.wide phase b.phase) (sym one.due.outstanding.phase)
+        (subst (λ (phase : Phase). PhasesAlike ended.wide (awaits_reply q) phase) (sym other.due.outstanding.phase) outstanding_wide)
+
+    after_is : after ≡ world_after w q f.executed.end f.executed.settled f.executed.failure
+    unfolding executed_world
+    after_is = f.after_is ∙ same_world w f.gateway (after_request w.gateway q f.executed.end f.executed.settled f.executed.failure) f.answer (reply_of q f.executed.end f.executed.failure)
+        f.sent (sent_notes q.call q.association (w.gateway.link q.call).notes f.executed.end.notes) f.executed.after_is f.executed.reply_is f.executed.notes_are
+
+    next_is : next ≡ world_after v p g.executed.end g.executed.settled g.executed.failure
+    unfolding executed_world
+    next_is = g.after_is ∙ same_world v g.gateway (after_request v.gateway p g.executed.end g.executed.settled g.executed.failure) g.answer (reply_of p g.executed.end g.executed.failure)
+        g.sent (sent_notes p.call p.association (v.gateway.link p.call).notes g.executed.end.notes) g.executed.after_is g.executed.reply_is g.executed.notes_are
+
+    both_first : TreatAlike after next call
+    both_first = record {
+      renaming = ended.wide;
+      one = a;
+      other = b;
+      alike = subst (λ (x : World). CallAlike ended.wide x next call a b) (sym after_is)
+          (subst (λ (x : World). CallAlike ended.wide (world_after w q f.executed.end f.executed.settled f.executed.failure) x call a b) (sym next_is)
+          (after_alike script w v call r a b alike q p of.1 its.1 associations numbers f.executed.end g.executed.end f.executed.settled g.executed.settled
+          f.executed.failure g.executed.failure f.executed.is_settled g.executed.is_settled ended.wide ended.running ended.same contexts_wide ephemerals_wide phases_wide
+          (unanswered script entries closes w sound left call a alike.open_one q of.0 of.1 f.executed.is_fresh)));
+    }
+
+  -- ---- both send the reply once more
+
+  both_repeat : (after next : World) → IsRepeat w q after → IsRepeat v p next → TreatAlike after next call
+  both_repeat after next f g = record {
+    renaming = r;
+    one = a;
+    other = b;
+    alike = subst (λ (x : World). CallAlike r x next call a b) (sym f.after_is)
+        (subst (λ (x : World). CallAlike r (record w { replies = f.answer ∷ w.replies }) x call a b) (sym g.after_is) (record {
+          renaming = alike.renaming;
+          open_one = alike.open_one;
+          open_other = alike.open_other;
+          agents = alike.agents;
+          association = alike.association;
+          kept = alike.kept;
+          count = alike.count;
+          held = alike.held;
+          lines = alike.lines;
+          rows = λ t u own. alike.rows t u own;
+          cuts = λ t u s x first second. alike.cuts t u s x first second;
+          requests = alike.requests;
+          replies = one_more r r a.phase a.phase call f.answer g.answer w.replies v.replies (clash (kept f.answer) (kept g.answer) f.kept g.kept) (λ x y there its same. same) alike.replies;
+          notes = alike.notes;
+        }));
+  }
+
+  by_case : (after next : World) → Executes w q chosen after → Executes v p chosen next → TreatAlike after next call
+  by_case after next (inl f) (inl g) = both_first after next f g
+  by_case after next (inr (inl f)) (inr (inl g)) = both_repeat after next f g
+  by_case after next (inr (inr f)) (inr (inr g)) = record {
+    renaming = r;
+    one = a;
+    other = b;
+    alike = subst (λ (x : World). CallAlike r x next call a b) (sym f.1) (subst (λ (x : World). CallAlike r w x call a b) (sym g.1) alike);
+  }
+  by_case after next (inl f) (inr (inl g)) = absurd (clash fresh (kept g.answer) f.executed.is_fresh g.kept)
+  by_case after next (inl f) (inr (inr g)) = absurd (clash fresh discard f.executed.is_fresh g.0)
+  by_case after next (inr (inl f)) (inl g) = absurd (clash (kept f.answer) fresh f.kept g.executed.is_fresh)
+  by_case after next (inr (inl f)) (inr (inr g)) = absurd (clash (kept f.answer) discard f.kept g.0)
+  by_case after next (inr (inr f)) (inl g) = absurd (clash discard fresh f.0 g.executed.is_fresh)
+  by_case after next (inr (inr f)) (inr (inl g)) = absurd (clash discard (kept g.answer) f.0 g.kept)
+
+pub executes_alike : ExecutesAlike
+executes_alike script w v at call number chosen treat after next (q, of, executes) (p, its, also) =
+    by_case script at.entries at.is_script (closed script at.entries at.is_script at.listed at.none_broken) w v
+    (reached script at.entries at.is_script at.listed at.none_broken at.calls at.events at.start w at.opens at.runs)
+    (reached script at.entries at.is_script at.listed at.none_broken at.others at.history at.first v at.also_opens at.also_runs)
+    (named_by_number script at.others at.history at.first v at.also_opens at.also_runs) at.left at.also_left call number chosen treat.renaming treat.one treat.other treat.alike
+    q p of its after next executes also

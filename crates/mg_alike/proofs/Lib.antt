@@ -1,0 +1,5 @@
+pub mod Shared
+pub mod Agents
+pub mod Commands
+pub mod Requests
+pub mod Events

@@ -1,0 +1,6 @@
+pub mod Renaming
+pub mod Messages
+pub mod Agents
+pub mod Boards
+pub mod Worlds
+pub mod Laws

@@ -1,0 +1,24 @@
+//! The laws of a call that two worlds treat alike.
+ghost use Rattle.mg_alike.specs.Laws.{AgentsStepAlike, EventsAlike, ExecutesAlike, RestartsAlike};
+
+/// Two agents that are the same but for a renaming of identifiers step alike: by the same reply, but for the renaming, by a pass, a note, the timer
+/// and a newer association each takes a step exactly where the other does, to agents that are the same but for the renaming.
+pub fn agents_step_alike()
+    ensures { AgentsStepAlike }
+{}
+
+/// A request of a call that reaches both gateways leaves two worlds that treat the call alike alike again, whatever identifiers they choose: both execute
+/// it, or both send its reply once more, or both drop it. In runs, of any calls, in which no obligation is broken and identifiers are left.
+pub fn executes_alike()
+    ensures { ExecutesAlike }
+{}
+
+/// So does each event of a call that is open: of its lines, its requests, replies and notes, its agent and its timer.
+pub fn events_alike()
+    ensures { EventsAlike }
+{}
+
+/// So does a restart of both gateways.
+pub fn restarts_alike()
+    ensures { RestartsAlike }
+{}
