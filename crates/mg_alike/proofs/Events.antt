@@ -5,3 +5,6 @@ pub mod Requests
 pub mod Steps
 pub mod LineEvents
 pub mod Every
+pub mod Settled
+pub mod Settling
+pub mod Happening

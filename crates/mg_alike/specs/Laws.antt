@@ -79,3 +79,11 @@ abbrev pub RestartsAlike : Type 0
 RestartsAlike =
     (script : Script) (w v : World) (call : ℕ) → TreatAlike w v call → (after next : World) → Occurs script w Restart after
     → Occurs script v Restart next → TreatAlike after next call
+
+-- ---- what can happen
+
+-- an event of a call that can happen in the one world can happen in the other
+abbrev pub EventsHappenAlike : Type 0
+EventsHappenAlike =
+    (script : Script) (w v : World) → AreReached script w v → (call : ℕ) (happens : CallEvent) → (IsBeginning happens → ⊥) → TreatAlike w v call
+    → (after : World) → OccursTo script w call happens after → (next : World) × OccursTo script v call happens next

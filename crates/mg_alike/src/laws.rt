@@ -1,5 +1,5 @@
 //! The laws of a call that two worlds treat alike.
-ghost use Rattle.mg_alike.specs.Laws.{AgentsStepAlike, EventsAlike, ExecutesAlike, RestartsAlike};
+ghost use Rattle.mg_alike.specs.Laws.{AgentsStepAlike, EventsAlike, EventsHappenAlike, ExecutesAlike, RestartsAlike};
 
 /// Two agents that are the same but for a renaming of identifiers step alike: by the same reply, but for the renaming, by a pass, a note, the timer
 /// and a newer association each takes a step exactly where the other does, to agents that are the same but for the renaming.
@@ -21,4 +21,10 @@ pub fn events_alike()
 /// So does a restart of both gateways.
 pub fn restarts_alike()
     ensures { RestartsAlike }
+{}
+
+/// An event of a call that is open can happen in the one world where it can in the other: a request is executed there too, by other identifiers, and
+/// refused at the same place with the same code.
+pub fn events_happen_alike()
+    ensures { EventsHappenAlike }
 {}

@@ -25,7 +25,7 @@ use Rattle.mg_alike.proofs.Events.Requests.{executes_alike}
 use Rattle.mg_alike.proofs.Events.Steps.{steps_alike}
 
 -- an agent takes no other reply than that which it awaits
-taken_is_awaited : (script : Script) (a b : Agent) (phase : Phase) (answer : Reply) → replied_to script a phase answer ≡ Some b → is_awaited phase answer ≡ true
+pub taken_is_awaited : (script : Script) (a b : Agent) (phase : Phase) (answer : Reply) → replied_to script a phase answer ≡ Some b → is_awaited phase answer ≡ true
 taken_is_awaited script a b (awaits_reply request) answer e = go _ (answers answer request) e
   where
     go : (o : Option Agent) (test : Bool) → (if test then o else None) ≡ Some b → test ≡ true

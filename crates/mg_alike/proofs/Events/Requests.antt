@@ -42,7 +42,7 @@ use Rattle.mg_alike.proofs.Requests.Starting.{by_names, small_contexts, small_ep
 use Rattle.mg_alike.proofs.Shared.Options.{options_more}
 
 -- a request has as many commands as were built
-as_many : (script : Script) (a : Agent) (made : Made) (place : ℕ) (commands : List Command) → length (commands_of script a made place commands) ≡ length commands
+pub as_many : (script : Script) (a : Agent) (made : Made) (place : ℕ) (commands : List Command) → length (commands_of script a made place commands) ≡ length commands
 as_many script a made place [] = refl
 as_many script a made place (command ∷ more) = ap (λ (n : ℕ). suc n) (as_many script a (made_after made command place) (place + 1) more)
 
@@ -55,11 +55,11 @@ same_world : (w : World) (g h : Gateway) (answer other : Reply) (sent more : Lis
 same_world w g h answer other sent more first second third = cc
 
 -- what one world has of a call of which it executes a request
-record IsStarted (script : Script) (entries : List Entry) (w : World) (call : ℕ) (a : Agent) (q : Request) : Type 0 where
-  due : IsDue script entries w.gateway a q
-  shown : Shown script (owned_in w.gateway call) (naming a) w.gateway.board due.k.c
-  live : IsLive due.k.c
-  remain : Remain w.gateway.board (length (built_by script a a.state))
+pub record IsStarted (script : Script) (entries : List Entry) (w : World) (call : ℕ) (a : Agent) (q : Request) : Type 0 where
+  pub due : IsDue script entries w.gateway a q
+  pub shown : Shown script (owned_in w.gateway call) (naming a) w.gateway.board due.k.c
+  pub live : IsLive due.k.c
+  pub remain : Remain w.gateway.board (length (built_by script a a.state))
 
 module _ (script : Script) (entries : List Entry) (closes : IsClosed script entries) (w : World) (sound : IsSound script entries w) (left : HasIdentifiersLeft w)
     (call : ℕ) (a : Agent) (open_call : w.agent call ≡ Some a) (q : Request) (there : Contains w.requests q) (of : q.call ≡ call) (is_fresh : offer_to w.gateway q ≡ fresh) where
@@ -112,16 +112,16 @@ module _ (script : Script) (entries : List Entry) (closes : IsClosed script entr
 module _ (script : Script) (entries : List Entry) (is_script : IsScript script) (closes : IsClosed script entries) (w v : World) (sound : IsSound script entries w)
     (also_sound : IsSound script entries v) (once : AreNamedByNumber v) (left : HasIdentifiersLeft w) (also_left : HasIdentifiersLeft v) (call number : ℕ) (chosen : Option ChosenRefusal)
     (r : Renaming) (a b : Agent) (alike : CallAlike r w v call a b) (q p : Request) (of : IsRequestOf w call number q) (its : IsRequestOf v call number p) where
-  numbers : p.number ≡ q.number
+  pub numbers : p.number ≡ q.number
   numbers = its.2 ∙ sym of.2
 
-  associations : p.association ≡ q.association
+  pub associations : p.association ≡ q.association
   associations =
       let other = alike.requests.onward q of.0 of.1 in
       let same : other.0 ≡ p = once.requests other.0 p other.1 its.0 (other.2.call ∙ of.1 ∙ sym its.1) (other.2.number ∙ sym numbers) in
       sym (ap (λ (x : Request). x.association) same) ∙ other.2.association
 
-  offers : OffersAlike r (offer_to w.gateway q) (offer_to v.gateway p)
+  pub offers : OffersAlike r (offer_to w.gateway q) (offer_to v.gateway p)
   offers = offers_alike r w.gateway v.gateway q p
       (ap v.gateway.retired its.1 ∙ also_sound.gateway.retired call b alike.open_other ∙ sym (ap w.gateway.retired of.1 ∙ sound.gateway.retired call a alike.open_one))
       associations alike.association
@@ -134,85 +134,86 @@ module _ (script : Script) (entries : List Entry) (is_script : IsScript script) 
 
   -- ---- both execute it
 
-  module _ (after next : World) (f : IsFirst w q chosen after) (g : IsFirst v p chosen next) where
-    one : IsStarted script entries w call a q
-    one = started script entries closes w sound left call a alike.open_one q of.0 of.1 f.executed.is_fresh
+  module _ (first : offer_to w.gateway q ≡ fresh) (second : offer_to v.gateway p ≡ fresh) where
+    pub one : IsStarted script entries w call a q
+    one = started script entries closes w sound left call a alike.open_one q of.0 of.1 first
 
-    other : IsStarted script entries v call b p
-    other = started script entries closes v also_sound also_left call b alike.open_other p its.0 its.1 g.executed.is_fresh
+    pub other : IsStarted script entries v call b p
+    other = started script entries closes v also_sound also_left call b alike.open_other p its.0 its.1 second
 
-    held_of : (l : ℕ) → is_call (w.gateway.holder l) call ≡ true → (i : ℕ) × (i < length script.lines) × (a.lines i ≡ l)
+    pub held_of : (l : ℕ) → is_call (w.gateway.holder l) call ≡ true → (i : ℕ) × (i < length script.lines) × (a.lines i ≡ l)
     held_of l held =
         let it = sound.gateway.held l call (is_call_of (w.gateway.holder l) call held) in
         (it.1, it.3, ap (λ (x : Agent). x.lines it.1) (the_some a it.0 (sym alike.open_one ∙ it.2)) ∙ it.4)
 
-    own_line : (i : ℕ) → i < length script.lines → is_call (w.gateway.holder (a.lines i)) call ≡ true
+    pub own_line : (i : ℕ) → i < length script.lines → is_call (w.gateway.holder (a.lines i)) call ≡ true
     own_line i within = ap (λ (o : Option ℕ). is_call o call) ((sound.calls call a alike.open_one).held i within) ∙ eq-eqb call call refl
 
-    built : built_by script b b.state ≡ built_by script a a.state
+    pub built : built_by script b b.state ≡ built_by script a a.state
     built = ap (λ (n : ℕ). built_by script b n) alike.agents.state ∙ built_same script r a b alike.agents a.state
 
-    begins : IsUnderway script (λ l. is_call (w.gateway.holder l) call) a b (by_names script a b) (start_of w.gateway) (start_of v.gateway) 0 (built_by script a a.state) none_made
+    pub begins : IsUnderway script (λ l. is_call (w.gateway.holder l) call) a b (by_names script a b) (start_of w.gateway) (start_of v.gateway) 0 (built_by script a a.state) none_made
     begins = starts_alike script is_script w v call r a b alike one.due.k.c other.due.k.c one.shown other.shown one.due.k.stands.of_script one.live
         sound.gateway.accounted also_sound.gateway.accounted held_of a.state one.remain
         (subst (λ (commands : List Command). Remain v.gateway.board (length commands)) built other.remain)
 
-    ended : HaveEnded (λ l. is_call (w.gateway.holder l) call) (by_names script a b) f.executed.end g.executed.end f.executed.failure g.executed.failure
-    ended = runs_alike script (λ l. is_call (w.gateway.holder l) call) a b own_line alike.agents.lines q.number chosen (built_by script a a.state) (by_names script a b)
-        (start_of w.gateway) (start_of v.gateway) 0 none_made begins f.executed.end g.executed.end f.executed.failure g.executed.failure
-        (subst (λ (commands : List RequestCommand). RunsFrom q.number chosen (start_of w.gateway) 0 commands f.executed.end f.executed.failure) one.due.outstanding.commands f.executed.runs)
-        (subst (λ (n : ℕ). RunsFrom n chosen (start_of v.gateway) 0 (commands_of script b none_made 0 (built_by script a a.state)) g.executed.end g.executed.failure) numbers
-        (subst (λ (commands : List RequestCommand). RunsFrom p.number chosen (start_of v.gateway) 0 commands g.executed.end g.executed.failure)
-        (other.due.outstanding.commands ∙ ap (λ (list : List Command). commands_of script b none_made 0 list) built) g.executed.runs))
+    module _ (after next : World) (f : IsFirst w q chosen after) (g : IsFirst v p chosen next) where
+      ended : HaveEnded (λ l. is_call (w.gateway.holder l) call) (by_names script a b) f.executed.end g.executed.end f.executed.failure g.executed.failure
+      ended = runs_alike script (λ l. is_call (w.gateway.holder l) call) a b own_line alike.agents.lines q.number chosen (built_by script a a.state) (by_names script a b)
+          (start_of w.gateway) (start_of v.gateway) 0 none_made begins f.executed.end g.executed.end f.executed.failure g.executed.failure
+          (subst (λ (commands : List RequestCommand). RunsFrom q.number chosen (start_of w.gateway) 0 commands f.executed.end f.executed.failure) one.due.outstanding.commands f.executed.runs)
+          (subst (λ (n : ℕ). RunsFrom n chosen (start_of v.gateway) 0 (commands_of script b none_made 0 (built_by script a a.state)) g.executed.end g.executed.failure) numbers
+          (subst (λ (commands : List RequestCommand). RunsFrom p.number chosen (start_of v.gateway) 0 commands g.executed.end g.executed.failure)
+          (other.due.outstanding.commands ∙ ap (λ (list : List Command). commands_of script b none_made 0 list) built) g.executed.runs))
 
-    contexts_wide : (j : ℕ) → OptionsAlike ended.wide.contexts (a.contexts j) (b.contexts j)
-    contexts_wide j = options_more (by_names script a b).contexts ended.wide.contexts ended.wider.contexts (a.contexts j) (b.contexts j)
-        (small_contexts script is_script w v call r a b alike one.due.k.c other.due.k.c one.shown other.shown one.due.k.stands.of_script one.live
-        sound.gateway.accounted also_sound.gateway.accounted held_of j)
+      contexts_wide : (j : ℕ) → OptionsAlike ended.wide.contexts (a.contexts j) (b.contexts j)
+      contexts_wide j = options_more (by_names script a b).contexts ended.wide.contexts ended.wider.contexts (a.contexts j) (b.contexts j)
+          (small_contexts script is_script w v call r a b alike one.due.k.c other.due.k.c one.shown other.shown one.due.k.stands.of_script one.live
+          sound.gateway.accounted also_sound.gateway.accounted held_of j)
 
-    ephemerals_wide : (k : ℕ) → OptionsAlike ended.wide.ephemerals (a.ephemerals k) (b.ephemerals k)
-    ephemerals_wide k = options_more (by_names script a b).ephemerals ended.wide.ephemerals ended.wider.ephemerals (a.ephemerals k) (b.ephemerals k)
-        (small_ephemerals script is_script w v call r a b alike one.due.k.c other.due.k.c one.shown other.shown one.due.k.stands.of_script one.live
-        sound.gateway.accounted also_sound.gateway.accounted held_of k)
+      ephemerals_wide : (k : ℕ) → OptionsAlike ended.wide.ephemerals (a.ephemerals k) (b.ephemerals k)
+      ephemerals_wide k = options_more (by_names script a b).ephemerals ended.wide.ephemerals ended.wider.ephemerals (a.ephemerals k) (b.ephemerals k)
+          (small_ephemerals script is_script w v call r a b alike one.due.k.c other.due.k.c one.shown other.shown one.due.k.stands.of_script one.live
+          sound.gateway.accounted also_sound.gateway.accounted held_of k)
 
-    outstanding_wide : RequestsAlike ended.wide q p
-    outstanding_wide = record {
-      call = its.1 ∙ sym of.1;
-      association = associations;
-      number = numbers;
-      commands =
-          subst (λ (commands : List RequestCommand). Pairwise (CommandsAlike ended.wide) commands p.commands) (sym one.due.outstanding.commands)
-          (subst (λ (commands : List RequestCommand). Pairwise (CommandsAlike ended.wide) (commands_of script a none_made 0 (built_by script a a.state)) commands)
-          (sym (other.due.outstanding.commands ∙ ap (λ (list : List Command). commands_of script b none_made 0 list) built))
-          (commands_alike script ended.wide a b alike.agents.lines contexts_wide ephemerals_wide none_made 0 (built_by script a a.state)));
-    }
+      outstanding_wide : RequestsAlike ended.wide q p
+      outstanding_wide = record {
+        call = its.1 ∙ sym of.1;
+        association = associations;
+        number = numbers;
+        commands =
+            subst (λ (commands : List RequestCommand). Pairwise (CommandsAlike ended.wide) commands p.commands) (sym one.due.outstanding.commands)
+            (subst (λ (commands : List RequestCommand). Pairwise (CommandsAlike ended.wide) (commands_of script a none_made 0 (built_by script a a.state)) commands)
+            (sym (other.due.outstanding.commands ∙ ap (λ (list : List Command). commands_of script b none_made 0 list) built))
+            (commands_alike script ended.wide a b alike.agents.lines contexts_wide ephemerals_wide none_made 0 (built_by script a a.state)));
+      }
 
-    phases_wide : PhasesAlike ended.wide a.phase b.phase
-    phases_wide =
-        subst (λ (phase : Phase). PhasesAlike ended.wide phase b.phase) (sym one.due.outstanding.phase)
-        (subst (λ (phase : Phase). PhasesAlike ended.wide (awaits_reply q) phase) (sym other.due.outstanding.phase) outstanding_wide)
+      phases_wide : PhasesAlike ended.wide a.phase b.phase
+      phases_wide =
+          subst (λ (phase : Phase). PhasesAlike ended.wide phase b.phase) (sym one.due.outstanding.phase)
+          (subst (λ (phase : Phase). PhasesAlike ended.wide (awaits_reply q) phase) (sym other.due.outstanding.phase) outstanding_wide)
 
-    after_is : after ≡ world_after w q f.executed.end f.executed.settled f.executed.failure
-    unfolding executed_world
-    after_is = f.after_is ∙ same_world w f.gateway (after_request w.gateway q f.executed.end f.executed.settled f.executed.failure) f.answer (reply_of q f.executed.end f.executed.failure)
-        f.sent (sent_notes q.call q.association (w.gateway.link q.call).notes f.executed.end.notes) f.executed.after_is f.executed.reply_is f.executed.notes_are
+      after_is : after ≡ world_after w q f.executed.end f.executed.settled f.executed.failure
+      unfolding executed_world
+      after_is = f.after_is ∙ same_world w f.gateway (after_request w.gateway q f.executed.end f.executed.settled f.executed.failure) f.answer (reply_of q f.executed.end f.executed.failure)
+          f.sent (sent_notes q.call q.association (w.gateway.link q.call).notes f.executed.end.notes) f.executed.after_is f.executed.reply_is f.executed.notes_are
 
-    next_is : next ≡ world_after v p g.executed.end g.executed.settled g.executed.failure
-    unfolding executed_world
-    next_is = g.after_is ∙ same_world v g.gateway (after_request v.gateway p g.executed.end g.executed.settled g.executed.failure) g.answer (reply_of p g.executed.end g.executed.failure)
-        g.sent (sent_notes p.call p.association (v.gateway.link p.call).notes g.executed.end.notes) g.executed.after_is g.executed.reply_is g.executed.notes_are
+      next_is : next ≡ world_after v p g.executed.end g.executed.settled g.executed.failure
+      unfolding executed_world
+      next_is = g.after_is ∙ same_world v g.gateway (after_request v.gateway p g.executed.end g.executed.settled g.executed.failure) g.answer (reply_of p g.executed.end g.executed.failure)
+          g.sent (sent_notes p.call p.association (v.gateway.link p.call).notes g.executed.end.notes) g.executed.after_is g.executed.reply_is g.executed.notes_are
 
-    both_first : TreatAlike after next call
-    both_first = record {
-      renaming = ended.wide;
-      one = a;
-      other = b;
-      alike = subst (λ (x : World). CallAlike ended.wide x next call a b) (sym after_is)
-          (subst (λ (x : World). CallAlike ended.wide (world_after w q f.executed.end f.executed.settled f.executed.failure) x call a b) (sym next_is)
-          (after_alike script w v call r a b alike q p of.1 its.1 associations numbers f.executed.end g.executed.end f.executed.settled g.executed.settled
-          f.executed.failure g.executed.failure f.executed.is_settled g.executed.is_settled ended.wide ended.running ended.same contexts_wide ephemerals_wide phases_wide
-          (unanswered script entries closes w sound left call a alike.open_one q of.0 of.1 f.executed.is_fresh)));
-    }
+      both_first : TreatAlike after next call
+      both_first = record {
+        renaming = ended.wide;
+        one = a;
+        other = b;
+        alike = subst (λ (x : World). CallAlike ended.wide x next call a b) (sym after_is)
+            (subst (λ (x : World). CallAlike ended.wide (world_after w q f.executed.end f.executed.settled f.executed.failure) x call a b) (sym next_is)
+            (after_alike script w v call r a b alike q p of.1 its.1 associations numbers f.executed.end g.executed.end f.executed.settled g.executed.settled
+            f.executed.failure g.executed.failure f.executed.is_settled g.executed.is_settled ended.wide ended.running ended.same contexts_wide ephemerals_wide phases_wide
+            (unanswered script entries closes w sound left call a alike.open_one q of.0 of.1 first)));
+      }
 
   -- ---- both send the reply once more
 
@@ -241,7 +242,7 @@ module _ (script : Script) (entries : List Entry) (is_script : IsScript script) 
   }
 
   by_case : (after next : World) → Executes w q chosen after → Executes v p chosen next → TreatAlike after next call
-  by_case after next (inl f) (inl g) = both_first after next f g
+  by_case after next (inl f) (inl g) = both_first f.executed.is_fresh g.executed.is_fresh after next f g
   by_case after next (inr (inl f)) (inr (inl g)) = both_repeat after next f g
   by_case after next (inr (inr f)) (inr (inr g)) = record {
     renaming = r;

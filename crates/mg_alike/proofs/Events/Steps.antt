@@ -111,6 +111,7 @@ module _ (w v : World) (call : ℕ) (r : Renaming) (a b : Agent) (alike : CallAl
             (stepped s.agent t.agent (both_some (step a) (other b) s.agent t.agent first second same) (gives s.agent first)));
       }
 
+module _ (w v : World) (call : ℕ) (r : Renaming) (a b : Agent) (alike : CallAlike r w v call a b) where
   -- where one steps, the other can
   pub steps_too : (step other : Agent → Option Agent) → StepsAlike r (step a) (other b) → (after : World) → AgentSteps w call step after
       → (next : World) × AgentSteps v call other next
