@@ -8,3 +8,5 @@ pub mod Every
 pub mod Settled
 pub mod Settling
 pub mod Happening
+pub mod Others
+pub mod Alone

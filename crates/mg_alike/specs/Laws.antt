@@ -1,5 +1,5 @@
 -- The statements of the laws. Each is carried by an empty function of the same name.
-use Rattle.std.specs.Prelude.{ℕ, List, Option}
+use Rattle.std.specs.Prelude.{◌≡◌, ℕ, List, Contains, Option}
 use Rattle.std.specs.List.{All}
 use Rattle.mg_model.specs.declared.events.CallEvent.{CallEvent}
 use Rattle.mg_model.specs.declared.events.CallEvent.TheVariants as to_call
@@ -14,6 +14,7 @@ use Rattle.mg_model.specs.Obligations.{NoneBroken}
 use Rattle.mg_model.specs.Script.{Script}
 use Rattle.mg_model.specs.Shards.{HasIdentifiersLeft}
 use Rattle.mg_model.specs.World.{World, Opened, IsOpening, OccursTo, Occurs, Runs, execute}
+use Rattle.mg_safety.specs.Laws.{IsRetiredBy}
 use Rattle.mg_alike.specs.Agents.{AgentsAlike, StepsAlike}
 use Rattle.mg_alike.specs.Messages.{RepliesAlike}
 use Rattle.mg_alike.specs.Renaming.{Renaming, IsRenaming}
@@ -37,7 +38,7 @@ AgentsStepAlike = (script : Script) (r : Renaming) (a b : Agent) → IsRenaming 
 
 -- ---- events of a call
 
--- two worlds of runs, of any calls, in which no obligation of the script and its certificate is broken and identifiers are left
+-- two worlds of runs, of any calls, in which no obligation of the script and its certificate is broken
 pub record AreReached (script : Script) (w v : World) : Type 0 where
   pub entries : List Entry
   pub is_script : IsScript script
@@ -53,13 +54,11 @@ pub record AreReached (script : Script) (w v : World) : Type 0 where
   pub also_opens : IsOpening script others first
   pub runs : Runs script events start w
   pub also_runs : Runs script history first v
-  pub left : HasIdentifiersLeft w
-  pub also_left : HasIdentifiersLeft v
 
--- a request of a call that reaches both gateways: whatever identifiers they choose, they treat the call alike after it
+-- a request of a call that reaches both gateways, in which identifiers are left: whatever they choose, they treat the call alike after it
 abbrev pub ExecutesAlike : Type 0
 ExecutesAlike =
-    (script : Script) (w v : World) → AreReached script w v → (call number : ℕ) (chosen : Option ChosenRefusal) → TreatAlike w v call
+    (script : Script) (w v : World) → AreReached script w v → HasIdentifiersLeft w → HasIdentifiersLeft v → (call number : ℕ) (chosen : Option ChosenRefusal) → TreatAlike w v call
     → (after next : World) → Occurs script w (execute call number chosen) after → Occurs script v (execute call number chosen) next
     → TreatAlike after next call
 
@@ -71,7 +70,7 @@ IsBeginning happens = ⊥
 -- the same of each event of a call that is open: of its lines, its requests, replies and notes, its agent and its timer
 abbrev pub EventsAlike : Type 0
 EventsAlike =
-    (script : Script) (w v : World) → AreReached script w v → (call : ℕ) (happens : CallEvent) → (IsBeginning happens → ⊥) → TreatAlike w v call
+    (script : Script) (w v : World) → AreReached script w v → HasIdentifiersLeft w → HasIdentifiersLeft v → (call : ℕ) (happens : CallEvent) → (IsBeginning happens → ⊥) → TreatAlike w v call
     → (after next : World) → OccursTo script w call happens after → OccursTo script v call happens next → TreatAlike after next call
 
 -- and of a restart of both gateways. Nothing is asked of the worlds
@@ -85,5 +84,21 @@ RestartsAlike =
 -- an event of a call that can happen in the one world can happen in the other
 abbrev pub EventsHappenAlike : Type 0
 EventsHappenAlike =
-    (script : Script) (w v : World) → AreReached script w v → (call : ℕ) (happens : CallEvent) → (IsBeginning happens → ⊥) → TreatAlike w v call
+    (script : Script) (w v : World) → AreReached script w v → HasIdentifiersLeft w → HasIdentifiersLeft v → (call : ℕ) (happens : CallEvent) → (IsBeginning happens → ⊥) → TreatAlike w v call
     → (after : World) → OccursTo script w call happens after → (next : World) × OccursTo script v call happens next
+
+-- ---- events of other calls
+
+-- an event of another call leaves two worlds that treat this one alike as alike; but for one that begins on its lines
+abbrev pub OthersLeaveAlike : Type 0
+OthersLeaveAlike =
+    (script : Script) (w v : World) → AreReached script w v → (call other : ℕ) (happens : CallEvent) → (other ≡ call → ⊥) → (IsRetiredBy happens call → ⊥)
+    → TreatAlike w v call → (after : World) → OccursTo script w other happens after → TreatAlike after v call
+
+-- ---- openings
+
+-- two openings treat a call alike that is of both, on the same lines
+abbrev pub OpeningsTreatAlike : Type 0
+OpeningsTreatAlike =
+    (script : Script) (calls others : List Opened) (one : Opened) (w v : World) → IsOpening script calls w → IsOpening script others v → Contains calls one
+    → Contains others one → TreatAlike w v one.call

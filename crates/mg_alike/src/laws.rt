@@ -1,5 +1,6 @@
 //! The laws of a call that two worlds treat alike.
-ghost use Rattle.mg_alike.specs.Laws.{AgentsStepAlike, EventsAlike, EventsHappenAlike, ExecutesAlike, RestartsAlike};
+ghost use Rattle.mg_alike.specs.Alone.{CallsAreIsolated};
+ghost use Rattle.mg_alike.specs.Laws.{AgentsStepAlike, EventsAlike, EventsHappenAlike, ExecutesAlike, OpeningsTreatAlike, OthersLeaveAlike, RestartsAlike};
 
 /// Two agents that are the same but for a renaming of identifiers step alike: by the same reply, but for the renaming, by a pass, a note, the timer
 /// and a newer association each takes a step exactly where the other does, to agents that are the same but for the renaming.
@@ -27,4 +28,20 @@ pub fn restarts_alike()
 /// refused at the same place with the same code.
 pub fn events_happen_alike()
     ensures { EventsHappenAlike }
+{}
+
+/// Two openings treat a call alike that is of both, on the same lines.
+pub fn openings_treat_alike()
+    ensures { OpeningsTreatAlike }
+{}
+
+/// An event of another call leaves two worlds that treat this one alike as alike, but for one that begins on its lines.
+pub fn others_leave_alike()
+    ensures { OthersLeaveAlike }
+{}
+
+/// A call of a run of any calls goes as it would go alone: there is a run of it alone, with exactly its events and the restarts, that treats it at the
+/// end as the world of all does. Where no obligation is broken and identifiers are left.
+pub fn calls_are_isolated()
+    ensures { CallsAreIsolated }
 {}

@@ -6,6 +6,7 @@ use Rattle.mg_model.specs.declared.events.CallEvent.TheVariants as to_call
 use Rattle.mg_model.specs.Agent.{Agent, Phase, awaits_reply, awaits_pass, resting, answers, replied, replied_to, passed, noted, timed, heard}
 use Rattle.mg_model.specs.Messages.{Reply, SentNote}
 use Rattle.mg_model.specs.Script.{Script}
+use Rattle.mg_model.specs.Shards.{HasIdentifiersLeft}
 use Rattle.mg_model.specs.Tables.{line_places}
 use Rattle.mg_model.specs.Gateway.{restarted}
 use Rattle.mg_model.specs.World.{World, AgentSteps, IsReplyOf, IsNoteOf, OccursTo, with_gateway}
@@ -66,26 +67,26 @@ module _ (script : Script) (w v : World) (numbered : IsNumbered w) (once : AreNa
       (subst (λ (x : SentNote). StepsAlike r (noted script a (line_places script) one) (noted script b (line_places script) x)) (note_same number one other of its)
       (each.noted (line_places script) one)) (noted_next script a (line_places script) one) after next s t
 
-  pub each_alike : AreReached script w v → (happens : CallEvent) → (IsBeginning happens → ⊥) → (after next : World) → OccursTo script w call happens after
+  pub each_alike : AreReached script w v → HasIdentifiersLeft w → HasIdentifiersLeft v → (happens : CallEvent) → (IsBeginning happens → ⊥) → (after next : World) → OccursTo script w call happens after
       → OccursTo script v call happens next → TreatAlike after next call
-  each_alike at (to_call.OnLine line event) open_call after next (held, o) (also, p) = lines_alike w v call r a b alike line.0 held event after next o also p
-  each_alike at (to_call.Execute number chosen) open_call after next o p =
-      executes_alike script w v at call number chosen (record { renaming = r; one = a; other = b; alike = alike }) after next o p
-  each_alike at (to_call.Reply number) open_call after next (one, of, s) (other, its, t) = replies_too number one other of its after next s t
-  each_alike at to_call.Pass open_call after next s t =
+  each_alike at left also_left (to_call.OnLine line event) open_call after next (held, o) (also, p) = lines_alike w v call r a b alike line.0 held event after next o also p
+  each_alike at left also_left (to_call.Execute number chosen) open_call after next o p =
+      executes_alike script w v at left also_left call number chosen (record { renaming = r; one = a; other = b; alike = alike }) after next o p
+  each_alike at left also_left (to_call.Reply number) open_call after next (one, of, s) (other, its, t) = replies_too number one other of its after next s t
+  each_alike at left also_left to_call.Pass open_call after next s t =
       steps_alike w v call r a b alike numbered (passed script) (passed script) each.passed (passed_next script a) after next s t
-  each_alike at (to_call.Note number) open_call after next (one, of, s) (other, its, t) = notes_too number one other of its after next s t
-  each_alike at to_call.Timer open_call after next s t =
+  each_alike at left also_left (to_call.Note number) open_call after next (one, of, s) (other, its, t) = notes_too number one other of its after next s t
+  each_alike at left also_left to_call.Timer open_call after next s t =
       steps_alike w v call r a b alike numbered (timed script) (timed script) each.timed (timed_next script a) after next s t
-  each_alike at (to_call.Begin old) open_call after next s t = absurd (open_call tt)
-  each_alike at (to_call.Hear association) open_call after next (past, s) (also, t) =
+  each_alike at left also_left (to_call.Begin old) open_call after next s t = absurd (open_call tt)
+  each_alike at left also_left (to_call.Hear association) open_call after next (past, s) (also, t) =
       steps_alike w v call r a b alike numbered (λ x. heard script x association.0) (λ x. heard script x association.0) (each.heard association.0)
       (heard_next script a association.0) after next s t
 
 pub events_alike : EventsAlike
-events_alike script w v at call happens open_call treat after next o p =
+events_alike script w v at left also_left call happens open_call treat after next o p =
     each_alike script w v (runs_numbered script at.events at.start w (opening_numbered script at.calls at.start at.opens) at.runs)
-    (named_by_number script at.others at.history at.first v at.also_opens at.also_runs) call treat.renaming treat.one treat.other treat.alike at happens open_call after next o p
+    (named_by_number script at.others at.history at.first v at.also_opens at.also_runs) call treat.renaming treat.one treat.other treat.alike at left also_left happens open_call after next o p
 
 pub restarts_alike : RestartsAlike
 restarts_alike script w v call treat after next o p = record {

@@ -190,7 +190,7 @@ module _ (script : Script) (entries : List Entry) (is_script : IsScript script) 
 
 -- ---- each event
 
-module _ (script : Script) (w v : World) (at : AreReached script w v) (call : ℕ) (r : Renaming) (a b : Agent) (alike : CallAlike r w v call a b) where
+module _ (script : Script) (w v : World) (at : AreReached script w v) (left : HasIdentifiersLeft w) (also_left : HasIdentifiersLeft v) (call : ℕ) (r : Renaming) (a b : Agent) (alike : CallAlike r w v call a b) where
   each : StepAlike script r a b
   each = agents_step script r a b alike.renaming alike.agents
 
@@ -202,7 +202,7 @@ module _ (script : Script) (w v : World) (at : AreReached script w v) (call : �
       let next = executes_too script at.entries at.is_script (closed script at.entries at.is_script at.listed at.none_broken) w v
       (reached script at.entries at.is_script at.listed at.none_broken at.calls at.events at.start w at.opens at.runs)
       (reached script at.entries at.is_script at.listed at.none_broken at.others at.history at.first v at.also_opens at.also_runs)
-      (named_by_number script at.others at.history at.first v at.also_opens at.also_runs) at.left at.also_left
+      (named_by_number script at.others at.history at.first v at.also_opens at.also_runs) left also_left
       (runs_settled script at.history at.first v (opening_settled script at.others at.first at.also_opens) at.also_runs) call number chosen r a b alike q it.0 of its after executes in
       (next.0, (it.0, its, next.1))
 
@@ -235,5 +235,5 @@ module _ (script : Script) (w v : World) (at : AreReached script w v) (call : �
       (next.0, (subst (λ (n : ℕ). association.0 ≤ n) (sym alike.association) past, next.1))
 
 pub events_happen : EventsHappenAlike
-events_happen script w v at call happens open_call treat after o =
-    each_too script w v at call treat.renaming treat.one treat.other treat.alike happens open_call after o
+events_happen script w v at left also_left call happens open_call treat after o =
+    each_too script w v at left also_left call treat.renaming treat.one treat.other treat.alike happens open_call after o

@@ -18,21 +18,21 @@ use Rattle.mg_alike.specs.Worlds.{KeptAlike, OwnAlike, CallAlike, TreatAlike}
 use Rattle.mg_alike.proofs.Events.Executed.{more_notes}
 
 -- a world in which an event of a line occurred, written out
-abbrev occurred_gateway : Gateway → ℕ → ℕ → Outcome → Gateway
+abbrev pub occurred_gateway : Gateway → ℕ → ℕ → Outcome → Gateway
 occurred_gateway g l call outcome = with_notes (with_line g l outcome.row) call (length (notes_from g call l outcome.note))
 
-abbrev occurred_world : World → ℕ → ℕ → Outcome → World
+abbrev pub occurred_world : World → ℕ → ℕ → Outcome → World
 occurred_world w l call outcome =
     record (with_gateway w (occurred_gateway w.gateway l call outcome)) { notes = notes_from w.gateway call l outcome.note ++ w.notes }
 
 -- an event of a line that the call holds is one of its own
-record IsOccurred (w : World) (l call : ℕ) (event : LineEvent) (after : World) : Type 0 where
-  outcome : Outcome
-  happens : outcome_of (w.gateway.line l) event ≡ Some outcome
-  room : (w.gateway.link call).notes + length (notes_from w.gateway call l outcome.note) ≤ last_number
-  after_is : after ≡ occurred_world w l call outcome
+pub record IsOccurred (w : World) (l call : ℕ) (event : LineEvent) (after : World) : Type 0 where
+  pub outcome : Outcome
+  pub happens : outcome_of (w.gateway.line l) event ≡ Some outcome
+  pub room : (w.gateway.link call).notes + length (notes_from w.gateway call l outcome.note) ≤ last_number
+  pub after_is : after ≡ occurred_world w l call outcome
 
-occurred : (w : World) (l call : ℕ) (event : LineEvent) (after : World) → w.gateway.holder l ≡ Some call → LineOccurs w l event after → IsOccurred w l call event after
+pub occurred : (w : World) (l call : ℕ) (event : LineEvent) (after : World) → w.gateway.holder l ≡ Some call → LineOccurs w l event after → IsOccurred w l call event after
 occurred w l call event after held o = record {
   outcome = o.happens.outcome;
   happens = o.happens.happens;

@@ -258,9 +258,9 @@ module _ (script : Script) (entries : List Entry) (is_script : IsScript script) 
   by_case after next (inr (inr f)) (inr (inl g)) = absurd (clash discard (kept g.answer) f.0 g.kept)
 
 pub executes_alike : ExecutesAlike
-executes_alike script w v at call number chosen treat after next (q, of, executes) (p, its, also) =
+executes_alike script w v at left also_left call number chosen treat after next (q, of, executes) (p, its, also) =
     by_case script at.entries at.is_script (closed script at.entries at.is_script at.listed at.none_broken) w v
     (reached script at.entries at.is_script at.listed at.none_broken at.calls at.events at.start w at.opens at.runs)
     (reached script at.entries at.is_script at.listed at.none_broken at.others at.history at.first v at.also_opens at.also_runs)
-    (named_by_number script at.others at.history at.first v at.also_opens at.also_runs) at.left at.also_left call number chosen treat.renaming treat.one treat.other treat.alike
+    (named_by_number script at.others at.history at.first v at.also_opens at.also_runs) left also_left call number chosen treat.renaming treat.one treat.other treat.alike
     q p of its after next executes also

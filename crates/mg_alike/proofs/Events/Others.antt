@@ -1,0 +1,306 @@
+-- An event of another call, and the opening: what they leave of a call that isn't theirs is as it was.
+use Rattle.std.proofs.Common.{◌≡◌, ◌∙◌, ℕ, Bool, true, false, List, [], Option, Some, None, refl, sym, ap, subst, inl, inr}
+use Rattle.std.specs.Prelude.{◌==◌, ◌↔◌, Contains, if◌then◌else◌}
+use Rattle.std.proofs.lemmas.Bool.{eqb-true}
+use Rattle.std.proofs.lemmas.List.Elements.{Contains-append_right}
+use Rattle.mg_names.specs.declared.identifiers.LineNo.{LineNo}
+use Rattle.mg_names.specs.declared.identifiers.TermId.{TermId}
+use Rattle.mg_names.specs.declared.identifiers.TermId.TheVariants.{Line, Eph}
+use Rattle.mg_model.specs.declared.events.CallEvent.{CallEvent}
+use Rattle.mg_model.specs.declared.events.CallEvent.TheVariants as to_call
+use Rattle.mg_model.specs.declared.failures.ChosenRefusal.{ChosenRefusal}
+use Rattle.mg_model.specs.declared.rows.Row.{Row}
+use Rattle.mg_model.specs.Accepted.{IsScript}
+use Rattle.mg_model.specs.Agent.{Agent, opened}
+use Rattle.mg_model.specs.Board.{exists, null_row}
+use Rattle.mg_model.specs.Entries.{Entry}
+use Rattle.mg_model.specs.Gateway.{Gateway, CallLink}
+use Rattle.mg_model.specs.LineEvents.{LineRow}
+use Rattle.mg_model.specs.Messages.{Request, Reply, SentNote}
+use Rattle.mg_model.specs.Script.{Script}
+use Rattle.mg_model.specs.World.{World, Opened, AgentSteps, Executes, IsFirst, IsRepeat, IsRequestOf, IsLineOf, IsOpening, OccursTo}
+use Rattle.mg_model.proofs.Cases.{none_is_some, the_some, false_not_true}
+use Rattle.mg_model.proofs.Single.{later_in, none_in}
+use Rattle.mg_safety.specs.Laws.{IsRetiredBy, IsSameFor}
+use Rattle.mg_safety.specs.Others.{IsLeftAlone, IsOwnedBy}
+use Rattle.mg_safety.proofs.Certificate.Closed.{closed}
+use Rattle.mg_safety.proofs.Events.Executing.{HasRun, not_call_of}
+use Rattle.mg_safety.proofs.Events.ExecuteSound.{has_run}
+use Rattle.mg_safety.proofs.Events.Handover.{handed_other, handed_from}
+use Rattle.mg_safety.proofs.GoodWorlds.Beginning.{reached}
+use Rattle.mg_safety.proofs.GoodWorlds.EveryRun.{commands_carry}
+use Rattle.mg_safety.proofs.GoodWorlds.LeftAlone.{left_alone, others_kept}
+use Rattle.mg_safety.proofs.Invariant.Sound.{IsSound}
+use Rattle.mg_safety.proofs.Invariant.Statements.{IsClosed}
+use Rattle.mg_safety.proofs.Requests.Run.{requests_run}
+use Rattle.mg_alike.specs.Boards.{OptionalRowsAlike}
+use Rattle.mg_alike.specs.Laws.{OthersLeaveAlike, OpeningsTreatAlike}
+use Rattle.mg_alike.specs.Renaming.{Renaming}
+use Rattle.mg_alike.specs.Worlds.{AreSentInBoth, KeptAlike, OwnAlike, CallAlike}
+use Rattle.mg_alike.proofs.Events.LineEvents.{occurred}
+
+-- ---- what an event of another call leaves
+
+pub record IsLeft (w after : World) (call : ℕ) : Type 0 where
+  pub association : after.gateway.association ≡ w.gateway.association
+  pub holds : (l : ℕ) → w.gateway.holder l ≡ Some call → after.gateway.holder l ≡ Some call
+  pub held : (l : ℕ) → after.gateway.holder l ≡ Some call → w.gateway.holder l ≡ Some call
+  pub line : (l : ℕ) → w.gateway.holder l ≡ Some call → after.gateway.line l ≡ w.gateway.line l
+  pub creator : (x : ℕ) → after.gateway.creator x ≡ Some call → w.gateway.creator x ≡ Some call
+  pub requests : (q : Request) → Contains w.requests q → Contains after.requests q
+  pub replies : (q : Reply) → Contains w.replies q → Contains after.replies q
+  pub notes : (n : SentNote) → Contains w.notes n → Contains after.notes n
+
+left_itself : (w : World) (call : ℕ) → IsLeft w w call
+left_itself w call = record {
+  association = refl;
+  holds = λ l e. e;
+  held = λ l e. e;
+  line = λ l e. refl;
+  creator = λ x e. e;
+  requests = λ q there. there;
+  replies = λ q there. there;
+  notes = λ n there. there;
+}
+
+steps_left : (w after : World) (call other : ℕ) (step : Agent → Option Agent) → AgentSteps w other step after → IsLeft w after call
+steps_left w after call other step s = subst (λ (x : World). IsLeft w x call) (sym s.after_is) (record {
+  association = refl;
+  holds = λ l e. e;
+  held = λ l e. e;
+  line = λ l e. refl;
+  creator = λ x e. e;
+  requests = λ q there. Contains-append_right _ w.requests q there;
+  replies = λ q there. there;
+  notes = λ n there. there;
+})
+
+-- whose an ephemeral is after a request of another call
+still_created : (stands stood : Bool) (was : Option ℕ) (other call : ℕ) → (other ≡ call → ⊥)
+    → (if stands then (if stood then was else Some other) else None) ≡ Some call → was ≡ Some call
+still_created true true was other call differ e = e
+still_created true false was other call differ e = absurd (differ (the_some other call e))
+still_created false stood was other call differ e = absurd (none_is_some call e)
+
+module _ (script : Script) (entries : List Entry) (is_script : IsScript script) (closes : IsClosed script entries) (w after : World) (sound : IsSound script entries w)
+    (call other : ℕ) (differ : other ≡ call → ⊥) where
+  first_left : (request : Request) (number : ℕ) (chosen : Option ChosenRefusal) → IsRequestOf w other number request → IsFirst w request chosen after → IsLeft w after call
+  first_left request number chosen of f = record {
+    association = ap (λ (x : World). x.gateway.association) f.after_is ∙ ap (λ (g : Gateway). g.association) f.executed.after_is;
+    holds = λ l e. holder l ∙ e;
+    held = λ l e. sym (holder l) ∙ e;
+    line = λ l e. ap (λ (x : World). x.gateway.line l) f.after_is ∙ ap (λ (g : Gateway). g.line l) f.executed.after_is
+        ∙ h.run.other_lines l (not_call_of (w.gateway.holder l) call h.agent.call e (λ same. differ (sym of.1 ∙ sym h.call ∙ sym same)));
+    creator = λ x e. still_created (exists f.executed.end.board (Eph x)) (exists w.gateway.board (Eph x)) (w.gateway.creator x) request.call call (λ same. differ (sym of.1 ∙ same))
+        (sym (ap (λ (v : World). v.gateway.creator x) f.after_is ∙ ap (λ (g : Gateway). g.creator x) f.executed.after_is) ∙ e);
+    requests = λ q there. subst (λ (list : List Request). Contains list q) (sym (ap (λ (x : World). x.requests) f.after_is)) there;
+    replies = λ q there. subst (λ (list : List Reply). Contains list q) (sym (ap (λ (x : World). x.replies) f.after_is)) (later_in f.answer w.replies q there);
+    notes = λ n there. subst (λ (list : List SentNote). Contains list n) (sym (ap (λ (x : World). x.notes) f.after_is)) (Contains-append_right f.sent w.notes n there);
+  }
+    where
+      h : HasRun script entries w request f.executed.end f.executed.failure
+      h = has_run (requests_run commands_carry) script entries is_script closes w request chosen f.gateway f.answer f.sent sound of.0 f.executed
+
+      holder : (l : ℕ) → after.gateway.holder l ≡ w.gateway.holder l
+      holder l = ap (λ (x : World). x.gateway.holder l) f.after_is ∙ ap (λ (g : Gateway). g.holder l) f.executed.after_is
+
+  repeat_left : (request : Request) → IsRepeat w request after → IsLeft w after call
+  repeat_left request f = subst (λ (x : World). IsLeft w x call) (sym f.after_is) (record {
+    association = refl;
+    holds = λ l e. e;
+    held = λ l e. e;
+    line = λ l e. refl;
+    creator = λ x e. e;
+    requests = λ q there. there;
+    replies = λ q there. later_in f.answer w.replies q there;
+    notes = λ n there. there;
+  })
+
+  execute_left : (request : Request) (number : ℕ) (chosen : Option ChosenRefusal) → IsRequestOf w other number request → Executes w request chosen after → IsLeft w after call
+  execute_left request number chosen of (inl f) = first_left request number chosen of f
+  execute_left request number chosen of (inr (inl f)) = repeat_left request f
+  execute_left request number chosen of (inr (inr f)) = subst (λ (x : World). IsLeft w x call) (sym f.1) (left_itself w call)
+
+  event_left : (happens : CallEvent) → (IsRetiredBy happens call → ⊥) → OccursTo script w other happens after → IsLeft w after call
+  event_left (to_call.OnLine line event) stays (held, o) =
+      let it = occurred w line.0 other event after held o in
+      subst (λ (x : World). IsLeft w x call) (sym it.after_is) (record {
+        association = refl;
+        holds = λ l e. e;
+        held = λ l e. e;
+        line = λ l e. another l e (l == line.0) refl it.outcome.row held;
+        creator = λ x e. e;
+        requests = λ q there. there;
+        replies = λ q there. there;
+        notes = λ n there. Contains-append_right _ w.notes n there;
+      })
+    where
+      another : (l : ℕ) → w.gateway.holder l ≡ Some call → (test : Bool) → (l == line.0) ≡ test → (row : LineRow) → w.gateway.holder line.0 ≡ Some other
+          → (if test then row else w.gateway.line l) ≡ w.gateway.line l
+      another l e true is row held = absurd (differ (the_some other call (sym held ∙ ap w.gateway.holder (sym (eqb-true l line.0 is)) ∙ e)))
+      another l e false is row held = refl
+  event_left (to_call.Execute number chosen) stays (request, of, executes) = execute_left request number chosen of executes
+  event_left (to_call.Reply number) stays (answer, of, s) = steps_left w after call other _ s
+  event_left to_call.Pass stays s = steps_left w after call other _ s
+  event_left (to_call.Note number) stays (sent, of, s) = steps_left w after call other _ s
+  event_left to_call.Timer stays s = steps_left w after call other _ s
+  event_left (to_call.Begin old) stays b = subst (λ (x : World). IsLeft w x call) (sym b.after_is) (record {
+    association = refl;
+    holds = λ l e. handed_other old.0 other call (w.gateway.holder l) e (λ is. stays (sym is));
+    held = λ l e. elim (handed_from old.0 other (w.gateway.holder l) call e) [
+      | inl new ↦ absurd (differ (sym new.1))
+      | inr same ↦ same.0
+    ];
+    line = λ l e. refl;
+    creator = λ x e. e;
+    requests = λ q there. there;
+    replies = λ q there. there;
+    notes = λ n there. there;
+  })
+  event_left (to_call.Hear association) stays (past, s) = steps_left w after call other _ s
+
+-- ---- so it leaves them alike
+
+still_sent : {A : Type 0} (of : A → ℕ) (call : ℕ) (alike : A → A → Type 0) (sent now others : List A) → ((x : A) → Contains sent x → Contains now x)
+    → ((x : A) → of x ≡ call → Contains now x → Contains sent x) → AreSentInBoth of call alike sent others → AreSentInBoth of call alike now others
+still_sent of call alike sent now others on back before = record {
+  onward = λ x there its. before.onward x (back x its there) its;
+  back = λ y there its. let x = before.back y there its in (x.0, on x.0 x.1, x.2);
+}
+
+module _ (w v after : World) (call : ℕ) (r : Renaming) (a b : Agent) (alike : CallAlike r w v call a b) (left : IsLeft w after call) (same : IsSameFor w after call)
+    (kept : IsLeftAlone w after call) where
+  was_own : (t u : TermId) → OwnAlike r after v call t u → OwnAlike r w v call t u
+  was_own (Line l) (Line m) own = (own.0, left.held l.0 own.1)
+  was_own (Eph x) (Eph y) own = (own.0, left.creator x own.1, own.2)
+  was_own (Line l) (Eph y) own = absurd own
+  was_own (Eph x) (Line m) own = absurd own
+
+  row_same : (t u : TermId) → OwnAlike r after v call t u → after.gateway.board.row t ≡ w.gateway.board.row t
+  row_same (Line l) (Line m) own = kept.row (Line l) (left.held l.0 own.1)
+  row_same (Eph x) (Eph y) own = kept.row (Eph x) (left.creator x own.1)
+  row_same (Line l) (Eph y) own = absurd own
+  row_same (Eph x) (Line m) own = absurd own
+
+  owned : (t u : TermId) → OwnAlike r after v call t u → IsOwnedBy w call t
+  owned (Line l) (Line m) own = left.held l.0 own.1
+  owned (Eph x) (Eph y) own = left.creator x own.1
+  owned (Line l) (Eph y) own = absurd own
+  owned (Eph x) (Line m) own = absurd own
+
+  pub left_alike : CallAlike r after v call a b
+  left_alike = record {
+    renaming = alike.renaming;
+    open_one = same.agent ∙ alike.open_one;
+    open_other = alike.open_other;
+    agents = alike.agents;
+    association = alike.association ∙ sym left.association;
+    kept = subst (λ (link : CallLink). KeptAlike r link.last (v.gateway.link call).last) (sym same.link) alike.kept;
+    count = alike.count ∙ sym (ap (λ (link : CallLink). link.notes) same.link);
+    held = λ l. ((λ e. (alike.held l).0 (left.held l e)), (λ e. left.holds l ((alike.held l).1 e)));
+    lines = λ l e. alike.lines l (left.held l e) ∙ sym (left.line l (left.held l e));
+    rows = λ t u own. subst (λ (o : Option Row). OptionalRowsAlike r t o (v.gateway.board.row u)) (sym (row_same t u own)) (alike.rows t u (was_own t u own));
+    cuts = λ t u s x first second. alike.cuts t u s x (was_own t u first) (was_own s x second) ∙ sym (kept.cut t s (owned t u first) (owned s x second));
+    requests = still_sent (λ (q : Request). q.call) call _ w.requests after.requests v.requests left.requests same.requests alike.requests;
+    replies = still_sent (λ (q : Reply). q.call) call _ w.replies after.replies v.replies left.replies same.replies alike.replies;
+    notes = still_sent (λ (n : SentNote). n.call) call _ w.notes after.notes v.notes left.notes same.notes alike.notes;
+  }
+
+pub others_alike : OthersLeaveAlike
+others_alike script w v at call other happens differ stays treat after occurs = record {
+  renaming = treat.renaming;
+  one = treat.one;
+  other = treat.other;
+  alike = left_alike w v after call treat.renaming treat.one treat.other treat.alike
+      (event_left script at.entries at.is_script (closed script at.entries at.is_script at.listed at.none_broken) w after
+      (reached script at.entries at.is_script at.listed at.none_broken at.calls at.events at.start w at.opens at.runs) call other differ happens stays occurs)
+      (others_kept script at.calls at.events at.start w after at.opens at.runs other call happens occurs differ stays)
+      (left_alone script at.entries at.is_script at.listed at.none_broken at.calls at.events at.start w after at.opens at.runs other call happens occurs differ);
+}
+
+-- ---- openings
+
+abbrev nothing_renamed : Renaming
+nothing_renamed = record { contexts = λ c d. false; ephemerals = λ x y. false }
+
+none_sent : {A : Type 0} (of : A → ℕ) (call : ℕ) (alike : A → A → Type 0) (sent others : List A) → sent ≡ [] → others ≡ [] → AreSentInBoth of call alike sent others
+none_sent of call alike sent others none also = record {
+  onward = λ x there its. absurd (none_in x (subst (λ (list : _). Contains list x) none there));
+  back = λ y there its. absurd (none_in y (subst (λ (list : _). Contains list y) also there));
+}
+
+module _ (script : Script) (one : Opened) where
+  line_too : (calls others : List Opened) (w : World) → IsOpening script calls w → Contains calls one → Contains others one → (l : ℕ) → IsLineOf script calls l one.call
+      → IsLineOf script others l one.call
+  line_too calls others w opens among there l x =
+      let same : x.one ≡ one = opens.distinct.calls_differ x.one one x.among among x.is_call in
+      record {
+        one = one;
+        i = x.i;
+        among = there;
+        is_call = refl;
+        within = x.within;
+        is_line = sym (ap (λ (o : Opened). o.lines x.i) same) ∙ x.is_line;
+      }
+
+  module _ (calls others : List Opened) (w v : World) (opens : IsOpening script calls w) (also : IsOpening script others v) (among : Contains calls one) (there : Contains others one) where
+    abbrev a : Agent
+    a = opened script one.call one.lines
+
+    held_too : (l : ℕ) → (w.gateway.holder l ≡ Some one.call) ↔ (v.gateway.holder l ≡ Some one.call)
+    held_too l = (
+      λ e. (also.lines.held l one.call).1 (line_too calls others w opens among there l ((opens.lines.held l one.call).0 e)),
+      λ e. (opens.lines.held l one.call).1 (line_too others calls v also there among l ((also.lines.held l one.call).0 e)),
+    )
+
+    rows_too : (t u : TermId) → OwnAlike nothing_renamed w v one.call t u → OptionalRowsAlike nothing_renamed t (w.gateway.board.row t) (v.gateway.board.row u)
+    rows_too (Line l) (Line m) own =
+        subst (λ (o : Option Row). OptionalRowsAlike nothing_renamed (Line l) o (v.gateway.board.row (Line m))) (sym (opens.lines.stand l.0 one.call own.1))
+        (subst (λ (o : Option Row). OptionalRowsAlike nothing_renamed (Line l) (Some null_row) o)
+        (sym (also.lines.stand m.0 one.call ((held_too m.0).0 (subst (λ (k : LineNo). w.gateway.holder k.0 ≡ Some one.call) own.0 own.1))))
+        (record { place = inl (refl, refl); mode = refl; remote = tt }))
+    rows_too (Eph x) (Eph y) own = absurd (false_not_true own.0)
+    rows_too (Line l) (Eph y) own = absurd own
+    rows_too (Eph x) (Line m) own = absurd own
+
+    opened_alike : CallAlike nothing_renamed w v one.call (opened script one.call one.lines) (opened script one.call one.lines)
+    opened_alike = record {
+      renaming = record {
+        contexts = record { onward = λ x y z e f. absurd (false_not_true e); back = λ x y z e f. absurd (false_not_true e) };
+        ephemerals = record { onward = λ x y z e f. absurd (false_not_true e); back = λ x y z e f. absurd (false_not_true e) };
+        numbers = λ x y e. absurd (false_not_true e);
+      };
+      open_one = opens.agents.opened one among;
+      open_other = also.agents.opened one there;
+      agents = record {
+        call = refl;
+        state = refl;
+        phase = tt;
+        association = refl;
+        lines = refl;
+        contexts = λ j. tt;
+        ephemerals = λ k. tt;
+        next = refl;
+        expected = refl;
+        accepted = refl;
+      };
+      association = also.gateway.association ∙ sym opens.gateway.association;
+      kept = subst (λ (o : Option Reply). KeptAlike nothing_renamed o (v.gateway.link one.call).last) (sym (ap (λ (link : ℕ → CallLink). (link one.call).last) opens.gateway.no_reply_kept))
+          (subst (λ (o : Option Reply). KeptAlike nothing_renamed None o) (sym (ap (λ (link : ℕ → CallLink). (link one.call).last) also.gateway.no_reply_kept)) tt);
+      count = ap (λ (link : ℕ → CallLink). (link one.call).notes) also.gateway.no_reply_kept ∙ sym (ap (λ (link : ℕ → CallLink). (link one.call).notes) opens.gateway.no_reply_kept);
+      held = held_too;
+      lines = λ l e. also.lines.armed l one.call ((held_too l).0 e) ∙ sym (opens.lines.armed l one.call e);
+      rows = rows_too;
+      cuts = λ t u s x first second. ap (λ (cut : TermId → TermId → Bool). cut u x) also.gateway.nothing_cut ∙ sym (ap (λ (cut : TermId → TermId → Bool). cut t s) opens.gateway.nothing_cut);
+      requests = none_sent (λ (q : Request). q.call) one.call _ w.requests v.requests opens.messages.no_request also.messages.no_request;
+      replies = none_sent (λ (q : Reply). q.call) one.call _ w.replies v.replies opens.messages.no_answer also.messages.no_answer;
+      notes = none_sent (λ (n : SentNote). n.call) one.call _ w.notes v.notes opens.messages.no_note also.messages.no_note;
+    }
+
+pub openings_alike : OpeningsTreatAlike
+openings_alike script calls others one w v opens also among there = record {
+  renaming = nothing_renamed;
+  one = opened script one.call one.lines;
+  other = opened script one.call one.lines;
+  alike = opened_alike script one calls others w v opens also among there;
+}
