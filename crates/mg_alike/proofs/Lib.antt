@@ -3,3 +3,4 @@ pub mod Agents
 pub mod Commands
 pub mod Requests
 pub mod Events
+pub mod Alone

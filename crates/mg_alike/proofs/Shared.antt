@@ -5,3 +5,4 @@ pub mod Rising
 pub mod Below
 pub mod Shapes
 pub mod Images
+pub mod Turned

@@ -1,16 +1,18 @@
 -- A call among others, and the same call alone on a gateway. A reader should check that alone it has its own events, each one and in their order, and the
 -- restarts; and that nothing is asked of the other calls but that they are calls of a run.
-use Rattle.std.specs.Prelude.{◌≡◌, ℕ, ◌==◌, if◌then◌else◌, List, [], ◌∷◌, Contains, Some}
+use Rattle.std.specs.Prelude.{◌≡◌, ℕ, ◌+◌, ◌==◌, Bool, IsTrue, if◌then◌else◌, List, [], ◌∷◌, Contains, Some}
 use Rattle.std.specs.List.{All}
 use Rattle.mg_model.specs.declared.events.Event.{Event}
 use Rattle.mg_model.specs.declared.events.Event.TheVariants.{OfCall, Restart}
 use Rattle.mg_model.specs.Accepted.{IsScript, IsEntryOf}
 use Rattle.mg_model.specs.Agent.{Agent}
 use Rattle.mg_model.specs.Entries.{Entry}
+use Rattle.mg_model.specs.Items.{is_context_number, is_ephemeral_number}
 use Rattle.mg_model.specs.Obligations.{NoneBroken}
 use Rattle.mg_model.specs.Script.{Script}
-use Rattle.mg_model.specs.Shards.{HasIdentifiersLeft, RunsWithin}
+use Rattle.mg_model.specs.Shards.{AreLeft, HasIdentifiersLeft, RunsWithin}
 use Rattle.mg_model.specs.World.{World, Opened, IsOpening, Runs}
+use Rattle.mg_merge.specs.Identifiers.{HasFewCommands, most_commands}
 use Rattle.mg_alike.specs.Worlds.{TreatAlike}
 
 -- of a history the events of one call, and the restarts
@@ -37,3 +39,20 @@ CallsAreIsolated =
     → (calls : List Opened) (one : Opened) (events : List Event) (start end lone : World) → Contains calls one → IsOpening script calls start
     → IsOpening script (one ∷ []) lone → RunsWithin script events start end → NeverRunsOut script lone
     → (a : Agent) → end.agent one.call ≡ Some a → IsTreatedAlone script one.call events lone end
+
+-- ---- identifiers of a call that is alone
+
+-- the most contexts, and the most ephemerals, that a call has in use at once: it has at most four lines and four ephemerals
+abbrev pub most_in_use : ℕ
+most_in_use = 8
+
+-- the gateway gives as many numbers of contexts and of ephemerals as a call has in use and a request may take
+pub record HasEnoughNumbers (class : ℕ → Bool) : Type 0 where
+  pub contexts : AreLeft (λ n. is_context_number n × IsTrue (class n)) (most_commands + most_in_use)
+  pub ephemerals : AreLeft (λ k. is_ephemeral_number k × IsTrue (class k)) (most_commands + most_in_use)
+
+-- where no obligation is broken and no state has more commands than that, a call that is alone, with those that begin on its lines, never runs out
+abbrev pub CallsAloneNeverRunOut : Type 0
+CallsAloneNeverRunOut =
+    (script : Script) (entries : List Entry) → IsScript script → All (IsEntryOf script) entries → NoneBroken script entries → HasFewCommands script
+    → (one : Opened) (lone : World) → IsOpening script (one ∷ []) lone → HasEnoughNumbers lone.gateway.board.class → NeverRunsOut script lone

@@ -102,3 +102,9 @@ abbrev pub OpeningsTreatAlike : Type 0
 OpeningsTreatAlike =
     (script : Script) (calls others : List Opened) (one : Opened) (w v : World) → IsOpening script calls w → IsOpening script others v → Contains calls one
     → Contains others one → TreatAlike w v one.call
+
+-- ---- the other way round
+
+-- where one world treats a call as another does, the other treats it as the one does
+abbrev pub TreatmentIsMutual : Type 0
+TreatmentIsMutual = (w v : World) (call : ℕ) → TreatAlike w v call → TreatAlike v w call

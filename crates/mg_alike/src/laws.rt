@@ -1,6 +1,6 @@
 //! The laws of a call that two worlds treat alike.
-ghost use Rattle.mg_alike.specs.Alone.{CallsAreIsolated};
-ghost use Rattle.mg_alike.specs.Laws.{AgentsStepAlike, EventsAlike, EventsHappenAlike, ExecutesAlike, OpeningsTreatAlike, OthersLeaveAlike, RestartsAlike};
+ghost use Rattle.mg_alike.specs.Alone.{CallsAloneNeverRunOut, CallsAreIsolated};
+ghost use Rattle.mg_alike.specs.Laws.{AgentsStepAlike, EventsAlike, EventsHappenAlike, ExecutesAlike, OpeningsTreatAlike, OthersLeaveAlike, RestartsAlike, TreatmentIsMutual};
 
 /// Two agents that are the same but for a renaming of identifiers step alike: by the same reply, but for the renaming, by a pass, a note, the timer
 /// and a newer association each takes a step exactly where the other does, to agents that are the same but for the renaming.
@@ -44,4 +44,16 @@ pub fn others_leave_alike()
 /// end as the world of all does. Where no obligation is broken and identifiers are left.
 pub fn calls_are_isolated()
     ensures { CallsAreIsolated }
+{}
+
+/// A call that is alone, with those that begin on its lines, never runs out of identifiers where its gateway gives as many numbers as it has in use and a
+/// request may take.
+pub fn calls_alone_never_run_out()
+    ensures { CallsAloneNeverRunOut }
+{}
+
+/// Where one world treats a call as another does, the other treats it as the one does. So an event of the call can happen in the one exactly where it can in
+/// the other.
+pub fn treatment_is_mutual()
+    ensures { TreatmentIsMutual }
 {}
