@@ -10,3 +10,5 @@ pub mod Settling
 pub mod Happening
 pub mod Others
 pub mod Alone
+pub mod Plain
+pub mod Begun

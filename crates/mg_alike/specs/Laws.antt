@@ -1,5 +1,5 @@
 -- The statements of the laws. Each is carried by an empty function of the same name.
-use Rattle.std.specs.Prelude.{◌≡◌, ℕ, List, Contains, Option}
+use Rattle.std.specs.Prelude.{◌≡◌, ℕ, false, List, Contains, Option, None}
 use Rattle.std.specs.List.{All}
 use Rattle.mg_model.specs.declared.events.CallEvent.{CallEvent}
 use Rattle.mg_model.specs.declared.events.CallEvent.TheVariants as to_call
@@ -13,7 +13,7 @@ use Rattle.mg_model.specs.Messages.{Reply, SentNote}
 use Rattle.mg_model.specs.Obligations.{NoneBroken}
 use Rattle.mg_model.specs.Script.{Script}
 use Rattle.mg_model.specs.Shards.{HasIdentifiersLeft}
-use Rattle.mg_model.specs.World.{World, Opened, IsOpening, OccursTo, Occurs, Runs, execute}
+use Rattle.mg_model.specs.World.{World, Opened, Begins, IsOpening, OccursTo, Occurs, Runs, execute}
 use Rattle.mg_safety.specs.Laws.{IsRetiredBy}
 use Rattle.mg_alike.specs.Agents.{AgentsAlike, StepsAlike}
 use Rattle.mg_alike.specs.Messages.{RepliesAlike}
@@ -108,3 +108,17 @@ OpeningsTreatAlike =
 -- where one world treats a call as another does, the other treats it as the one does
 abbrev pub TreatmentIsMutual : Type 0
 TreatmentIsMutual = (w v : World) (call : ℕ) → TreatAlike w v call → TreatAlike v w call
+
+-- ---- a call that begins on the lines of one that has ended
+
+-- where two worlds treat alike a call that has ended, they treat alike the one that begins on its lines in both
+abbrev pub BeginningsAlike : Type 0
+BeginningsAlike =
+    (script : Script) (w v : World) → AreReached script w v → (call old : ℕ) → TreatAlike w v old → (after next : World)
+    → Begins script w call old after → Begins script v call old next → TreatAlike after next call
+
+-- and it can begin in the one where it can in the other, if its number is not used there
+abbrev pub BeginningsHappenAlike : Type 0
+BeginningsHappenAlike =
+    (script : Script) (w v : World) → AreReached script w v → (call old : ℕ) → TreatAlike w v old → (after : World) → Begins script w call old after
+    → v.agent call ≡ None → v.gateway.retired call ≡ false → (next : World) × Begins script v call old next

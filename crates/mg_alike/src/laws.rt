@@ -1,6 +1,6 @@
 //! The laws of a call that two worlds treat alike.
 ghost use Rattle.mg_alike.specs.Alone.{CallsAloneNeverRunOut, CallsAreIsolated};
-ghost use Rattle.mg_alike.specs.Laws.{AgentsStepAlike, EventsAlike, EventsHappenAlike, ExecutesAlike, OpeningsTreatAlike, OthersLeaveAlike, RestartsAlike, TreatmentIsMutual};
+ghost use Rattle.mg_alike.specs.Laws.{AgentsStepAlike, BeginningsAlike, BeginningsHappenAlike, EventsAlike, EventsHappenAlike, ExecutesAlike, OpeningsTreatAlike, OthersLeaveAlike, RestartsAlike, TreatmentIsMutual};
 
 /// Two agents that are the same but for a renaming of identifiers step alike: by the same reply, but for the renaming, by a pass, a note, the timer
 /// and a newer association each takes a step exactly where the other does, to agents that are the same but for the renaming.
@@ -56,4 +56,14 @@ pub fn calls_alone_never_run_out()
 /// the other.
 pub fn treatment_is_mutual()
     ensures { TreatmentIsMutual }
+{}
+
+/// Where two worlds treat alike a call that has ended, they treat alike the one that begins on its lines in both.
+pub fn beginnings_alike()
+    ensures { BeginningsAlike }
+{}
+
+/// It can begin in the one world where it can in the other, if its number is not used there.
+pub fn beginnings_happen_alike()
+    ensures { BeginningsHappenAlike }
 {}

@@ -1,29 +1,25 @@
 -- A call that is alone never runs out of identifiers: at most eight contexts and four ephemerals are in use, each by a name of the call.
-use Rattle.std.proofs.Common.{◌≡◌, ◌∙◌, ◌+◌, ◌<◌, ◌≤◌, ◌++◌, ℕ, zero, suc, Bool, true, false, List, [], ◌∷◌, length, length-append, Option, Some, None, is_some, refl, sym, ap, subst, arith, inl, inr}
-use Rattle.std.specs.Prelude.{◌==◌, ◌⊎◌, Contains, unwrap_or}
-use Rattle.std.specs.List.{All}
+use Rattle.std.proofs.Common.{◌≡◌, ◌∙◌, ◌+◌, ◌<◌, ◌≤◌, ◌++◌, ℕ, zero, suc, Bool, true, List, [], ◌∷◌, length, length-append, Option, Some, None, is_some, refl, sym, ap, subst, arith, inl, inr}
+use Rattle.std.specs.Prelude.{◌⊎◌, Contains, unwrap_or}
 use Rattle.std.proofs.lemmas.Bool.{cases_lt, eq-eqb, false_from_ne_true}
 use Rattle.std.proofs.lemmas.List.Elements.{Contains-append_left, Contains-append_right}
 use Rattle.mg_names.specs.declared.identifiers.TermId.{TermId}
 use Rattle.mg_names.specs.declared.identifiers.TermId.TheVariants.{Line, Eph}
 use Rattle.mg_model.specs.declared.commands.Termination.{Termination}
 use Rattle.mg_model.specs.declared.commands.Termination.TheVariants as termination
-use Rattle.mg_model.specs.declared.events.Event.{Event}
 use Rattle.mg_model.specs.declared.rows.Row.{Row}
-use Rattle.mg_model.specs.Accepted.{IsScript, IsEntryOf, IsSlot}
+use Rattle.mg_model.specs.Accepted.{IsScript}
 use Rattle.mg_model.specs.Agent.{Agent}
-use Rattle.mg_model.specs.Board.{Board, IsSettled, exists, place_of, place_in, null_row}
+use Rattle.mg_model.specs.Board.{Board, IsSettled, exists, place_of, place_in}
 use Rattle.mg_model.specs.Entries.{Entry}
 use Rattle.mg_model.specs.Items.{is_context_number, is_ephemeral_number}
-use Rattle.mg_model.specs.Messages.{Request}
 use Rattle.mg_model.specs.Numbers.{the_line}
-use Rattle.mg_model.specs.Obligations.{NoneBroken}
 use Rattle.mg_model.specs.Script.{Script}
 use Rattle.mg_model.specs.Shards.{AreLeft, IsContextLeft, IsEphemeralLeft, HasIdentifiersLeft}
-use Rattle.mg_model.specs.World.{World, Opened, IsOpening, Runs}
-use Rattle.mg_model.proofs.Cases.{false_not_true, none_is_some, the_some}
+use Rattle.mg_model.specs.World.{World}
+use Rattle.mg_model.proofs.Cases.{the_some}
 use Rattle.mg_model.proofs.Single.{first_in, first_or_later, later_in, none_in}
-use Rattle.mg_merge.specs.Identifiers.{HasFewCommands, most_commands}
+use Rattle.mg_merge.specs.Identifiers.{most_commands}
 use Rattle.mg_merge.proofs.Commands.IdentifiersLeft.{one_taken, passed_on}
 use Rattle.mg_safety.proofs.Agents.EffectiveAgent.{same_lines}
 use Rattle.mg_safety.proofs.Events.Others.{created_only}

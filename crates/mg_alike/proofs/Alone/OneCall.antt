@@ -1,7 +1,7 @@
 -- On a gateway with one call exactly one is open at each moment: that one, or the last that began on its lines. Its requests are short, and the numbers that
 -- the gateway gives stay the same.
-use Rattle.std.proofs.Common.{◌≡◌, ◌∙◌, ◌+◌, ◌≤◌, ◌++◌, ℕ, Bool, true, false, List, [], ◌∷◌, length, Option, Some, None, refl, sym, ap, subst, inl, inr}
-use Rattle.std.specs.Prelude.{◌==◌, ◌⊎◌, Contains, if◌then◌else◌}
+use Rattle.std.proofs.Common.{◌≡◌, ◌∙◌, ◌+◌, ℕ, Bool, true, false, List, [], ◌∷◌, Option, Some, None, refl, sym, ap, subst, inl, inr}
+use Rattle.std.specs.Prelude.{◌==◌, Contains, if◌then◌else◌}
 use Rattle.std.proofs.lemmas.Bool.{eqb-true, eqb-false}
 use Rattle.std.proofs.lemmas.List.Elements.{Contains-append_cases}
 use Rattle.mg_model.specs.declared.events.CallEvent.{CallEvent}
@@ -17,10 +17,10 @@ use Rattle.mg_model.specs.Messages.{Request, RequestCommand}
 use Rattle.mg_model.specs.RequestRun.{Running, RunsFrom, item_at}
 use Rattle.mg_model.specs.Script.{Script}
 use Rattle.mg_model.specs.Tables.{line_places}
-use Rattle.mg_model.specs.World.{World, Opened, AgentSteps, Executes, Begins, IsOpening, Occurs, OccursTo, Runs, agent_steps, sent_in}
+use Rattle.mg_model.specs.World.{World, Opened, AgentSteps, Executes, Begins, IsOpening, Occurs, OccursTo, Runs, sent_in}
 use Rattle.mg_model.proofs.Cases.{at_one, none_is_some}
 use Rattle.mg_model.proofs.Single.{none_in, only_here, only_one}
-use Rattle.mg_merge.specs.Identifiers.{HasFewCommands, most_commands}
+use Rattle.mg_merge.specs.Identifiers.{HasFewCommands}
 use Rattle.mg_merge.proofs.Commands.Changes.{class_stays}
 use Rattle.mg_merge.proofs.Identifiers.FewCommands.{IsShort, GivesShort, replied_short, passed_short, noted_short, timed_short, heard_short}
 

@@ -57,7 +57,7 @@ partner pairs None p x is alike = absurd (some_is_none x (sym is))
 partner pairs (Some z) (Some y) x is alike = (y, refl, subst (λ (n : ℕ). pairs n y ≡ true) (the_some z x is) alike)
 partner pairs (Some z) None x is alike = absurd alike
 
-partner_back : (pairs : ℕ → ℕ → Bool) (o p : Option ℕ) (y : ℕ) → p ≡ Some y → OptionsAlike pairs o p → (x : ℕ) × (o ≡ Some x) × (pairs x y ≡ true)
+pub partner_back : (pairs : ℕ → ℕ → Bool) (o p : Option ℕ) (y : ℕ) → p ≡ Some y → OptionsAlike pairs o p → (x : ℕ) × (o ≡ Some x) × (pairs x y ≡ true)
 partner_back pairs o None y is alike = absurd (some_is_none y (sym is))
 partner_back pairs (Some x) (Some z) y is alike = (x, refl, subst (λ (n : ℕ). pairs x n ≡ true) (the_some z y is) alike)
 partner_back pairs None (Some z) y is alike = absurd alike

@@ -1,6 +1,5 @@
 -- What is alike is so the other way round.
-use Rattle.std.proofs.Common.{◌≡◌, ◌∙◌, ℕ, Bool, true, List, [], ◌∷◌, Option, Some, None, refl, sym, ap, subst, inl, inr}
-use Rattle.std.specs.Prelude.{◌==◌, ◌&&◌, Contains}
+use Rattle.std.proofs.Common.{◌≡◌, ◌∙◌, ℕ, Bool, List, [], ◌∷◌, Option, Some, None, refl, sym, subst, inl, inr}
 use Rattle.mg_names.specs.declared.identifiers.LineNo.{LineNo}
 use Rattle.mg_names.specs.declared.identifiers.TermId.{TermId}
 use Rattle.mg_names.specs.declared.identifiers.TermId.TheVariants as term
@@ -13,16 +12,16 @@ use Rattle.mg_model.specs.declared.references.RemoteRef.TheVariants.{Nothing, To
 use Rattle.mg_model.specs.declared.references.TerminationRef.{TerminationRef}
 use Rattle.mg_model.specs.declared.references.TerminationRef.TheVariants.{Line, Ephemeral}
 use Rattle.mg_model.specs.declared.rows.Row.{Row}
-use Rattle.mg_model.specs.Agent.{Agent, Phase, awaits_reply, awaits_pass, resting, answers}
+use Rattle.mg_model.specs.Agent.{Agent, Phase, awaits_reply, awaits_pass, resting}
 use Rattle.mg_model.specs.Items.{Done}
 use Rattle.mg_model.specs.Messages.{Descriptors, RequestCommand, add_line, add_ephemeral, modify, move, subtract, subtract_all, set_topology, Request, Reply, SentNote}
 use Rattle.mg_model.specs.World.{World}
 use Rattle.mg_alike.specs.Agents.{PhasesAlike, AgentsAlike}
-use Rattle.mg_alike.specs.Boards.{PlacesAlike, OptionalRowsAlike, RowsAlike}
+use Rattle.mg_alike.specs.Boards.{PlacesAlike, OptionalRowsAlike}
 use Rattle.mg_alike.specs.Laws.{TreatmentIsMutual}
 use Rattle.mg_alike.specs.Messages.{ContextRefsAlike, EphemeralRefsAlike, TerminationRefsAlike, RemoteRefsAlike, DescriptorsAlike, CommandsAlike, RequestsAlike, DoneAlike, RepliesAlike}
-use Rattle.mg_alike.specs.Renaming.{Renaming, IsOneToOne, IsRenaming, OptionsAlike, SetsAlike, IsWord, ContextsAlike, EphemeralsAlike, Pairwise}
-use Rattle.mg_alike.specs.Worlds.{AreSentInBoth, anything, is_awaited, SameReply, KeptAlike, OwnAlike, CallAlike, TreatAlike}
+use Rattle.mg_alike.specs.Renaming.{Renaming, IsOneToOne, OptionsAlike, SetsAlike, IsWord, ContextsAlike, EphemeralsAlike, Pairwise}
+use Rattle.mg_alike.specs.Worlds.{AreSentInBoth, anything, is_awaited, SameReply, KeptAlike, OwnAlike, CallAlike}
 
 abbrev turned : Renaming → Renaming
 turned r = record { contexts = λ x y. r.contexts y x; ephemerals = λ x y. r.ephemerals y x }
