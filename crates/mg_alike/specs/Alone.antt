@@ -1,7 +1,9 @@
 -- A call among others, and the same call alone on a gateway. A reader should check that alone it has its own events, each one and in their order, and the
 -- restarts; and that nothing is asked of the other calls but that they are calls of a run.
-use Rattle.std.specs.Prelude.{◌≡◌, ℕ, ◌+◌, ◌==◌, Bool, IsTrue, if◌then◌else◌, List, [], ◌∷◌, Contains, Some}
+use Rattle.std.specs.Prelude.{◌≡◌, ℕ, ◌+◌, ◌==◌, Bool, false, IsTrue, if◌then◌else◌, List, [], ◌∷◌, Contains, Some}
 use Rattle.std.specs.List.{All}
+use Rattle.mg_model.specs.declared.events.CallEvent.{CallEvent}
+use Rattle.mg_model.specs.declared.events.CallEvent.TheVariants as to_call
 use Rattle.mg_model.specs.declared.events.Event.{Event}
 use Rattle.mg_model.specs.declared.events.Event.TheVariants.{OfCall, Restart}
 use Rattle.mg_model.specs.Accepted.{IsScript, IsEntryOf}
@@ -56,3 +58,45 @@ abbrev pub CallsAloneNeverRunOut : Type 0
 CallsAloneNeverRunOut =
     (script : Script) (entries : List Entry) → IsScript script → All (IsEntryOf script) entries → NoneBroken script entries → HasFewCommands script
     → (one : Opened) (lone : World) → IsOpening script (one ∷ []) lone → HasEnoughNumbers lone.gateway.board.class → NeverRunsOut script lone
+
+-- ---- with the calls that begin on its lines
+
+-- a call begins with it on the lines of this one
+abbrev pub begins_on : ℕ → CallEvent → Bool
+begins_on call (to_call.Begin old) = old.0 == call
+begins_on call happens = false
+
+-- the call that has the lines at the end of a history: this one, or the last that began on them
+abbrev pub heir_of : ℕ → List Event → ℕ
+heir_of call [] = call
+heir_of call (OfCall one happens ∷ more) = if begins_on call happens then heir_of one.0 more else heir_of call more
+heir_of call (Restart ∷ more) = heir_of call more
+
+-- of a history the events of a call and of those that begin on its lines, one after the other, and the restarts
+abbrev pub events_with_heirs : ℕ → List Event → List Event
+events_with_heirs call [] = []
+events_with_heirs call (OfCall one happens ∷ more) =
+    if begins_on call happens then OfCall one happens ∷ events_with_heirs one.0 more
+    else if one.0 == call then OfCall one happens ∷ events_with_heirs call more
+    else events_with_heirs call more
+events_with_heirs call (Restart ∷ more) = Restart ∷ events_with_heirs call more
+
+-- there is a run of the call alone, with those that begin on its lines, that treats the last of them at its end as this world does
+pub record IsTreatedWithHeirs (script : Script) (call : ℕ) (events : List Event) (lone end : World) : Type 0 where
+  pub last : World
+  pub runs : Runs script (events_with_heirs call events) lone last
+  pub alike : TreatAlike end last (heir_of call events)
+
+-- the same of a call with all that begin on its lines: on a gateway of their own that gives enough numbers they go as they go among others
+abbrev pub CallsWithHeirsAreIsolated : Type 0
+CallsWithHeirsAreIsolated =
+    (script : Script) (entries : List Entry) → IsScript script → All (IsEntryOf script) entries → NoneBroken script entries → HasFewCommands script
+    → (calls : List Opened) (one : Opened) (events : List Event) (start end lone : World) → Contains calls one → IsOpening script calls start
+    → IsOpening script (one ∷ []) lone → RunsWithin script events start end → HasEnoughNumbers lone.gateway.board.class
+    → IsTreatedWithHeirs script one.call events lone end
+
+-- and for each call of an opening there is an opening of it alone, on a gateway that gives the same numbers
+abbrev pub CallsOpenAlone : Type 0
+CallsOpenAlone =
+    (script : Script) (calls : List Opened) (one : Opened) (start : World) → Contains calls one → IsOpening script calls start
+    → (lone : World) × (IsOpening script (one ∷ []) lone × (lone.gateway.board.class ≡ start.gateway.board.class))

@@ -1,5 +1,5 @@
 //! The laws of a call that two worlds treat alike.
-ghost use Rattle.mg_alike.specs.Alone.{CallsAloneNeverRunOut, CallsAreIsolated};
+ghost use Rattle.mg_alike.specs.Alone.{CallsAloneNeverRunOut, CallsAreIsolated, CallsOpenAlone, CallsWithHeirsAreIsolated};
 ghost use Rattle.mg_alike.specs.Laws.{AgentsStepAlike, BeginningsAlike, BeginningsHappenAlike, EventsAlike, EventsHappenAlike, ExecutesAlike, OpeningsTreatAlike, OthersLeaveAlike, RestartsAlike, TreatmentIsMutual};
 
 /// Two agents that are the same but for a renaming of identifiers step alike: by the same reply, but for the renaming, by a pass, a note, the timer
@@ -66,4 +66,16 @@ pub fn beginnings_alike()
 /// It can begin in the one world where it can in the other, if its number is not used there.
 pub fn beginnings_happen_alike()
     ensures { BeginningsHappenAlike }
+{}
+
+/// For each call of an opening there is an opening of it alone, on a gateway that gives the same numbers.
+pub fn calls_open_alone()
+    ensures { CallsOpenAlone }
+{}
+
+/// A call of a run of any calls, with all that begin on its lines, goes as it would go alone: there is a run of it alone, with exactly their events and the
+/// restarts, that treats the last of them at the end as the world of all does. Where no obligation is broken, identifiers are left, and the gateway of the
+/// call alone gives enough.
+pub fn calls_with_heirs_are_isolated()
+    ensures { CallsWithHeirsAreIsolated }
 {}

@@ -33,13 +33,13 @@ use Rattle.mg_alike.proofs.Events.Others.{others_alike, openings_alike}
 -- ---- runs
 
 -- one event more
-runs_on : (script : Script) (events : List Event) (w end next : World) (event : Event) → Runs script events w end → Occurs script end event next
+pub runs_on : (script : Script) (events : List Event) (w end next : World) (event : Event) → Runs script events w end → Occurs script end event next
     → Runs script (events ++ event ∷ []) w next
 unfolding Runs
 runs_on script [] w end next event runs occurs = (next, (subst (λ (x : World). Occurs script x event next) runs occurs, refl))
 runs_on script (first ∷ more) w end next event (between, (happens, runs)) occurs = (between, (happens, runs_on script more between end next event runs occurs))
 
-within_runs : (script : Script) (events : List Event) (w end : World) → RunsWithin script events w end → Runs script events w end
+pub within_runs : (script : Script) (events : List Event) (w end : World) → RunsWithin script events w end → Runs script events w end
 unfolding Runs RunsWithin
 within_runs script [] w end runs = runs
 within_runs script (event ∷ more) w end (left, (next, (occurs, runs))) = (next, (occurs, within_runs script more next end runs))
@@ -49,10 +49,10 @@ within_runs script (event ∷ more) w end (left, (next, (occurs, runs))) = (next
 same_retired : (w after : World) (call : ℕ) → after.gateway.retired ≡ w.gateway.retired → w.gateway.retired call ≡ true → after.gateway.retired call ≡ true
 same_retired w after call same is = ap (λ (retired : ℕ → Bool). retired call) same ∙ is
 
-steps_retired : (w after : World) (one : ℕ) (step : Agent → Option Agent) → AgentSteps w one step after → after.gateway.retired ≡ w.gateway.retired
+pub steps_retired : (w after : World) (one : ℕ) (step : Agent → Option Agent) → AgentSteps w one step after → after.gateway.retired ≡ w.gateway.retired
 steps_retired w after one step s = ap (λ (x : World). x.gateway.retired) s.after_is
 
-execute_retired : (w after : World) (request : Request) (chosen : Option ChosenRefusal) → Executes w request chosen after → after.gateway.retired ≡ w.gateway.retired
+pub execute_retired : (w after : World) (request : Request) (chosen : Option ChosenRefusal) → Executes w request chosen after → after.gateway.retired ≡ w.gateway.retired
 execute_retired w after request chosen (inl f) = ap (λ (x : World). x.gateway.retired) f.after_is ∙ ap (λ (g : Gateway). g.retired) f.executed.after_is
 execute_retired w after request chosen (inr (inl f)) = ap (λ (x : World). x.gateway.retired) f.after_is
 execute_retired w after request chosen (inr (inr f)) = ap (λ (x : World). x.gateway.retired) f.1
@@ -75,7 +75,7 @@ call_retired script w after one call (to_call.Begin old) b is =
     either false was is = is
 call_retired script w after one call (to_call.Hear association) (past, s) is = same_retired w after call (steps_retired w after one _ s) is
 
-event_retired : (script : Script) (w after : World) (call : ℕ) (event : Event) → Occurs script w event after → w.gateway.retired call ≡ true
+pub event_retired : (script : Script) (w after : World) (call : ℕ) (event : Event) → Occurs script w event after → w.gateway.retired call ≡ true
     → after.gateway.retired call ≡ true
 event_retired script w after call (OfCall one happens) occurs is = call_retired script w after one.0 call happens occurs is
 event_retired script w after call Restart occurs is = same_retired w after call (ap (λ (x : World). x.gateway.retired) occurs.1) is
@@ -90,7 +90,7 @@ stays_retired script (event ∷ more) w end call (next, (occurs, runs)) is =
 -- ---- events
 
 -- a call that is open doesn't begin
-not_beginning : (script : Script) (w after : World) (call : ℕ) (a : Agent) → w.agent call ≡ Some a → (happens : CallEvent) → OccursTo script w call happens after
+pub not_beginning : (script : Script) (w after : World) (call : ℕ) (a : Agent) → w.agent call ≡ Some a → (happens : CallEvent) → OccursTo script w call happens after
     → IsBeginning happens → ⊥
 not_beginning script w after call a there (to_call.OnLine line event) occurs is = is
 not_beginning script w after call a there (to_call.Execute number chosen) occurs is = is

@@ -194,22 +194,32 @@ module _ (script : Script) (entries : List Entry) (w v : World) (sound : IsSound
       by_part (inl k) = k
       by_part (inr lost) = let older = lost.association in let now = ended_too.current in absurd (omega (arith, older, now))
 
+  -- what it is said to own in the one world it owns
+  own_one : (x : ℕ) → owned_in w.gateway a.call (Eph x) ≡ true → w.gateway.creator x ≡ Some old
+  own_one x owned =
+      is_call_of (w.gateway.creator x) old
+      (ap (λ (n : ℕ). is_call (w.gateway.creator x) n) (sym (sound.calls old a alike.open_one).numbered)
+      ∙ sym (created_only (is_call (w.gateway.creator x) a.call) (w.gateway.board.used_ephemeral x)) ∙ owned)
+
+  own_other : (x : ℕ) → v.gateway.creator x ≡ Some old → owned_in v.gateway b.call (Eph x) ≡ true
+  own_other x created =
+      created_only (is_call (v.gateway.creator x) b.call) (v.gateway.board.used_ephemeral x)
+      ∙ ap (λ (o : Option ℕ). is_call o b.call) (created ∙ ap (λ (n : ℕ). Some n) (sym (also_sound.calls old b alike.open_other).numbered)) ∙ eq-eqb b.call b.call refl
+
+  -- an ephemeral with a name of the call
+  not_named : (k x : ℕ) → b.ephemerals k ≡ Some x → ⊥
+  not_named k x bound =
+      let its = partner_back r.ephemerals (a.ephemerals k) (b.ephemerals k) x bound (alike.agents.ephemerals k) in
+      let named : current_one.e.ephemerals k ≡ a.ephemerals k =
+      ap (λ (e : Agent). e.ephemerals k) (at_rest script entries w.gateway a current_one ended.at_rest) in
+      may.no_ephemeral its.0 (own_one its.0 (current_one.shown.ephemeral_owned k its.0 (named ∙ its.1)))
+
   none_created : (x : ℕ) → v.gateway.creator x ≡ Some old → ⊥
   none_created x created =
-      let numbered = (also_sound.calls old b alike.open_other).numbered in
-      let was = (sound.calls old a alike.open_one).numbered in
-      let owned : owned_in v.gateway b.call (Eph x) ≡ true =
-      created_only (is_call (v.gateway.creator x) b.call) (v.gateway.board.used_ephemeral x)
-      ∙ ap (λ (o : Option ℕ). is_call o b.call) (created ∙ ap (λ (n : ℕ). Some n) (sym numbered)) ∙ eq-eqb b.call b.call refl in
-      let name = current_other.shown.ephemeral_named x owned (also_sound.gateway.creator_stands x old created) in
-      let bound : b.ephemerals name.0 ≡ Some x =
-      ap (λ (e : Agent). e.ephemerals name.0) (sym (at_rest script entries v.gateway b current_other ended_too.at_rest)) ∙ name.1 in
-      let its = partner_back r.ephemerals (a.ephemerals name.0) (b.ephemerals name.0) x bound (alike.agents.ephemerals name.0) in
-      let here = current_one.shown.ephemeral_owned name.0 its.0
-      (ap (λ (e : Agent). e.ephemerals name.0) (at_rest script entries w.gateway a current_one ended.at_rest) ∙ its.1) in
-      may.no_ephemeral its.0 (is_call_of (w.gateway.creator its.0) old
-      (ap (λ (n : ℕ). is_call (w.gateway.creator its.0) n) (sym was)
-      ∙ sym (created_only (is_call (w.gateway.creator its.0) a.call) (w.gateway.board.used_ephemeral its.0)) ∙ here))
+      let name = current_other.shown.ephemeral_named x (own_other x created) (also_sound.gateway.creator_stands x old created) in
+      let same : b.ephemerals name.0 ≡ current_other.e.ephemerals name.0 =
+      ap (λ (e : Agent). e.ephemerals name.0) (sym (at_rest script entries v.gateway b current_other ended_too.at_rest)) in
+      not_named name.0 x (same ∙ name.1)
 
   may_too : MayBegin v.gateway old
   may_too = record {

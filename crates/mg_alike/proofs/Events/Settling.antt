@@ -32,7 +32,7 @@ someone_stands script n b c =
     any_below (λ i. place_by b n (termination.Line i) == c) (length script.lines) || any_below (λ k. place_by b n (termination.Ephemeral k) == c) (length script.ephemerals)
 
 -- a number below a bound that passes a test
-found_below : (p : ℕ → Bool) (n : ℕ) → any_below p n ≡ true → (i : ℕ) × (i < n) × (p i ≡ true)
+pub found_below : (p : ℕ → Bool) (n : ℕ) → any_below p n ≡ true → (i : ℕ) × (i < n) × (p i ≡ true)
 found_below p zero e = absurd (false_not_true e)
 found_below p (suc n) e = go (p n) refl e (found_below p n)
   where
