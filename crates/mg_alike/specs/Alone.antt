@@ -1,6 +1,6 @@
 -- A call among others, and the same call alone on a gateway. A reader should check that alone it has its own events, each one and in their order, and the
 -- restarts; and that nothing is asked of the other calls but that they are calls of a run.
-use Rattle.std.specs.Prelude.{◌≡◌, ℕ, ◌+◌, ◌==◌, Bool, false, IsTrue, if◌then◌else◌, List, [], ◌∷◌, Contains, Some}
+use Rattle.std.specs.Prelude.{◌≡◌, ℕ, ◌+◌, ◌%◌, ◌<◌, ◌≤◌, ◌==◌, Bool, false, IsTrue, if◌then◌else◌, List, [], ◌∷◌, Contains, Some}
 use Rattle.std.specs.List.{All}
 use Rattle.mg_model.specs.declared.events.CallEvent.{CallEvent}
 use Rattle.mg_model.specs.declared.events.CallEvent.TheVariants as to_call
@@ -14,7 +14,7 @@ use Rattle.mg_model.specs.Obligations.{NoneBroken}
 use Rattle.mg_model.specs.Script.{Script}
 use Rattle.mg_model.specs.Shards.{AreLeft, HasIdentifiersLeft, RunsWithin}
 use Rattle.mg_model.specs.World.{World, Opened, IsOpening, Runs}
-use Rattle.mg_merge.specs.Identifiers.{HasFewCommands, most_commands}
+use Rattle.mg_merge.specs.Identifiers.{HasFewCommands, most_commands, most_shards}
 use Rattle.mg_alike.specs.Worlds.{TreatAlike}
 
 -- of a history the events of one call, and the restarts
@@ -100,3 +100,9 @@ abbrev pub CallsOpenAlone : Type 0
 CallsOpenAlone =
     (script : Script) (calls : List Opened) (one : Opened) (start : World) → Contains calls one → IsOpening script calls start
     → (lone : World) × (IsOpening script (one ∷ []) lone × (lone.gateway.board.class ≡ start.gateway.board.class))
+
+-- a gateway that gives each number of one class, of at most as many as shards may share, gives enough
+abbrev pub ClassesGiveEnough : Type 0
+ClassesGiveEnough =
+    (class : ℕ → Bool) (first stride : ℕ) → first < stride → stride ≤ most_shards → ((n : ℕ) → n % stride ≡ first → IsTrue (class n))
+    → HasEnoughNumbers class

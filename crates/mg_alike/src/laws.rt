@@ -1,5 +1,5 @@
 //! The laws of a call that two worlds treat alike.
-ghost use Rattle.mg_alike.specs.Alone.{CallsAloneNeverRunOut, CallsAreIsolated, CallsOpenAlone, CallsWithHeirsAreIsolated};
+ghost use Rattle.mg_alike.specs.Alone.{CallsAloneNeverRunOut, CallsAreIsolated, CallsOpenAlone, CallsWithHeirsAreIsolated, ClassesGiveEnough};
 ghost use Rattle.mg_alike.specs.Laws.{AgentsStepAlike, BeginningsAlike, BeginningsHappenAlike, EventsAlike, EventsHappenAlike, ExecutesAlike, OpeningsTreatAlike, OthersLeaveAlike, RestartsAlike, TreatmentIsMutual};
 
 /// Two agents that are the same but for a renaming of identifiers step alike: by the same reply, but for the renaming, by a pass, a note, the timer
@@ -50,6 +50,11 @@ pub fn calls_are_isolated()
 /// request may take.
 pub fn calls_alone_never_run_out()
     ensures { CallsAloneNeverRunOut }
+{}
+
+/// It does where it gives each number of one class, of at most as many as shards may share.
+pub fn classes_give_enough()
+    ensures { ClassesGiveEnough }
 {}
 
 /// Where one world treats a call as another does, the other treats it as the one does. So an event of the call can happen in the one exactly where it can in

@@ -1,5 +1,6 @@
 -- A call that is alone never runs out of identifiers: at most eight contexts and four ephemerals are in use, each by a name of the call.
-use Rattle.std.proofs.Common.{◌≡◌, ◌∙◌, ◌+◌, ◌<◌, ◌≤◌, ◌++◌, ℕ, zero, suc, Bool, true, List, [], ◌∷◌, length, length-append, Option, Some, None, is_some, refl, sym, ap, subst, arith, inl, inr}
+use Rattle.std.proofs.Common.{◌≡◌, ◌∙◌, ◌+◌, ◌%◌, ◌<◌, ◌≤◌, ◌++◌, ℕ, zero, suc, Bool, true, List, [], ◌∷◌, length, length-append, Option, Some, None, is_some, refl, sym, ap, subst, arith, inl, inr}
+use Rattle.std.proofs.Math.Nat.{add-mod_right, mod-eq_of_lt}
 use Rattle.std.specs.Prelude.{◌⊎◌, Contains, unwrap_or}
 use Rattle.std.proofs.lemmas.Bool.{cases_lt, eq-eqb, false_from_ne_true}
 use Rattle.std.proofs.lemmas.List.Elements.{Contains-append_left, Contains-append_right}
@@ -13,20 +14,21 @@ use Rattle.mg_model.specs.Agent.{Agent}
 use Rattle.mg_model.specs.Board.{Board, IsSettled, exists, place_of, place_in}
 use Rattle.mg_model.specs.Entries.{Entry}
 use Rattle.mg_model.specs.Items.{is_context_number, is_ephemeral_number}
-use Rattle.mg_model.specs.Numbers.{the_line}
+use Rattle.mg_model.specs.Numbers.{choose, the_line}
 use Rattle.mg_model.specs.Script.{Script}
 use Rattle.mg_model.specs.Shards.{AreLeft, IsContextLeft, IsEphemeralLeft, HasIdentifiersLeft}
 use Rattle.mg_model.specs.World.{World}
 use Rattle.mg_model.proofs.Cases.{the_some}
 use Rattle.mg_model.proofs.Single.{first_in, first_or_later, later_in, none_in}
-use Rattle.mg_merge.specs.Identifiers.{most_commands}
+use Rattle.mg_merge.specs.Identifiers.{most_commands, most_shards}
 use Rattle.mg_merge.proofs.Commands.IdentifiersLeft.{one_taken, passed_on}
+use Rattle.mg_merge.proofs.Identifiers.Candidates.{class_has_more}
 use Rattle.mg_safety.proofs.Agents.EffectiveAgent.{same_lines}
 use Rattle.mg_safety.proofs.Events.Others.{created_only}
 use Rattle.mg_safety.proofs.GoodWorlds.Beginning.{reached}
 use Rattle.mg_safety.proofs.Invariant.Shown.{naming, eph_of, row_on, term_of}
 use Rattle.mg_safety.proofs.Invariant.Sound.{is_call, owned_in, IsCurrent, IsLost, IsSound}
-use Rattle.mg_alike.specs.Alone.{CallsAloneNeverRunOut, HasEnoughNumbers, most_in_use}
+use Rattle.mg_alike.specs.Alone.{CallsAloneNeverRunOut, ClassesGiveEnough, HasEnoughNumbers, most_in_use}
 use Rattle.mg_alike.proofs.Alone.OneCall.{IsLone, opening_lone, runs_lone}
 use Rattle.mg_alike.proofs.Events.Settled.{opening_settled, runs_settled}
 
@@ -230,3 +232,17 @@ never_run_out script entries is_script listed none_broken few one lone opens eno
     left script entries is_script lone.gateway.board.class v (reached script entries is_script listed none_broken (one ∷ []) history lone v opens runs)
     (runs_settled script history lone v (opening_settled script (one ∷ []) lone opens) runs)
     (runs_lone script few lone.gateway.board.class history lone v (opening_lone script one lone opens) runs) enough
+
+-- ---- a class of numbers
+
+module _ (class : ℕ → Bool) (first stride : ℕ) (below : first < stride) (small : stride ≤ most_shards) (gives : (n : ℕ) → n % stride ≡ first → class n ≡ true) where
+  class_left : (passes : ℕ → Type 0) → ((n : ℕ) → 0 < n → n < choose → class n ≡ true → passes n) → AreLeft passes (most_commands + most_in_use)
+  class_left passes each =
+      class_has_more passes [] stride (first + stride) 0 (most_commands + most_in_use) (omega (arith, below)) small (omega arith)
+      (λ n from to same free. each n (omega (arith, from, below)) (omega (arith, to, below, small)) (gives n (same ∙ add-mod_right first stride ∙ mod-eq_of_lt below)))
+
+pub classes_enough : ClassesGiveEnough
+classes_enough class first stride below small gives = record {
+  contexts = class_left class first stride below small gives (λ n. is_context_number n × (class n ≡ true)) (λ n real less own. ((real, less), own));
+  ephemerals = class_left class first stride below small gives (λ n. is_ephemeral_number n × (class n ≡ true)) (λ n real less own. ((real, omega (arith, less)), own));
+}
