@@ -1,6 +1,7 @@
 -- The events of a call in two worlds that treat it alike.
 pub mod Offers
 pub mod Executed
+pub mod Created
 pub mod Requests
 pub mod Steps
 pub mod LineEvents

@@ -63,8 +63,10 @@ pub record CallAlike (r : Renaming) (w v : World) (call : ℕ) (a b : Agent) : T
   -- its lines
   pub held : (l : ℕ) → (w.gateway.holder l ≡ Some call) ↔ (v.gateway.holder l ≡ Some call)
   pub lines : (l : ℕ) → w.gateway.holder l ≡ Some call → v.gateway.line l ≡ w.gateway.line l
-  -- what it owns of the connection model
+  -- what it owns of the connection model: each ephemeral that it created stands for one that it created, and what is set on each, and between two
   pub rows : (t u : TermId) → OwnAlike r w v call t u → OptionalRowsAlike r t (w.gateway.board.row t) (v.gateway.board.row u)
+  pub created : (x : ℕ) → w.gateway.creator x ≡ Some call → (y : ℕ) × IsTrue (r.ephemerals x y) × (v.gateway.creator y ≡ Some call)
+  pub created_back : (y : ℕ) → v.gateway.creator y ≡ Some call → (x : ℕ) × IsTrue (r.ephemerals x y) × (w.gateway.creator x ≡ Some call)
   pub cuts : (t u s x : TermId) → OwnAlike r w v call t u → OwnAlike r w v call s x → v.gateway.board.cut u x ≡ w.gateway.board.cut t s
   -- the messages of it
   pub requests : AreSentInBoth (λ (q : Request). q.call) call (RequestsAlike anything) w.requests v.requests

@@ -107,6 +107,8 @@ module _ (script : Script) (entries : List Entry) (w v : World) (sound : IsSound
     );
     lines = λ l e. alike.lines l (was_held script entries w sound call unused not_retired old l e);
     rows = λ t u own. alike.rows t u (owns t u own);
+    created = λ x e. absurd (no_creation script entries w sound call unused not_retired x e);
+    created_back = λ y e. absurd (no_creation script entries v also_sound call also_unused also_not y e);
     cuts = λ t u s x first second. alike.cuts t u s x (owns t u first) (owns s x second);
     requests = never_sent (λ (q : Request). q.call) call _ w.requests v.requests
         (λ q there its. not_known script entries w sound call unused not_retired q.call its (sound.gateway.requests q there))

@@ -96,6 +96,10 @@ module _ (script : Script) (w v : World) (call : ℕ) (r : Renaming) (a b : Agen
     (is_settled : IsSettled end.board settled) (also_settled : IsSettled last.board also) (wide : Renaming)
     (running : RunningAlike wide (λ l. is_call (w.gateway.holder l) call) end last) (same : other ≡ failure)
     (contexts : (j : ℕ) → OptionsAlike wide.contexts (a.contexts j) (b.contexts j)) (ephemerals : (k : ℕ) → OptionsAlike wide.ephemerals (a.ephemerals k) (b.ephemerals k))
+    (created : (x : ℕ) → (world_after w q end settled failure).gateway.creator x ≡ Some call
+    → (y : ℕ) × (wide.ephemerals x y ≡ true) × ((world_after v p last also other).gateway.creator y ≡ Some call))
+    (created_back : (y : ℕ) → (world_after v p last also other).gateway.creator y ≡ Some call
+    → (x : ℕ) × (wide.ephemerals x y ≡ true) × ((world_after w q end settled failure).gateway.creator x ≡ Some call))
     (phases : PhasesAlike wide a.phase b.phase) (unanswered : (x : Reply) → Contains w.replies x → x.call ≡ call → is_awaited a.phase x ≡ true → ⊥) where
   new_reply : RepliesAlike wide (reply_of q end failure) (reply_of p last other)
   new_reply = record {
@@ -169,6 +173,8 @@ module _ (script : Script) (w v : World) (call : ℕ) (r : Renaming) (a b : Agen
     rows = λ t u own.
         subst (λ (rows : TermId → Option Row). OptionalRowsAlike wide t (rows t) (also.row u)) (sym is_settled.row)
         (subst (λ (rows : TermId → Option Row). OptionalRowsAlike wide t (end.board.row t) (rows u)) (sym also_settled.row) (running.boards.rows t u (terms t u own)));
+    created = created;
+    created_back = created_back;
     cuts = λ t u s x first second.
         ap (λ (cuts : TermId → TermId → Bool). cuts u x) also_settled.cut ∙ running.boards.cuts t u s x (terms t u first) (terms s x second)
         ∙ sym (ap (λ (cuts : TermId → TermId → Bool). cuts t s) is_settled.cut);

@@ -83,6 +83,8 @@ module _ (w v : World) (call : ℕ) (r : Renaming) (a b : Agent) (alike : CallAl
     held = alike.held;
     lines = λ other its. ap (λ (row : LineRow). if other == l then outcome.row else row) (alike.lines other its);
     rows = λ t u own. alike.rows t u own;
+    created = alike.created;
+    created_back = alike.created_back;
     cuts = λ t u s x first second. alike.cuts t u s x first second;
     requests = alike.requests;
     replies = alike.replies;
@@ -161,6 +163,8 @@ restarted_alike w v call r a b alike = record {
   held = alike.held;
   lines = λ l held. ap cleared (alike.lines l held);
   rows = λ t u own. rows_restart r w v call t u own (w.gateway.board.row t) (v.gateway.board.row u) (alike.rows t u (lines_own r w v call t u own));
+  created = λ x e. absurd (none_is_some call e);
+  created_back = λ y e. absurd (none_is_some call e);
   cuts = λ t u s x first second. refl;
   requests = alike.requests;
   replies = alike.replies;

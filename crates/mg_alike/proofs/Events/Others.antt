@@ -1,6 +1,6 @@
 -- An event of another call, and the opening: what they leave of a call that isn't theirs is as it was.
-use Rattle.std.proofs.Common.{◌≡◌, ◌∙◌, ℕ, Bool, true, false, List, [], Option, Some, None, refl, sym, ap, subst, inl, inr}
-use Rattle.std.specs.Prelude.{◌==◌, ◌↔◌, Contains, if◌then◌else◌}
+use Rattle.std.proofs.Common.{◌≡◌, ◌∙◌, ℕ, Bool, true, false, List, [], Option, Some, None, is_some, refl, sym, ap, subst, inl, inr}
+use Rattle.std.specs.Prelude.{◌==◌, ◌||◌, ◌&&◌, ◌↔◌, not, Contains, if◌then◌else◌}
 use Rattle.std.proofs.lemmas.Bool.{eqb-true}
 use Rattle.std.proofs.lemmas.List.Elements.{Contains-append_right}
 use Rattle.mg_names.specs.declared.identifiers.LineNo.{LineNo}
@@ -30,7 +30,7 @@ use Rattle.mg_safety.proofs.Events.Handover.{handed_other, handed_from}
 use Rattle.mg_safety.proofs.GoodWorlds.Beginning.{reached}
 use Rattle.mg_safety.proofs.GoodWorlds.EveryRun.{commands_carry}
 use Rattle.mg_safety.proofs.GoodWorlds.LeftAlone.{left_alone, others_kept}
-use Rattle.mg_safety.proofs.Invariant.Sound.{IsSound}
+use Rattle.mg_safety.proofs.Invariant.Sound.{IsSound, is_call}
 use Rattle.mg_safety.proofs.Invariant.Statements.{IsClosed}
 use Rattle.mg_safety.proofs.Requests.Run.{requests_run}
 use Rattle.mg_alike.specs.Boards.{OptionalRowsAlike}
@@ -47,6 +47,7 @@ pub record IsLeft (w after : World) (call : ℕ) : Type 0 where
   pub held : (l : ℕ) → after.gateway.holder l ≡ Some call → w.gateway.holder l ≡ Some call
   pub line : (l : ℕ) → w.gateway.holder l ≡ Some call → after.gateway.line l ≡ w.gateway.line l
   pub creator : (x : ℕ) → after.gateway.creator x ≡ Some call → w.gateway.creator x ≡ Some call
+  pub created : (x : ℕ) → w.gateway.creator x ≡ Some call → after.gateway.creator x ≡ Some call
   pub requests : (q : Request) → Contains w.requests q → Contains after.requests q
   pub replies : (q : Reply) → Contains w.replies q → Contains after.replies q
   pub notes : (n : SentNote) → Contains w.notes n → Contains after.notes n
@@ -58,6 +59,7 @@ left_itself w call = record {
   held = λ l e. e;
   line = λ l e. refl;
   creator = λ x e. e;
+  created = λ x e. e;
   requests = λ q there. there;
   replies = λ q there. there;
   notes = λ n there. there;
@@ -70,6 +72,7 @@ steps_left w after call other step s = subst (λ (x : World). IsLeft w x call) (
   held = λ l e. e;
   line = λ l e. refl;
   creator = λ x e. e;
+  created = λ x e. e;
   requests = λ q there. Contains-append_right _ w.requests q there;
   replies = λ q there. there;
   notes = λ n there. there;
@@ -82,6 +85,17 @@ still_created true true was other call differ e = e
 still_created true false was other call differ e = absurd (differ (the_some other call e))
 still_created false stood was other call differ e = absurd (none_is_some call e)
 
+still_there : (stands stood : Bool) (was : Option ℕ) (other : ℕ) → stands ≡ true → stood ≡ true → (if stands then (if stood then was else Some other) else None) ≡ was
+still_there true true was other first second = refl
+still_there true false was other first second = absurd (false_not_true second)
+still_there false stood was other first second = absurd (false_not_true first)
+
+not_its : (created now before : Bool) → created ≡ false → before ≡ true → (created || (now && not before)) ≡ false
+not_its true now before e given = absurd (false_not_true (sym e))
+not_its false true true e given = refl
+not_its false false before e given = refl
+not_its false true false e given = absurd (false_not_true given)
+
 module _ (script : Script) (entries : List Entry) (is_script : IsScript script) (closes : IsClosed script entries) (w after : World) (sound : IsSound script entries w)
     (call other : ℕ) (differ : other ≡ call → ⊥) where
   first_left : (request : Request) (number : ℕ) (chosen : Option ChosenRefusal) → IsRequestOf w other number request → IsFirst w request chosen after → IsLeft w after call
@@ -93,6 +107,8 @@ module _ (script : Script) (entries : List Entry) (is_script : IsScript script) 
         ∙ h.run.other_lines l (not_call_of (w.gateway.holder l) call h.agent.call e (λ same. differ (sym of.1 ∙ sym h.call ∙ sym same)));
     creator = λ x e. still_created (exists f.executed.end.board (Eph x)) (exists w.gateway.board (Eph x)) (w.gateway.creator x) request.call call (λ same. differ (sym of.1 ∙ same))
         (sym (ap (λ (v : World). v.gateway.creator x) f.after_is ∙ ap (λ (g : Gateway). g.creator x) f.executed.after_is) ∙ e);
+    created = λ x e. ap (λ (v : World). v.gateway.creator x) f.after_is ∙ ap (λ (g : Gateway). g.creator x) f.executed.after_is
+        ∙ still_there (exists f.executed.end.board (Eph x)) (exists w.gateway.board (Eph x)) (w.gateway.creator x) request.call (stands x e) (sound.gateway.creator_stands x call e) ∙ e;
     requests = λ q there. subst (λ (list : List Request). Contains list q) (sym (ap (λ (x : World). x.requests) f.after_is)) there;
     replies = λ q there. subst (λ (list : List Reply). Contains list q) (sym (ap (λ (x : World). x.replies) f.after_is)) (later_in f.answer w.replies q there);
     notes = λ n there. subst (λ (list : List SentNote). Contains list n) (sym (ap (λ (x : World). x.notes) f.after_is)) (Contains-append_right f.sent w.notes n there);
@@ -100,6 +116,12 @@ module _ (script : Script) (entries : List Entry) (is_script : IsScript script) 
     where
       h : HasRun script entries w request f.executed.end f.executed.failure
       h = has_run (requests_run commands_carry) script entries is_script closes w request chosen f.gateway f.answer f.sent sound of.0 f.executed
+
+      stands : (x : ℕ) → w.gateway.creator x ≡ Some call → exists f.executed.end.board (Eph x) ≡ true
+      stands x e =
+          let stood = sound.gateway.creator_stands x call e in
+          ap is_some (h.run.changes.row (Eph x) (not_its (is_call (w.gateway.creator x) h.agent.call) (f.executed.end.board.used_ephemeral x) (w.gateway.board.used_ephemeral x)
+          (not_call_of (w.gateway.creator x) call h.agent.call e (λ same. differ (sym of.1 ∙ sym h.call ∙ sym same))) (sound.gateway.accounted.ephemerals x stood))) ∙ stood
 
       holder : (l : ℕ) → after.gateway.holder l ≡ w.gateway.holder l
       holder l = ap (λ (x : World). x.gateway.holder l) f.after_is ∙ ap (λ (g : Gateway). g.holder l) f.executed.after_is
@@ -111,6 +133,7 @@ module _ (script : Script) (entries : List Entry) (is_script : IsScript script) 
     held = λ l e. e;
     line = λ l e. refl;
     creator = λ x e. e;
+    created = λ x e. e;
     requests = λ q there. there;
     replies = λ q there. later_in f.answer w.replies q there;
     notes = λ n there. there;
@@ -130,6 +153,7 @@ module _ (script : Script) (entries : List Entry) (is_script : IsScript script) 
         held = λ l e. e;
         line = λ l e. another l e (l == line.0) refl it.outcome.row held;
         creator = λ x e. e;
+        created = λ x e. e;
         requests = λ q there. there;
         replies = λ q there. there;
         notes = λ n there. Contains-append_right _ w.notes n there;
@@ -153,6 +177,7 @@ module _ (script : Script) (entries : List Entry) (is_script : IsScript script) 
     ];
     line = λ l e. refl;
     creator = λ x e. e;
+    created = λ x e. e;
     requests = λ q there. there;
     replies = λ q there. there;
     notes = λ n there. there;
@@ -200,6 +225,8 @@ module _ (w v after : World) (call : ℕ) (r : Renaming) (a b : Agent) (alike : 
     held = λ l. ((λ e. (alike.held l).0 (left.held l e)), (λ e. left.holds l ((alike.held l).1 e)));
     lines = λ l e. alike.lines l (left.held l e) ∙ sym (left.line l (left.held l e));
     rows = λ t u own. subst (λ (o : Option Row). OptionalRowsAlike r t o (v.gateway.board.row u)) (sym (row_same t u own)) (alike.rows t u (was_own t u own));
+    created = λ x e. alike.created x (left.creator x e);
+    created_back = λ y e. let x = alike.created_back y e in (x.0, x.1, left.created x.0 x.2);
     cuts = λ t u s x first second. alike.cuts t u s x (was_own t u first) (was_own s x second) ∙ sym (kept.cut t s (owned t u first) (owned s x second));
     requests = still_sent (λ (q : Request). q.call) call _ w.requests after.requests v.requests left.requests same.requests alike.requests;
     replies = still_sent (λ (q : Reply). q.call) call _ w.replies after.replies v.replies left.replies same.replies alike.replies;
@@ -291,6 +318,8 @@ module _ (script : Script) (one : Opened) where
       held = held_too;
       lines = λ l e. also.lines.armed l one.call ((held_too l).0 e) ∙ sym (opens.lines.armed l one.call e);
       rows = rows_too;
+      created = λ x e. absurd (none_is_some one.call (sym (ap (λ (creator : ℕ → Option ℕ). creator x) opens.gateway.no_creator) ∙ e));
+      created_back = λ y e. absurd (none_is_some one.call (sym (ap (λ (creator : ℕ → Option ℕ). creator y) also.gateway.no_creator) ∙ e));
       cuts = λ t u s x first second. ap (λ (cut : TermId → TermId → Bool). cut u x) also.gateway.nothing_cut ∙ sym (ap (λ (cut : TermId → TermId → Bool). cut t s) opens.gateway.nothing_cut);
       requests = none_sent (λ (q : Request). q.call) one.call _ w.requests v.requests opens.messages.no_request also.messages.no_request;
       replies = none_sent (λ (q : Reply). q.call) one.call _ w.replies v.replies opens.messages.no_answer also.messages.no_answer;

@@ -5,10 +5,10 @@ use Rattle.std.proofs.lemmas.Bool.{eq-eqb, eqb-true}
 use Rattle.mg_model.specs.declared.commands.Command.{Command}
 use Rattle.mg_model.specs.declared.failures.ChosenRefusal.{ChosenRefusal}
 use Rattle.mg_model.specs.Accepted.{IsScript}
-use Rattle.mg_model.specs.Agent.{Agent, Made, Phase, awaits_reply, answers, built_by, commands_of, made_after, none_made}
+use Rattle.mg_model.specs.Agent.{Agent, after_results, Made, Phase, awaits_reply, answers, built_by, commands_of, made_after, none_made}
 use Rattle.mg_model.specs.Delivery.{Offer, fresh, kept, discard}
 use Rattle.mg_model.specs.Entries.{Entry}
-use Rattle.mg_model.specs.Gateway.{Gateway, last_executed, offer_to, start_of, after_request, reply_of, sent_notes}
+use Rattle.mg_model.specs.Gateway.{Gateway, last_executed, offer_to, start_of, after_request, reply_of, sent_notes, creator_after}
 use Rattle.mg_model.specs.Messages.{Request, RequestCommand, Reply, SentNote}
 use Rattle.mg_model.specs.Obligations.{IsLive}
 use Rattle.mg_model.specs.RequestRun.{RunsFrom}
@@ -19,26 +19,30 @@ use Rattle.mg_model.proofs.Cases.{and_first, and_second, the_some}
 use Rattle.mg_model.proofs.Offered.{fresh_at, number_of}
 use Rattle.mg_merge.proofs.Commands.IdentifiersLeft.{Remain}
 use Rattle.mg_safety.specs.MessageNumbers.{AreNamedByNumber}
-use Rattle.mg_safety.proofs.Events.Executing.{IsDue, is_due}
+use Rattle.mg_safety.proofs.Events.Executing.{IsDue, due_runs, is_due}
 use Rattle.mg_safety.proofs.Events.ExecutedCalls.{world_after}
 use Rattle.mg_safety.proofs.Events.Others.{is_call_of}
 use Rattle.mg_safety.proofs.Invariant.Shown.{naming, Seen, Shown}
 use Rattle.mg_safety.proofs.Invariant.Sound.{is_call, owned_in, IsSound, IsReplySound, CallIsSound}
-use Rattle.mg_safety.proofs.Invariant.Statements.{IsClosed}
+use Rattle.mg_safety.proofs.Invariant.Statements.{IsClosed, IsRunOf}
+use Rattle.mg_safety.proofs.GoodWorlds.EveryRun.{commands_carry}
+use Rattle.mg_safety.proofs.Requests.Run.{requests_run}
 use Rattle.mg_safety.proofs.Requests.Starting.{shown_at_start}
 use Rattle.mg_safety.proofs.GoodWorlds.Beginning.{reached}
 use Rattle.mg_safety.proofs.Certificate.Closed.{closed}
 use Rattle.mg_safety.proofs.Messages.NamedMessages.{named_by_number}
-use Rattle.mg_alike.specs.Agents.{PhasesAlike}
+use Rattle.mg_alike.specs.Agents.{AgentsAlike, PhasesAlike}
 use Rattle.mg_alike.specs.Laws.{ExecutesAlike}
 use Rattle.mg_alike.specs.Messages.{CommandsAlike, RequestsAlike}
 use Rattle.mg_alike.specs.Renaming.{Renaming, OptionsAlike, Pairwise}
 use Rattle.mg_alike.specs.Worlds.{is_awaited, KeptAlike, CallAlike, TreatAlike}
 use Rattle.mg_alike.proofs.Agents.Requests.{built_same, commands_alike}
+use Rattle.mg_alike.proofs.Agents.Steps.{results_alike}
+use Rattle.mg_alike.proofs.Events.Created.{named_of, created_of}
 use Rattle.mg_alike.proofs.Events.Executed.{one_more, after_alike}
 use Rattle.mg_alike.proofs.Events.Offers.{OffersAlike, offers_alike}
 use Rattle.mg_alike.proofs.Requests.Runs.{IsUnderway, HaveEnded, runs_alike}
-use Rattle.mg_alike.proofs.Requests.Starting.{by_names, small_contexts, small_ephemerals, starts_alike}
+use Rattle.mg_alike.proofs.Requests.Starting.{by_names, partner, partner_back, small_contexts, small_ephemerals, starts_alike}
 use Rattle.mg_alike.proofs.Shared.Options.{options_more}
 
 -- a request has as many commands as were built
@@ -112,6 +116,9 @@ module _ (script : Script) (entries : List Entry) (closes : IsClosed script entr
 module _ (script : Script) (entries : List Entry) (is_script : IsScript script) (closes : IsClosed script entries) (w v : World) (sound : IsSound script entries w)
     (also_sound : IsSound script entries v) (once : AreNamedByNumber v) (left : HasIdentifiersLeft w) (also_left : HasIdentifiersLeft v) (call number : ℕ) (chosen : Option ChosenRefusal)
     (r : Renaming) (a b : Agent) (alike : CallAlike r w v call a b) (q p : Request) (of : IsRequestOf w call number q) (its : IsRequestOf v call number p) where
+  its_call : p.call ≡ call
+  its_call = its.1
+
   pub numbers : p.number ≡ q.number
   numbers = its.2 ∙ sym of.2
 
@@ -193,6 +200,63 @@ module _ (script : Script) (entries : List Entry) (is_script : IsScript script) 
           subst (λ (phase : Phase). PhasesAlike ended.wide phase b.phase) (sym one.due.outstanding.phase)
           (subst (λ (phase : Phase). PhasesAlike ended.wide (awaits_reply q) phase) (sym other.due.outstanding.phase) outstanding_wide)
 
+      -- the agents as they will be once they have taken their replies
+      run_one : IsRunOf script entries w.gateway a q.number f.executed.end f.executed.failure
+      run_one = due_runs (requests_run commands_carry) script entries is_script closes w.gateway a q chosen f.executed.end f.executed.failure one.due sound.gateway.accounted f.executed.runs
+
+      run_other : IsRunOf script entries v.gateway b p.number g.executed.end g.executed.failure
+      run_other = due_runs (requests_run commands_carry) script entries is_script closes v.gateway b p chosen g.executed.end g.executed.failure other.due also_sound.gateway.accounted
+          g.executed.runs
+
+      agents_wide : AgentsAlike ended.wide a b
+      agents_wide = record {
+        call = alike.agents.call;
+        state = alike.agents.state;
+        phase = phases_wide;
+        association = alike.agents.association;
+        lines = alike.agents.lines;
+        contexts = contexts_wide;
+        ephemerals = ephemerals_wide;
+        next = alike.agents.next;
+        expected = alike.agents.expected;
+        accepted = alike.agents.accepted;
+      }
+
+      taken_wide : AgentsAlike ended.wide (after_results a (built_by script a a.state) f.executed.end.results q.number)
+          (after_results b (built_by script b b.state) g.executed.end.results p.number)
+      taken_wide =
+          subst (λ (n : ℕ). AgentsAlike ended.wide (after_results a (built_by script a a.state) f.executed.end.results q.number)
+          (after_results b (built_by script b b.state) g.executed.end.results n)) (sym numbers)
+          (subst (λ (list : List Command). AgentsAlike ended.wide (after_results a (built_by script a a.state) f.executed.end.results q.number)
+          (after_results b list g.executed.end.results q.number)) (sym built)
+          (results_alike script ended.wide ended.running.renaming (built_by script a a.state) f.executed.end.results g.executed.end.results ended.running.results q.number a b agents_wide))
+
+      created_wide : (x : ℕ) → creator_after w.gateway q f.executed.end x ≡ Some call
+          → (y : ℕ) × (ended.wide.ephemerals x y ≡ true) × (creator_after v.gateway p g.executed.end y ≡ Some call)
+      created_wide x made =
+          let k = named_of script w.gateway q a (after_results a (built_by script a a.state) f.executed.end.results q.number) call of.1
+          (sound.calls call a alike.open_one).numbered f.executed.end run_one.c run_one.shown run_one.changes sound.gateway.accounted run_one.accounted x made in
+          let its = partner ended.wide.ephemerals ((after_results a (built_by script a a.state) f.executed.end.results q.number).ephemerals k.0)
+          ((after_results b (built_by script b b.state) g.executed.end.results p.number).ephemerals k.0) x k.1 (taken_wide.ephemerals k.0) in (
+            its.0,
+            its.2,
+            created_of script v.gateway p b (after_results b (built_by script b b.state) g.executed.end.results p.number) call its_call
+                (also_sound.calls call b alike.open_other).numbered g.executed.end run_other.c run_other.shown run_other.changes also_sound.gateway.accounted run_other.accounted k.0 its.0 its.1,
+          )
+
+      created_back : (y : ℕ) → creator_after v.gateway p g.executed.end y ≡ Some call
+          → (x : ℕ) × (ended.wide.ephemerals x y ≡ true) × (creator_after w.gateway q f.executed.end x ≡ Some call)
+      created_back y made =
+          let k = named_of script v.gateway p b (after_results b (built_by script b b.state) g.executed.end.results p.number) call its_call
+          (also_sound.calls call b alike.open_other).numbered g.executed.end run_other.c run_other.shown run_other.changes also_sound.gateway.accounted run_other.accounted y made in
+          let it = partner_back ended.wide.ephemerals ((after_results a (built_by script a a.state) f.executed.end.results q.number).ephemerals k.0)
+          ((after_results b (built_by script b b.state) g.executed.end.results p.number).ephemerals k.0) y k.1 (taken_wide.ephemerals k.0) in (
+            it.0,
+            it.2,
+            created_of script w.gateway q a (after_results a (built_by script a a.state) f.executed.end.results q.number) call of.1
+                (sound.calls call a alike.open_one).numbered f.executed.end run_one.c run_one.shown run_one.changes sound.gateway.accounted run_one.accounted k.0 it.0 it.1,
+          )
+
       after_is : after ≡ world_after w q f.executed.end f.executed.settled f.executed.failure
       unfolding executed_world
       after_is = f.after_is ∙ same_world w f.gateway (after_request w.gateway q f.executed.end f.executed.settled f.executed.failure) f.answer (reply_of q f.executed.end f.executed.failure)
@@ -211,7 +275,7 @@ module _ (script : Script) (entries : List Entry) (is_script : IsScript script) 
         alike = subst (λ (x : World). CallAlike ended.wide x next call a b) (sym after_is)
             (subst (λ (x : World). CallAlike ended.wide (world_after w q f.executed.end f.executed.settled f.executed.failure) x call a b) (sym next_is)
             (after_alike script w v call r a b alike q p of.1 its.1 associations numbers f.executed.end g.executed.end f.executed.settled g.executed.settled
-            f.executed.failure g.executed.failure f.executed.is_settled g.executed.is_settled ended.wide ended.running ended.same contexts_wide ephemerals_wide phases_wide
+            f.executed.failure g.executed.failure f.executed.is_settled g.executed.is_settled ended.wide ended.running ended.same contexts_wide ephemerals_wide created_wide created_back phases_wide
             (unanswered script entries closes w sound left call a alike.open_one q of.0 of.1 first)));
       }
 
@@ -234,6 +298,8 @@ module _ (script : Script) (entries : List Entry) (is_script : IsScript script) 
           held = alike.held;
           lines = alike.lines;
           rows = λ t u own. alike.rows t u own;
+          created = alike.created;
+          created_back = alike.created_back;
           cuts = λ t u s x first second. alike.cuts t u s x first second;
           requests = alike.requests;
           replies = one_more r r a.phase a.phase call f.answer g.answer w.replies v.replies (clash (kept f.answer) (kept g.answer) f.kept g.kept) (λ x y there its same. same) alike.replies;

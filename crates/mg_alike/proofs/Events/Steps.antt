@@ -86,6 +86,8 @@ module _ (w v : World) (call : ℕ) (r : Renaming) (a b : Agent) (alike : CallAl
     held = alike.held;
     lines = alike.lines;
     rows = λ t u own. alike.rows t u own;
+    created = alike.created;
+    created_back = alike.created_back;
     cuts = λ t u s z first second. alike.cuts t u s z first second;
     requests = more_requests r call x.phase y.phase agents.phase w.requests v.requests alike.requests;
     replies = other_replies r a.phase x.phase call w.replies v.replies (unsent_yet w numbered call a x alike.open_one goes x.phase refl) alike.replies;

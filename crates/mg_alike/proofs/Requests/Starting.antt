@@ -52,7 +52,7 @@ paired_by : (pairs : ℕ → ℕ → Bool) (o p : Option ℕ) (x y : ℕ) → o 
 paired_by pairs o p x y first second alike =
     subst (λ (i : Option ℕ). OptionsAlike pairs i (Some y)) first (subst (λ (i : Option ℕ). OptionsAlike pairs o i) second alike)
 
-partner : (pairs : ℕ → ℕ → Bool) (o p : Option ℕ) (x : ℕ) → o ≡ Some x → OptionsAlike pairs o p → (y : ℕ) × (p ≡ Some y) × (pairs x y ≡ true)
+pub partner : (pairs : ℕ → ℕ → Bool) (o p : Option ℕ) (x : ℕ) → o ≡ Some x → OptionsAlike pairs o p → (y : ℕ) × (p ≡ Some y) × (pairs x y ≡ true)
 partner pairs None p x is alike = absurd (some_is_none x (sym is))
 partner pairs (Some z) (Some y) x is alike = (y, refl, subst (λ (n : ℕ). pairs n y ≡ true) (the_some z x is) alike)
 partner pairs (Some z) None x is alike = absurd alike

@@ -218,6 +218,8 @@ module _ (r : Renaming) (w v : World) (call : ℕ) (a b : Agent) (alike : CallAl
     held = λ l. ((alike.held l).1, (alike.held l).0);
     lines = λ l held. sym (alike.lines l ((alike.held l).1 held));
     rows = λ u t own. rows_turned u t own (w.gateway.board.row t) (v.gateway.board.row u) (alike.rows t u (own_turned u t own));
+    created = alike.created_back;
+    created_back = alike.created;
     cuts = λ u t x s first second. sym (alike.cuts t u s x (own_turned u t first) (own_turned x s second));
     requests = sent_turned (λ (q : Request). q.call) call (RequestsAlike anything) (RequestsAlike anything) (requests_turned anything) w.requests v.requests alike.requests;
     replies = sent_turned (λ (q : Reply). q.call) call (SameReply r a.phase) (SameReply (turned r) b.phase) reply_turned w.replies v.replies alike.replies;
