@@ -7,7 +7,7 @@
 #              proves and builds nothing; NOT_PROVED=1 installs the programs that are built without proofs
 # make uninstall takes away what make install put there
 # make soak    what takes too long for every change: many inputs from several seeds, and a hundred runs of 10,000 calls; after make prove
-# make bench   how time grows with the size of the input, and what is checked in a second; after make prove
+# make bench   how time grows with the size of the input, and what is checked in a second; PART=runs for the parts that begin so; after make prove
 
 .PHONY: demo test prove audit install uninstall soak bench
 
@@ -41,4 +41,4 @@ soak:
 	tools/gate/load
 
 bench:
-	tools/bench
+	tools/bench $(PART)
