@@ -93,6 +93,15 @@ fn add<'a>(
     Ok(None)
 }
 
+/// The names of keys.
+fn key_names<'k>(alloc: Global, keys: &[(&'k str, Kind)]) -> Result<Vec<&'k str>, AllocError> {
+    let mut names = Vec::new(alloc);
+    for key in keys {
+        names.push(key.0)?;
+    }
+    Ok(names)
+}
+
 /// Adds the sets of a line or of an ephemeral.
 fn add_termination<'a>(
     alloc: Global,
@@ -104,11 +113,7 @@ fn add_termination<'a>(
     for (key, value) in of.iter() {
         let key = key.as_str();
         let Some(known) = keys.iter().find(|known| known.0 == key) else {
-            let mut names: Vec<&str> = Vec::new(alloc);
-            for known in keys {
-                names.push(known.0)?;
-            }
-            return key_wrong(alloc, path, of, names.as_slice());
+            return key_wrong(alloc, path, of, key_names(alloc, keys)?.as_slice());
         };
         let path = format!(in alloc; "{path}.{key}")?;
         if let Some(found) = add(alloc, sets, path, known.1, key, value)? {
@@ -165,6 +170,48 @@ pub(crate) enum Look {
     Names,
 }
 
+/// What is wrong with the name of a member of an object with this key.
+fn member_name_wrong(
+    alloc: Global,
+    path: &str,
+    key: &str,
+    name: &str,
+    names: &ScriptNames<'_>,
+) -> Found {
+    match key {
+        "lines" => name_wrong(alloc, path, "line", name, names.lines.as_slice()),
+        "contexts" => name_wrong(alloc, path, "context", name, names.contexts.as_slice()),
+        "ephemerals" => name_wrong(alloc, path, "ephemeral", name, names.ephemerals.as_slice()),
+        _ => cut_wrong(alloc, path, name, names),
+    }
+}
+
+/// Adds the sets of a member of an object with this key.
+fn add_member<'a>(
+    alloc: Global,
+    sets: &mut Vec<EntrySet<'a>>,
+    path: String,
+    key: &str,
+    member: (&str, &'a Value),
+) -> Found {
+    let (name, value) = member;
+    let path_text = path.as_str();
+    match (key, value.as_object()) {
+        ("lines", Some(members)) => add_termination(alloc, sets, path_text, members, &LINE),
+        ("ephemerals", Some(members)) => add_termination(
+            alloc, sets, path_text, members, &EPHEMERAL,
+        ),
+        ("lines" | "ephemerals", None) => not_this(
+            alloc,
+            path_text,
+            name,
+            "it has to be an object",
+        ),
+        ("contexts", _) => add(alloc, sets, path, Kind::Context, name, value),
+        _ => add(alloc, sets, path, Kind::Cut, name, value),
+    }
+}
+
 /// Adds the sets at a key whose members have free keys.
 fn add_members<'a>(
     alloc: Global,
@@ -185,39 +232,15 @@ fn add_members<'a>(
     for (name, value) in members.iter() {
         let name = name.as_str();
         let path = format!(in alloc; "{path}.{name}")?;
-        let path_text = path.as_str();
-        let unknown = match key {
-            _ if look == Look::Shape => None,
-            "lines" => name_wrong(alloc, path_text, "line", name, names.lines.as_slice())?,
-            "contexts" => name_wrong(alloc, path_text, "context", name, names.contexts.as_slice())?,
-            "ephemerals" => name_wrong(
-                alloc,
-                path_text,
-                "ephemeral",
-                name,
-                names.ephemerals.as_slice(),
-            )?,
-            _ => cut_wrong(alloc, path_text, name, names)?,
-        };
-        if unknown.is_some() {
-            return Ok(unknown);
+        if look != Look::Shape {
+            let wrong = member_name_wrong(alloc, path.as_str(), key, name, names)?;
+            if wrong.is_some() {
+                return Ok(wrong);
+            }
         }
-        let found = match (key, value.as_object()) {
-            ("lines", Some(members)) => add_termination(alloc, sets, path_text, members, &LINE)?,
-            ("ephemerals", Some(members)) => add_termination(
-                alloc, sets, path_text, members, &EPHEMERAL,
-            )?,
-            ("lines" | "ephemerals", None) => not_this(
-                alloc,
-                path_text,
-                name,
-                "it has to be an object",
-            )?,
-            ("contexts", _) => add(alloc, sets, path, Kind::Context, name, value)?,
-            _ => add(alloc, sets, path, Kind::Cut, name, value)?,
-        };
-        if found.is_some() {
-            return Ok(found);
+        let wrong = add_member(alloc, sets, path, key, (name, value))?;
+        if wrong.is_some() {
+            return Ok(wrong);
         }
     }
     Ok(None)
