@@ -1,4 +1,4 @@
-# make demo    checks examples/watch, with the proved program if it is there, else with one that is built without its proofs
+# make demo    checks examples/watch, with the proved program if it is there, else with one that is built without its proofs; mgexplain is built beside it
 # make test    does it behave? every test of behaviour, with the proved programs if they are there, else with programs that are built without proofs
 # make prove   is it proved? every crate from nothing; leaves the proved programs in crates/NAME/out
 # make audit   are the contracts strong enough? wrong bodies and wrong definitions, each of which has to be refused: those that the records in wrong/
@@ -17,7 +17,8 @@ ANEW =
 NOT_PROVED =
 
 demo:
-	@tools/check examples/watch/script.toml examples/watch/certificate.json
+	@tools/why examples/watch/script.toml examples/watch/certificate.json > /dev/null & \
+	tools/check examples/watch/script.toml examples/watch/certificate.json; status=$$?; wait; exit $$status
 	@echo "next: tools/run examples/watch/script.toml examples/watch/certificate.json examples/watch/plan.toml" >&2
 
 test:
