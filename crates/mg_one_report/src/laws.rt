@@ -1,0 +1,18 @@
+//! The laws of the one report of a plan.
+ghost use Rattle.mg_one_report.specs.Laws.{OneReport, OneReportAlone, PlansWithoutRestartSteps};
+
+/// A call that is run alone, with all that begin on its lines, has one report where no restart of another call stands among its steps: whatever identifiers
+/// its gateway gives, the lines are the same. Where no obligation is broken and no state has more than 16 commands.
+pub fn one_report_alone()
+    ensures { OneReportAlone }
+{}
+
+/// So a plan has one report where no call has restarts of other calls.
+pub fn one_report()
+    ensures { OneReport }
+{}
+
+/// Where no call of a plan has a `restart` step, no call has restarts of other calls.
+pub fn plans_without_restart_steps()
+    ensures { PlansWithoutRestartSteps }
+{}
