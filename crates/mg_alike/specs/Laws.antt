@@ -1,5 +1,5 @@
 -- The statements of the laws. Each is carried by an empty function of the same name.
-use Rattle.std.specs.Prelude.{◌≡◌, ℕ, false, List, Contains, Option, None}
+use Rattle.std.specs.Prelude.{◌≡◌, ℕ, false, List, Contains, Option, None, ◌↔◌}
 use Rattle.std.specs.List.{All}
 use Rattle.mg_model.specs.declared.events.CallEvent.{CallEvent}
 use Rattle.mg_model.specs.declared.events.CallEvent.TheVariants as to_call
@@ -81,11 +81,12 @@ RestartsAlike =
 
 -- ---- what can happen
 
--- an event of a call that can happen in the one world can happen in the other
+-- an event of a call can happen in the one world exactly where it can happen in the other
 abbrev pub EventsHappenAlike : Type 0
 EventsHappenAlike =
-    (script : Script) (w v : World) → AreReached script w v → HasIdentifiersLeft w → HasIdentifiersLeft v → (call : ℕ) (happens : CallEvent) → (IsBeginning happens → ⊥) → TreatAlike w v call
-    → (after : World) → OccursTo script w call happens after → (next : World) × OccursTo script v call happens next
+    (script : Script) (w v : World) → AreReached script w v → HasIdentifiersLeft w → HasIdentifiersLeft v → (call : ℕ) (happens : CallEvent)
+    → (IsBeginning happens → ⊥) → TreatAlike w v call
+    → ((after : World) × OccursTo script w call happens after) ↔ ((next : World) × OccursTo script v call happens next)
 
 -- ---- events of other calls
 

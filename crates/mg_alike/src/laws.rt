@@ -24,8 +24,8 @@ pub fn restarts_alike()
     ensures { RestartsAlike }
 {}
 
-/// An event of a call that is open can happen in the one world where it can in the other: a request is executed there too, by other identifiers, and
-/// refused at the same place with the same code.
+/// An event of a call that is open can happen in the one world exactly where it can in the other: a request is executed there too, by other identifiers,
+/// and refused at the same place with the same code.
 pub fn events_happen_alike()
     ensures { EventsHappenAlike }
 {}
@@ -57,8 +57,7 @@ pub fn classes_give_enough()
     ensures { ClassesGiveEnough }
 {}
 
-/// Where one world treats a call as another does, the other treats it as the one does. So an event of the call can happen in the one exactly where it can in
-/// the other.
+/// Where one world treats a call as another does, the other treats it as the one does.
 pub fn treatment_is_mutual()
     ensures { TreatmentIsMutual }
 {}

@@ -33,7 +33,7 @@ use Rattle.mg_safety.proofs.Requests.Run.{requests_run}
 use Rattle.mg_alike.specs.Agents.{StepsAlike}
 use Rattle.mg_alike.specs.Laws.{AreReached, IsBeginning, StepAlike, EventsHappenAlike}
 use Rattle.mg_alike.specs.Renaming.{Renaming}
-use Rattle.mg_alike.specs.Worlds.{CallAlike}
+use Rattle.mg_alike.specs.Worlds.{CallAlike, TreatAlike}
 use Rattle.mg_alike.proofs.Agents.Steps.{agents_step}
 use Rattle.mg_alike.proofs.Events.Every.{taken_is_awaited}
 use Rattle.mg_alike.proofs.Events.LineEvents.{lines_too}
@@ -44,6 +44,7 @@ use Rattle.mg_alike.proofs.Events.Settling.{board_settled, is_settled}
 use Rattle.mg_alike.proofs.Events.Steps.{steps_too}
 use Rattle.mg_alike.proofs.Requests.Exist.{runs_too}
 use Rattle.mg_alike.proofs.Requests.Starting.{by_names}
+use Rattle.mg_alike.proofs.Shared.Turned.{treated_mutually}
 
 -- ---- what a link says
 
@@ -234,6 +235,33 @@ module _ (script : Script) (w v : World) (at : AreReached script w v) (left : Ha
       let next = steps_too w v call r a b alike (λ x. heard script x association.0) (λ x. heard script x association.0) (each.heard association.0) after s in
       (next.0, (subst (λ (n : ℕ). association.0 ≤ n) (sym alike.association) past, next.1))
 
-pub events_happen : EventsHappenAlike
+pub events_happen : (script : Script) (w v : World) → AreReached script w v → HasIdentifiersLeft w → HasIdentifiersLeft v → (call : ℕ) (happens : CallEvent)
+    → (IsBeginning happens → ⊥) → TreatAlike w v call → (after : World) → OccursTo script w call happens after → (next : World) × OccursTo script v call happens next
 events_happen script w v at left also_left call happens open_call treat after o =
     each_too script w v at left also_left call treat.renaming treat.one treat.other treat.alike happens open_call after o
+
+-- ---- the other way round
+
+turned : (script : Script) (w v : World) → AreReached script w v → AreReached script v w
+turned script w v at = record {
+  entries = at.entries;
+  is_script = at.is_script;
+  listed = at.listed;
+  none_broken = at.none_broken;
+  calls = at.others;
+  others = at.calls;
+  events = at.history;
+  history = at.events;
+  start = at.first;
+  first = at.start;
+  opens = at.also_opens;
+  also_opens = at.opens;
+  runs = at.also_runs;
+  also_runs = at.runs;
+}
+
+pub events_happen_exactly : EventsHappenAlike
+events_happen_exactly script w v at left also_left call happens open_call treat = (
+  λ o. events_happen script w v at left also_left call happens open_call treat o.0 o.1,
+  λ o. events_happen script v w (turned script w v at) also_left left call happens open_call (treated_mutually w v call treat) o.0 o.1,
+)
