@@ -3,3 +3,4 @@ pub mod OneCall
 pub mod Enough
 pub mod Heirs
 pub mod Opening
+pub mod Throughout

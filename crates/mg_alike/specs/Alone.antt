@@ -1,6 +1,6 @@
 -- A call among others, and the same call alone on a gateway. A reader should check that alone it has its own events, each one and in their order, and the
 -- restarts; and that nothing is asked of the other calls but that they are calls of a run.
-use Rattle.std.specs.Prelude.{◌≡◌, ℕ, ◌+◌, ◌%◌, ◌<◌, ◌≤◌, ◌==◌, Bool, false, IsTrue, if◌then◌else◌, List, [], ◌∷◌, Contains, Some}
+use Rattle.std.specs.Prelude.{◌≡◌, ℕ, ◌+◌, ◌%◌, ◌<◌, ◌≤◌, ◌==◌, ◌||◌, Bool, true, false, IsTrue, if◌then◌else◌, List, [], ◌∷◌, Contains, Some}
 use Rattle.std.specs.List.{All}
 use Rattle.mg_model.specs.declared.events.CallEvent.{CallEvent}
 use Rattle.mg_model.specs.declared.events.CallEvent.TheVariants as to_call
@@ -13,7 +13,7 @@ use Rattle.mg_model.specs.Items.{is_context_number, is_ephemeral_number}
 use Rattle.mg_model.specs.Obligations.{NoneBroken}
 use Rattle.mg_model.specs.Script.{Script}
 use Rattle.mg_model.specs.Shards.{AreLeft, HasIdentifiersLeft, RunsWithin}
-use Rattle.mg_model.specs.World.{World, Opened, IsOpening, Runs}
+use Rattle.mg_model.specs.World.{World, Opened, IsOpening, Occurs, Runs}
 use Rattle.mg_merge.specs.Identifiers.{HasFewCommands, most_commands, most_shards}
 use Rattle.mg_alike.specs.Worlds.{TreatAlike}
 
@@ -106,3 +106,35 @@ abbrev pub ClassesGiveEnough : Type 0
 ClassesGiveEnough =
     (class : ℕ → Bool) (first stride : ℕ) → first < stride → stride ≤ most_shards → ((n : ℕ) → n % stride ≡ first → IsTrue (class n))
     → HasEnoughNumbers class
+
+-- ---- at each moment
+
+-- an event is of a call, or begins another one on its lines, or is a restart
+abbrev pub is_own : ℕ → Event → Bool
+is_own call (OfCall one happens) = begins_on call happens || one.0 == call
+is_own call Restart = true
+
+-- the call that has the lines after an event
+abbrev pub call_after : ℕ → Event → ℕ
+call_after call (OfCall one happens) = if begins_on call happens then one.0 else call
+call_after call Restart = call
+
+-- an event that is the call's happens to it alone too; at any other it stays as it is
+abbrev pub HappensAlone : Bool → Script → Event → World → World → Type 0
+HappensAlone true script event v too = Occurs script v event too
+HappensAlone false script event v too = too ≡ v
+
+-- a run of any calls from a world, and beside it one of a call alone: at each moment both treat the call alike, or the one that began on its lines
+unfoldable pub RunsBeside : Script → ℕ → List Event → World → World → World → Type 0
+RunsBeside script call [] w v end = (end ≡ w) × TreatAlike w v call
+RunsBeside script call (event ∷ more) w v end =
+    TreatAlike w v call × ((next : World) × (Occurs script w event next
+    × ((too : World) × (HappensAlone (is_own call event) script event v too × RunsBeside script (call_after call event) more next too end))))
+
+-- so a call with all that begin on its lines is isolated throughout
+abbrev pub CallsAreIsolatedThroughout : Type 0
+CallsAreIsolatedThroughout =
+    (script : Script) (entries : List Entry) → IsScript script → All (IsEntryOf script) entries → NoneBroken script entries → HasFewCommands script
+    → (calls : List Opened) (one : Opened) (events : List Event) (start end lone : World) → Contains calls one → IsOpening script calls start
+    → IsOpening script (one ∷ []) lone → RunsWithin script events start end → HasEnoughNumbers lone.gateway.board.class
+    → RunsBeside script one.call events start lone end

@@ -1,5 +1,5 @@
 //! The laws of a call that two worlds treat alike.
-ghost use Rattle.mg_alike.specs.Alone.{CallsAloneNeverRunOut, CallsAreIsolated, CallsOpenAlone, CallsWithHeirsAreIsolated, ClassesGiveEnough};
+ghost use Rattle.mg_alike.specs.Alone.{CallsAloneNeverRunOut, CallsAreIsolated, CallsAreIsolatedThroughout, CallsOpenAlone, CallsWithHeirsAreIsolated, ClassesGiveEnough};
 ghost use Rattle.mg_alike.specs.Laws.{AgentsStepAlike, BeginningsAlike, BeginningsHappenAlike, EventsAlike, EventsHappenAlike, ExecutesAlike, OpeningsTreatAlike, OthersLeaveAlike, RestartsAlike, TreatmentIsMutual};
 
 /// Two agents that are the same but for a renaming of identifiers step alike: by the same reply, but for the renaming, by a pass, a note, the timer
@@ -82,4 +82,9 @@ pub fn calls_open_alone()
 /// call alone gives enough.
 pub fn calls_with_heirs_are_isolated()
     ensures { CallsWithHeirsAreIsolated }
+{}
+
+/// So it goes throughout: beside each run there is one run of the call alone, with those that begin on its lines, and at each moment both treat it alike.
+pub fn calls_are_isolated_throughout()
+    ensures { CallsAreIsolatedThroughout }
 {}

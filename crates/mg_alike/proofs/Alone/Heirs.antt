@@ -34,7 +34,7 @@ use Rattle.mg_alike.proofs.Events.Others.{others_alike, openings_alike}
 
 -- ---- events
 
-begun_on : (call : ℕ) (happens : CallEvent) → begins_on call happens ≡ true → (old : CallNo) × (happens ≡ to_call.Begin old) × (old.0 ≡ call)
+pub begun_on : (call : ℕ) (happens : CallEvent) → begins_on call happens ≡ true → (old : CallNo) × (happens ≡ to_call.Begin old) × (old.0 ≡ call)
 begun_on call (to_call.Begin old) e = (old, refl, eqb-true old.0 call e)
 begun_on call (to_call.OnLine line event) e = absurd (false_not_true e)
 begun_on call (to_call.Execute number chosen) e = absurd (false_not_true e)
@@ -44,7 +44,7 @@ begun_on call (to_call.Note number) e = absurd (false_not_true e)
 begun_on call to_call.Timer e = absurd (false_not_true e)
 begun_on call (to_call.Hear association) e = absurd (false_not_true e)
 
-stays_open : (call : ℕ) (happens : CallEvent) → begins_on call happens ≡ false → IsRetiredBy happens call → ⊥
+pub stays_open : (call : ℕ) (happens : CallEvent) → begins_on call happens ≡ false → IsRetiredBy happens call → ⊥
 stays_open call (to_call.Begin old) e is = not_both (eq-eqb old.0 call is) e
 stays_open call (to_call.OnLine line event) e is = is
 stays_open call (to_call.Execute number chosen) e is = is
@@ -55,7 +55,7 @@ stays_open call to_call.Timer e is = is
 stays_open call (to_call.Hear association) e is = is
 
 -- an event of a call that is open retires none
-none_retired : (script : Script) (w after : World) (call : ℕ) (happens : CallEvent) → (IsBeginning happens → ⊥) → OccursTo script w call happens after
+pub none_retired : (script : Script) (w after : World) (call : ℕ) (happens : CallEvent) → (IsBeginning happens → ⊥) → OccursTo script w call happens after
     → after.gateway.retired ≡ w.gateway.retired
 none_retired script w after call (to_call.OnLine line event) goes_on (held, o) =
     ap (λ (x : World). x.gateway.retired) o.after_is ∙ ap (λ (g : Gateway). g.retired) o.happens.after_is
@@ -72,7 +72,7 @@ none_retired script w after call (to_call.Hear association) goes_on (past, s) = 
 module _ (script : Script) (entries : List Entry) (is_script : IsScript script) (listed : All (IsEntryOf script) entries) (none_broken : NoneBroken script entries)
     (few : HasFewCommands script) (calls : List Opened) (one : Opened) (start lone : World) (opens : IsOpening script calls start)
     (also_opens : IsOpening script (one ∷ []) lone) (enough : HasEnoughNumbers lone.gateway.board.class) where
-  both_reached : (past history : List Event) (w v : World) → Runs script past start w → Runs script history lone v → AreReached script w v
+  pub both_reached : (past history : List Event) (w v : World) → Runs script past start w → Runs script history lone v → AreReached script w v
   both_reached past history w v runs also_runs = record {
     entries = entries;
     is_script = is_script;
@@ -90,11 +90,11 @@ module _ (script : Script) (entries : List Entry) (is_script : IsScript script) 
     also_runs = also_runs;
   }
 
-  has_left : (history : List Event) (v : World) → Runs script history lone v → HasIdentifiersLeft v
+  pub has_left : (history : List Event) (v : World) → Runs script history lone v → HasIdentifiersLeft v
   has_left history v runs = never_run_out script entries is_script listed none_broken few one lone also_opens enough history v runs
 
   -- a number that isn't used among others isn't used alone
-  unused_alone : (history : List Event) (w v : World) → Runs script history lone v → (call new : ℕ) → TreatAlike w v call → w.agent new ≡ None → v.agent new ≡ None
+  pub unused_alone : (history : List Event) (w v : World) → Runs script history lone v → (call new : ℕ) → TreatAlike w v call → w.agent new ≡ None → v.agent new ≡ None
   unused_alone history w v runs call new treat unused = go (v.agent new) refl
     where
       its : IsLone lone.gateway.board.class v
@@ -106,7 +106,7 @@ module _ (script : Script) (entries : List Entry) (is_script : IsScript script) 
           let same : new ≡ call = its.only new b is ∙ sym (its.only call treat.other treat.alike.open_other) in
           absurd (none_is_some treat.one (sym unused ∙ ap w.agent same ∙ treat.alike.open_one))
 
-  not_retired_alone : (w v : World) (new : ℕ) → ((c : ℕ) → v.gateway.retired c ≡ true → w.gateway.retired c ≡ true) → w.gateway.retired new ≡ false
+  pub not_retired_alone : (w v : World) (new : ℕ) → ((c : ℕ) → v.gateway.retired c ≡ true → w.gateway.retired c ≡ true) → w.gateway.retired new ≡ false
       → v.gateway.retired new ≡ false
   not_retired_alone w v new kept not_retired = go (v.gateway.retired new) refl
     where
@@ -114,7 +114,7 @@ module _ (script : Script) (entries : List Entry) (is_script : IsScript script) 
       go true is = absurd (not_both (kept new is) not_retired)
       go false is = is
 
-  kept_begun : (w v next too : World) (new call : ℕ) → ((c : ℕ) → v.gateway.retired c ≡ true → w.gateway.retired c ≡ true) → Begins script w new call next
+  pub kept_begun : (w v next too : World) (new call : ℕ) → ((c : ℕ) → v.gateway.retired c ≡ true → w.gateway.retired c ≡ true) → Begins script w new call next
       → Begins script v new call too → (c : ℕ) → too.gateway.retired c ≡ true → next.gateway.retired c ≡ true
   kept_begun w v next too new call kept b d c is =
       ap (λ (x : World). x.gateway.retired c) b.after_is
