@@ -34,3 +34,5 @@ pub mod NamesKept
 pub mod OneCommand
 pub mod NumberReused
 pub mod LiveNeeded
+pub mod EmptiedContext
+pub mod ReportsDiffer

@@ -9,3 +9,4 @@ pub mod BegunTalk
 pub mod Unarmed
 pub mod CreatedTwice
 pub mod NamesKept
+pub mod ReportsCanDiffer

@@ -8,6 +8,7 @@ ghost use Rattle.mg_examples.specs.BegunTalk.{BegunCallTalks};
 ghost use Rattle.mg_examples.specs.CreatedTwice.{created_twice, created_twice_entries};
 ghost use Rattle.mg_examples.specs.NamesKept.{name_kept, name_kept_entries};
 ghost use Rattle.mg_examples.specs.Needed.{IsNeeded, fault_at, whole_fault};
+ghost use Rattle.mg_examples.specs.ReportsCanDiffer.{ReportsCanDiffer};
 ghost use Rattle.mg_examples.specs.Talk.{LeadsToATalk};
 ghost use Rattle.mg_examples.specs.TalkEntries.{reachable, after_a_restart, at_rest, in_idle};
 ghost use Rattle.mg_examples.specs.TwoLines.{calling, recovering};
@@ -43,4 +44,10 @@ pub fn each_obligation_is_needed()
     ensures unbound { IsNeeded created_twice created_twice_entries (fault_at Obligation.CreatedUnbound 3 0 None) }
     ensures reset { IsNeeded recovering at_rest (whole_fault Obligation.ResetCovered) }
     ensures live { IsNeeded name_kept name_kept_entries (fault_at Obligation.NamesLive 5 0 None) }
+{}
+
+/// A call of a script that is accepted can have two reports: by the same steps it comes to one state where its gateway gives a number again, and
+/// to another state where it gives another number. So the law that a plan has one report needs its premise that no obligation is broken.
+pub fn reports_can_differ()
+    ensures { ReportsCanDiffer }
 {}
