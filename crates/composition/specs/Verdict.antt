@@ -35,11 +35,12 @@ pub record AreRead (script certificate : List ℕ) (table : Script) (entries : L
 abbrev pub AreAccepted : Script → List Entry → Type 0
 AreAccepted table entries = IsScript table × HasFewCommands table × All (IsEntryOf table) entries
 
--- a script as its reader accepts it, with a certificate that breaks no obligation, and the number of its points; and so every run of any
--- number of calls of the script is good
+-- a script and a certificate as their readers accept them, of which no obligation is broken, and the number of its points; and so every run of any number of
+-- calls of the script is good
 pub record IsChecked (table : Script) (entries : List Entry) (points : ℕ) : Type 0 where
   pub accepted : IsScript table
   pub few_commands : HasFewCommands table
+  pub listed : All (IsEntryOf table) entries
   pub none_broken : NoneBroken table entries
   pub safe : RunsAreGood table
   pub counted : HavePoints entries points

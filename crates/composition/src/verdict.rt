@@ -6,7 +6,7 @@ ghost use Rattle.mg_safety.specs.Headline.{RunsAreGood};
 ghost use Rattle.closure.specs.Answer.{IsFinding};
 ghost use Rattle.scriptreader.specs.Laws.{HasFewCommands};
 ghost use Rattle.composition.specs.Faults.{name_of, number_of};
-ghost use Rattle.composition.specs.Verdict.{AreAccepted};
+ghost use Rattle.composition.specs.Verdict.{AreAccepted, IsChecked};
 ghost use Rattle.composition.specs.Verdicts.{IsReading, IsVerdict, IsVerdictOn, YesIsSafe};
 
 use certificate::laws::accepted_certificates;
@@ -51,6 +51,13 @@ impl Checked {
         ensures safe { RunsAreGood result.now }
     {
         &self.script
+    }
+
+    /// What was asked of both: they are as their readers accept them, and no obligation is broken.
+    pub fn is_checked(&self)
+        ensures { IsChecked self.now.table self.now.entries self.now.points }
+    {
+        let _ = &self.script;
     }
 
     /// How many states the script has.

@@ -3,8 +3,10 @@ ghost use Rattle.std.specs.Prelude.{◌≡◌, ◌≤◌, IfOk, length, vec_len}
 ghost use Rattle.mg_model.specs.Numbers.{plan_calls};
 ghost use Rattle.plans.specs.Accepted.{IsPlanFor};
 ghost use Rattle.run_account.specs.Runs.{HasRun, IsRunOf};
+ghost use Rattle.runner.specs.OnlyReport.{IsOnlyReport};
 
 use composition::Checked;
+use mg_one_report::laws::one_report;
 use planned_calls::RunFault;
 use plans::Plan;
 use run_account::{Outcome, PlannedRun, finish};
@@ -41,7 +43,8 @@ fn go<'s, G: Gate, R: Threads + Wait + Sync>(
 /// Runs a plan of calls of a checked script, which was read with that script, on 1 to 64 workers, over as many gateways as the plan has shards. Calls pass
 /// from worker to worker, each does a few steps of one at a time, and the gate lets each step pass. `BadWorkers` for another number of workers, then `TooManyCalls` for more
 /// than 10,000 calls; `Disagree` where what the shards keep isn't what the calls went through, which no right run meets, and `NoMemory` where memory ran
-/// out. This profile's own.
+/// out. Where no call of the plan has `restart` steps of other calls, its report is the only one that the calls can have, on any number of workers and in any
+/// number of shards. This profile's own.
 pub fn run<'s, G: Gate, R: Threads + Wait + Sync>(
     rt: &R,
     alloc: Global,
@@ -51,7 +54,8 @@ pub fn run<'s, G: Gate, R: Threads + Wait + Sync>(
     gate: &G,
 ) -> Result<Outcome<'s>, RunFault>
     requires { IsPlanFor checked.now.table plan.now }
-    ensures { HasRun checked.now.table plan.now workers result }
+    ensures run { HasRun checked.now.table plan.now workers result }
+    ensures report { IfOk result (λ outcome. IsOnlyReport checked.now.table plan.now outcome.lines) }
 {
     if workers == 0 || workers > MOST_WORKERS {
         return Err(RunFault::BadWorkers);
@@ -60,7 +64,11 @@ pub fn run<'s, G: Gate, R: Threads + Wait + Sync>(
         return Err(RunFault::TooManyCalls);
     }
     match go(rt, alloc, checked, plan, workers, gate) {
-        Ok(outcome) => Ok(outcome),
+        Ok(outcome) => {
+            checked.is_checked();
+            one_report();
+            Ok(outcome)
+        }
         Err(RunFault::NoMemory) => Err(RunFault::NoMemory),
         Err(_) => Err(RunFault::Disagree),
     }

@@ -12,6 +12,7 @@ invariant_of-result c =
     record {
       accepted = accepted.0;
       few_commands = accepted.1;
+      listed = accepted.2;
       none_broken = kept.0;
       safe = c.every_run_is_good.ensures documents.script documents.cert accepted.0 accepted.2 kept.0;
       counted = kept.1;

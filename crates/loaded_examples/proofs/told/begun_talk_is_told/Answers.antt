@@ -15,6 +15,7 @@ returns c =
     yes_told scripts.renewing certificates.renewing renewing renewing_entries (record { reads = renewing_read; lists = listed.renewing_read }) 14 (record {
       accepted = example.accepted;
       few_commands = few.1;
+      listed = example.listed;
       none_broken = example.none_broken;
       safe = c.every_run_is_good.ensures renewing renewing_entries example.accepted example.listed example.none_broken;
       counted = renewing_counted;

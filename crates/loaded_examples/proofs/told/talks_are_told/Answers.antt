@@ -17,6 +17,7 @@ returns c =
     yes_told scripts.calling certificates.reachable (calling both_lines) reachable (record { reads = calling_read; lists = reachable_read }) 12 (record {
       accepted = example.accepted;
       few_commands = few.1;
+      listed = example.listed;
       none_broken = example.none_broken;
       safe = c.every_run_is_good.ensures (calling both_lines) reachable example.accepted example.listed example.none_broken;
       counted = reachable_counted;
