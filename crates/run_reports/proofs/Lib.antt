@@ -1,2 +1,3 @@
 mod ReportLemmas
 mod RunLemmas
+mod SameReports

@@ -4,6 +4,7 @@ use Rattle.std.specs.Prelude.{◌≡◌, ◌≢◌, ◌⊎◌, ℕ, List, map, O
 use Rattle.mg_model.specs.Entries.{Entry}
 use Rattle.mg_model.specs.Plans.{Plan}
 use Rattle.mg_model.specs.Script.{Script}
+use Rattle.mg_one_report.specs.Laws.{HaveNoRestartsOfOthers}
 use Rattle.composition.specs.Verdict.{AreRead, IsChecked}
 use Rattle.plans.specs.FaultNames as plan_names
 use Rattle.plans.specs.Reading.{ReadsPlan}
@@ -11,7 +12,7 @@ use Rattle.plans.specs.declared.fault.PlanFault.{PlanFault}
 use Rattle.typed_values.specs.declared.unread.Unread.{Unread}
 use Rattle.typed_values.specs.declared.unread.Unread.TheVariants as unreads
 use Rattle.planned_calls.specs.FaultNames as run_names
-use Rattle.planned_calls.specs.ReportLines.{line_of}
+use Rattle.planned_calls.specs.ReportLines.{IsReportOf, line_of}
 use Rattle.run_account.specs.Runs.{HasRun, OutcomeValue}
 use Rattle.planned_calls.specs.declared.fault.RunFault.{RunFault}
 use Rattle.planned_calls.specs.declared.fault.RunFault.TheVariants as runs
@@ -49,6 +50,9 @@ pub record IsReported (table : Script) (workers : ℕ) (plan : Text) (calls : Li
   pub outcome : OutcomeValue
   pub runs : HasRun table steps workers (Ok outcome)
   pub calls_are : calls ≡ call_lines table outcome.lines
+  -- where no call of the plan has restarts of others, its calls have no other report, on any number of workers and in any number of shards
+  pub only : HaveNoRestartsOfOthers steps → (other : Plan) → other.calls ≡ steps.calls → (others : List RunLine) → IsReportOf table other others
+      → call_lines table others ≡ calls
 
 -- the output on the bytes of a plan; memory may run out
 abbrev pub AnswersPlan : Script → (workers : ℕ) → (plan : Text) → Output → Type 0

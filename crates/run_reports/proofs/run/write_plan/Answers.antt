@@ -1,5 +1,5 @@
 -- The report, or why there is none.
-use Rattle.std.proofs.Common.{◌≡◌, Ok, Err, ap₂, subst, inr}
+use Rattle.std.proofs.Common.{◌≡◌, ◌∙◌, Ok, Err, sym, ap₂, subst, inr}
 use Rattle.mg_model.specs.Script.{Script}
 use Rattle.run_account.specs.Runs.{HasRun}
 use Rattle.plans.specs.Reading.{ReadsPlan}
@@ -8,6 +8,7 @@ use Rattle.check_lines.specs.Output.{report}
 use Rattle.check_lines.specs.Replies.{line_of}
 use Rattle.run_reports.specs.RunAnswers.{AnswersPlan, call_lines}
 use Rattle.run_reports.proofs.RunLemmas.{plan_refused, run_refused}
+use Rattle.run_reports.proofs.SameReports.{same_lines}
 use Rattle.check_lines.proofs.Told.{serves}
 use Rattle.run_reports.proofs.run.write_plan.Goals as goal
 
@@ -31,8 +32,10 @@ returns-in-Ok-run-clause-output g c =
         steps = c.in-Ok.steps;
         reads = subst (λ (script : Script). ReadsPlan script c.args.plan.now (Ok c.in-Ok.steps)) c.script.ensures.table c.in-Ok.ensures.reads;
         outcome = c.in-Ok-run.outcome;
-        runs = subst (λ n. HasRun table c.in-Ok.steps n (Ok c.in-Ok-run.outcome)) c.from.ensures c.in-Ok-run.ensures;
+        runs = subst (λ n. HasRun table c.in-Ok.steps n (Ok c.in-Ok-run.outcome)) c.from.ensures c.in-Ok-run.ensures.run;
         calls_are = lines_are;
+        only = λ none other same others also.
+            same_lines table c.in-Ok-run.outcome.lines others (c.in-Ok-run.ensures.report none other same others also) ∙ sym lines_are;
       }),
       c.write_report.ensures.output,
     )
@@ -45,5 +48,5 @@ returns-clause-output g c =
     c.write_reply-in-Err-run.result
     (run_refused table c.args.workers c.args.plan.now c.in-Ok.steps c.in-Err-run.fault _
     (subst (λ (script : Script). ReadsPlan script c.args.plan.now (Ok c.in-Ok.steps)) c.script.ensures.table c.in-Ok.ensures.reads)
-    (subst (λ n. HasRun table c.in-Ok.steps n (Err c.in-Err-run.fault)) c.from.ensures c.in-Err-run.ensures) c.run_reply.ensures)
+    (subst (λ n. HasRun table c.in-Ok.steps n (Err c.in-Err-run.fault)) c.from.ensures c.in-Err-run.ensures.run) c.run_reply.ensures)
     c.write_reply-in-Err-run.ensures.line
