@@ -176,8 +176,5 @@ pub(crate) fn chosen(words: &mut Words<'_>) -> Option<ChosenRefusal> {
         510 => Refusal::InsufficientResources,
         _ => return None,
     };
-    Some(ChosenRefusal {
-        place,
-        refusal,
-    })
+    Some(ChosenRefusal { place, refusal })
 }
