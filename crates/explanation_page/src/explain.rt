@@ -192,6 +192,25 @@ fn add_whole<'a>(
     add_uncovered(alloc, page, documents, &config)
 }
 
+/// Adds what the obligation is about: a point with its step or its facts, or the configuration of the opening or of the restart.
+fn add_fault<'a>(
+    alloc: Global,
+    page: &mut Page<'a>,
+    documents: &Documents<'a>,
+    fault: &Fault,
+) -> Result<(), AllocError> {
+    let obligation = fault.obligation;
+    let Some(point) = locate(documents.cert, fault) else {
+        return add_whole(alloc, page, documents, obligation);
+    };
+    add_point(alloc, page, documents, &point)?;
+    if matches!(obligation, Obligation::StepsCovered) {
+        return add_step(alloc, page, documents, &point.config);
+    }
+    page.facts = facts(alloc, documents.script, &point.config, obligation)?;
+    Ok(())
+}
+
 /// The page on the first obligation that is broken. The only error is running out of memory.
 pub fn no_page<'a>(
     alloc: Global,
@@ -204,15 +223,6 @@ pub fn no_page<'a>(
     let mut page = new_page(alloc, line, Status::No, Some(rule), None, None);
     page.obligation = Some(obligation_key(obligation));
     page.advice = advice(obligation);
-    let Some(point) = locate(documents.cert, fault) else {
-        add_whole(alloc, &mut page, documents, obligation)?;
-        return Ok(page);
-    };
-    add_point(alloc, &mut page, documents, &point)?;
-    if matches!(obligation, Obligation::StepsCovered) {
-        add_step(alloc, &mut page, documents, &point.config)?;
-        return Ok(page);
-    }
-    page.facts = facts(alloc, documents.script, &point.config, obligation)?;
+    add_fault(alloc, &mut page, documents, fault)?;
     Ok(page)
 }
