@@ -3,7 +3,7 @@ use crate::entry_sets::{EntrySet, Kind, Look, add_sets, key_wrong, not_this};
 use crate::names::{ScriptNames, names_of};
 use certificate::CertFault;
 use found_places::{Found, Place, Wrong, entry_ends, found_wrong, nearest, new_place, spot_from};
-use script_document::read_document;
+use script_document::{Document, read_document};
 use serde_json::Value;
 use std::alloc::{AllocError, Global};
 use typed_values::Missing;
@@ -259,6 +259,67 @@ fn top_wrong(alloc: Global, fault: CertFault, value: &Value) -> Found {
     }
 }
 
+/// The place of what is wrong, sought from an entry on, or from the top.
+fn sought(
+    alloc: Global,
+    certificate: &[u8],
+    entry: Option<usize>,
+    found: Wrong,
+) -> Result<Option<Place>, AllocError> {
+    let first = match entry.and_then(|number| entry_ends(certificate, number)) {
+        Some((first, _last)) => first,
+        None => 0,
+    };
+    let spot = spot_from(certificate, first, found.word.as_str());
+    Ok(Some(new_place(alloc, found, Some(spot))?))
+}
+
+/// What is wrong in a certificate for a script of these names, with the entry that it is in, if it is in one.
+fn wrong_in(
+    alloc: Global,
+    fault: CertFault,
+    names: &ScriptNames<'_>,
+    value: &Value,
+) -> Result<Option<(Option<usize>, Wrong)>, AllocError> {
+    if let Some(found) = top_wrong(alloc, fault, value)? {
+        return Ok(Some((None, found)));
+    }
+    let Some(entries) = value.get("entries").and_then(Value::as_array) else {
+        return Ok(None);
+    };
+    match in_entries(alloc, fault, entries.as_slice(), names)? {
+        Some((number, found)) => Ok(Some((Some(number), found))),
+        None => Ok(None),
+    }
+}
+
+/// Where a certificate for a script of these names has a fault.
+fn place_for(
+    alloc: Global,
+    fault: CertFault,
+    names: &ScriptNames<'_>,
+    certificate: &[u8],
+) -> Result<Option<Place>, AllocError> {
+    let Ok(value) = Value::from_slice(alloc, certificate) else {
+        return Ok(None);
+    };
+    match wrong_in(alloc, fault, names, &value)? {
+        Some((entry, found)) => sought(alloc, certificate, entry, found),
+        None => Ok(None),
+    }
+}
+
+/// Where a certificate for a script that is this document has a fault.
+fn place_in(
+    alloc: Global,
+    fault: CertFault,
+    document: &Document,
+    certificate: &[u8],
+) -> Result<Option<Place>, AllocError> {
+    let names = names_of(alloc, document)?;
+    place_for(alloc, fault, &names, certificate)
+}
+
 /// Where a certificate for a script has this fault; nothing where its reader alone can tell. The only error is that there is no memory.
 pub fn certificate_place(
     alloc: Global,
@@ -266,32 +327,13 @@ pub fn certificate_place(
     script: &[u8],
     certificate: &[u8],
 ) -> Result<Option<Place>, AllocError> {
+    // What is owned is let go at each way out, so each function here owns one thing and lends it.
     let Ok(table) = toml::table_from_slice(alloc, script) else {
         return Ok(None);
     };
-    let document = match read_document(alloc, &table) {
-        Ok(document) => document,
-        Err(Missing::Memory) => return Err(AllocError),
-        Err(Missing::Nothing) => return Ok(None),
-    };
-    let Ok(value) = Value::from_slice(alloc, certificate) else {
-        return Ok(None);
-    };
-    if let Some(found) = top_wrong(alloc, fault, &value)? {
-        let spot = spot_from(certificate, 0, found.word.as_str());
-        return Ok(Some(new_place(alloc, found, Some(spot))?));
+    match read_document(alloc, &table) {
+        Ok(document) => place_in(alloc, fault, &document, certificate),
+        Err(Missing::Memory) => Err(AllocError),
+        Err(Missing::Nothing) => Ok(None),
     }
-    let Some(entries) = value.get("entries").and_then(Value::as_array) else {
-        return Ok(None);
-    };
-    let names = names_of(alloc, &document)?;
-    let Some((number, found)) = in_entries(alloc, fault, entries.as_slice(), &names)? else {
-        return Ok(None);
-    };
-    let first = match entry_ends(certificate, number) {
-        Some((first, _last)) => first,
-        None => 0,
-    };
-    let spot = spot_from(certificate, first, found.word.as_str());
-    Ok(Some(new_place(alloc, found, Some(spot))?))
 }
