@@ -211,6 +211,30 @@ fn gather<'s>(
     Ok(())
 }
 
+/// Puts the calls of a queue back at their numbers. `Disagree` where a worker has a part of its share still.
+fn settle_one<'s, R: Wait>(
+    rt: &R,
+    queues: &[Queue<PlannedCall<'s>>],
+    owner: QueueOwner<'s>,
+    places: &mut Places<'s>,
+) -> Result<(), RunFault>
+    requires { IsOwner queues.now owner }
+    ensures { vec_len places.new ≡ vec_len places.old }
+{
+    let QueueOwner {
+        mut worker_queue,
+        away,
+    } = owner;
+    if away > 0 {
+        return Err(RunFault::Disagree);
+    }
+    let Some(queue) = queues.get(worker_queue.shard) else {
+        unreachable!()
+    };
+    drain(rt, queue, &mut worker_queue)?;
+    seat(worker_queue.done, places)
+}
+
 /// Puts the calls of all queues back at their numbers. `Disagree` where a worker has a part of a share still.
 fn settle<'s, R: Wait>(
     rt: &R,
@@ -222,20 +246,33 @@ fn settle<'s, R: Wait>(
     ensures { vec_len places.new ≡ vec_len places.old }
 {
     for owner in owners {
-        let QueueOwner {
-            mut worker_queue,
-            away,
-        } = owner;
-        if away > 0 {
-            return Err(RunFault::Disagree);
-        }
-        let Some(queue) = queues.get(worker_queue.shard) else {
-            unreachable!()
-        };
-        drain(rt, queue, &mut worker_queue)?;
-        seat(worker_queue.done, places)?;
+        settle_one(rt, queues, owner, places)?;
     }
     Ok(())
+}
+
+/// So many workers serve the queues, until no call of them has a step left in the epoch. What they were done with is with the queues' owners then.
+fn served<'a, 's, G: Gate, B: Running + Send + Sync, R: Threads + Wait + Sync>(
+    rt: &R,
+    alloc: Global,
+    workplace: &'a Workplace<'a, 's, G, B>,
+    workers: usize,
+    queues: &'a [Queue<PlannedCall<'s>>],
+    owners: &mut Vec<QueueOwner<'s>>,
+) -> Result<(), RunFault>
+    requires { All (λ o. IsOwner queues.now o) owners.old.items }
+    ensures { OnOk result (All (λ o. IsOwner queues.now o) owners.new.items) }
+{
+    let jobs = jobs(alloc, queues, owners, workplace, workers)?;
+    let all = thread::map_vec(
+        rt,
+        jobs,
+        &|job|
+            requires { All (λ s. IsWorkersAt job.queues.now s) job.worker_queues.items }
+            ensures { All (λ s. IsWorkersAt job.entry.queues.now s) result.worker_queues.items }
+        { work(rt, job) },
+    )?;
+    gather(queues, owners, all)
 }
 
 /// An epoch of all calls, which come back at their numbers.
@@ -252,16 +289,7 @@ pub(crate) fn pass<'a, 's, G: Gate, B: Running + Send + Sync, R: Threads + Wait 
     let mut places = places;
     let (queues, mut owners) = open_queues(rt, alloc, &mut places, workplace.shards.len())?;
     let queues = queues.as_slice();
-    let jobs = jobs(alloc, queues, &mut owners, workplace, workers)?;
-    let all = thread::map_vec(
-        rt,
-        jobs,
-        &|job|
-            requires { All (λ s. IsWorkersAt job.queues.now s) job.worker_queues.items }
-            ensures { All (λ s. IsWorkersAt job.entry.queues.now s) result.worker_queues.items }
-        { work(rt, job) },
-    )?;
-    gather(queues, &mut owners, all)?;
+    served(rt, alloc, workplace, workers, queues, &mut owners)?;
     settle(rt, queues, owners, &mut places)?;
     Ok(places)
 }

@@ -5,7 +5,7 @@ use Rattle.std.specs.List.{All}
 use Rattle.handover.specs.declared.queue.Queue.{Queue}
 use Rattle.workers.specs.Passing.{IsWorkersAt}
 use Rattle.planned_calls.specs.declared.planned_call.PlannedCall.{PlannedCall}
-use Rattle.workers.proofs.epoch.pass.Goals as goal
+use Rattle.workers.proofs.epoch.served.Goals as goal
 
 pub gather-requires-clause-workers : goal.gather-requires-clause-workers
 gather-requires-clause-workers g c = λ k d below.
