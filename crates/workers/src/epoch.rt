@@ -8,13 +8,13 @@ ghost use Rattle.workers.specs.Passing.{HoldsNothing, IsOwner, IsWorkersAt};
 ghost use Rattle.workers.specs.PlanSteps.{called_at, left_at, stands_in};
 
 use crate::gate::Gate;
-use crate::places::{Places, seat};
+use crate::places::seat;
 use crate::queue_owner::{QueueOwner, drain};
-use crate::running::Running;
 use crate::worker::{Job, Worked, WorkerQueue, work};
 use crate::workplace::Workplace;
 use handover::{NumberedItem, Queue, Share};
 use planned_calls::{PlannedCall, RunFault};
+use run_shards::{Places, Running};
 use std::alloc::Global;
 use std::sync::Wait;
 use std::thread;

@@ -6,19 +6,15 @@ ghost use Rattle.planned_calls.specs.RunShards.{AreOfRun};
 
 use crate::epoch::pass;
 use crate::gate::Gate;
-use crate::joined::{all_planned, unlocked};
-use crate::locked_shard::LockedShard;
-use crate::opening::open_all;
-use crate::places::Places;
-use crate::running::Running;
 use crate::workplace::{Workplace, restart_all};
 use composition::Checked;
 use planned_calls::{PlannedCall, RunFault, epochs_of};
 use plans::Plan;
+use run_shards::{Places, Running, all_planned, open_all, unlocked};
 use shards::Shard;
 use std::alloc::Global;
 use std::marker::Brand;
-use std::sync::{Mutex, Wait};
+use std::sync::Wait;
 use std::thread::Threads;
 
 /// All epochs of the plan, with a restart of every shard between two. All workers of an epoch are joined before it.

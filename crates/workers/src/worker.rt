@@ -4,10 +4,10 @@ ghost use Rattle.std.specs.List.{All};
 ghost use Rattle.workers.specs.Passing.{IsWorkers, IsWorkersAt};
 
 use crate::gate::Gate;
-use crate::running::Running;
 use crate::workplace::Workplace;
 use handover::{NumberedItem, Queue, Share};
 use planned_calls::{PlannedCall, RunFault};
+use run_shards::Running;
 use std::sync::Wait;
 
 /// How many steps of a call a worker does before it hands it back.

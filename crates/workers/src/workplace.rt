@@ -4,11 +4,10 @@ ghost use Rattle.mg_model.specs.declared.plans.PlanStep.TheVariants as steps;
 ghost use Rattle.workers.specs.PlanSteps.{step_at};
 
 use crate::gate::Gate;
-use crate::locked_shard::LockedShard;
-use crate::running::Running;
 use mg_model::plans::PlanStep;
 use planned_calls::{PlannedCall, RunFault, is_restart};
 use plans::Plan;
+use run_shards::{LockedShard, Running};
 use std::sync::{Mutex, Wait};
 
 /// Where calls are run, for all workers of an epoch.

@@ -4,7 +4,7 @@ use Rattle.std.proofs.lemmas.List.{length-append}
 use Rattle.shards.specs.Shards.{ShardValue}
 use Rattle.planned_calls.specs.RunShards.{AreOfRun, IsOfRun}
 use Rattle.planned_calls.proofs.RunShardsLemmas.{kept_more}
-use Rattle.workers.proofs.joined.unlocked.Goals as goal
+use Rattle.run_shards.proofs.joined.unlocked.Goals as goal
 
 pub loop-lock-preserved : goal.loop-lock-preserved
 loop-lock-preserved g c =

@@ -1,7 +1,7 @@
 -- The shards so far are those of the run with the first numbers.
 use Rattle.std.proofs.Common.{◌≡◌, length}
 use Rattle.planned_calls.specs.RunShards.{AreOfRun}
-use Rattle.workers.proofs.joined.unlocked.Given as goal
+use Rattle.run_shards.proofs.joined.unlocked.Given as goal
 
 abbrev pub invariant-loop-lock : goal.invariant-loop-lock
 invariant-loop-lock g l = record {

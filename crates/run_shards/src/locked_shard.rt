@@ -10,9 +10,9 @@ use planned_calls::{PlannedCall, RunFault};
 use shards::{RestartFault, Shard};
 use std::marker::{Model, PhantomData};
 
-/// A shard of a run.
+/// A shard of a run, as it stands under its lock. This profile's own.
 #[derive(Drop)]
-pub(crate) struct LockedShard<'s, B: Running> {
+pub struct LockedShard<'s, B: Running> {
     shard: Shard<'s>,
     number: u32,
     of: PhantomData<B>,
@@ -32,7 +32,7 @@ impl<'s, B: Running> Model for LockedShard<'s, B> {
 }
 
 impl<'s, B: Running> LockedShard<'s, B> {
-    /// A shard of this run with its number.
+    /// A shard of this run with its number, from 0.
     pub(crate) fn new(shard: Shard<'s>, number: u32) -> LockedShard<'s, B>
         requires { IsOfRun B.script B.calls B.count number shard }
     {
@@ -52,8 +52,8 @@ impl<'s, B: Running> LockedShard<'s, B> {
         (shard, number)
     }
 
-    /// A step of a call of the plan, other than a restart.
-    pub(crate) fn step(
+    /// A step of a call of the plan, other than a restart: of its error is known what `PlannedCall::step` says.
+    pub fn step(
         &mut self,
         planned: PlannedCall<'s>,
         step: &PlanStep,
@@ -64,8 +64,9 @@ impl<'s, B: Running> LockedShard<'s, B> {
         planned.step(&mut self.shard, step)
     }
 
-    /// The gateway restarts.
-    pub(crate) fn restart(&mut self) -> Result<Assoc, RestartFault> {
+    /// The gateway restarts (H.248.1 v1, 7.2.8: ServiceChange of method Restart), and is in the association that is handed out. The error is that of
+    /// `Shard::restart`.
+    pub fn restart(&mut self) -> Result<Assoc, RestartFault> {
         self.shard.restart()
     }
 }

@@ -102,8 +102,9 @@ fn seat<'s>(
     Ok(())
 }
 
-/// All shards of a run, each under its lock, and the calls of the plan at their numbers.
-pub(crate) fn open_all<'s, B: Running>(
+/// All shards of a run, at most 16, each under its lock, and the calls of the plan at their numbers. `Disagree` where a shard can't open with its calls, and
+/// `NoMemory` where memory ran out. This profile's own.
+pub fn open_all<'s, B: Running>(
     alloc: Global,
     checked: &'s Checked,
     plan: &Plan,

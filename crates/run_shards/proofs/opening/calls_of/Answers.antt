@@ -4,7 +4,7 @@ use Rattle.mg_model.specs.Plans.{PlanCall}
 use Rattle.shards.specs.Shards.{opened_as}
 use Rattle.planned_calls.specs.Parts.{one_in, opened_in}
 use Rattle.planned_calls.proofs.PartCalls.{all_in, one_more_in}
-use Rattle.workers.proofs.opening.calls_of.Goals as goal
+use Rattle.run_shards.proofs.opening.calls_of.Goals as goal
 
 pub loop-call-preserved : goal.loop-call-preserved
 loop-call-preserved c =

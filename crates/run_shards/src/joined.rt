@@ -10,8 +10,9 @@ use shards::Shard;
 use std::alloc::Global;
 use std::sync::Mutex;
 
-/// The shards, out of their locks, in the order of their numbers.
-pub(crate) fn unlocked<'s, B: Running>(
+/// The shards, out of their locks, in the order of their numbers. `Disagree` where one stands at another's number, and `NoMemory` where memory ran out. This
+/// profile's own.
+pub fn unlocked<'s, B: Running>(
     alloc: Global,
     locks: Vec<Mutex<LockedShard<'s, B>>>,
 ) -> Result<Vec<Shard<'s>>, RunFault>
@@ -33,11 +34,8 @@ pub(crate) fn unlocked<'s, B: Running>(
     Ok(shards)
 }
 
-/// The calls of the plan, all of them.
-pub(crate) fn all_planned<'s>(
-    alloc: Global,
-    places: Places<'s>,
-) -> Result<Vec<PlannedCall<'s>>, RunFault>
+/// The calls of the plan, all of them. `Disagree` where one is away still, and `NoMemory` where memory ran out. This profile's own.
+pub fn all_planned<'s>(alloc: Global, places: Places<'s>) -> Result<Vec<PlannedCall<'s>>, RunFault>
     ensures { IfOk result (λ planned_calls. vec_len planned_calls ≡ vec_len places.entry) }
 {
     let mut planned_calls = Vec::new(alloc);

@@ -2,7 +2,7 @@
 use Rattle.std.proofs.Common.{◌≡◌, ◌++◌, drop, map}
 use Rattle.shards.specs.Shards.{opened_as}
 use Rattle.planned_calls.specs.Parts.{opened_in}
-use Rattle.workers.proofs.opening.calls_of.Given as goal
+use Rattle.run_shards.proofs.opening.calls_of.Given as goal
 
 abbrev pub invariant-loop-call : goal.invariant-loop-call
 invariant-loop-call l = record {

@@ -1,8 +1,8 @@
 //! What all shards of a run agree on, for the prover alone: the values under their locks are of one script and one plan.
 use std::marker::Brand;
 
-/// A run: its script, its calls, and its number of shards.
-pub(crate) trait Running {
+/// A run: its script, its calls, and its number of shards. This profile's own.
+pub trait Running {
     ghost use Rattle.std.specs.Prelude.{ℕ, List};
     ghost use Rattle.mg_model.specs.Script.{Script};
     ghost use Rattle.mg_model.specs.Plans.{PlanCall};
