@@ -1,7 +1,10 @@
 pub mod Keys
+pub mod Only
 pub mod Meanings
 pub mod Lines
 pub mod Beside
 pub mod Steps
+pub mod Along
+pub mod Openings
 pub mod Runs
 pub mod Plans

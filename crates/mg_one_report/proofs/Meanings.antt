@@ -1,6 +1,6 @@
 -- A step of a plan means the same event in two worlds that treat its call alike, and what kind of event that is.
 use Rattle.std.proofs.Common.{◌≡◌, ◌∙◌, ◌+◌, ◌⊎◌, ℕ, Bool, true, Option, Some, None, refl, sym, ap, subst, inl, inr}
-use Rattle.std.specs.Prelude.{◌==◌, ◌&&◌, Contains}
+use Rattle.std.specs.Prelude.{◌==◌, ◌&&◌, IsTrue, Contains}
 use Rattle.std.proofs.lemmas.Bool.{eqb-true}
 use Rattle.mg_model.specs.declared.events.CallEvent.{CallEvent}
 use Rattle.mg_model.specs.declared.events.CallEvent.TheVariants as to_call
@@ -26,21 +26,26 @@ use Rattle.mg_one_report.proofs.Keys.{RequestsInStep, RepliesInStep, found_too}
 
 -- ---- the same event
 
-module _ (w v : World) (call : ℕ) (r : Renaming) (a b : Agent) (alike : CallAlike r w v call a b) (of : a.call ≡ call)
-    (requests : RequestsInStep w.requests v.requests) (replies : RepliesInStep w.replies v.replies) where
+module _ (w v : World) (call : ℕ) (r : Renaming) (a b : Agent) (alike : CallAlike r w v call a b) (of : a.call ≡ call) (keep : ℕ → Bool) (kept : IsTrue (keep call))
+    (requests : RequestsInStep keep w.requests v.requests) (replies : RepliesInStep keep w.replies v.replies) where
   line_same : (l : ℕ) (event : LineEvent) → on_a_line a.call (a.lines l) event ≡ on_a_line b.call (b.lines l) event
   line_same l event =
       ap (λ (n : ℕ). on_a_line n (a.lines l) event) (sym alike.agents.call)
       ∙ ap (λ (lines : ℕ → ℕ). on_a_line b.call (lines l) event) (sym alike.agents.lines)
 
+  -- a message that is meant is of the call
+  of_call : (which : Option ℕ) (one number : ℕ) → is_of a.call which one number ≡ true → keep one ≡ true
+  of_call None one number e = ap keep (eqb-true one a.call e ∙ of) ∙ kept
+  of_call (Some n) one number e = ap keep (eqb-true one a.call (and_first (one == a.call) (number == n) e) ∙ of) ∙ kept
+
   request_too : (which : Option ℕ) (q : Request) → MeansRequest w a.call which q → (p : Request) × MeansRequest v b.call which p × (p.number ≡ q.number)
   request_too which q found =
-      let it = found_too (λ (x : Request). x.call) (λ (x : Request). x.number) (is_of a.call which) w.requests v.requests requests q found in
+      let it = found_too (λ (x : Request). x.call) (λ (x : Request). x.number) keep (is_of a.call which) (of_call which) w.requests v.requests requests q found in
       (it.0, subst (λ (n : ℕ). MeansRequest v n which it.0) (sym alike.agents.call) it.1, it.2)
 
   reply_too : (which : Option ℕ) (q : Reply) → MeansReply w a.call which q → (p : Reply) × MeansReply v b.call which p × (p.number ≡ q.number)
   reply_too which q found =
-      let it = found_too (λ (x : Reply). x.call) (λ (x : Reply). x.number) (is_of a.call which) w.replies v.replies replies q found in
+      let it = found_too (λ (x : Reply). x.call) (λ (x : Reply). x.number) keep (is_of a.call which) (of_call which) w.replies v.replies replies q found in
       (it.0, subst (λ (n : ℕ). MeansReply v n which it.0) (sym alike.agents.call) it.1, it.2)
 
   waiting_same : (sent : SentNote) → is_waiting b sent ≡ is_waiting a sent

@@ -1,158 +1,57 @@
--- Two runs of a call alone by the same steps tell the same lines: a step that happens in the one happens in the other, and is counted alike.
-use Rattle.std.proofs.Common.{◌≡◌, ◌∙◌, ◌++◌, ◌+◌, ◌⊎◌, ℕ, List, [], ◌∷◌, Some, refl, sym, ap, subst, inl, inr}
-use Rattle.std.specs.Prelude.{IsTrue, codes}
+-- Two runs of a call alone by the same steps tell the same lines.
+use Rattle.std.proofs.Common.{◌≡◌, ◌∙◌, ◌++◌, ℕ, Bool, true, List, [], ◌∷◌, Some, refl, sym, ap, subst, arith}
+use Rattle.std.specs.Prelude.{IsTrue, Contains}
 use Rattle.std.specs.List.{All}
 use Rattle.mg_model.specs.declared.events.Event.{Event}
-use Rattle.mg_model.specs.declared.events.Event.TheVariants.{OfCall, Restart}
 use Rattle.mg_model.specs.declared.plans.PlanStep.{PlanStep}
 use Rattle.mg_model.specs.Accepted.{IsScript, IsEntryOf}
 use Rattle.mg_model.specs.Agent.{Agent}
 use Rattle.mg_model.specs.Entries.{Entry}
-use Rattle.mg_model.specs.Messages.{Request, Reply}
-use Rattle.mg_model.specs.Numbers.{the_call}
 use Rattle.mg_model.specs.Obligations.{NoneBroken}
-use Rattle.mg_model.specs.Plans.{number_begun}
-use Rattle.mg_model.specs.Reports.{Means, Progress, ReportLine, StepHappens, StepIsIdle, StepsRun, after_event, line_now, line_retired, start_as}
+use Rattle.mg_model.specs.Reports.{Progress, ReportLine, StepsRun, line_now, start_as}
 use Rattle.mg_model.specs.Script.{Script}
-use Rattle.mg_model.specs.World.{World, Opened, Begins as IsBegun, IsOpening, Occurs, OccursTo, Runs, begin}
+use Rattle.mg_model.specs.Shards.{HasIdentifiersLeft}
+use Rattle.mg_model.specs.World.{World, Opened, IsOpening, Runs}
 use Rattle.mg_model.proofs.Cases.{the_some}
-use Rattle.mg_model.proofs.Single.{only_here}
+use Rattle.mg_model.proofs.Single.{only_here, only_one}
 use Rattle.mg_merge.specs.Identifiers.{HasFewCommands}
-use Rattle.mg_reports.proofs.Placings.{one_event, one_placing}
-use Rattle.mg_alike.proofs.Events.Others.{openings_alike}
-use Rattle.mg_one_report.proofs.Beside.{AreBeside, beside_turned}
-use Rattle.mg_one_report.proofs.Keys.{RequestsInStep, RepliesInStep}
-use Rattle.mg_one_report.proofs.Meanings.{IsKind, kind_of}
+use Rattle.mg_reports.proofs.Placings.{one_placing}
+use Rattle.mg_alike.specs.Alone.{HasEnoughNumbers}
+use Rattle.mg_alike.proofs.Alone.Enough.{classes_enough, never_run_out}
+use Rattle.mg_one_report.proofs.Along.{AreAlong, along, next_step}
+use Rattle.mg_one_report.proofs.Beside.{AreBeside}
 use Rattle.mg_one_report.proofs.Lines.{line_same}
-use Rattle.mg_one_report.proofs.Steps.{begun_beside, means_both, not_idle, of_call, own_beside, restarted_beside}
+use Rattle.mg_one_report.proofs.Openings.{at_start}
 use Rattle.mg_one_report.specs.Laws.{OneReportAlone}
 
-abbrev Goes : Script → ℕ → Progress → PlanStep → Progress → Type 0
-Goes script first p step after = StepHappens script first p step after ⊎ StepIsIdle script first p step after
-
--- the other run is where the one is, but for its world
-abbrev AreAlong : Script → (start first : World) → (one other : Progress) → Type 0
-AreAlong script start first one other =
-    (u : World) × (other ≡ record one { world = u }) × AreBeside script start first one.standing one.world u
-
-along : (script : Script) (start first : World) (after next p : Progress) (u : World) → after ≡ p → next ≡ record p { world = u }
-    → AreBeside script start first p.standing p.world u → AreAlong script start first after next
-along script start first after next p u after_is next_is both =
-    subst (λ (z : Progress). AreAlong script start first z next) (sym after_is) (u, next_is, both)
+-- alone each call is one of its own
+abbrev pub any_call : ℕ → Bool
+any_call n = true
 
 module _ (script : Script) (entries : List Entry) (is_script : IsScript script) (listed : All (IsEntryOf script) entries) (none_broken : NoneBroken script entries)
-    (few : HasFewCommands script) (one : Opened) (start first : World) (opens : IsOpening script (one ∷ []) start) (also_opens : IsOpening script (one ∷ []) first)
-    (every : (n : ℕ) → IsTrue (start.gateway.board.class n)) (also_every : (n : ℕ) → IsTrue (first.gateway.board.class n)) where
-  -- ---- a step that happens in both
+    (few : HasFewCommands script) (one : Opened) where
+  -- where each number is given, identifiers are left
+  pub left_in : (start : World) (opens : IsOpening script (one ∷ []) start) (every : (n : ℕ) → IsTrue (start.gateway.board.class n)) (past : List Event) (w : World)
+      → Runs script past start w → HasIdentifiersLeft w
+  left_in start opens every past w runs =
+      never_run_out script entries is_script listed none_broken few one start opens enough past w runs
+    where
+      enough : HasEnoughNumbers start.gateway.board.class
+      enough = classes_enough start.gateway.board.class 0 1 (omega arith) (omega arith) (λ n e. every n)
 
-  module _ (p : Progress) (v : World) (both : AreBeside script start first p.standing p.world v) (step : PlanStep) (after next : Progress)
-      (x : StepHappens script one.call p step after) (y : StepHappens script one.call (record p { world = v }) step next) where
-    abbrev number : ℕ
-    number = number_begun one.call (p.begun + 1)
-
-    one_agent : both.treat.one ≡ x.agent
-    one_agent = the_some both.treat.one x.agent (sym both.treat.alike.open_one ∙ x.stands)
-
-    other_agent : both.treat.other ≡ y.agent
-    other_agent = the_some both.treat.other y.agent (sym both.treat.alike.open_other ∙ y.stands)
-
-    one_means : Means p.world both.treat.one number step x.event
-    one_means = subst (λ (a : Agent). Means p.world a number step x.event) (sym one_agent) x.means
-
-    other_means : Means v both.treat.other number step y.event
-    other_means = subst (λ (a : Agent). Means v a number step y.event) (sym other_agent) y.means
-
-    same : x.event ≡ y.event
-    same = one_event v both.treat.other number step x.event y.event
-        (means_both script entries is_script listed none_broken few one start first opens also_opens every also_every p.standing p.world v both number step x.event one_means)
-        other_means
-
-    of : both.treat.one.call ≡ p.standing
-    of = of_call script entries is_script listed none_broken few one start first opens also_opens every also_every p.standing p.world v both
-
-    retired_same : line_retired script y.agent (record p { world = v }) ≡ line_retired script x.agent p
-    retired_same =
-        ap (λ (a : Agent). line_retired script a (record p { world = v })) (sym other_agent)
-        ∙ ap (λ (line : ReportLine). record line { phase = codes "retired" })
-        (line_same script p v both.treat.renaming both.treat.one both.treat.other both.treat.alike)
-        ∙ ap (λ (a : Agent). line_retired script a p) one_agent
-
-    by_kind : IsKind both.treat.one number step x.event → AreAlong script start first after next
-    by_kind (inl own) =
-        let is : x.event ≡ OfCall (the_call p.standing) own.happens = own.is ∙ ap (λ (n : ℕ). OfCall (the_call n) own.happens) of in
-        let o : OccursTo script p.world p.standing own.happens x.world = subst (λ (e : Event). Occurs script p.world e x.world) is x.occurs in
-        let t : OccursTo script v p.standing own.happens y.world = subst (λ (e : Event). Occurs script v e y.world) (sym same ∙ is) y.occurs in
-        along script start first after next (record p { world = x.world; events = p.events + 1 }) y.world (x.after_is ∙ own.counts script one.call x.agent p x.world)
-        (y.after_is ∙ own.counts script one.call y.agent (record p { world = v }) y.world)
-        (own_beside script entries is_script listed none_broken few one start first opens also_opens every also_every p.standing p.world v both own.happens own.goes_on
-        x.world y.world o t)
-    by_kind (inr (inl begins)) =
-        let is : x.event ≡ begin number p.standing = begins.1 ∙ ap (λ (n : ℕ). begin number n) of in
-        let b : IsBegun script p.world number p.standing x.world = subst (λ (e : Event). Occurs script p.world e x.world) is x.occurs in
-        let d : IsBegun script v number p.standing y.world = subst (λ (e : Event). Occurs script v e y.world) (sym same ∙ is) y.occurs in
-        along script start first after next (begun (line_retired script x.agent p) x.world) y.world
-        (x.after_is ∙ ap (λ (s : PlanStep). after_event script one.call x.agent p s x.world) begins.0)
-        (y.after_is ∙ ap (λ (s : PlanStep). after_event script one.call y.agent (record p { world = v }) s y.world) begins.0
-        ∙ ap (λ (line : ReportLine). begun line y.world) retired_same)
-        (begun_beside script entries is_script listed none_broken few one start first opens also_opens every also_every p.standing number p.world v both x.world y.world b d)
-      where
-        begun : ReportLine → World → Progress
-        begun line w = record { world = w; standing = number; begun = p.begun + 1; events = 1; idle = 0; retired = p.retired ++ line ∷ [] }
-    by_kind (inr (inr restarts)) =
-        let o : Occurs script p.world Restart x.world = subst (λ (e : Event). Occurs script p.world e x.world) restarts.1 x.occurs in
-        let t : Occurs script v Restart y.world = subst (λ (e : Event). Occurs script v e y.world) (sym same ∙ restarts.1) y.occurs in
-        along script start first after next (record p { world = x.world }) y.world
-        (x.after_is ∙ ap (λ (s : PlanStep). after_event script one.call x.agent p s x.world) restarts.0)
-        (y.after_is ∙ ap (λ (s : PlanStep). after_event script one.call y.agent (record p { world = v }) s y.world) restarts.0)
-        (restarted_beside script entries is_script listed none_broken few one start first opens also_opens every also_every p.standing p.world v both x.world y.world o t)
-
-    both_happen : AreAlong script start first after next
-    both_happen = by_kind (kind_of p.world both.treat.one number step x.event one_means)
-
-  -- ---- a step
-
-  next_step : (p : Progress) (v : World) → AreBeside script start first p.standing p.world v → (step : PlanStep) (after next : Progress)
-      → Goes script one.call p step after → Goes script one.call (record p { world = v }) step next → AreAlong script start first after next
-  next_step p v both step after next (inl x) (inl y) = both_happen p v both step after next x y
-  next_step p v both step after next (inl x) (inr y) =
-      absurd (not_idle script entries is_script listed none_broken few one start first opens also_opens every also_every p.standing p.world v both x.agent y.agent
-      x.stands y.stands (number_begun one.call (p.begun + 1)) step y.no_restart x.event x.world x.means x.occurs y.cannot)
-  next_step p v both step after next (inr x) (inl y) =
-      absurd (not_idle script entries is_script listed none_broken few one first start also_opens opens also_every every p.standing v p.world
-      (beside_turned script start first p.standing p.world v both) y.agent x.agent
-      y.stands x.stands (number_begun one.call (p.begun + 1)) step x.no_restart y.event y.world y.means y.occurs x.cannot)
-  next_step p v both step after next (inr x) (inr y) =
-      along script start first after next (record p { idle = p.idle + 1 }) v x.after_is y.after_is both
-
-  -- ---- all steps
-
-  all_steps : (steps : List PlanStep) (p : Progress) (v : World) → AreBeside script start first p.standing p.world v → (end other : Progress)
-      → StepsRun script one.call steps p end → StepsRun script one.call steps (record p { world = v }) other → AreAlong script start first end other
-  unfolding StepsRun
-  all_steps [] p v both end other run also = along script start first end other p v run also both
-  all_steps (step ∷ more) p v both end other (after, goes, run) (next, moves, also) =
-      let it = next_step p v both step after next goes moves in
-      all_steps more after it.0 it.2 end other run (subst (λ (q : Progress). StepsRun script one.call more q other) it.1 also)
-
-  at_start : AreBeside script start first one.call start first
-  unfolding Runs
-  at_start = record {
-    past = [];
-    history = [];
-    runs = refl;
-    also_runs = refl;
-    treat = openings_alike script (one ∷ []) (one ∷ []) one start first opens also_opens (only_here one) (only_here one);
-    in_step = record {
-      requests = subst (λ (l : List Request). RequestsInStep l first.requests) (sym opens.messages.no_request)
-          (subst (λ (l : List Request). RequestsInStep [] l) (sym also_opens.messages.no_request) tt);
-      replies = subst (λ (l : List Reply). RepliesInStep l first.replies) (sym opens.messages.no_answer)
-          (subst (λ (l : List Reply). RepliesInStep [] l) (sym also_opens.messages.no_answer) tt);
-      retired = also_opens.gateway.none_retired ∙ sym opens.gateway.none_retired;
-    };
-  }
+  module _ (start first : World) (opens : IsOpening script (one ∷ []) start) (also_opens : IsOpening script (one ∷ []) first)
+      (every : (n : ℕ) → IsTrue (start.gateway.board.class n)) (also_every : (n : ℕ) → IsTrue (first.gateway.board.class n)) where
+    all_steps : (steps : List PlanStep) (p : Progress) (v : World) → AreBeside script any_call start first p.standing p.world v → (end other : Progress)
+        → StepsRun script one.call steps p end → StepsRun script one.call steps (record p { world = v }) other → AreAlong script any_call start first end other
+    unfolding StepsRun
+    all_steps [] p v both end other run also = along script any_call start first end other p v run also both
+    all_steps (step ∷ more) p v both end other (after, goes, run) (next, moves, also) =
+        let it = next_step script entries is_script listed none_broken (one ∷ []) (one ∷ []) one any_call (λ begun. refl) start first opens also_opens p v both
+        (left_in start opens every both.past p.world both.runs) (left_in first also_opens also_every both.history v both.also_runs) step after next goes moves in
+        all_steps more after it.0 it.2 end other run (subst (λ (q : Progress). StepsRun script one.call more q other) it.1 also)
 
 -- the lines at an end
-abbrev told : Script → Agent → Progress → List ReportLine
+abbrev pub told : Script → Agent → Progress → List ReportLine
 told script a p = p.retired ++ line_now script a p ∷ []
 
 pub one_alone : OneReportAlone
@@ -171,10 +70,13 @@ one_alone script entries is_script listed none_broken few one steps lines others
     also_run : StepsRun script one.call steps (start_as one also.start) also.end
     also_run = subst (λ (l : List PlanStep). StepsRun script one.call l (start_as one also.start) also.end) ((one_placing steps also.placed).0 also.placing) also.runs
 
-    it : AreAlong script is.start also.start is.end also.end
+    only_one_opens : (other : Opened) → Contains (one ∷ []) other → IsTrue (any_call other.call) → other.call ≡ one.call
+    only_one_opens other there its = ap (λ (o : Opened). o.call) (sym (only_one one other there))
+
+    it : AreAlong script any_call is.start also.start is.end also.end
     it = all_steps script entries is_script listed none_broken few one is.start also.start is.opens also.opens is.every_number also.every_number steps
         (start_as one is.start) also.start
-        (at_start script entries is_script listed none_broken few one is.start also.start is.opens also.opens is.every_number also.every_number)
+        (at_start script any_call (one ∷ []) (one ∷ []) one is.start also.start is.opens also.opens (only_here one) (only_here one) refl only_one_opens only_one_opens)
         is.end also.end run also_run
 
     one_agent : it.2.treat.one ≡ is.agent
