@@ -8,3 +8,4 @@ pub mod Along
 pub mod Openings
 pub mod Runs
 pub mod Plans
+pub mod Among

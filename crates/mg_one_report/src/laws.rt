@@ -1,4 +1,5 @@
-//! The laws of the one report of a plan.
+//! The laws of the one report of a plan, and of what a call tells among others.
+ghost use Rattle.mg_one_report.specs.Among.{ReportsAmongOthers};
 ghost use Rattle.mg_one_report.specs.Laws.{OneReport, OneReportAlone, PlansWithoutRestartSteps};
 
 /// A call that is run alone, with all that begin on its lines, has one report where no restart of another call stands among its steps: whatever identifiers
@@ -15,4 +16,11 @@ pub fn one_report()
 /// Where no call of a plan has a `restart` step, no call has restarts of other calls.
 pub fn plans_without_restart_steps()
     ensures { PlansWithoutRestartSteps }
+{}
+
+/// What a call tells among others, with all that begin within it, a run of it alone tells: by its own steps, with the restarts of the others where they stood. On
+/// one gateway, with any other calls that do anything. Where no obligation is broken, no state has more than 16 commands and identifiers are left before each
+/// event. This profile's own.
+pub fn reports_among_others()
+    ensures { ReportsAmongOthers }
 {}

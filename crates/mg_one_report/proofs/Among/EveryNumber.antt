@@ -1,0 +1,34 @@
+-- For each call of an opening there is an opening of it alone, on a gateway that may give every number.
+use Rattle.std.proofs.Common.{ℕ, true, List, [], ◌∷◌, refl}
+use Rattle.std.specs.Prelude.{IsTrue, Contains}
+use Rattle.mg_model.specs.Script.{Script}
+use Rattle.mg_model.specs.World.{World, Opened, IsOpening}
+use Rattle.mg_alike.proofs.Alone.Opening.{calls_open_alone}
+
+abbrev with_every : World → World
+with_every w = record w { gateway = record w.gateway { board = record w.gateway.board { class = λ n. true } } }
+
+-- whatever numbers its gateway gives, it is an opening
+opens_with_every : (script : Script) (calls : List Opened) (w : World) → IsOpening script calls w → IsOpening script calls (with_every w)
+opens_with_every script calls w opens = record {
+  distinct = opens.distinct;
+  lines = record { held = opens.lines.held; stand = opens.lines.stand; armed = opens.lines.armed; others_null = opens.lines.others_null };
+  gateway = record {
+    association = opens.gateway.association;
+    no_ephemeral = opens.gateway.no_ephemeral;
+    nothing_cut = opens.gateway.nothing_cut;
+    no_context_given = opens.gateway.no_context_given;
+    no_ephemeral_given = opens.gateway.no_ephemeral_given;
+    no_creator = opens.gateway.no_creator;
+    no_reply_kept = opens.gateway.no_reply_kept;
+    none_retired = opens.gateway.none_retired;
+  };
+  agents = record { opened = opens.agents.opened; no_other = opens.agents.no_other };
+  messages = record { no_request = opens.messages.no_request; no_answer = opens.messages.no_answer; no_note = opens.messages.no_note };
+}
+
+pub opens_alone_with_every : (script : Script) (calls : List Opened) (one : Opened) (start : World) → Contains calls one → IsOpening script calls start
+    → (lone : World) × (IsOpening script (one ∷ []) lone × ((n : ℕ) → IsTrue (lone.gateway.board.class n)))
+opens_alone_with_every script calls one start among opens =
+    let alone = calls_open_alone script calls one start among opens in
+    (with_every alone.0, (opens_with_every script (one ∷ []) alone.0 alone.1.0, λ n. refl))
