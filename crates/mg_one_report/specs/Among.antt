@@ -30,15 +30,14 @@ abbrev pub IsBeside : (first : ℕ) → Event → Type 0
 IsBeside first (OfCall call happens) = IsWithin first call.0 → ⊥
 IsBeside first Restart = Unit {0}
 
--- it goes by these turns; before each event, identifiers are left
+-- it goes by these turns; before each of its own steps, identifiers are left
 unfoldable pub GoesAmong : Script → (first : ℕ) → List Turn → Progress → Progress → Type 0
 GoesAmong script first [] p end = end ≡ p
 GoesAmong script first (own step ∷ more) p end =
     HasIdentifiersLeft p.world
     × ((next : Progress) × ((StepHappens script first p step next ⊎ StepIsIdle script first p step next) × GoesAmong script first more next end))
 GoesAmong script first (beside event ∷ more) p end =
-    HasIdentifiersLeft p.world
-    × (IsBeside first event × ((next : World) × (Occurs script p.world event next × GoesAmong script first more (record p { world = next }) end)))
+    IsBeside first event × ((next : World) × (Occurs script p.world event next × GoesAmong script first more (record p { world = next }) end))
 
 -- its own steps, and how many restarts stand beside them
 abbrev pub own_steps : List Turn → List PlanStep
@@ -53,8 +52,8 @@ restarts_beside (beside (OfCall call happens) ∷ more) = restarts_beside more
 restarts_beside (beside Restart ∷ more) = suc (restarts_beside more)
 
 -- the lines of a call among any others are those of a run of it alone, by its own steps, where the restarts beside them stand among these. Of an opening in
--- which no other call is within it; where no obligation is broken, no state has more than 16 commands and identifiers are left. The call stands at the end, so
--- none with another number began on its lines
+-- which no other call is within it; where no obligation is broken, no state has more than 16 commands and identifiers are left before its steps. The call
+-- stands at the end, so none with another number began on its lines
 abbrev pub ReportsAmongOthers : Type 0
 ReportsAmongOthers =
     (script : Script) (entries : List Entry) → IsScript script → All (IsEntryOf script) entries → NoneBroken script entries → HasFewCommands script

@@ -20,7 +20,7 @@ pub fn plans_without_restart_steps()
 
 /// What a call tells among others, with all that begin within it, a run of it alone tells: by its own steps, with the restarts of the others where they stood. On
 /// one gateway, with any other calls that do anything. Where no obligation is broken, no state has more than 16 commands and identifiers are left before each
-/// event. This profile's own.
+/// of its steps. This profile's own.
 pub fn reports_among_others()
     ensures { ReportsAmongOthers }
 {}

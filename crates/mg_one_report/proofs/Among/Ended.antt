@@ -16,6 +16,6 @@ never_ended script first [] p end numbered gone goes a there =
     not_both gone (numbered.open_calls p.standing a (subst (λ (q : Progress). q.world.agent q.standing ≡ Some a) goes there))
 never_ended script first (own step ∷ more) p end numbered gone (left, (next, (inl x, rest))) a there = not_both gone (numbered.open_calls p.standing x.agent x.stands)
 never_ended script first (own step ∷ more) p end numbered gone (left, (next, (inr x, rest))) a there = not_both gone (numbered.open_calls p.standing x.agent x.stands)
-never_ended script first (beside event ∷ more) p end numbered gone (left, (apart, (next, (occurs, rest)))) a there =
+never_ended script first (beside event ∷ more) p end numbered gone (apart, (next, (occurs, rest))) a there =
     never_ended script first more (record p { world = next }) end (event_numbered script p.world next event numbered occurs)
     (event_retired script p.world next p.standing event occurs gone) rest a there

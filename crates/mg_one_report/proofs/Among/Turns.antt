@@ -97,7 +97,7 @@ module _ (script : Script) (entries : List Entry) (is_script : IsScript script) 
       let it = own_along p u both left step after goes in
       let later = all_turns more after it.0 end it.2 rest a there in
       (later.0, (too.0, too.1, subst (λ (q : Progress). StepsRun script one.call (placed_in more) q later.0) (sym it.1) later.1), later.2)
-  all_turns (beside Restart ∷ more) p u end both (left, (apart, (next, (occurs, rest)))) a there =
+  all_turns (beside Restart ∷ more) p u end both (apart, (next, (occurs, rest))) a there =
       let restarts : Occurs script u Restart (with_gateway u (restarted u.gateway)) =
       (subst (λ (n : ℕ). n < last_association) (sym both.treat.alike.association) occurs.0, refl) in
       let later = all_turns more (record p { world = next }) (with_gateway u (restarted u.gateway)) end
@@ -119,7 +119,7 @@ module _ (script : Script) (entries : List Entry) (is_script : IsScript script) 
         ),
         later.2,
       )
-  all_turns (beside (OfCall who happens) ∷ more) p u end both (left, (apart, (next, (occurs, rest)))) a there =
+  all_turns (beside (OfCall who happens) ∷ more) p u end both (apart, (next, (occurs, rest))) a there =
       by_begins (begins_on p.standing happens) refl (all_turns more (record p { world = next }) u end)
     where
       numbered : IsNumbered p.world
