@@ -9,3 +9,4 @@ pub mod Openings
 pub mod Runs
 pub mod Plans
 pub mod Among
+pub mod Logs

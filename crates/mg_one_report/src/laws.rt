@@ -1,6 +1,7 @@
-//! The laws of the one report of a plan, and of what a call tells among others.
+//! The laws of the one report of a plan, of what a call tells among others, and of what the log of a gateway tells of each call.
 ghost use Rattle.mg_one_report.specs.Among.{ReportsAmongOthers};
 ghost use Rattle.mg_one_report.specs.Laws.{OneReport, OneReportAlone, PlansWithoutRestartSteps};
+ghost use Rattle.mg_one_report.specs.Logs.{LogsTellReports};
 
 /// A call that is run alone, with all that begin on its lines, has one report where no restart of another call stands among its steps: whatever identifiers
 /// its gateway gives, the lines are the same. Where no obligation is broken and no state has more than 16 commands.
@@ -23,4 +24,11 @@ pub fn plans_without_restart_steps()
 /// of its steps. This profile's own.
 pub fn reports_among_others()
     ensures { ReportsAmongOthers }
+{}
+
+/// From the log of a gateway's steps alone each call's report is counted: its own entries count its lines, and a run of it alone tells these, by its own steps, with
+/// the restarts that other calls asked for. Of an opening of calls of a plan, where no obligation is broken, no state has more than 16 commands and identifiers
+/// are left before each step. This profile's own.
+pub fn logs_tell_reports()
+    ensures { LogsTellReports }
 {}
