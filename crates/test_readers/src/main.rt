@@ -6,6 +6,7 @@
 
 mod certificates;
 mod checks;
+mod fault_places;
 mod plan_rows;
 mod scripts;
 mod tables;

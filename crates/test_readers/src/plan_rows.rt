@@ -1,4 +1,5 @@
 //! The layer of plans: texts that are read as plans for a script.
+use crate::fault_places::tell_place;
 use crate::told_plans::{Step, steps_of, tell_plan};
 use plans::PlanFault;
 use script_table::Script;
@@ -18,14 +19,8 @@ fn tell_fault(rt: &HostRuntime, unread: Unread<PlanFault>) -> Result<(), Failure
     Ok(())
 }
 
-/// Tells the step that a text is.
-fn tell_step(
-    rt: &HostRuntime,
-    script: &Script,
-    document: &mut Document,
-    step: &str,
-) -> Result<(), Failure> {
-    write_step(document, "", step)?;
+/// Tells the step of the plan that stands there.
+fn tell_step(rt: &HostRuntime, script: &Script, document: &Document) -> Result<(), Failure> {
     match read(rt.alloc(), document.bytes(), script) {
         Ok(plan) => {
             let step = wanted(first_step(&plan))?;
@@ -96,6 +91,40 @@ fn sizes(row: &str) -> Option<([&str; 2], &str)> {
     Some(([epochs, steps], other))
 }
 
+/// Writes the plan of a row; where it writes none, it is of the plan that stands there.
+fn write_plan(document: &mut Document, row: &str) -> Result<(), Failure> {
+    if let Some(step) = row.strip_prefix("step ") {
+        return write_step(document, "", step);
+    }
+    if let Some(row) = row.strip_prefix("epochs ") {
+        let (words, other) = wanted(sizes(row))?;
+        return write_sizes(document, words, other);
+    }
+    if let Some(text) = row.strip_prefix("plan ") {
+        document.clear();
+        document.add(text)?;
+    }
+    Ok(())
+}
+
+/// Tells what a row asks of the plan that stands there.
+fn tell_plan_of(
+    rt: &HostRuntime,
+    script: &Script,
+    document: &Document,
+    row: &str,
+) -> Result<(), Failure> {
+    if row.starts_with("place ") {
+        tell_place(rt, script, document)
+    } else if row.starts_with("step ") {
+        tell_step(rt, script, document)
+    } else if row.starts_with("epochs ") {
+        tell_sizes(rt, script, document)
+    } else {
+        tell_text(rt, script, document)
+    }
+}
+
 /// A row of a plan.
 fn tell_row(
     rt: &HostRuntime,
@@ -103,19 +132,8 @@ fn tell_row(
     document: &mut Document,
     row: &str,
 ) -> Result<(), Failure> {
-    if let Some(step) = row.strip_prefix("step ") {
-        return tell_step(rt, script, document, step);
-    }
-    if let Some(row) = row.strip_prefix("epochs ") {
-        let (words, other) = wanted(sizes(row))?;
-        write_sizes(document, words, other)?;
-        return tell_sizes(rt, script, document);
-    }
-    if let Some(text) = row.strip_prefix("plan ") {
-        document.clear();
-        document.add(text)?;
-    }
-    tell_text(rt, script, document)?;
+    write_plan(document, row.strip_prefix("place ").unwrap_or(row))?;
+    tell_plan_of(rt, script, document, row)?;
     document.clear();
     Ok(())
 }
