@@ -21,7 +21,7 @@ LAYERS = {
     "shards": "test_shards",
     "scripts": "test_readers",
     "certificates": "test_readers",
-    "plans": "test_readers",
+    "plans": "test_plans",
     "checks": "test_readers",
     "tables": "test_readers",
     "devices": "test_engine",

@@ -6,11 +6,8 @@
 
 mod certificates;
 mod checks;
-mod fault_places;
-mod plan_rows;
 mod scripts;
 mod tables;
-mod told_plans;
 
 use std::io::Read;
 use std::process::ExitCode;
@@ -30,7 +27,6 @@ fn tell<T: Threads + Sync>(
     match layer {
         "certificates" => certificates::tell(rt, rows),
         "checks" => checks::tell(rt, threads, rows),
-        "plans" => plan_rows::tell(rt, rows),
         "scripts" => scripts::tell(rt, rows),
         "tables" => tables::tell(rt, rows),
         _ => Ok(()),
