@@ -26,11 +26,6 @@ pub data LogEntry : Type 0 where
   epoch_ended : LogEntry
   restarted : (by : ℕ) → LogEntry
 
--- how many calls began within each, after a step of one
-abbrev pub begun_after : (ℕ → ℕ) → (first : ℕ) → PlanStep → Option Event → ℕ → ℕ
-begun_after begun first Begins (Some event) call = if call == first then suc (begun call) else begun call
-begun_after begun first step told call = begun call
-
 -- what a step came to, in this world, for this agent
 abbrev pub ComesTo : Script → World → Agent → (next : ℕ) → PlanStep → Option Event → World → Type 0
 ComesTo script w a next step (Some event) after = Means w a next step event × Occurs script w event after
@@ -38,24 +33,25 @@ ComesTo script w a next step None after =
     (after ≡ w) × ((event : Event) (world : World) → Means w a next step event → Occurs script w event world → ⊥)
 
 -- a step of a call of the plan, by the agent of the call that stands of it and those that began within it, in this state, and what it came to
-pub record StepTaken (script : Script) (begun : ℕ → ℕ) (w : World) (first : ℕ) (step : PlanStep) (state : ℕ) (told : Option Event) (after : World) : Type 0 where
+pub record StepTaken (script : Script) (w : World) (first : ℕ) (step : PlanStep) (state : ℕ) (told : Option Event) (after : World) : Type 0 where
   pub few : first < plan_calls
+  pub begun : ℕ
   pub agent : Agent
-  pub stands : w.agent (number_begun first (begun first)) ≡ Some agent
+  pub stands : w.agent (number_begun first begun) ≡ Some agent
   pub of_state : state ≡ agent.state
   pub no_restart : step ≡ Restarts → ⊥
-  pub comes : ComesTo script w agent (number_begun first (begun first + 1)) step told after
+  pub comes : ComesTo script w agent (number_begun first (begun + 1)) step told after
 
 -- the entries are what happened from one world to another; before each, identifiers are left
-unfoldable pub LogRuns : Script → (begun : ℕ → ℕ) → List LogEntry → World → World → Type 0
-LogRuns script begun [] w end = end ≡ w
-LogRuns script begun (took first step state told ∷ more) w end =
+unfoldable pub LogRuns : Script → List LogEntry → World → World → Type 0
+LogRuns script [] w end = end ≡ w
+LogRuns script (took first step state told ∷ more) w end =
     HasIdentifiersLeft w
-    × ((after : World) × (StepTaken script begun w first step state told after × LogRuns script (begun_after begun first step told) more after end))
-LogRuns script begun (epoch_ended ∷ more) w end =
-    HasIdentifiersLeft w × ((after : World) × (Occurs script w Restart after × LogRuns script begun more after end))
-LogRuns script begun (restarted by ∷ more) w end =
-    HasIdentifiersLeft w × ((after : World) × (Occurs script w Restart after × LogRuns script begun more after end))
+    × ((after : World) × (StepTaken script w first step state told after × LogRuns script more after end))
+LogRuns script (epoch_ended ∷ more) w end =
+    HasIdentifiersLeft w × ((after : World) × (Occurs script w Restart after × LogRuns script more after end))
+LogRuns script (restarted by ∷ more) w end =
+    HasIdentifiersLeft w × ((after : World) × (Occurs script w Restart after × LogRuns script more after end))
 
 -- ---- a call's own entries
 
@@ -113,7 +109,7 @@ abbrev pub LogsTellReports : Type 0
 LogsTellReports =
     (script : Script) (entries : List Entry) → IsScript script → All (IsEntryOf script) entries → NoneBroken script entries → HasFewCommands script
     → (calls : List Opened) → ((one : Opened) → Contains calls one → one.call < plan_calls) → (start : World) → IsOpening script calls start
-    → (log : List LogEntry) (end : World) → LogRuns script (λ n. 0) log start end → (one : Opened) → Contains calls one
+    → (log : List LogEntry) (end : World) → LogRuns script log start end → (one : Opened) → Contains calls one
     → let c = counted script one.call log none_counted in
     (a : Agent) × ((end.agent (number_begun one.call (length c.retired)) ≡ Some a)
     × IsReported script one (steps_logged one.call log) (restarts_logged one.call log) (c.retired ++ line_counted script end a c ∷ []))

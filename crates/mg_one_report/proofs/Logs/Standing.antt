@@ -1,5 +1,5 @@
 -- A call that is open stands after each of its own steps, or the one does that began on its lines; and an event of another call leaves it open.
-use Rattle.std.proofs.Common.{◌≡◌, ◌∙◌, ◌+◌, ℕ, Option, Some, None, sym, ap, subst, inl, inr}
+use Rattle.std.proofs.Common.{◌≡◌, ◌∙◌, ◌+◌, ℕ, Bool, Option, Some, None, sym, ap, subst, inl, inr}
 use Rattle.std.specs.Prelude.{◌==◌, if◌then◌else◌}
 use Rattle.mg_model.specs.declared.events.CallEvent.{CallEvent}
 use Rattle.mg_model.specs.declared.events.CallEvent.TheVariants as to_call
@@ -21,6 +21,7 @@ use Rattle.mg_safety.proofs.Messages.NumberedWorlds.{IsNumbered}
 use Rattle.mg_safety.proofs.SmallLaws.CallLaws.{events_keep}
 use Rattle.mg_alike.specs.Laws.{IsBeginning}
 use Rattle.mg_one_report.proofs.Along.{Goes}
+use Rattle.mg_one_report.proofs.Only.{IsOnly, only_own, only_begun, only_same}
 use Rattle.mg_one_report.proofs.Meanings.{IsKind, kind_of}
 
 abbrev pub IsOpen : World → ℕ → Type 0
@@ -88,6 +89,29 @@ module _ (script : Script) (first : ℕ) (p next : Progress) (step : PlanStep) (
   pub still_stands : Goes script first p step next → IsOpen next.world next.standing
   still_stands (inl x) = happened_open x
   still_stands (inr x) = (x.agent, subst (λ (z : Progress). z.world.agent z.standing ≡ Some x.agent) (sym x.after_is) x.stands)
+
+  pub still_only : (keep : ℕ → Bool) → IsOnly keep p.world p.standing → Goes script first p step next → IsOnly keep next.world next.standing
+  still_only keep only (inr x) = subst (λ (z : Progress). IsOnly keep z.world z.standing) (sym x.after_is) only
+  still_only keep only (inl x) = by_kind (kind_of p.world x.agent number step x.event x.means)
+    where
+      of : x.agent.call ≡ p.standing
+      of = numbered.agents p.standing x.agent x.stands
+
+      at : (q : Progress) → next ≡ q → IsOnly keep q.world q.standing → IsOnly keep next.world next.standing
+      at q is there = subst (λ (z : Progress). IsOnly keep z.world z.standing) (sym is) there
+
+      by_kind : IsKind x.agent number step x.event → IsOnly keep next.world next.standing
+      by_kind (inl own) =
+          let is : x.event ≡ OfCall (the_call p.standing) own.happens = own.is ∙ ap (λ (n : ℕ). OfCall (the_call n) own.happens) of in
+          at (record p { world = x.world; events = p.events + 1 }) (x.after_is ∙ own.counts script first x.agent p x.world)
+          (only_own script keep p.world x.world p.standing only own.happens (subst (λ (e : Event). Occurs script p.world e x.world) is x.occurs))
+      by_kind (inr (inl begins)) =
+          at (after_event script first x.agent p Begins x.world) (x.after_is ∙ ap (λ (s : PlanStep). after_event script first x.agent p s x.world) begins.0)
+          (only_begun script keep p.world x.world p.standing only number (subst (λ (n : ℕ). IsBegun script p.world number n x.world) of (subst (λ (e : Event). Occurs script p.world e x.world) begins.1 x.occurs)))
+      by_kind (inr (inr restarts)) =
+          let o : Occurs script p.world Restart x.world = subst (λ (e : Event). Occurs script p.world e x.world) restarts.1 x.occurs in
+          at (record p { world = x.world }) (x.after_is ∙ ap (λ (s : PlanStep). after_event script first x.agent p s x.world) restarts.0)
+          (only_same script keep p.world x.world p.standing only (ap (λ (w : World). w.agent) o.1))
 
 -- ---- another call's event
 

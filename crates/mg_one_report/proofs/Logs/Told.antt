@@ -1,5 +1,8 @@
 -- From the log of a gateway alone each call's report is counted.
-use Rattle.std.proofs.Common.{◌≡◌, ◌∙◌, ◌++◌, ℕ, List, [], ◌∷◌, refl, sym, ap, subst}
+use Rattle.std.proofs.Common.{◌≡◌, ◌∙◌, ◌++◌, ℕ, List, [], ◌∷◌, sym, ap, subst}
+use Rattle.std.specs.Prelude.{◌%◌}
+use Rattle.mg_model.specs.Numbers.{plan_calls}
+use Rattle.std.proofs.lemmas.Bool.{eqb-true}
 use Rattle.std.proofs.Math.Nat.{zero-add, mod-eq_of_lt}
 use Rattle.mg_model.specs.declared.plans.PlanStep.{PlanStep}
 use Rattle.mg_model.specs.Agent.{opened}
@@ -28,9 +31,9 @@ logs_tell script entries is_script listed none_broken few calls all_few start op
     last = counted script one.call log none_counted
 
     on : GoesOn script one.call start end none_counted last (steps_logged one.call log) (restarts_logged one.call log)
-    on = goes_logged script one.call (all_few one among) log (λ n. 0) start end none_counted (record {
+    on = goes_logged script one.call (all_few one among) log start end none_counted (record {
       numbered = opening_numbered script calls start opens;
-      begun_is = refl;
+      only = λ other b its there. let was = opens.agents.no_other other b there in sym was.2 ∙ sym (mod-eq_of_lt (all_few was.0 was.1)) ∙ ap (λ (n : ℕ). n % plan_calls) was.2 ∙ eqb-true (other % plan_calls) one.call its ∙ sym (number_at_first one.call);
       stands = (opened script one.call one.lines, ap start.agent (number_at_first one.call) ∙ opens.agents.opened one among);
     }) runs
 
