@@ -3,7 +3,9 @@ use crate::place_text::PlaceText;
 use certificate::CertFault;
 use digits::DigitMap;
 use found_places::Place;
+use plans::PlanFault;
 use script_faults::ScriptFault;
+use script_table::Script;
 use serde_json::Value;
 use std::alloc::{AllocError, Global};
 
@@ -141,4 +143,15 @@ pub fn certificate_place(
             told(alloc, place, "certificate")
         }
     }
+}
+
+/// Where a plan of a script has a fault. The only error is running out of memory.
+pub fn plan_place(
+    alloc: Global,
+    fault: PlanFault,
+    script: &Script,
+    plan: &[u8],
+) -> Result<PlaceText, AllocError> {
+    let place = plan_places::plan_place(alloc, fault, script, plan)?;
+    told(alloc, place, "plan")
 }
