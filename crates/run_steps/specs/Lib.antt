@@ -1,0 +1,5 @@
+pub mod CallsTold
+pub mod Positions
+pub mod Reasons
+pub mod Taking
+pub mod Telling

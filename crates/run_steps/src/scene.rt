@@ -1,0 +1,313 @@
+//! What a call and its gateway send each other along its events, and what plays: a gateway goes along with the one that the steps are taken on.
+use crate::came::Came;
+use crate::names_bound::NamesBound;
+use crate::shown::{Executed, Fate, NoteSent, Sent, Shown, TakenReply};
+use agent::Next;
+use gateway::{
+    Answer, ChosenRefusal, Gateway, LineEvent, MessageId, Reply, Request, SentNote, SignalSet,
+};
+use mg_model::commands::Command;
+use mg_model::events::{CallEvent, Event};
+use mg_names::identifiers::{Assoc, CallNo, LineNo};
+use planned_calls::RunFault;
+use script_table::Script;
+use std::alloc::{AllocError, Global};
+
+/// A request that was sent, and the latest reply to it.
+#[derive(Drop)]
+struct Asked {
+    id: MessageId,
+    commands: Vec<Command>,
+    reply: Option<Reply>,
+}
+
+/// A gateway that goes along, with what the call that stands was sent. This profile's own.
+#[derive(Drop)]
+pub(crate) struct Scene<'s> {
+    alloc: Global,
+    script: &'s Script,
+    lines: Vec<LineNo>,
+    gateway: Gateway,
+    bound: NamesBound,
+    asked: Vec<Asked>,
+    notes: Vec<NoteSent>,
+}
+
+/// The same commands again.
+fn copied(alloc: Global, commands: &[Command]) -> Result<Vec<Command>, AllocError> {
+    commands.to_vec(alloc)
+}
+
+/// The request that a call waits for, where it is one of this number.
+fn outstanding<'a>(next: &'a Next<'_>, number: u32) -> Option<&'a Request> {
+    match next {
+        Next::Waiting(call) => match call.request() {
+            Some(request) if request.number() == number => Some(request),
+            _ => None,
+        },
+        Next::Resting(_) | Next::Ended(_) => None,
+    }
+}
+
+impl<'s> Scene<'s> {
+    /// A gateway that opens with a call of these lines.
+    pub(crate) fn open(
+        alloc: Global,
+        script: &'s Script,
+        call: CallNo,
+        lines: &[LineNo],
+    ) -> Result<Scene<'s>, RunFault> {
+        let mut gateway = Gateway::new(alloc, lines)?;
+        let Ok(()) = gateway.open_call(call, lines) else {
+            return Err(RunFault::NoMemory);
+        };
+        Ok(Scene {
+            alloc,
+            script,
+            lines: lines.to_vec(alloc)?,
+            gateway,
+            bound: NamesBound::NONE,
+            asked: Vec::new(alloc),
+            notes: Vec::new(alloc),
+        })
+    }
+
+    /// The signals of each line.
+    fn plays(&self) -> Result<Vec<SignalSet>, AllocError> {
+        let mut plays = Vec::new(self.alloc);
+        for line in self.lines.as_slice() {
+            plays.push(match self.gateway.line(*line) {
+                Some(row) => row.playing(),
+                None => SignalSet::SILENT,
+            })?;
+        }
+        Ok(plays)
+    }
+
+    /// The place of the request with a number among those that were sent.
+    fn place(&self, number: u32) -> Option<usize> {
+        let asked = self.asked.as_slice();
+        asked.iter().position(|one| one.id.number == number)
+    }
+
+    /// The place of the request with a number, and which message it is.
+    fn found(&self, number: u32) -> Option<(usize, MessageId)> {
+        let place = self.place(number)?;
+        Some((place, self.asked.get(place)?.id))
+    }
+
+    /// The gateway sends a note.
+    fn send_note(&mut self, shown: &mut Shown, note: NoteSent) -> Result<(), AllocError> {
+        shown.notes.push(note.copy())?;
+        self.notes.push(note)?;
+        Ok(())
+    }
+}
+
+impl Scene<'_> {
+    /// The gateway sends several notes.
+    fn send_notes(&mut self, shown: &mut Shown, notes: &[SentNote]) -> Result<(), AllocError> {
+        for note in notes {
+            self.send_note(shown, NoteSent::of(note))?;
+        }
+        Ok(())
+    }
+
+    /// An event of a line.
+    fn happen(
+        &mut self,
+        shown: &mut Shown,
+        line: LineNo,
+        event: LineEvent,
+    ) -> Result<(), RunFault> {
+        match self.gateway.happen(line, event) {
+            Ok(Some(note)) => Ok(self.send_note(shown, NoteSent::of(&note))?),
+            Ok(None) => Ok(()),
+            Err(_) => Err(RunFault::Disagree),
+        }
+    }
+
+    /// What the gateway answers to a request of the call. One that isn't awaited any more is never executed, so that its commands say nothing.
+    fn answer(&mut self, next: &Next<'_>, id: MessageId, chosen: Option<ChosenRefusal>) -> Answer {
+        match outstanding(next, id.number) {
+            Some(request) => self.gateway.execute(id.call, request, chosen),
+            None => {
+                let past = Request::new(id, Vec::new(self.alloc));
+                self.gateway.execute(id.call, &past, chosen)
+            }
+        }
+    }
+
+    /// Keeps the reply to the request at a place, and shows what became of that request.
+    fn keep(
+        &mut self,
+        shown: &mut Shown,
+        place: usize,
+        fate: Fate,
+        reply: Option<Reply>,
+    ) -> Result<(), RunFault> {
+        let Some(asked) = self.asked.get_mut(place) else {
+            return Err(RunFault::Disagree);
+        };
+        let failure = match &reply {
+            Some(reply) => reply.failure(),
+            None => None,
+        };
+        shown.executed = Some(Executed {
+            number: asked.id.number,
+            fate,
+            commands: copied(self.alloc, asked.commands.as_slice())?,
+            failure,
+        });
+        if reply.is_some() {
+            asked.reply = reply;
+        }
+        Ok(())
+    }
+
+    /// A request of the call reaches the gateway.
+    fn execute(
+        &mut self,
+        shown: &mut Shown,
+        next: &Next<'_>,
+        number: u32,
+        chosen: Option<ChosenRefusal>,
+    ) -> Result<(), RunFault> {
+        let Some((place, id)) = self.found(number) else {
+            return Err(RunFault::Disagree);
+        };
+        let answer = self.answer(next, id, chosen);
+        match answer {
+            Answer::Executed { reply, notes } => {
+                self.send_notes(shown, notes.as_slice())?;
+                self.keep(shown, place, Fate::Executed, Some(reply))
+            }
+            Answer::Kept(reply) => self.keep(shown, place, Fate::Repeated, Some(reply)),
+            Answer::Discarded => self.keep(shown, place, Fate::Discarded, None),
+            Answer::CannotHappen => Err(RunFault::Disagree),
+            Answer::NoMemory => Err(RunFault::NoMemory),
+        }
+    }
+
+    /// A reply reaches the call.
+    fn take_reply(&mut self, shown: &mut Shown, number: u32) -> Result<(), RunFault> {
+        let Some(place) = self.place(number) else {
+            return Err(RunFault::Disagree);
+        };
+        let Some(asked) = self.asked.get(place) else {
+            return Err(RunFault::Disagree);
+        };
+        let Some(reply) = &asked.reply else {
+            return Err(RunFault::Disagree);
+        };
+        self.bound.take_reply(asked.commands.as_slice(), reply);
+        shown.reply = Some(TakenReply {
+            number,
+            failure: reply.failure(),
+        });
+        Ok(())
+    }
+
+    /// A note reaches the call.
+    fn take_note(&self, shown: &mut Shown, number: u32) -> Result<(), RunFault> {
+        for note in self.notes.as_slice() {
+            if note.number == number {
+                shown.note = Some(note.copy());
+                return Ok(());
+            }
+        }
+        Err(RunFault::Disagree)
+    }
+
+    /// A call begins on the lines of another. Nothing was sent to it or by it.
+    fn begin(&mut self, old: CallNo, call: CallNo) -> Result<(), RunFault> {
+        let Ok(()) = self.gateway.begin(old, call) else {
+            return Err(RunFault::Disagree);
+        };
+        self.bound = NamesBound::NONE;
+        self.asked = Vec::new(self.alloc);
+        self.notes = Vec::new(self.alloc);
+        Ok(())
+    }
+
+    /// The request that the call sent, if it is one that wasn't sent before.
+    fn send(&mut self, shown: &mut Shown, next: &Next<'_>) -> Result<(), RunFault> {
+        let Next::Waiting(call) = next else {
+            return Ok(());
+        };
+        let Some(request) = call.request() else {
+            return Ok(());
+        };
+        if self.place(request.number()).is_some() {
+            return Ok(());
+        }
+        let commands = self.bound.built(self.alloc, self.script, next.state())?;
+        if commands.len() != request.commands().len() {
+            return Err(RunFault::Disagree);
+        }
+        shown.sent = Some(Sent {
+            number: request.number(),
+            state: next.state(),
+            commands: copied(self.alloc, commands.as_slice())?,
+        });
+        self.asked.push(Asked {
+            id: request.id(),
+            commands,
+            reply: None,
+        })?;
+        Ok(())
+    }
+
+    /// What an event of the call shows; `next` is the call after it.
+    fn show_event(
+        &mut self,
+        shown: &mut Shown,
+        next: &Next<'_>,
+        call: CallNo,
+        event: CallEvent,
+    ) -> Result<(), RunFault> {
+        match event {
+            CallEvent::OnLine { line, event } => self.happen(shown, line, event),
+            CallEvent::Execute { number, chosen } => self.execute(shown, next, number, chosen),
+            CallEvent::Reply { number } => {
+                self.take_reply(shown, number)?;
+                self.send(shown, next)
+            }
+            CallEvent::Note { number } => {
+                self.take_note(shown, number)?;
+                self.send(shown, next)
+            }
+            CallEvent::Pass | CallEvent::Timer => self.send(shown, next),
+            CallEvent::Hear { .. } => {
+                self.bound = NamesBound::NONE;
+                self.send(shown, next)
+            }
+            CallEvent::Begin { old } => self.begin(old, call),
+        }
+    }
+
+    /// What a step shows that came to this; `next` is the call after it. `Disagree` where this gateway went another way.
+    pub(crate) fn show(&mut self, came: &Came, next: &Next<'_>) -> Result<Shown, RunFault> {
+        let mut shown = Shown {
+            executed: None,
+            reply: None,
+            note: None,
+            notes: Vec::new(self.alloc),
+            sent: None,
+            plays: Vec::new(self.alloc),
+        };
+        match *came {
+            Came::Happened(Event::OfCall { call, event }) => {
+                self.show_event(&mut shown, next, call, event)?;
+            }
+            Came::Idle(_) => {}
+            _ => {
+                let Ok(_) = self.gateway.restart() else {
+                    return Err(RunFault::Disagree);
+                };
+            }
+        }
+        shown.plays = self.plays()?;
+        Ok(shown)
+    }
+}

@@ -1,0 +1,115 @@
+//! What is sent at a step of a call, and what plays behind it.
+use digits::Dialled;
+use gateway::{Failure, Method, SentNote, SignalSet};
+use mg_model::commands::Command;
+use mg_names::identifiers::{Assoc, LineNo};
+use mg_names::kinds::Kind;
+
+/// A request that a call sends. This profile's own.
+#[derive(Drop)]
+pub struct Sent {
+    /// Its number among the requests of the call.
+    pub number: u32,
+    /// The place of the state that it is of, from 0.
+    pub state: u8,
+    /// Its commands, as the script has them.
+    pub commands: Vec<Command>,
+}
+
+/// What became of a request that reached the gateway. This profile's own.
+#[derive(Clone, Copy, Debug, PartialEq, Eq)]
+pub enum Fate {
+    /// It was executed, and replied to.
+    Executed,
+    /// It was executed before, and its reply is sent once more.
+    Repeated,
+    /// It was dropped: it is of another association, or older than the one that was executed last.
+    Discarded,
+}
+
+/// A request that reached the gateway. This profile's own.
+#[derive(Drop)]
+pub struct Executed {
+    /// Its number among the requests of the call.
+    pub number: u32,
+    /// What became of it.
+    pub fate: Fate,
+    /// Its commands, as the script has them.
+    pub commands: Vec<Command>,
+    /// The command that was refused, where one was.
+    pub failure: Option<Failure>,
+}
+
+/// A reply that reached the call. This profile's own.
+#[derive(Clone, Copy, Debug)]
+pub struct TakenReply {
+    /// The number of its request.
+    pub number: u32,
+    /// The command that was refused, where one was.
+    pub failure: Option<Failure>,
+}
+
+/// A note on its way. This profile's own.
+#[derive(Drop)]
+pub struct NoteSent {
+    /// Its number among the notes of the call, from 1.
+    pub number: u32,
+    /// The association in which it was sent.
+    pub association: Assoc,
+    /// The line of the gateway that it tells of.
+    pub line: LineNo,
+    /// What it tells.
+    pub kind: Kind,
+    /// The RequestID of the list that raised it.
+    pub request: u32,
+    /// How a digit map was completed, where one was.
+    pub method: Option<Method>,
+    /// The symbols that completed it.
+    pub symbols: Dialled,
+}
+
+impl NoteSent {
+    /// What a note tells.
+    pub(crate) fn of(sent: &SentNote) -> NoteSent {
+        let note = sent.note();
+        NoteSent {
+            number: sent.number(),
+            association: sent.association(),
+            line: sent.line(),
+            kind: note.kind(),
+            request: note.request(),
+            method: note.method(),
+            symbols: note.symbols().copy(),
+        }
+    }
+
+    /// The same once more.
+    pub(crate) fn copy(&self) -> NoteSent {
+        NoteSent {
+            number: self.number,
+            association: self.association,
+            line: self.line,
+            kind: self.kind,
+            request: self.request,
+            method: self.method,
+            symbols: self.symbols.copy(),
+        }
+    }
+}
+
+/// What is sent at a step of a call, and what plays behind it. This profile's own.
+#[derive(Drop)]
+pub struct Shown {
+    /// The request that reached the gateway.
+    pub executed: Option<Executed>,
+    /// The reply that reached the call.
+    pub reply: Option<TakenReply>,
+    /// The note that reached the call.
+    pub note: Option<NoteSent>,
+    /// The notes that the gateway sent.
+    pub notes: Vec<NoteSent>,
+    /// The request that the call sent.
+    pub sent: Option<Sent>,
+    /// The signals of each line behind the step, in the order of the script.
+    pub plays: Vec<SignalSet>,
+}
