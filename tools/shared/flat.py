@@ -2,9 +2,8 @@
 from the lowest, in the order in which points are numbered. It takes what `mgcall` reads, and says nothing of what it doesn't."""
 import itertools
 import json
-import tomllib
 
-from shared import certificates
+from shared import certificates, scripts
 
 WORDS = ["add", "modify", "move", "subtract", "topology"]
 SUBTRACT_ALL = len(WORDS)
@@ -12,8 +11,8 @@ TOPOLOGIES = ["isolate", "oneway", "bothway"]
 # The kinds of notes, in the order in which a call takes them, and what an item of an events list raises of them.
 KINDS = ["on", "of", "fl", "full", "part"]
 RAISED = {"al/on": ["on"], "al/of": ["of"], "al/fl": ["fl"], "dd/ce": ["full", "part"]}
-# The most lines and the most contexts; what stands for nothing; a setting of a Remote that is left out.
-LINES, CONTEXTS, NOTHING, LEFT_OUT = 4, 4, -1, -2
+# The most lines, and the most contexts; what stands for nothing; a setting of a Remote that is left out.
+MOST, NOTHING, LEFT_OUT = 4, -1, -2
 
 
 def bits(places):
@@ -32,7 +31,7 @@ class Names:
         self.states = [state["name"] for state in script.get("state", [])]
 
     def termination(self, name):
-        return self.lines.index(name) if name in self.lines else LINES + self.ephemerals.index(name)
+        return self.lines.index(name) if name in self.lines else MOST + self.ephemerals.index(name)
 
     def remote(self, word):
         return NOTHING if word == "none" else self.ephemerals.index(word)
@@ -40,11 +39,10 @@ class Names:
     def state(self, name):
         return NOTHING if name is None else self.states.index(name)
 
-    def bit(self, name):
-        """A context's or an ephemeral's bit among the names that a request uses and creates; none for what is no such name."""
-        if name in self.contexts:
-            return 1 << self.contexts.index(name)
-        return 1 << CONTEXTS + self.ephemerals.index(name) if name in self.ephemerals else 0
+    def bits(self, named):
+        """The bits of all of these that are names of contexts and of ephemerals, as a request uses and creates them."""
+        own = {name: place for place, name in enumerate(self.contexts)} | {name: MOST + place for place, name in enumerate(self.ephemerals)}
+        return bits(own[name] for name in named if name in own)
 
 
 def settings(names, options):
@@ -66,19 +64,11 @@ def command(names, text):
     of = NOTHING if first == "*" else names.termination(first)
     second, topology = (names.termination(rest[0]), TOPOLOGIES.index(rest[1])) if word == "topology" else (NOTHING, NOTHING)
     set_to = settings(names, [] if word == "topology" else rest)
-    used = [name for name in (context, first, *rest[:1 if word == "topology" else 0]) if name not in made]
-    used += [option.removeprefix("remote=") for option in rest if option.startswith("remote=")]
-    uses, creates = (bits_of(names, named) for named in (used, made))
+    used = [name for name in (context, first) if name not in made]
+    used += [name.removeprefix("remote=") for name in rest]
+    uses, creates = (names.bits(named) for named in (used, made))
     place = NOTHING if context == "-" else names.contexts.index(context)
     return [does, place, of, second, topology, int(first in made), *set_to, uses, creates]
-
-
-def bits_of(names, named):
-    """The bits of all of these that are names of contexts and of ephemerals."""
-    found = 0
-    for name in named:
-        found |= names.bit(name)
-    return found
 
 
 def pairs_of(names, state):
@@ -88,7 +78,7 @@ def pairs_of(names, state):
 
 
 def state_lines(names, state):
-    """A state: whether it ends, where it leads after a reply, a fault and the timer, its unmarked pairs, its commands, and where notes lead, by line and kind."""
+    """A state: whether it ends; where it leads after a reply, a fault and the timer; its unmarked pairs, its commands; where notes lead, by line and kind."""
     commands = [command(names, text) for text in state.get("do", [])]
     leads = [names.state(state.get(key)) for key in ("ok", "fault", "timer")]
     yield [int(state.get("end", False)), *leads, pairs_of(names, state), len(commands)]
@@ -141,5 +131,5 @@ def sections(text):
 def text(source):
     """What the checker reads, of an input of `mgcall check`."""
     script, certificate = sections(source)
-    written = lines(tomllib.loads(script.removeprefix("\ufeff")), json.loads(certificate))
+    written = lines(scripts.read(script.encode()), json.loads(certificate))
     return "".join(" ".join(map(str, line)) + "\n" for line in written)

@@ -1,0 +1,53 @@
+"""What programs take: processor time and memory as the system tells them, and instructions as valgrind counts them."""
+import os
+import re
+import shutil
+import subprocess
+import sys
+import tempfile
+from pathlib import Path
+
+
+def used(path, program, *words, times=3, wanted=(0,)):
+    """The best processor time of a program with these words and this input, of several tries, and the most memory, in bytes."""
+    least, most = None, 0
+    for _ in range(times):
+        with open(path or os.devnull, "rb") as text:
+            process = subprocess.Popen([program, *map(str, words)], stdin=text, stdout=subprocess.DEVNULL, stderr=subprocess.DEVNULL)
+        _, status, usage = os.wait4(process.pid, 0)
+        process.returncode = os.waitstatus_to_exitcode(status)
+        if process.returncode not in wanted:
+            sys.exit(f"{program} ended with {process.returncode}")
+        taken = usage.ru_utime + usage.ru_stime
+        least, most = taken if least is None else min(least, taken), max(most, usage.ru_maxrss * 1024)
+    return least, most
+
+
+def has_valgrind():
+    """Whether instructions can be counted; says so where they can't."""
+    if shutil.which("valgrind"):
+        return True
+    print("instructions are left out: there is no valgrind")
+    return False
+
+
+def counted(command, path=None):
+    """How many instructions a program takes, by valgrind, from its first to its last."""
+    with open(path or os.devnull, "rb") as text:
+        words = ["valgrind", "--tool=callgrind", "--callgrind-out-file=/dev/null", *map(str, command)]
+        result = subprocess.run(words, stdin=text, stdout=subprocess.DEVNULL, stderr=subprocess.PIPE, text=True, check=True)
+    return int(re.search(r"Collected : (\d+)", result.stderr)[1])
+
+
+def inclusive(command, path):
+    """The instructions of each function of a program, with what it calls, by valgrind: by the function's name without what stands behind `::<`."""
+    with tempfile.TemporaryDirectory() as folder, open(path, "rb") as text:
+        counts = Path(folder) / "counts"
+        words = ["valgrind", "--tool=callgrind", f"--callgrind-out-file={counts}", *map(str, command)]
+        subprocess.run(words, stdin=text, stdout=subprocess.DEVNULL, stderr=subprocess.DEVNULL, check=True)
+        told = subprocess.run(["callgrind_annotate", "--inclusive=yes", "--threshold=100", counts], capture_output=True, text=True, check=True).stdout
+    found = {}
+    for line in told.splitlines():
+        if match := re.match(r"\s*([\d,]+) \([\d. ]+%\)\s+\S*?:(.+?)(?:::<.*|'\d+)?(?: \[.*)?$", line):
+            found.setdefault(match[2], int(match[1].replace(",", "")))
+    return found

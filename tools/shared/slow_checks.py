@@ -1,0 +1,86 @@
+"""Inputs of `mgcall check` that are answered `yes` and take it long: few bytes that hold many points, each with as many steps as a state can have."""
+import itertools
+import json
+
+from shared.certificates import ENTRIES, MODES, PRODUCT
+
+STATES, COMMANDS = 63, 16
+# Of so many lines: how many events lists a line may have so that an entry has at most its 65,536 points, and whether one stands for one mode of the first line.
+SHAPES = {2: (18, False), 3: (8, True), 4: (2, False)}
+
+
+def lists(lines):
+    """The events lists that an entry's lines may have, of a script of so many lines: the two that are always there, and own ones."""
+    return ["none", "armed", *(f"l{n}" for n in range(16))][: SHAPES[lines][0]]
+
+
+def place(name, has_contexts):
+    """Where a line stands: in the null context; or the first in a context of its own, and the others in another one."""
+    return ("c" if name == "a" else "d") if has_contexts else "-"
+
+
+def script(lines, has_contexts, states):
+    """States of sixteen commands each, every one of which gives the first line another mode and one list or the other; no two lines are marked, so that each
+    point is asked whether they are joined. With contexts there are two ephemerals too, which name each other."""
+    names = "abgh"[:lines]
+    text = [f"lines = {json.dumps(list(names))}", 'start = "idle"', 'restart = "idle"']
+    if has_contexts:
+        text += ['contexts = ["c", "d"]', 'ephemerals = ["e", "f"]']
+    for name in lists(lines)[2:]:
+        text += ["[[events]]", f'name = "{name}"', 'list = ["al/on", "al/fl"]']
+    text += ["[[signals]]", 'name = "ring"', 'list = ["al/ri"]', "[[state]]", 'name = "idle"']
+    own = lists(lines)
+    for state in range(states):
+        following = f"s{(state + 1) % states}"
+        commands = [
+            f"modify {place('a', has_contexts)} a mode={MODES[n % 4]} events={own[n % len(own)]} signals={('none', 'ring')[n % 2]}" for n in range(COMMANDS)
+        ]
+        text += ["[[state]]", f'name = "s{state}"', f"do = {json.dumps(commands)}", f'ok = "{following}"', f'fault = "{following}"']
+        pairs = [f"{one}-{other}" for one, other in itertools.combinations(names, 2) if place(one, has_contexts) == place(other, has_contexts) != "-"]
+        text += [f"talk = {json.dumps(pairs)}"] if pairs else []
+    return "\n".join(text) + "\n"
+
+
+def entry(lines, has_contexts, state, link, modes, is_wide=True):
+    """An entry of a state at this link: the first line with these modes; where it is wide, each line with every list and signal, and the others with every
+    mode."""
+    found = {"state": state, "link": [link], "lines": {}}
+    for name in "abgh"[:lines]:
+        own = {"at": [place(name, has_contexts)], "mode": modes if name == "a" else MODES if is_wide else MODES[:1]}
+        found["lines"][name] = {**own, "events": lists(lines), "plays": ["no", "may"]} if is_wide else own
+    if has_contexts:
+        found["contexts"] = {"c": ["live"], "d": ["live"]}
+        found["ephemerals"] = {name: {"at": [at], "remote": [other]} for name, at, other in (("e", "c", "f"), ("f", "d", "e"))}
+    return found
+
+
+def of_state(lines, has_contexts, state, wide, is_far):
+    """The 256 entries of a state. The wide ones for results stand one for each mode of the first line, so that each command leads to another one than that
+    before it; so many wide ones for what is sent, and one narrow one again and again. Far: those for results come last."""
+    results = [entry(lines, has_contexts, state, link, [mode]) for link in ("ok", "fault") for mode in MODES]
+    modes = [[mode] for mode in MODES] if SHAPES[lines][1] else [MODES]
+    sent = [entry(lines, has_contexts, state, "sent", modes[n % len(modes)]) for n in range(max(wide, len(modes)))]
+    narrow = [entry(lines, has_contexts, state, "sent", MODES[:1], False)] * (ENTRIES - len(results) - len(sent))
+    return [*narrow, *sent, *results] if is_far else [*results, *sent, *narrow]
+
+
+def certificate(lines, has_contexts, states, wide, is_far):
+    """A certificate for such a script, with so many wide entries for what is sent in each state."""
+    armed = {name: {"events": ["none", "armed"]} for name in "abgh"[:lines]}
+    entries = [{"state": "idle", "link": ["ok", "rest"], "lines": armed}]
+    for state in range(states):
+        entries += of_state(lines, has_contexts, f"s{state}", wide, is_far)
+    return json.dumps({"version": 2, "entries": entries}, separators=(",", ":")) + "\n"
+
+
+def points_of(lines):
+    """How many points a wide entry for what is sent has."""
+    count, is_split = SHAPES[lines]
+    found = (len(MODES) * count * 2) ** lines // (len(MODES) if is_split else 1)
+    assert found <= PRODUCT
+    return found
+
+
+def most(lines):
+    """How many wide entries for what is sent the limits allow in all states, beside those for results."""
+    return STATES * (ENTRIES - 2 * len(MODES))
