@@ -133,8 +133,8 @@ def libraries(each, cost):
 
 
 def check_by_instructions():
-    """The instructions below the function that reads, beside the libraries alone, and below the one that walks, beside the plain checker without its reading; and
-    what is left, the input and letting go. The process that asks a library has some 150,000 of its own."""
+    """The instructions below the function that reads, beside the libraries alone, and below the one that walks, beside the plain checker without its reading;
+    and what is left, the input and letting go. The process that asks a library has some 150,000 of its own."""
     if not measuring.has_valgrind():
         return
     with prepared(4) as (plain, each_input):
