@@ -1,12 +1,13 @@
 //! `bench_layers LAYER NUMBER..`: makes the public calls of one layer as often as the numbers say, for `tools/bench` to time, and prints what came of it. The
-//! layers: `board CONTEXTS COMMANDS CHAIN CROSSINGS`, `gateway CALLS REQUESTS` or `gateway CALLS BEGINNINGS begin`, `notes NOTES STRIDE`, and `plan plan` or
-//! `plan toml`, whose plan is read from standard input. It promises nothing.
+//! layers: `board CONTEXTS COMMANDS CHAIN CROSSINGS`, `gateway CALLS REQUESTS` or `gateway CALLS BEGINNINGS begin`, `notes NOTES STRIDE`, and `plan plan`,
+//! `plan toml`, `script toml` or `certificate json`, whose document is read from standard input. It promises nothing.
 #![tactic(auto)]
 
 mod boards;
 mod empty_boards;
 mod failure;
 mod gateways;
+mod library_trees;
 mod lines;
 mod notes;
 mod plan_documents;
@@ -37,6 +38,9 @@ fn measured(rt: &HostRuntime, words: &[String]) -> Result<String, Failure> {
         "gateway" => gateways::measured(rt.alloc(), numbers),
         "notes" => notes::measured(rt.alloc(), numbers),
         "plan" => plan_documents::measured(rt.alloc(), numbers, input(rt)?.as_slice()),
+        "script" | "certificate" => {
+            library_trees::measured(rt.alloc(), numbers, input(rt)?.as_slice())
+        }
         _ => Err(Failure::Words),
     }
 }

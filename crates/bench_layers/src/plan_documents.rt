@@ -1,5 +1,6 @@
 //! A plan that is read for calls of two lines `a` and `b`, as a tree alone or whole.
 use crate::failure::Failure;
+use crate::library_trees::keys_of_toml;
 use plans::Plan;
 use script_table::{Script, Tables};
 use std::alloc::{AllocError, Global};
@@ -29,14 +30,6 @@ fn calls_of(alloc: Global, bytes: &[u8]) -> Option<usize> {
     Some(plan.calls().len())
 }
 
-/// How many keys a tree has.
-fn keys_of(alloc: Global, bytes: &[u8]) -> Option<usize> {
-    match toml::table_from_slice(alloc, bytes) {
-        Ok(tree) => Some(tree.len()),
-        Err(_) => None,
-    }
-}
-
 /// How many calls a plan has, or how many keys its tree: `plan` or `toml`.
 pub(crate) fn measured(
     alloc: Global,
@@ -45,7 +38,7 @@ pub(crate) fn measured(
 ) -> Result<String, Failure> {
     let found = match words {
         [word] if word.as_str() == "plan" => calls_of(alloc, document),
-        [word] if word.as_str() == "toml" => keys_of(alloc, document),
+        [word] if word.as_str() == "toml" => keys_of_toml(alloc, document),
         _ => return Err(Failure::Words),
     };
     let Some(count) = found else {
