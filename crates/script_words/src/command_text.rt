@@ -8,11 +8,13 @@ use mg_names::slots::Slot;
 use script_table::Script;
 use std::fmt;
 
-/// A command in the words of a script.
+/// A command in the words of a script. This profile's own.
 #[derive(Clone, Copy)]
-pub(crate) struct CommandText<'a> {
-    pub(crate) script: &'a Script,
-    pub(crate) command: &'a Command,
+pub struct CommandText<'a> {
+    /// The script.
+    pub script: &'a Script,
+    /// The command.
+    pub command: &'a Command,
 }
 
 /// An option of a line or an ephemeral with its word, behind a blank; nothing where it isn't given.

@@ -6,7 +6,7 @@
 //! `request_text`), a step (`step_text`). This profile's own.
 #![tactic(auto)]
 
-mod command_text;
+pub mod command_text;
 pub mod component_text;
 pub mod config_text;
 pub mod entry_text;
