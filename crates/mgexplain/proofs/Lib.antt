@@ -1,1 +1,2 @@
+pub mod RunSaying
 pub mod Saying

@@ -1,19 +1,60 @@
--- What words ask for: a program's name alone, or with one of four words behind it.
+-- What words ask for: a program's name, and behind it a form, the number of one call of a plan, or both in either order; or one of two words alone.
 use Rattle.std.specs.Prelude.{ℕ, List, [], ◌∷◌, Option, Some, None, codes, if◌then◌else◌}
 use Rattle.std.specs.Str.{bytes_eq}
+use Rattle.plans.specs.Texts.{number_in}
 use Rattle.mgexplain.specs.declared.words.Asked.{Asked}
 use Rattle.mgexplain.specs.declared.words.Asked.TheVariants.{Saying, Help, Version}
-use Rattle.mgexplain.specs.declared.words.Form.TheVariants.{Text, Json, Dot}
+use Rattle.mgexplain.specs.declared.words.Form.{Form}
+use Rattle.mgexplain.specs.declared.words.Form.TheVariants.{Text, Json, Dot, Ladder}
+
+-- a form other than that of a text
+abbrev pub form_of : List ℕ → Option Form
+form_of word =
+    if bytes_eq word (codes "--json") then Some Json
+    else if bytes_eq word (codes "--dot") then Some Dot
+    else if bytes_eq word (codes "--ladder") then Some Ladder
+    else None
+
+-- the number of a call, in decimal digits without leading zeros
+abbrev pub call_number : List ℕ → Option ℕ
+call_number word = number_in 0 4294967295 word
+
+-- what is said of one call, where its number is one
+abbrev pub of_call : Form → Option ℕ → Option Asked
+of_call form None = None
+of_call form (Some number) = Some (Saying form (Some number))
+
+abbrev pub of_form : Option Form → Option ℕ → Option Asked
+of_form None number = None
+of_form (Some form) number = of_call form number
+
+abbrev pub in_form : Option Form → Option Asked
+in_form None = None
+in_form (Some form) = Some (Saying form None)
 
 abbrev pub asked_by : List ℕ → Option Asked
 asked_by word =
-    if bytes_eq word (codes "--json") then Some (Saying Json)
-    else if bytes_eq word (codes "--dot") then Some (Saying Dot)
-    else if bytes_eq word (codes "--help") then Some Help
+    if bytes_eq word (codes "--help") then Some Help
     else if bytes_eq word (codes "--version") then Some Version
+    else in_form (form_of word)
+
+abbrev pub asked_by_two : List ℕ → List ℕ → Option Asked
+asked_by_two word number = if bytes_eq word (codes "--call") then of_call Text (call_number number) else None
+
+abbrev pub asked_by_three : List ℕ → List ℕ → List ℕ → Option Asked
+asked_by_three first second third =
+    if bytes_eq first (codes "--call") then of_form (form_of third) (call_number second)
+    else if bytes_eq second (codes "--call") then of_form (form_of first) (call_number third)
     else None
 
+-- the words behind the program's name
+abbrev pub asked_behind : List (List ℕ) → Option Asked
+asked_behind [] = Some (Saying Text None)
+asked_behind (word ∷ []) = asked_by word
+asked_behind (word ∷ number ∷ []) = asked_by_two word number
+asked_behind (first ∷ second ∷ third ∷ []) = asked_by_three first second third
+asked_behind words = None
+
 abbrev pub asked_of : List (List ℕ) → Option Asked
-asked_of (name ∷ []) = Some (Saying Text)
-asked_of (name ∷ word ∷ []) = asked_by word
-asked_of words = None
+asked_of [] = None
+asked_of (name ∷ words) = asked_behind words

@@ -1,13 +1,16 @@
-//! `mgexplain [--json | --dot | --help | --version]`: reads a script and a certificate from standard input, as `mgcall check` does, and says in words what that
-//! program's line says. The first line is that line, by the same calls, and the exit status is the same. `--json` says the same facts as one JSON
-//! value; `--dot` writes the script's state machine as Graphviz text, with what a No names marked.
+//! `mgexplain [--json | --dot | --ladder] [--call N] | --help | --version`: reads a script and a certificate from standard input, as `mgcall check` does, and says
+//! in words what that program's line says. The first line is that line, by the same calls, and the exit status is the same. With a plan behind them it
+//! says what `mgcall run` says, and under each line of the report what its steps came to. `--json` says the same facts as one JSON value; `--dot` writes the
+//! script's state machine as Graphviz text, with what a No names marked; `--ladder` writes the messages of a run as a ladder; `--call` tells one call.
 //!
-//! `explanation_page` has what is said, and `script_picture` the picture. Here what the check comes to is said by them, under its line (`told`, with
-//! `said`), in the form that the words ask for (`words`), and bound to the process.
+//! `explanation_page` has what is said, `script_picture` the picture, and `run_words` a run. Here what the check comes to is said by them, under its line (`told`, with
+//! `said`), and what a plan comes to under its report (`told_run`), in the form that the words ask for (`words`, with `call_number`), and bound to the process.
 #![tactic(auto)]
 
+mod call_number;
 mod said;
 mod told;
+mod told_run;
 mod words;
 
 use crate::told::{Outcome, told_of};
@@ -16,16 +19,17 @@ use program_rim::host::Host;
 use program_rim::input::read_all;
 use program_rim::sink::write_all;
 use program_rim::status::Status;
-use std::alloc::Global;
 use std::process::ExitCode;
+use std::sync::Wait;
+use std::thread::Threads;
 use std::{env, io};
 
 /// How the program is called.
-const USAGE: &str = "usage: mgexplain [--json | --dot]\n";
+const USAGE: &str = "usage: mgexplain [--json | --dot | --ladder] [--call N]\n";
 
 /// The same as a JSON value.
 const USAGE_AS_JSON: &str =
-    "{\"format\":1,\"line\":\"usage: mgexplain [--json | --dot]\",\"status\":2}\n";
+    "{\"format\":1,\"line\":\"usage: mgexplain [--json | --dot | --ladder] [--call N]\",\"status\":2}\n";
 
 /// What it says where there was no memory.
 const NO_MEMORY: &str = "no memory\n";
@@ -34,13 +38,16 @@ const NO_MEMORY: &str = "no memory\n";
 const NO_MEMORY_AS_JSON: &str = "{\"format\":1,\"line\":\"no memory\",\"status\":4}\n";
 
 /// What it says where help is asked for.
-const HELP: &str = "usage: mgexplain [--json | --dot]
+const HELP: &str = "usage: mgexplain [--json | --dot | --ladder] [--call N]
 Reads a script, a line %% and a certificate from standard input, as mgcall check does, and says in words what that program's line says.
+With a line %% and a plan behind them it says what mgcall run says of them, and what each step of the plan came to.
   --json     the same as one JSON value
-  --dot      the script as a picture for Graphviz, with what a no names in red
+  --dot      the script as a picture for Graphviz, with what a no names in red; not with a plan
+  --ladder   the messages of each call of a plan as a ladder, the call on the left and its gateway on the right
+  --call N   the steps of one call of a plan alone
   --help     this
   --version  which version it is
-The status is that of mgcall check.
+The status is that of mgcall check, with a plan that of mgcall run.
 ";
 
 /// Which version it is.
@@ -68,14 +75,27 @@ fn asked(rt: &HostRuntime) -> Result<Asked, &'static str> {
 fn no_memory(form: Form) -> &'static str {
     match form {
         Form::Json => NO_MEMORY_AS_JSON,
-        Form::Text | Form::Dot => NO_MEMORY,
+        Form::Text | Form::Dot | Form::Ladder => NO_MEMORY,
+    }
+}
+
+/// How the program is called, in a form.
+fn usage(form: Form) -> &'static str {
+    match form {
+        Form::Json => USAGE_AS_JSON,
+        Form::Text | Form::Dot | Form::Ladder => USAGE,
     }
 }
 
 /// What comes of standard input.
-fn input_outcome(alloc: Global, rt: &HostRuntime, form: Form) -> Outcome {
+fn input_outcome<R: Threads + Wait + Sync>(
+    rt: &HostRuntime,
+    threads: &R,
+    asked: (Form, Option<u32>),
+) -> Outcome {
     let mut source = Host::new(rt.stdin());
-    told_of(alloc, form, &read_all(alloc, &mut source))
+    let input = read_all(rt.alloc(), &mut source);
+    told_of(threads, rt.alloc(), asked, &input)
 }
 
 /// Writes a text that goes with a status. A write that fails has a status of its own.
@@ -88,17 +108,23 @@ fn send(rt: &HostRuntime, text: &str, status: Status) -> Status {
 }
 
 /// Says what is to be said of standard input.
-fn say(alloc: Global, rt: &HostRuntime, form: Form) -> Status {
-    match input_outcome(alloc, rt, form) {
+fn say<R: Threads + Wait + Sync>(
+    rt: &HostRuntime,
+    threads: &R,
+    asked: (Form, Option<u32>),
+) -> Status {
+    let form = asked.0;
+    match input_outcome(rt, threads, asked) {
         Outcome::Told(said) => send(rt, said.text.as_str(), said.status),
+        Outcome::Usage => send(rt, usage(form), Status::Usage),
         Outcome::NoMemory => send(rt, no_memory(form), Status::NoMemory),
         Outcome::ReadFailed => Status::DeviceFailed,
     }
 }
 
-fn run(alloc: Global, rt: &HostRuntime) -> Status {
+fn run<R: Threads + Wait + Sync>(rt: &HostRuntime, threads: &R) -> Status {
     match asked(rt) {
-        Ok(Asked::Saying(form)) => say(alloc, rt, form),
+        Ok(Asked::Saying(form, only)) => say(rt, threads, (form, only)),
         Ok(Asked::Help) => send(rt, HELP, Status::Yes),
         Ok(Asked::Version) => send(rt, VERSION, Status::Yes),
         Err(usage) => send(rt, usage, Status::Usage),
@@ -106,5 +132,5 @@ fn run(alloc: Global, rt: &HostRuntime) -> Status {
 }
 
 fn main(rt: HostRuntime) -> ExitCode {
-    ExitCode::from(run(rt.alloc(), &rt).code())
+    ExitCode::from(run(&rt, &rt).code())
 }

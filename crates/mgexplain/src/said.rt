@@ -34,3 +34,14 @@ pub(crate) fn with_status(reply: &Reply, text: String) -> Said
     let status = reply.status();
     Said { text, status }
 }
+
+/// A text with the status of a report.
+pub(crate) fn reported(text: String) -> Said
+    ensures text { result.text ≡ text }
+    ensures status { code_of result.status ≡ 0 }
+{
+    Said {
+        text,
+        status: Status::Yes,
+    }
+}

@@ -1,14 +1,15 @@
-//! What the program says of an input: under the line of the check, which is made by the same calls.
-ghost use Rattle.std.specs.Prelude.{IfOk};
+//! What the program says of an input: under the line of the check, which is made by the same calls, and of one with a plan under what its run writes.
+ghost use Rattle.std.specs.Prelude.{◌≡◌, IfOk, true};
 ghost use Rattle.check_lines.specs.VerdictLines.{IsLineOfSections};
 ghost use Rattle.check_lines.specs.Output.{too_long};
 ghost use Rattle.check_lines.specs.Replies.{line_of};
 ghost use Rattle.check_lines.specs.VerdictLines.{Judges, NamesRefusal};
-ghost use Rattle.program_rim.specs.Sections.{pair_of, sections_of};
+ghost use Rattle.program_rim.specs.Sections.{pair_of, sections_of, triple_of};
 ghost use Rattle.mgexplain.specs.declared.words.Form.TheVariants as Form;
-ghost use Rattle.mgexplain.specs.Saying.{IsOutcome, IsOutcomeOf, IsSaid, IsUnder};
+ghost use Rattle.mgexplain.specs.Saying.{AskOfRun, IsOutcome, IsOutcomeOf, IsOutcomeOn, IsSaid, IsUnder};
 
 use crate::said::{Said, headed, with_status};
+use crate::told_run::run_told;
 use crate::words::Form;
 use check_lines::answer::Answer;
 use check_lines::check::{broken, refused};
@@ -23,16 +24,20 @@ use explanation_page::rules::{YES_RULE, certificate_rule, script_rule};
 use explanation_page::{FaultText, Page, PlaceText};
 use mg_names::obligations::Obligation;
 use program_rim::input::Input;
-use program_rim::sections::two_sections;
+use program_rim::sections::{three_sections, two_sections};
 use script_picture::{Marked, draw};
 use script_table::Script;
 use std::alloc::{AllocError, Global};
+use std::sync::Wait;
+use std::thread::Threads;
 
 /// What comes of an input.
 #[derive(Drop)]
 pub(crate) enum Outcome {
     /// This is said.
     Told(Said),
+    /// The words don't go with it.
+    Usage,
     /// There was no memory to say it.
     NoMemory,
     /// A read failed, and nothing is said.
@@ -40,12 +45,17 @@ pub(crate) enum Outcome {
 }
 
 /// The line of a reply, as the check writes it, without its end.
-fn line(alloc: Global, reply: &Reply) -> Result<String, AllocError> {
+pub(crate) fn line(alloc: Global, reply: &Reply) -> Result<String, AllocError> {
     format!(in alloc; "{reply}")
 }
 
 /// A page as one JSON value, or as text under the line of its reply.
-fn page_told(alloc: Global, form: Form, reply: &Reply, page: &Page<'_>) -> Result<Said, AllocError>
+pub(crate) fn page_told(
+    alloc: Global,
+    form: Form,
+    reply: &Reply,
+    page: &Page<'_>,
+) -> Result<Said, AllocError>
     ensures { IfOk result (IsUnder form (line_of reply.now)) }
 {
     if matches!(form, Form::Json) {
@@ -76,7 +86,7 @@ fn picture_told(
 fn input_rule(fault: InputFault) -> &'static str {
     match fault {
         InputFault::Sections => {
-            "The input is a script and a certificate, divided by a line that is exactly `%%`, with no other such line."
+            "The input is a script and a certificate, and perhaps a plan, each divided from the next by a line that is exactly `%%`, with no other such line."
         }
         InputFault::TooLong => "The input has at most 16,777,216 bytes.",
     }
@@ -93,6 +103,8 @@ fn fault_in(reply: &Reply) -> Option<FaultText> {
             *number,
             *name,
         ),
+        Reply::PlanFault { number, name } => ("plan", *number, *name),
+        Reply::RunFault { number, name } => ("run", *number, *name),
         _ => return None,
     };
     Some(FaultText {
@@ -102,8 +114,8 @@ fn fault_in(reply: &Reply) -> Option<FaultText> {
     })
 }
 
-/// What is said where no script is read.
-fn unread(
+/// What is said where nothing is checked or run, for a fault of what was given.
+pub(crate) fn unread(
     alloc: Global,
     form: Form,
     reply: &Reply,
@@ -149,7 +161,7 @@ fn marked(refuted: &Refuted) -> Marked {
 }
 
 /// What is said of a No. The page shows an entry as the text of the certificate has it.
-fn no_told(
+pub(crate) fn no_told(
     alloc: Global,
     form: Form,
     reply: &Reply,
@@ -189,7 +201,7 @@ fn rule_and_place(
 }
 
 /// What is said of a fault of the script or of the certificate.
-fn fault_told(
+pub(crate) fn fault_told(
     alloc: Global,
     form: Form,
     script: &[u8],
@@ -229,7 +241,7 @@ fn documents_told(
     }
 }
 
-/// What is said of an input that was read to its end.
+/// What is said of an input of another number of sections than three.
 fn input_told(alloc: Global, form: Form, input: &[u8]) -> Result<Said, AllocError>
     ensures { IfOk result (IsSaid (IsLineOfSections (pair_of (sections_of input.now))) form) }
 {
@@ -263,13 +275,54 @@ fn outcome_of(told: Result<Said, AllocError>) -> Outcome
     }
 }
 
+/// Whether the words ask for what only a run has.
+fn ask_of_run(form: Form, only: Option<u32>) -> bool
+    ensures { result ≡ true → AskOfRun form only }
+{
+    if form == Form::Ladder {
+        return true;
+    }
+    only.is_some()
+}
+
+/// What comes of an input that was read to its end.
+fn outcome_on<R: Threads + Wait + Sync>(
+    rt: &R,
+    alloc: Global,
+    asked: (Form, Option<u32>),
+    input: &[u8],
+) -> Outcome
+    ensures { IsOutcomeOn asked.0 asked.1 (triple_of (sections_of input.now)) (pair_of (sections_of input.now)) result }
+{
+    let (form, only) = asked;
+    match three_sections(input) {
+        Some(sections) => {
+            if form == Form::Dot {
+                return Outcome::Usage;
+            }
+            outcome_of(run_told(rt, alloc, asked, sections))
+        }
+        None => {
+            if ask_of_run(form, only) {
+                return Outcome::Usage;
+            }
+            outcome_of(input_told(alloc, form, input))
+        }
+    }
+}
+
 /// What comes of an input.
-pub(crate) fn told_of(alloc: Global, form: Form, input: &Input) -> Outcome
-    ensures { IsOutcome form input.now result }
+pub(crate) fn told_of<R: Threads + Wait + Sync>(
+    rt: &R,
+    alloc: Global,
+    asked: (Form, Option<u32>),
+    input: &Input,
+) -> Outcome
+    ensures { IsOutcome asked.0 asked.1 input.now result }
 {
     match input {
-        Input::Whole(bytes) => outcome_of(input_told(alloc, form, bytes.as_slice())),
-        Input::TooLong => outcome_of(too_long_told(alloc, form)),
+        Input::Whole(bytes) => outcome_on(rt, alloc, asked, bytes.as_slice()),
+        Input::TooLong => outcome_of(too_long_told(alloc, asked.0)),
         Input::NoMemory => Outcome::NoMemory,
         Input::Failed => Outcome::ReadFailed,
     }

@@ -1,3 +1,3 @@
-mod ReportLemmas
-mod RunLemmas
-mod SameReports
+pub mod ReportLemmas
+pub mod RunLemmas
+pub mod SameReports

@@ -1,0 +1,195 @@
+"""What `mgexplain` says of runs, for `tools/gate/explain`: for each stored run and each plan of gallery/ and examples/ its first lines and its status are those
+of `mgcall run --workers 1`; the steps of each call of the plan are told once and in order; events and idle steps, counted anew from what is told, are those of
+the lines; what is told of one call is what is told of it among all; and the ladder stands under the same lines. The rows below are reasoned by hand."""
+import json
+import subprocess
+import tomllib
+from pathlib import Path
+
+TOP = Path(__file__).resolve().parents[2]
+RUNS = TOP / "tests" / "runs"
+SECONDS = 600
+FORMAT = 1
+DIVIDER = b"%%\n"
+FILES = ("script.toml", "certificate.json", "plan.toml")
+# What is told beside the steps of a call: no step of it, and the step that another call has.
+BESIDE = ("end of an epoch", "restart of another call")
+# Steps of a call of examples/watch on one gateway with nobody else, with what each comes to: an event, a restart, or the reason for which it is idle. In the
+# first row the note of the first step is lost, so that the call never leaves its first state; in the second it comes late.
+ROWS = (
+    (
+        "the note is lost",
+        "off a=event execute=nothing_sent reply=nothing_sent pass=rests timer=no_timer off a=not_on_line on a=event note 2=nothing_sent "
+        "hear=nothing_to_hear begin=rests end a cg/bt=not_on_line flash a=not_on_line digit a 5=not_on_line pause a=not_on_line",
+        ("call 0 idle resting events=2 idle=12",),
+    ),
+    (
+        "the note comes late",
+        "off a=event note 1=event execute 2=nothing_sent note=no_note_waits note 1=waits timer=waits begin=waits pass=not_awaited "
+        "execute refuse 0=event reply=event reply 1=not_awaited reply=not_awaited execute=event reply=event pass=event reply=has_ended note 1=has_ended "
+        "timer=has_ended pass=has_ended restart=restart begin=lost hear=event execute=event reply=event pass=event begin=event note=no_note_waits",
+        ("call 0 done retired events=11 idle=13", "call 0.1 idle resting events=1 idle=1"),
+    ),
+)
+
+
+def asked(program, data, *words):
+    """Status and output of a program."""
+    result = subprocess.run([program, *words], input=data, stdout=subprocess.PIPE, timeout=SECONDS, check=False)
+    return result.returncode, result.stdout.decode()
+
+
+def ended(text):
+    return text if text.endswith(b"\n") else text + b"\n"
+
+
+def given(folder):
+    """The script, the certificate and the plan of a folder as an input."""
+    return DIVIDER.join(ended((folder / name).read_bytes()) for name in FILES)
+
+
+def inputs():
+    """Each stored run and each plan, by name."""
+    for path in sorted(RUNS.glob("*.in")):
+        yield path.stem, path.read_bytes()
+    for top in ("gallery", "examples"):
+        for path in sorted((TOP / top).rglob("plan.toml")):
+            yield str(path.parent.relative_to(TOP)), given(path.parent)
+
+
+def plan_of(data):
+    """The calls of the plan of an input, each a list of epochs, in the words of the file."""
+    text = data.replace(b"\r\n", b"\n").split(b"\n%%\n", 2)[2].decode("utf-8-sig")
+    return [call["epochs"] for call in tomllib.loads(text).get("call", [])]
+
+
+def of_call(report, number):
+    """The steps that are told of a call of the plan and of those that began within it."""
+    return [step for line in report if line["call"] == number for step in line["steps"]]
+
+
+def counted(line):
+    """What is wrong with what is told under a line."""
+    came = [step["came"] for step in line["steps"]]
+    if (came.count("event"), came.count("idle")) != (line["events"], line["idle"]):
+        yield f"{line['line']}: {came.count('event')} events and {came.count('idle')} idle steps are told"
+    number = str(line["call"]) + (f".{line['begun']}" if line["begun"] else "")
+    if line["line"] != f"call {number} {line['state']} {line['phase']} events={line['events']} idle={line['idle']}":
+        yield f"another line: {line['line']}"
+    for step in line["steps"]:
+        if ("reason" in step) != (step["came"] == "idle") or step["came"] == "idle" and step["before"] != step["after"]:
+            yield f"{line['line']}: {step}"
+        if ("step_place" in step) == (step["came"] in BESIDE):
+            yield f"{line['line']}: a place in {step}"
+
+
+def in_order(calls, report):
+    """What is wrong with the order of what is told: each call has its own steps in theirs, the end of an epoch between two, and one restart for each that
+    another call asks for."""
+    epochs = max((len(call) for call in calls), default=0)
+    asked_for = [sum(step == "restart" for epoch in call for step in epoch) for call in calls]
+    for number, call in enumerate(calls):
+        told = of_call(report, number)
+        own = [step for step in told if step["came"] not in BESIDE]
+        if [step["step"] for step in own] != [step for epoch in call for step in epoch]:
+            yield f"call {number}: other steps"
+        if [step["step_place"] for step in own] != [*range(len(own))]:
+            yield f"call {number}: other places"
+        came = [step["came"] for step in told]
+        if (came.count(BESIDE[0]), came.count(BESIDE[1])) != (max(epochs - 1, 0), sum(asked_for) - asked_for[number]):
+            yield f"call {number}: other restarts"
+
+
+def leads_on(report, number):
+    """What is wrong with where a call is from step to step: each begins where the one before it ended, or where another call begins or the gateway restarts."""
+    at = None
+    for step in of_call(report, number):
+        if at not in (None, step["before"]):
+            yield f"call {number}: {step['step']} begins in {step['before']}, behind {at}"
+        at = step["after"]
+
+
+def strings(value):
+    """What the text has of a JSON value of steps, as it has it."""
+    for step in value:
+        yield step["says"]
+        for part in ("executed", "sent"):
+            yield from (each["command"] for each in step.get(part, {}).get("request", []))
+
+
+def wrongs(programs, data, refused):
+    """All that is wrong with what is said of a run."""
+    mgcall, mgexplain = programs
+    status, output = asked(mgcall, data, "run", "--workers", "1")
+    text_status, text = asked(mgexplain, data)
+    if text_status != status or not text.startswith(output) or output and text == output:
+        yield f"{text_status} {text[:80]!r}"
+    json_status, said = asked(mgexplain, data, "--json")
+    page = json.loads(said)
+    yield from (f"the schema: {error.message}" for error in refused(page))
+    if json_status != status or page["format"] != FORMAT or page["status"] != status:
+        yield f"status {json_status} with --json"
+    if asked(mgexplain, data, "--dot")[0] != 2:
+        yield "a picture of a plan"
+    if status:
+        if page["line"] != output.rstrip("\n"):
+            yield "another line"
+        return
+    report = page["report"]
+    if "".join(f"{line['line']}\n" for line in report) != output:
+        yield "another report"
+    for line in report:
+        yield from counted(line)
+        yield from (f"not in the text: {each}" for each in strings(line["steps"]) if each not in text)
+    calls = plan_of(data)
+    yield from in_order(calls, report)
+    for number in range(len(calls)):
+        yield from leads_on(report, number)
+    ladder_status, ladder = asked(mgexplain, data, "--ladder")
+    if ladder_status != 0 or not ladder.startswith(output):
+        yield "no ladder"
+    yield from of_one(mgexplain, data, report, len(calls))
+
+
+def of_one(mgexplain, data, report, count):
+    """What is wrong with what is said of one call: the last one, and one that the plan doesn't have."""
+    for number in {max(count - 1, 0), count}:
+        page = json.loads(asked(mgexplain, data, "--json", "--call", str(number))[1])
+        alone = [{key: value for key, value in line.items() if key != "steps" or line["call"] == number} for line in report]
+        if page["report"] != alone or ("says" in page) != (number >= count):
+            yield f"another call {number}"
+
+
+def by_hand(mgexplain):
+    """The rows, each with what is wrong with what is said of it."""
+    folder = TOP / "examples" / "watch"
+    for name, row, lines in ROWS:
+        steps = [one.strip() for one in row.replace("=", "\0").split("\0")]
+        words, wanted = [steps[0]], []
+        for each in steps[1:]:
+            came, _, step = each.partition(" ")
+            wanted.append(came)
+            words += [step] if step else []
+        plan = f"[[call]]\nlines = [1, 2]\nepochs = [{json.dumps(words)}]\n"
+        data = DIVIDER.join([*(ended((folder / part).read_bytes()) for part in FILES[:2]), plan.encode()])
+        status, said = asked(mgexplain, data, "--json")
+        report = json.loads(said)["report"]
+        told = [step.get("reason", step["came"]) for line in report for step in line["steps"]]
+        right = status == 0 and told == wanted and tuple(line["line"] for line in report) == lines
+        yield name, [] if right else [f"{told}, {[line['line'] for line in report]}"]
+
+
+def words_are_refused(mgexplain):
+    """Whether words that ask of a run what it doesn't have, or of no run, are answered by the line on the words."""
+    watch = given(TOP / "examples" / "watch")
+    pair = watch.rpartition(DIVIDER)[0]
+    for data, words in ((watch, ["--dot"]), (pair, ["--ladder"]), (pair, ["--call", "0"]), (pair, ["--json", "--call", "0"]), (watch, ["--call", "00"])):
+        status, said = asked(mgexplain, data, *words)
+        yield f"words {' '.join(words)}", [] if status == 2 and "usage: mgexplain" in said else [said[:80]]
+
+
+def judged(pool, programs, refused):
+    """All that is tried, each with what is wrong with it."""
+    yield from pool.map(lambda row: (row[0], [*wrongs(programs, row[1], refused)]), [*inputs()])
+    yield from by_hand(programs[1])
+    yield from words_are_refused(programs[1])
