@@ -8,7 +8,7 @@ use std::alloc::{AllocError, Global};
 
 /// The numbers to which the names of contexts and ephemerals are bound. This profile's own.
 #[derive(Clone, Copy, Debug)]
-pub(crate) struct NamesBound {
+pub struct NamesBound {
     contexts: [Option<u32>; 4],
     ephemerals: [Option<u32>; 4],
 }
@@ -28,6 +28,16 @@ impl NamesBound {
         contexts: [None; 4],
         ephemerals: [None; 4],
     };
+
+    /// The number of a context of the script, where its name is bound.
+    pub fn context(&self, context: Slot) -> Option<u32> {
+        self.contexts[context.index()]
+    }
+
+    /// The number of an ephemeral of the script, where its name is bound.
+    pub fn ephemeral(&self, ephemeral: Slot) -> Option<u32> {
+        self.ephemerals[ephemeral.index()]
+    }
 
     /// The names that are bound.
     fn names(&self) -> Names {

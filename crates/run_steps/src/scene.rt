@@ -1,10 +1,12 @@
 //! What a call and its gateway send each other along its events, and what plays: a gateway goes along with the one that the steps are taken on.
 use crate::came::Came;
 use crate::names_bound::NamesBound;
+use crate::results::{contexts_of, results_of};
 use crate::shown::{Executed, Fate, NoteSent, Sent, Shown, TakenReply};
 use agent::Next;
 use gateway::{
-    Answer, ChosenRefusal, Gateway, LineEvent, MessageId, Reply, Request, SentNote, SignalSet,
+    Answer, ChosenRefusal, ContextRef, Gateway, LineEvent, MessageId, Reply, Request, SentNote,
+    SignalSet,
 };
 use mg_model::commands::Command;
 use mg_model::events::{CallEvent, Event};
@@ -18,6 +20,10 @@ use std::alloc::{AllocError, Global};
 struct Asked {
     id: MessageId,
     commands: Vec<Command>,
+    /// The context that each of them names.
+    contexts: Vec<ContextRef>,
+    /// What the names were bound to as it was built.
+    bound: NamesBound,
     reply: Option<Reply>,
 }
 
@@ -149,14 +155,17 @@ impl Scene<'_> {
         let Some(asked) = self.asked.get_mut(place) else {
             return Err(RunFault::Disagree);
         };
-        let failure = match &reply {
-            Some(reply) => reply.failure(),
-            None => None,
+        let contexts = asked.contexts.as_slice();
+        let (failure, results) = match &reply {
+            Some(reply) => (reply.failure(), results_of(self.alloc, contexts, reply)?),
+            None => (None, Vec::new(self.alloc)),
         };
         shown.executed = Some(Executed {
             number: asked.id.number,
             fate,
             commands: copied(self.alloc, asked.commands.as_slice())?,
+            bound: asked.bound,
+            results,
             failure,
         });
         if reply.is_some() {
@@ -249,10 +258,13 @@ impl Scene<'_> {
             number: request.number(),
             state: next.state(),
             commands: copied(self.alloc, commands.as_slice())?,
+            bound: self.bound,
         });
         self.asked.push(Asked {
             id: request.id(),
             commands,
+            contexts: contexts_of(self.alloc, request)?,
+            bound: self.bound,
             reply: None,
         })?;
         Ok(())

@@ -1,4 +1,6 @@
 //! What is sent at a step of a call, and what plays behind it.
+use crate::names_bound::NamesBound;
+use crate::results::CommandResult;
 use digits::Dialled;
 use gateway::{Failure, Method, SentNote, SignalSet};
 use mg_model::commands::Command;
@@ -14,6 +16,8 @@ pub struct Sent {
     pub state: u8,
     /// Its commands, as the script has them.
     pub commands: Vec<Command>,
+    /// What the names of the call were bound to as it was built.
+    pub bound: NamesBound,
 }
 
 /// What became of a request that reached the gateway. This profile's own.
@@ -36,6 +40,10 @@ pub struct Executed {
     pub fate: Fate,
     /// Its commands, as the script has them.
     pub commands: Vec<Command>,
+    /// What the names of the call were bound to as it was built.
+    pub bound: NamesBound,
+    /// What the reply says of the commands that were done, in their order; nothing where none is sent.
+    pub results: Vec<CommandResult>,
     /// The command that was refused, where one was.
     pub failure: Option<Failure>,
 }

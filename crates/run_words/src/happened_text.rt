@@ -9,13 +9,17 @@ use std::alloc::{AllocError, Global};
 /// The messages that reached their ends at a step, in words.
 #[derive(Clone, Copy)]
 pub(crate) struct Reached<'a, 'b> {
-    pub(crate) executed: &'b Option<ExecutedTold>,
+    pub(crate) executed: &'b Option<ExecutedTold<'a>>,
     pub(crate) reply: &'b Option<ReplyTold>,
     pub(crate) note: &'b Option<NoteTold<'a>>,
 }
 
 /// What a request came to that reached the gateway.
-fn executed_text(alloc: Global, executed: &ExecutedTold, fate: Fate) -> Result<String, AllocError> {
+fn executed_text(
+    alloc: Global,
+    executed: &ExecutedTold<'_>,
+    fate: Fate,
+) -> Result<String, AllocError> {
     let number = executed.request_number;
     match fate {
         Fate::Executed => match &executed.refused {

@@ -67,7 +67,7 @@ fn lost(comes: bool) -> &'static str {
 fn push_executed(
     alloc: Global,
     ladder: &mut String,
-    executed: &ExecutedTold,
+    executed: &ExecutedTold<'_>,
     says: &str,
     later: &[StepTold<'_>],
 ) -> Result<(), AllocError> {

@@ -8,10 +8,12 @@
 
 mod call_text;
 mod happened_text;
+mod identifier_text;
 mod idle_text;
 pub mod ladder;
 pub mod line_text;
 mod message_text;
+mod names;
 mod plan_words;
 pub mod rules;
 pub mod run_page;

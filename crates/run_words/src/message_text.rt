@@ -1,4 +1,8 @@
 //! The messages of a step in words: requests with their commands, replies, notes, and the signals that play.
+use crate::identifier_text::{
+    NumberTold, ResultTold, contexts_told, ephemerals_told, results_told,
+};
+use crate::names::name_of;
 use gateway::{Failure, Method, SignalSet};
 use mg_model::commands::Command;
 use mg_names::identifiers::LineNo;
@@ -41,14 +45,27 @@ pub(crate) struct SentTold<'a> {
     /// The state whose request it is.
     state: &'a str,
     request: Vec<CommandTold>,
+    /// The contexts and the ephemerals that the call knew the number of as it built the request.
+    #[serde(skip_serializing_if = "Vec::is_empty")]
+    contexts: Vec<NumberTold<'a>>,
+    #[serde(skip_serializing_if = "Vec::is_empty")]
+    ephemerals: Vec<NumberTold<'a>>,
 }
 
 /// A request that reached the gateway.
 #[derive(Drop, Serialize)]
-pub(crate) struct ExecutedTold {
+pub(crate) struct ExecutedTold<'a> {
     pub(crate) request_number: u32,
     pub(crate) fate: &'static str,
     request: Vec<CommandTold>,
+    /// The contexts and the ephemerals that the call knew the number of as it built the request.
+    #[serde(skip_serializing_if = "Vec::is_empty")]
+    contexts: Vec<NumberTold<'a>>,
+    #[serde(skip_serializing_if = "Vec::is_empty")]
+    ephemerals: Vec<NumberTold<'a>>,
+    /// What the reply says of the commands that were done.
+    #[serde(skip_serializing_if = "Vec::is_empty")]
+    results: Vec<ResultTold<'a>>,
     #[serde(skip_serializing_if = "Option::is_none")]
     pub(crate) refused: Option<RefusedTold>,
 }
@@ -136,7 +153,7 @@ impl SentTold<'_> {
     }
 }
 
-impl ExecutedTold {
+impl ExecutedTold<'_> {
     /// Writes the commands of the request, with what became of each.
     pub(crate) fn write<W: fmt::Write>(&self, f: &mut fmt::Formatter<W>) -> fmt::Result {
         write_commands(f, self.request.as_slice())
@@ -203,6 +220,8 @@ pub(crate) fn sent_told<'a>(
         request_number: sent.number,
         state: state_name(script, sent.state),
         request,
+        contexts: contexts_told(alloc, script, &sent.bound)?,
+        ephemerals: ephemerals_told(alloc, script, &sent.bound)?,
     })
 }
 
@@ -216,11 +235,12 @@ fn fate_word(fate: Fate) -> &'static str {
 }
 
 /// A request that reached the gateway, in words.
-pub(crate) fn executed_told(
+pub(crate) fn executed_told<'a>(
     alloc: Global,
-    script: &Script,
+    script: &'a Script,
+    lines: &[LineNo],
     executed: &Executed,
-) -> Result<ExecutedTold, AllocError> {
+) -> Result<ExecutedTold<'a>, AllocError> {
     let mut request = Vec::new(alloc);
     for (place, command) in executed.commands.as_slice().iter().enumerate() {
         let mark = mark(executed.fate, executed.failure, place);
@@ -230,6 +250,9 @@ pub(crate) fn executed_told(
         request_number: executed.number,
         fate: fate_word(executed.fate),
         request,
+        contexts: contexts_told(alloc, script, &executed.bound)?,
+        ephemerals: ephemerals_told(alloc, script, &executed.bound)?,
+        results: results_told(alloc, script, lines, executed.results.as_slice())?,
         refused: refused_told(executed.failure),
     })
 }
@@ -240,16 +263,6 @@ pub(crate) fn reply_told(reply: &TakenReply) -> ReplyTold {
         request_number: reply.number,
         refused: refused_told(reply.failure),
     }
-}
-
-/// The name of a line of the gateway, by the lines of the call in the order of the script.
-fn name_of<'a>(script: &'a Script, lines: &[LineNo], line: LineNo) -> &'a str {
-    for slot in &Slot::all() {
-        if lines.get(slot.index()) == Some(&line) {
-            return line_name(script, *slot);
-        }
-    }
-    "?"
 }
 
 /// The word of a method.

@@ -42,7 +42,7 @@ pub(crate) struct StepTold<'a> {
     pub(crate) after: PlaceTold<'a>,
     /// The request that reached the gateway.
     #[serde(skip_serializing_if = "Option::is_none")]
-    pub(crate) executed: Option<ExecutedTold>,
+    pub(crate) executed: Option<ExecutedTold<'a>>,
     /// The reply that reached the call.
     #[serde(skip_serializing_if = "Option::is_none")]
     pub(crate) reply: Option<ReplyTold>,
@@ -180,7 +180,7 @@ pub(crate) fn step_told<'a>(
 ) -> Result<StepTold<'a>, AllocError> {
     let (script, shown) = (by.script, &told.shown);
     let executed = match &shown.executed {
-        Some(executed) => Some(executed_told(alloc, script, executed)?),
+        Some(executed) => Some(executed_told(alloc, script, by.lines, executed)?),
         None => None,
     };
     let reply = match &shown.reply {
