@@ -1,6 +1,7 @@
 """What `mgexplain` says of runs, for `tools/gate/explain`: for each stored run and each plan of gallery/ and examples/ its first lines and its status are those
 of `mgcall run --workers 1`; the steps of each call of the plan are told once and in order; events and idle steps, counted anew from what is told, are those of
-the lines; what is told of one call is what is told of it among all; and the ladder stands under the same lines. The rows below are reasoned by hand."""
+the lines; each number that a call knows was given by a reply; what is told of one call is what is told of it among all; and the ladder stands under the same
+lines. The rows below are reasoned by hand."""
 import json
 import subprocess
 import tomllib
@@ -109,6 +110,40 @@ def leads_on(report, number):
         at = step["after"]
 
 
+def replied(executed):
+    """What is wrong with what a reply says of commands: it tells each that was done, the number of each context but the null one, and what was created."""
+    told, request = executed.get("results", []), executed["request"]
+    done = 0 if executed["fate"] == "discarded" else executed.get("refused", {"command_place": len(request)})["command_place"]
+    if [result["command_place"] for result in told] != [*range(done)]:
+        yield f"results of other commands: {executed}"
+    for result, one in zip(told, request):
+        _, context, *terminations = one["command"].split()
+        if ("context" in result) == (context == "-") or ("created" in result) != terminations[0].startswith("$"):
+            yield f"another result of {one['command']}: {result}"
+
+
+def give(given, executed):
+    """Adds what a reply gives to the names that its commands create, which have a `$` before them: first that of a context, then that of an ephemeral."""
+    for result in executed.get("results", []):
+        words = executed["request"][result["command_place"]]["command"].split()
+        for word, key in zip(words[1:], ("context", "created")):
+            if word.startswith("$"):
+                given.setdefault(word.removeprefix("$"), set()).add(result.get(key))
+
+
+def numbers(line):
+    """What is wrong with the numbers under a line: a reply gave to its name each that the call knows as it builds a request."""
+    given = {}
+    for step in line["steps"]:
+        for told in (step.get("executed", {}), step.get("sent", {})):
+            for one in told.get("contexts", []) + told.get("ephemerals", []):
+                if one["number"] not in given.get(one["name"], ()):
+                    yield f"{line['line']}: no reply gave {one}"
+        if "executed" in step:
+            yield from replied(step["executed"])
+            give(given, step["executed"])
+
+
 def strings(value):
     """What the text has of a JSON value of steps, as it has it."""
     for step in value:
@@ -140,6 +175,7 @@ def wrongs(programs, data, refused):
         yield "another report"
     for line in report:
         yield from counted(line)
+        yield from numbers(line)
         yield from (f"not in the text: {each}" for each in strings(line["steps"]) if each not in text)
     calls = plan_of(data)
     yield from in_order(calls, report)
