@@ -2,10 +2,10 @@
 use Rattle.std.specs.Prelude.{ℕ, List, [], ◌∷◌, Option, Some, None, codes, if◌then◌else◌}
 use Rattle.std.specs.Str.{bytes_eq}
 use Rattle.plans.specs.Texts.{number_in}
+use Rattle.check_explanation.specs.declared.form.Form.{Form}
+use Rattle.check_explanation.specs.declared.form.Form.TheVariants.{Text, Json, Dot, Ladder}
 use Rattle.mgexplain.specs.declared.words.Asked.{Asked}
 use Rattle.mgexplain.specs.declared.words.Asked.TheVariants.{Saying, Help, Version}
-use Rattle.mgexplain.specs.declared.words.Form.{Form}
-use Rattle.mgexplain.specs.declared.words.Form.TheVariants.{Text, Json, Dot, Ladder}
 
 -- a form other than that of a text
 abbrev pub form_of : List ℕ → Option Form

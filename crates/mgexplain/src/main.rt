@@ -3,18 +3,17 @@
 //! says what `mgcall run` says, and under each line of the report what its steps came to. `--json` says the same facts as one JSON value; `--dot` writes the
 //! script's state machine as Graphviz text, with what a No names marked; `--ladder` writes the messages of a run as a ladder; `--call` tells one call.
 //!
-//! `explanation_page` has what is said, `script_picture` the picture, and `run_words` a run. Here what the check comes to is said by them, under its line (`told`, with
-//! `said`), and what a plan comes to under its report (`told_run`), in the form that the words ask for (`words`, with `call_number`), and bound to the process.
+//! `check_explanation` says what the check comes to, under its line, and `run_explanation` what a plan comes to, under its report. Here they are asked for what goes
+//! with the input (`outcome`), in the form that the words ask for (`words`, with `call_number`), and bound to the process.
 #![tactic(auto)]
 
 mod call_number;
-mod said;
-mod told;
-mod told_run;
+mod outcome;
 mod words;
 
-use crate::told::{Outcome, told_of};
-use crate::words::{Asked, Form, name_json, read_words};
+use crate::outcome::{Outcome, told_of};
+use crate::words::{Asked, name_json, read_words};
+use check_explanation::form::Form;
 use program_rim::host::Host;
 use program_rim::input::read_all;
 use program_rim::sink::write_all;

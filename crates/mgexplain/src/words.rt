@@ -3,19 +3,7 @@ ghost use Rattle.std.specs.Prelude.{◌≡◌, map, string_bytes};
 ghost use Rattle.mgexplain.specs.Forms.{asked_behind, asked_by, asked_by_three, asked_by_two, asked_of, call_number, form_of, in_form, of_call, of_form};
 
 use crate::call_number::call_number;
-
-/// In which form the program answers.
-#[derive(Clone, Copy, Debug, PartialEq, Eq)]
-pub(crate) enum Form {
-    /// Words for a reader.
-    Text,
-    /// One JSON value.
-    Json,
-    /// A picture of the script's state machine, as Graphviz text.
-    Dot,
-    /// The messages of a run as a ladder.
-    Ladder,
-}
+use check_explanation::form::Form;
 
 /// What the words ask for.
 #[derive(Clone, Copy, Debug, PartialEq, Eq)]

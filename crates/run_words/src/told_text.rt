@@ -1,11 +1,5 @@
 //! A step of a call in words, with its messages.
 use crate::happened_text::{Reached, came_text};
-use crate::idle_text::{idle_text, idle_word};
-use crate::message_text::{
-    ExecutedTold, NoteTold, PlaysTold, ReplyTold, SentTold, executed_told, note_told, plays_told,
-    reply_told, sent_told,
-};
-use crate::plan_words::PlanWords;
 use gateway::SignalSet;
 use mg_model::plans::PlanStep;
 use mg_names::identifiers::LineNo;
@@ -15,6 +9,13 @@ use script_words::names::state_name;
 use serde::Serialize;
 use std::alloc::{AllocError, Global};
 use std::fmt;
+use step_words::idle_text::{idle_text, idle_word};
+use step_words::note_text::{NoteTold, note_told};
+use step_words::plan_words::PlanWords;
+use step_words::plays_text::{PlaysTold, plays_told};
+use step_words::request_text::{
+    ExecutedTold, ReplyTold, SentTold, executed_told, reply_told, sent_told,
+};
 
 /// Where a call is.
 #[derive(Clone, Copy, Serialize)]

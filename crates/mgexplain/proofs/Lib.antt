@@ -1,2 +1,0 @@
-pub mod RunSaying
-pub mod Saying

@@ -1,0 +1,90 @@
+//! What comes of an input: what is said of a check, or with a plan of a run, where the words that the program was called with go with it.
+ghost use Rattle.std.specs.Prelude.{◌≡◌, true};
+ghost use Rattle.program_rim.specs.Sections.{pair_of, sections_of, triple_of};
+ghost use Rattle.mgexplain.specs.Saying.{AskOfRun, IsOutcome, IsOutcomeOf, IsOutcomeOn};
+
+use check_explanation::form::Form;
+use check_explanation::said::Said;
+use check_explanation::told::{input_told, too_long_told};
+use program_rim::input::Input;
+use program_rim::sections::three_sections;
+use run_explanation::told_run::run_told;
+use std::alloc::{AllocError, Global};
+use std::sync::Wait;
+use std::thread::Threads;
+
+/// What comes of an input.
+#[derive(Drop)]
+pub(crate) enum Outcome {
+    /// This is said.
+    Told(Said),
+    /// The words don't go with it.
+    Usage,
+    /// There was no memory to say it.
+    NoMemory,
+    /// A read failed, and nothing is said.
+    ReadFailed,
+}
+
+/// What comes of it where something is said, or memory runs out.
+fn outcome_of(told: Result<Said, AllocError>) -> Outcome
+    ensures { IsOutcomeOf told result }
+{
+    match told {
+        Ok(said) => Outcome::Told(said),
+        Err(AllocError) => Outcome::NoMemory,
+    }
+}
+
+/// Whether the words ask for what only a run has.
+fn ask_of_run(form: Form, only: Option<u32>) -> bool
+    ensures { result ≡ true → AskOfRun form only }
+{
+    if form == Form::Ladder {
+        return true;
+    }
+    only.is_some()
+}
+
+/// What comes of an input that was read to its end.
+fn outcome_on<R: Threads + Wait + Sync>(
+    rt: &R,
+    alloc: Global,
+    asked: (Form, Option<u32>),
+    input: &[u8],
+) -> Outcome
+    ensures { IsOutcomeOn asked.0 asked.1 (triple_of (sections_of input.now)) (pair_of (sections_of input.now)) result }
+{
+    let (form, only) = asked;
+    match three_sections(input) {
+        Some(sections) => {
+            if form == Form::Dot {
+                return Outcome::Usage;
+            }
+            outcome_of(run_told(rt, alloc, asked, sections))
+        }
+        None => {
+            if ask_of_run(form, only) {
+                return Outcome::Usage;
+            }
+            outcome_of(input_told(alloc, form, input))
+        }
+    }
+}
+
+/// What comes of an input.
+pub(crate) fn told_of<R: Threads + Wait + Sync>(
+    rt: &R,
+    alloc: Global,
+    asked: (Form, Option<u32>),
+    input: &Input,
+) -> Outcome
+    ensures { IsOutcome asked.0 asked.1 input.now result }
+{
+    match input {
+        Input::Whole(bytes) => outcome_on(rt, alloc, asked, bytes.as_slice()),
+        Input::TooLong => outcome_of(too_long_told(alloc, asked.0)),
+        Input::NoMemory => Outcome::NoMemory,
+        Input::Failed => Outcome::ReadFailed,
+    }
+}
