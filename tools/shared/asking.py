@@ -49,18 +49,18 @@ def read(names):
 
 
 @contextlib.contextmanager
-def written(name):
-    """A text to write, standard output where no name is given. A file has its name once the text is whole; where the work ends before, or fails, what had the
-    name keeps it. What is no file, such as a device, is written as it stands."""
+def written(name, kind=""):
+    """A text to write, or with the kind `b` bytes; standard output where no name is given. A file has its name once the text is whole; where the work ends
+    before, or fails, what had the name keeps it. What is no file, such as a device, is written as it stands."""
     if name is None or Path(name).exists() and not Path(name).is_file():
-        with contextlib.nullcontext(sys.stdout) if name is None else open(name, "w") as text:
+        with contextlib.nullcontext(sys.stdout) if name is None else open(name, f"w{kind}") as text:
             yield text
             text.flush()
         return
     target = Path(name).resolve()
     beside = target.with_name(f".{target.name}.{os.getpid()}.new")
     try:
-        with open(beside, "x") as text:
+        with open(beside, f"x{kind}") as text:
             yield text
         beside.replace(target)
     except OSError as error:

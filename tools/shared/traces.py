@@ -1,0 +1,127 @@
+"""The trace of a run: its messages as one text, as files of their own, and as a capture. A file or a folder has its name once it is whole."""
+import contextlib
+import itertools
+import json
+import os
+import shutil
+from collections import namedtuple
+from pathlib import Path
+
+from shared import annex_b, asking, capture, messages, scripts
+
+CALL, FOLDER, CAPTURE = "--call", "--messages", "--pcap"
+USAGE = f"SCRIPT CERTIFICATE PLAN [{CALL} N] [{FOLDER} DIR] [{CAPTURE} FILE]"
+# What is asked for: the names of the three files, and by their words the number, the folder and the file; None where one isn't asked for.
+Wanted = namedtuple("Wanted", "names call folder capture")
+# The greatest length of a line of a comment.
+WIDTH = 120
+
+
+def wanted(given, usage):
+    """What the words of a tool ask for."""
+    words, names, options = iter(given), [], {}
+    for word in words:
+        if word in (CALL, FOLDER, CAPTURE) and word not in options:
+            options[word] = next(words, "")
+        else:
+            names.append(word)
+    if len(names) != 3 or any(not word or word.startswith("-") for word in [*names, *options.values()]):
+        asking.stop(f"usage: {usage}", asking.WORDS)
+    return Wanted(names, *(options.get(word) for word in (CALL, FOLDER, CAPTURE)))
+
+
+def said_of(message):
+    """What is said of a message: what it is, where it was sent, what became of it, and what of it stands for something else."""
+    return "; ".join([f"call {message.call}, {message.step}: {message.about}: {message.fate}", *message.nearest])
+
+
+def marked(message):
+    """The comment that a message has in a capture: where it was lost, repeated or discarded, or something of it stands for something else."""
+    return said_of(message) if message.is_marked or message.nearest else ""
+
+
+def about(sent):
+    """What is said of a capture."""
+    calls = len({message.call.partition(".")[0] for message in sent})
+    return (
+        f"Messages of {calls} call{'' if calls == 1 else 's'} as mgexplain tells them, call after call, each with a gateway of its own: no network carried them. "
+        f"{annex_b.CONTROLLER} is the call, {annex_b.GATEWAY} its gateway. Each message is {capture.STEP} microseconds behind the one before it, "
+        "which says nothing about time."
+    )
+
+
+def numbered(sent):
+    """Messages with their numbers as files have them."""
+    return [(f"{number:04}", message) for number, message in enumerate(sent, 1)]
+
+
+def lines(page, sent):
+    """The lines of the trace: each line of the report, and below it the messages."""
+    for told in (line for line in page["report"] if "steps" in line):
+        yield from (f"; {told['line']}", "")
+        for number, message in numbered(sent):
+            if message.call == messages.call_of(told):
+                yield f"; {number}, {message.step}: {message.about}: {message.fate}"
+                yield from (f";   {one}" for one in message.nearest)
+                yield message.text
+    if "says" in page:
+        yield f"; {page['says']}"
+
+
+@contextlib.contextmanager
+def folder(name):
+    """A folder to write into, which has its name once the work is done. One that has files is left as it is."""
+    target = Path(name).absolute()
+    if target.exists() and not (target.is_dir() and not any(target.iterdir())):
+        asking.stop(f"{name}: something stands there already", asking.FILES)
+    beside = target.with_name(f".{target.name}.{os.getpid()}.new")
+    beside.mkdir()
+    try:
+        yield beside
+        beside.replace(target)
+    finally:
+        shutil.rmtree(beside, ignore_errors=True)
+
+
+def write_folder(name, sent):
+    """Writes each message into a file of its own."""
+    with folder(name) as place:
+        for number, message in numbered(sent):
+            (place / f"{number}.txt").write_text(message.text, newline="")
+
+
+def write_capture(name, sent):
+    """Writes a capture of the messages."""
+    try:
+        data = b"".join(capture.of(sent, about(sent), marked))
+    except capture.TooLong as error:
+        asking.stop(f"{name}: {error}", asking.FILES)
+    with asking.written(name, "b") as file:
+        file.write(data)
+
+
+def told(wanted_of, find):
+    """The status and what is said as JSON of what is asked for, and the texts of the files. Where there is no report, what `mgexplain` says stands for that."""
+    scripts.can_read()
+    texts = asking.read(wanted_of.names)
+    program = find("mgexplain")
+    words = [CALL, wanted_of.call] if wanted_of.call is not None else []
+    status, output = asking.told(program, ["--json", *words], texts)
+    page = json.loads(output) if output else {}
+    if "report" not in page:
+        print(asking.told(program, words, texts)[1], end="")
+    return status, page, texts
+
+
+def traced(asked, find):
+    """Writes what is asked for, with the program that `find` finds; gives the status."""
+    status, page, texts = told(asked, find)
+    if "report" not in page:
+        return status
+    sent = [*messages.of_run(page, texts)]
+    if asked.folder is not None:
+        write_folder(asked.folder, sent)
+    if asked.capture is not None:
+        write_capture(asked.capture, sent)
+    print(*lines(page, sent), sep="\n")
+    return status
