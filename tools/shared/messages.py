@@ -5,12 +5,15 @@ from collections import namedtuple
 
 from shared import annex_b, requests, scripts
 
-# A message: the call of the report that it is of, the step at which it was sent, whether the gateway sent it, its text, what it is, what became of it,
-# whether that is other than that it was taken, and what of it has no text of its own.
-Message = namedtuple("Message", "call step is_gateways text about fate is_marked nearest")
-# The fates of a message.
-TAKEN, LOST = False, True
+# What became of a message: the place of the step at which it came to its end, None where it was lost; in words; and whether that is other than that it was
+# taken or executed.
+End = namedtuple("End", "ended fate is_marked")
+# A message as a step sends it: its name, whether the gateway sent it, its text, what it is, what became of it, and what of it has no text of its own.
+Sent = namedtuple("Sent", "name is_gateways text about end nearest")
+# The same with the call of the report that it is of, and the step at which it was sent, by its place and in words.
+Message = namedtuple("Message", "call sent step name is_gateways text about ended fate is_marked nearest")
 RESTARTS = ("restart", "end of an epoch", "restart of another call")
+LOST = End(None, "lost", True)
 # The TransactionIDs of restarts go down from the greatest one, those of notes up from 1: the association with a number has this one less the number.
 ABOVE_IDS = 2**32
 FIRST_ASSOCIATION = 1
@@ -27,8 +30,8 @@ def call_of(line):
 
 
 def first(steps, test):
-    """The first of these steps that passes a test; None where none does."""
-    return next((step for step in steps if test(step)), None)
+    """The first of these steps, each with its place, that passes a test; None where none does."""
+    return next((one for one in steps if test(one[1])), None)
 
 
 class Call:
@@ -42,18 +45,18 @@ class Call:
 
     def messages(self, line):
         """The messages of a line of the report."""
-        steps, seen = line["steps"], set()
-        for place, step in enumerate(steps):
-            later = steps[place + 1 :]
-            for about, *rest in self.of_step(step, later, seen):
-                yield Message(call_of(line), at(step), *rest[:2], about, *rest[2:])
+        steps, seen = [*enumerate(line["steps"])], set()
+        for place, step in steps:
+            for sent in self.of_step((place, step), steps[place + 1 :], seen):
+                yield Message(call_of(line), place, at(step), *sent[:4], *sent.end, sent.nearest)
 
-    def of_step(self, step, later, seen):
+    def of_step(self, here, later, seen):
         """What is sent at a step, which is followed by others; `seen` has the numbers of the requests that came to the gateway."""
+        step = here[1]
         if step["came"] in RESTARTS:
             yield self.restart(later)
         elif "executed" in step:
-            yield from self.executed(step, later, seen)
+            yield from self.executed(here, later, seen)
         for note in step.get("notes", []):
             yield self.note(note, later)
         if "sent" in step:
@@ -62,18 +65,17 @@ class Call:
     def restart(self, later):
         """The gateway's word that it restarted. Only the newest is ever heard."""
         self.association, self.place = self.association + 1, {}
-        same = itertools.takewhile(lambda step: step["came"] not in RESTARTS, later)
+        same = itertools.takewhile(lambda one: one[1]["came"] not in RESTARTS, later)
         heard = first(same, lambda step: step["step"] == "hear" and step["came"] == "event")
         about = f"the gateway restarts, and its association {self.association} begins"
-        return about, True, annex_b.service_change(ABOVE_IDS - self.association), *became("heard", heard), []
+        return Sent("restart", True, annex_b.service_change(ABOVE_IDS - self.association), about, taken("heard", heard), [])
 
-    def executed(self, step, later, seen):
+    def executed(self, here, later, seen):
         """A request that comes to the gateway, where that isn't for the first time, and its reply."""
-        told = step["executed"]
+        told = here[1]["executed"]
         number, fate = told["request_number"], told["fate"]
         if number in seen:
-            about = f"the call's request {number} once more"
-            yield about, False, self.text_of(told), *met(step), []
+            yield Sent(f"request {number}", False, self.text_of(told), f"the call's request {number} once more", met(here), [])
         seen.add(number)
         if fate == "executed":
             self.follow(told)
@@ -84,23 +86,24 @@ class Call:
         """The reply to a request. Of two copies the later one is taken."""
         number, done = told["request_number"], requests.results(told, self.lines)
         text = annex_b.reply(number, [*self.named(told, done)], done, told.get("refused"))
-        same = itertools.takewhile(lambda step: not (is_executed(step, number) and step["executed"]["fate"] == "repeated"), later)
-        taken = first(same, lambda step: "reply" in step and step["reply"]["request_number"] == number)
+        same = itertools.takewhile(lambda one: not (is_executed(one[1], number) and one[1]["executed"]["fate"] == "repeated"), later)
+        end = taken("taken", first(same, lambda step: "reply" in step and step["reply"]["request_number"] == number))
         about = f"the gateway's reply to request {number}" + (", which it kept, once more" if told["fate"] == "repeated" else "")
-        return about, True, text, *became("taken", taken), []
+        return Sent(f"reply {number}", True, text, about, end, [])
 
     def note(self, note, later):
         """A note of the gateway."""
-        text = annex_b.notify(note, self.place.get(note["on_line"], requests.NULL), self.lines[note["on_line"]])
-        taken = first(later, lambda step: "note" in step and step["note"]["note_number"] == note["note_number"])
-        return f"the gateway's note {note['note_number']} of line {note['on_line']}", True, text, *became("taken", taken), []
+        number, line = note["note_number"], note["on_line"]
+        text = annex_b.notify(note, self.place.get(line, requests.NULL), self.lines[line])
+        end = taken("taken", first(later, lambda step: "note" in step and step["note"]["note_number"] == number))
+        return Sent(f"note {number}", True, text, f"the gateway's note {number} of line {line}", end, [])
 
     def request(self, told, later):
         """A request as the call sends it."""
         number = told["request_number"]
-        arrived = first(later, lambda step: is_executed(step, number))
+        end = met(first(later, lambda step: is_executed(step, number)))
         about = f"the call's request {number}, of state {told['state']}"
-        return about, False, self.text_of(told), *(met(arrived) if arrived else became("", None)), nearest(self.named(told, {}))
+        return Sent(f"request {number}", False, self.text_of(told), about, end, nearest(self.named(told, {})))
 
     def named(self, told, done):
         """The commands of a request that is told, with what their names stand for."""
@@ -125,15 +128,18 @@ def is_executed(step, number):
     return "executed" in step and step["executed"]["request_number"] == number
 
 
-def became(word, step):
+def taken(word, one):
     """What became of a message that is taken at a step; without one it is lost."""
-    return ("lost", LOST) if step is None else (f"{word} at {at(step)}", TAKEN)
+    return LOST if one is None else End(one[0], f"{word} at {at(one[1])}", False)
 
 
-def met(step):
-    """What became of a request that came to the gateway at a step."""
-    said = {"executed": "executed", "repeated": "answered by the kept reply", "discarded": "discarded"}[step["executed"]["fate"]]
-    return f"{said} at {at(step)}", step["executed"]["fate"] != "executed"
+def met(one):
+    """What became of a request that comes to the gateway at a step; without one it is lost."""
+    if one is None:
+        return LOST
+    fate = one[1]["executed"]["fate"]
+    said = {"executed": "executed", "repeated": "answered by the kept reply", "discarded": "discarded"}[fate]
+    return End(one[0], f"{said} at {at(one[1])}", fate != "executed")
 
 
 def nearest(commands):
