@@ -1,6 +1,5 @@
 """The trace of a run: its messages as one text, as files of their own, and as a capture. A file or a folder has its name once it is whole."""
 import contextlib
-import itertools
 import json
 import os
 import shutil
@@ -13,8 +12,6 @@ CALL, FOLDER, CAPTURE = "--call", "--messages", "--pcap"
 USAGE = f"SCRIPT CERTIFICATE PLAN [{CALL} N] [{FOLDER} DIR] [{CAPTURE} FILE]"
 # What is asked for: the names of the three files, and by their words the number, the folder and the file; None where one isn't asked for.
 Wanted = namedtuple("Wanted", "names call folder capture")
-# The greatest length of a line of a comment.
-WIDTH = 120
 
 
 def wanted(given, usage):
@@ -44,7 +41,7 @@ def about(sent):
     """What is said of a capture."""
     calls = len({message.call.partition(".")[0] for message in sent})
     return (
-        f"Messages of {calls} call{'' if calls == 1 else 's'} as mgexplain tells them, call after call, each with a gateway of its own: no network carried them. "
+        f"Messages of {calls} call{'' if calls == 1 else 's'} as mgexplain tells them, call after call, each with a gateway of its own: no network had them. "
         f"{annex_b.CONTROLLER} is the call, {annex_b.GATEWAY} its gateway. Each message is {capture.STEP} microseconds behind the one before it, "
         "which says nothing about time."
     )
@@ -90,14 +87,12 @@ def write_folder(name, sent):
             (place / f"{number}.txt").write_text(message.text, newline="")
 
 
-def write_capture(name, sent):
-    """Writes a capture of the messages."""
+def captured(sent):
+    """The bytes of a capture of the messages."""
     try:
-        data = b"".join(capture.of(sent, about(sent), marked))
+        return b"".join(capture.of(sent, about(sent), marked))
     except capture.TooLong as error:
-        asking.stop(f"{name}: {error}", asking.FILES)
-    with asking.written(name, "b") as file:
-        file.write(data)
+        return asking.stop(f"no capture: {error}", asking.FILES)
 
 
 def told(wanted_of, find):
@@ -119,9 +114,11 @@ def traced(asked, find):
     if "report" not in page:
         return status
     sent = [*messages.of_run(page, texts)]
+    data = captured(sent) if asked.capture is not None else b""
     if asked.folder is not None:
         write_folder(asked.folder, sent)
     if asked.capture is not None:
-        write_capture(asked.capture, sent)
+        with asking.written(asked.capture, "b") as file:
+            file.write(data)
     print(*lines(page, sent), sep="\n")
     return status

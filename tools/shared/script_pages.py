@@ -1,0 +1,163 @@
+"""A page for a script, its certificate and perhaps a plan: what `mgexplain` tells of them, as values that a template lays out. The template is of Jinja2, the
+machine is drawn by Graphviz. A page names its sources with their checksums, and has its name once it is whole."""
+import hashlib
+import json
+import re
+import shutil
+import subprocess
+from collections import namedtuple
+from pathlib import Path
+
+from shared import asking, certificates, messages, pictures, scripts
+
+try:
+    import jinja2
+except ImportError:
+    jinja2 = None
+
+TARGET = "-o"
+USAGE = f"SCRIPT CERTIFICATE [PLAN] {TARGET} FILE"
+TEMPLATE = Path(__file__).with_name("script_page.html")
+YES, NO, UNREAD = 0, 1, (2, 3, 4, 5, 6)
+# What is asked for: the names of the files, and that of the page.
+Wanted = namedtuple("Wanted", "names target")
+# What `mgexplain` says of a script and its certificate: the status, the value of --json, the text, and that of --dot.
+Verdict = namedtuple("Verdict", "status page text dot")
+# A state as the page has it: its name, whether it is an end, its pairs, its commands, its ways out, and its entries.
+State = namedtuple("State", "name is_end talk commands ways entries")
+# An entry: its place, its link, its rows of lines and of ephemerals, its contexts and its cuts, and the number of the point that a No names, None where none.
+Entry = namedtuple("Entry", "place link lines ephemerals contexts cuts point")
+# A step: what `mgexplain` tells of it, the messages that end at it, and those that are sent at it, each with its number.
+Step = namedtuple("Step", "told ended sent")
+# A call of the report: its line, and its steps.
+Told = namedtuple("Told", "line steps")
+# How Graphviz is called: no background, and each state leads to its part of the page.
+DOT = ("dot", "-Tsvg", "-Gbgcolor=transparent", "-Nfontname=Helvetica", "-Nfontsize=12", "-Efontname=Helvetica", "-Efontsize=10", "-Gfontname=Helvetica")
+
+
+def wanted(given, usage):
+    """What the words of a tool ask for."""
+    place = given.index(TARGET) if TARGET in given else len(given)
+    names, targets = given[:place] + given[place + 2 :], given[place + 1 : place + 2]
+    if not 2 <= len(names) <= 3 or len(targets) != 1 or any(not name or name.startswith("-") for name in names + targets):
+        asking.stop(f"usage: {usage}", asking.WORDS)
+    return Wanted(names, targets[0])
+
+
+def can_draw():
+    """Ends the tool where what pages are made with isn't there."""
+    scripts.can_read()
+    if jinja2 is None:
+        asking.stop("a page is made with Jinja2, the package python3-jinja2, which isn't there", asking.NO_PROGRAM)
+    if shutil.which(DOT[0]) is None:
+        asking.stop("a page is made with Graphviz, the package graphviz, which isn't there", asking.NO_PROGRAM)
+
+
+def svg(text):
+    """The drawing of a text for Graphviz, as a part of a page."""
+    linked = re.sub(r'^(  "(\w+)" \[)', r'\1URL="#state-\2", ', text, flags=re.MULTILINE)
+    drawing = subprocess.run(DOT, input=linked, stdout=subprocess.PIPE, text=True, check=True).stdout
+    return re.sub(r"<!--.*?-->\n?", "", drawing[drawing.index("<svg") :], flags=re.DOTALL)
+
+
+def verdict_of(program, texts):
+    """What `mgexplain` says of a script and its certificate."""
+    status, page = asking.told(program, ["--json"], texts)
+    return Verdict(status, json.loads(page or "{}"), *(asking.told(program, words, texts)[1] for words in ([], ["--dot"])))
+
+
+def joined(values):
+    """The values of a component of an entry in one cell."""
+    return ", ".join(values)
+
+
+def rows(values, kind, names, keys):
+    """The rows of the lines or the ephemerals of an entry: a name, and what it has of each key."""
+    return [(name, [joined(values[f"{kind}.{name}.{key}"]) for key in keys]) for name in names]
+
+
+def entry_of(script, place, entry, point):
+    """An entry of the certificate as the page has it; what isn't cut is left out."""
+    values = certificates.sets(script, entry)
+    cuts = [(path.removeprefix("cuts."), joined(values[path])) for path in values if path.startswith("cuts.") and values[path] != ["no"]]
+    return Entry(
+        place,
+        joined(values["link"]),
+        rows(values, "lines", script["lines"], ("at", "mode", "events", "plays")),
+        rows(values, "ephemerals", script.get("ephemerals", []), ("at", "mode", "remote")),
+        [(name, joined(values[f"contexts.{name}"])) for name in script.get("contexts", [])],
+        cuts,
+        point.get("point_number") if point.get("entry_place") == place else None,
+    )
+
+
+def states_of(script, entries, point):
+    """The states of a script with their entries."""
+    found = {}
+    for place, entry in enumerate(entries):
+        found.setdefault(entry["state"], []).append(entry_of(script, place, entry, point))
+    for state in script["state"]:
+        name, ways = state["name"], [*pictures.ways_out(state, script["lines"])]
+        yield State(name, state.get("end", False), state.get("talk", []), state.get("do", []), ways, found.get(name, []))
+
+
+def told_calls(page, texts):
+    """The calls of a run with their steps, and the messages that are sent and that end at each."""
+    sent = [*enumerate(messages.of_run(page, texts), 1)]
+    for line in page["report"]:
+        own = [(number, message) for number, message in sent if message.call == messages.call_of(line)]
+        ended = [[one for one in own if one[1].ended == place] for place in range(len(line["steps"]))]
+        began = [[one for one in own if one[1].sent == place] for place in range(len(line["steps"]))]
+        yield Told(line["line"], [*map(Step, line["steps"], ended, began)])
+
+
+def heading(text):
+    """The comment with which a script begins, as one text; an empty one where it has none."""
+    lines = []
+    for line in text.decode("utf-8-sig").splitlines():
+        if not line.startswith("#"):
+            break
+        lines.append(line.lstrip("# ").strip())
+    return " ".join(lines)
+
+
+def sources(names, texts):
+    """The sources of a page: each with its name, without folders, and its checksum."""
+    return [(Path(name).name, hashlib.sha256(text).hexdigest()) for name, text in zip(names, texts)]
+
+
+def laid_out(names, texts, verdict, run):
+    """The text of the page."""
+    script, entries = scripts.read(texts[0]), json.loads(texts[1])["entries"]
+    environment = jinja2.Environment(autoescape=True, trim_blocks=True, lstrip_blocks=True, undefined=jinja2.StrictUndefined, keep_trailing_newline=True)
+    return environment.from_string(TEMPLATE.read_text()).render(
+        heading=heading(texts[0]),
+        verdict=verdict,
+        words=verdict.text.partition("\n")[2].strip("\n"),
+        machine=svg(verdict.dot),
+        script=script,
+        states=[*states_of(script, entries, verdict.page.get("point", {}))],
+        calls=[*told_calls(run, texts)] if run else [],
+        sources=sources(names, texts),
+    )
+
+
+def written(asked, find):
+    """Writes the page that is asked for, with the program that `find` finds; gives the status."""
+    can_draw()
+    texts = asking.read(asked.names)
+    program = find("mgexplain")
+    verdict, run = verdict_of(program, texts[:2]), {}
+    status, said = verdict.status, verdict.text
+    if status == YES and len(texts) > 2:
+        status, output = asking.told(program, ["--json"], texts)
+        run, said = json.loads(output or "{}"), asking.told(program, [], texts)[1] if status else ""
+    if status not in (YES, NO):
+        print(said, end="")
+        return status
+    page = laid_out(asked.names, texts, verdict, run)
+    with asking.written(asked.target) as file:
+        file.write(page)
+    if status == NO:
+        print(verdict.page["line"])
+    return status
