@@ -174,3 +174,11 @@ def of_run(page, texts):
         call = Call(script, numbers[number])
         for line in lines:
             yield from call.messages(line)
+
+
+def by_call(sent):
+    """Messages with their numbers, from 1, by the calls of the report that they are of."""
+    found = {}
+    for number, message in enumerate(sent, 1):
+        found.setdefault(message.call, []).append((number, message))
+    return found

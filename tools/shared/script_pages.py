@@ -101,14 +101,21 @@ def states_of(script, entries, point):
         yield State(name, state.get("end", False), state.get("talk", []), state.get("do", []), ways, found.get(name, []))
 
 
+def by_step(sent, key):
+    """Messages with their numbers by the place of a step, as this key has it."""
+    found = {}
+    for number, message in sent:
+        found.setdefault(getattr(message, key), []).append((number, message))
+    return found
+
+
 def told_calls(page, texts):
     """The calls of a run with their steps, and the messages that are sent and that end at each."""
-    sent = [*enumerate(messages.of_run(page, texts), 1)]
+    of_call = messages.by_call(messages.of_run(page, texts))
     for line in page["report"]:
-        own = [(number, message) for number, message in sent if message.call == messages.call_of(line)]
-        ended = [[one for one in own if one[1].ended == place] for place in range(len(line["steps"]))]
-        began = [[one for one in own if one[1].sent == place] for place in range(len(line["steps"]))]
-        yield Told(line["line"], [*map(Step, line["steps"], ended, began)])
+        own = of_call.get(messages.call_of(line), [])
+        ended, sent = by_step(own, "ended"), by_step(own, "sent")
+        yield Told(line["line"], [Step(step, ended.get(place, []), sent.get(place, [])) for place, step in enumerate(line["steps"])])
 
 
 def heading(text):
@@ -144,8 +151,8 @@ def laid_out(names, texts, verdict, run):
 
 def written(asked, find):
     """Writes the page that is asked for, with the program that `find` finds; gives the status."""
-    can_draw()
     texts = asking.read(asked.names)
+    can_draw()
     program = find("mgexplain")
     verdict, run = verdict_of(program, texts[:2]), {}
     status, said = verdict.status, verdict.text

@@ -47,20 +47,20 @@ def about(sent):
     )
 
 
-def numbered(sent):
-    """Messages with their numbers as files have them."""
-    return [(f"{number:04}", message) for number, message in enumerate(sent, 1)]
+def of_message(number, message):
+    """The lines of a message in the trace: what is said of it, and its text."""
+    yield f"; {number:04}, {message.step}: {message.about}: {message.fate}"
+    yield from (f";   {one}" for one in message.nearest)
+    yield message.text
 
 
 def lines(page, sent):
     """The lines of the trace: each line of the report, and below it the messages."""
+    of_call = messages.by_call(sent)
     for told in (line for line in page["report"] if "steps" in line):
         yield from (f"; {told['line']}", "")
-        for number, message in numbered(sent):
-            if message.call == messages.call_of(told):
-                yield f"; {number}, {message.step}: {message.about}: {message.fate}"
-                yield from (f";   {one}" for one in message.nearest)
-                yield message.text
+        for number, message in of_call.get(messages.call_of(told), []):
+            yield from of_message(number, message)
     if "says" in page:
         yield f"; {page['says']}"
 
@@ -83,8 +83,8 @@ def folder(name):
 def write_folder(name, sent):
     """Writes each message into a file of its own."""
     with folder(name) as place:
-        for number, message in numbered(sent):
-            (place / f"{number}.txt").write_text(message.text, newline="")
+        for number, message in enumerate(sent, 1):
+            (place / f"{number:04}.txt").write_text(message.text, newline="")
 
 
 def captured(sent):
