@@ -1,5 +1,6 @@
-"""Messages in the text of H.248.1 Annex B.2, version 1: requests, replies, notifications and the gateway's ServiceChange, from values. What of this profile has
-no text of its own is written in the way that stands nearest; docs/use/FORMATS.md has the table. It knows nothing of runs."""
+"""Messages in the text of H.248.1 Annex B.2, version 1: requests, replies, notifications and the gateway's ServiceChange, from values. What of this profile
+has no text of its own is written in the way that stands nearest; docs/use/FORMATS.md has the table. It knows nothing of runs. It is installed too, so it
+knows nothing of this repository."""
 
 # Where the two ends stand: addresses of the loopback range, and the port for the text (H.248.1 Annex D.1).
 CONTROLLER, GATEWAY, PORT = "127.0.0.1", "127.0.0.2", 2944

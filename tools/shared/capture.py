@@ -1,5 +1,5 @@
 """A capture file of messages in the format pcapng, as Wireshark opens it: each message is a datagram of UDP between the two ends on the port for the text of
-H.248.1. Times rise by one step from a message to the next, and mean nothing else."""
+H.248.1. Times rise by one step from a message to the next, and mean nothing else. It is installed too, so it knows nothing of this repository."""
 import struct
 
 from shared import annex_b

@@ -1,5 +1,6 @@
 """The messages of a run, in the order in which they were sent, from what `mgexplain` tells of its steps: each with its text and with what became of it. A
-message that is sent and never comes to its end at a step was lost; one that comes to its end a second time was sent twice."""
+message that is sent and never comes to its end at a step was lost; one that comes to its end a second time was sent twice. It is installed too, so it knows
+nothing of this repository."""
 import itertools
 from collections import namedtuple
 

@@ -1,5 +1,5 @@
 """The commands of a request as values: what a script writes, taken apart, and what its names stand for in a message. It says what is told, and works nothing
-out: the numbers are those that `mgexplain` tells of a request and of its reply."""
+out: the numbers are those that `mgexplain` tells of a request and of its reply. It is installed too, so it knows nothing of this repository."""
 from collections import namedtuple
 
 # What stands for the null context, for what the gateway is to choose, and for all (H.248.1 sections 8.1.2 and 6.2.2).

@@ -1,5 +1,6 @@
 """A page for a script, its certificate and perhaps a plan: what `mgexplain` tells of them, as values that a template lays out. The template is of Jinja2, the
-machine is drawn by Graphviz. A page names its sources with their checksums, and has its name once it is whole."""
+machine is drawn by Graphviz. A page names its sources with their checksums, and has its name once it is whole. It is installed too, so it knows nothing of
+this repository."""
 import hashlib
 import json
 import re

@@ -1,4 +1,5 @@
-"""The trace of a run: its messages as one text, as files of their own, and as a capture. A file or a folder has its name once it is whole."""
+"""The trace of a run: its messages as one text, as files of their own, and as a capture. A file or a folder has its name once it is whole. It is installed
+too, so it knows nothing of this repository."""
 import contextlib
 import json
 import os

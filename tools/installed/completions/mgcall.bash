@@ -50,7 +50,30 @@ _mgcall() {
         fi
         ;;
     mgcall-picture) _mgcall_over_files "$current" "$place" toml ;;
+    mgcall-trace)
+        case ${COMP_WORDS[COMP_CWORD - 1]} in
+        --call) ;;
+        --messages) COMPREPLY=($(compgen -d -- "$current")) ;;
+        --pcap) _mgcall_files pcapng "$current" ;;
+        *)
+            if ((place > 3)); then
+                COMPREPLY=($(compgen -W '--call --messages --pcap' -- "$current"))
+            else
+                _mgcall_over_files "$current" "$place" toml json toml
+            fi
+            ;;
+        esac
+        ;;
+    mgcall-page)
+        if [[ ${COMP_WORDS[COMP_CWORD - 1]} == -o ]]; then
+            _mgcall_files html "$current"
+        elif ((place > 3)) || [[ $place == 3 && $current == -* ]]; then
+            COMPREPLY=($(compgen -W '-o' -- "$current"))
+        else
+            _mgcall_over_files "$current" "$place" toml json toml
+        fi
+        ;;
     esac
 }
 
-complete -F _mgcall mgcall mgexplain mgcall-check mgcall-run mgcall-why mgcall-draft mgcall-picture
+complete -F _mgcall mgcall mgexplain mgcall-check mgcall-run mgcall-why mgcall-draft mgcall-picture mgcall-trace mgcall-page
