@@ -64,11 +64,21 @@ def of_frame(text):
     return Dissected(LABELS.findall(text.partition("\nMEGACO\n")[2]), ERRORS.findall(text))
 
 
-def dissected(capture):
-    """What tshark says of each packet of a capture."""
+def by_tshark(capture, *words):
+    """What tshark says of a capture with these words."""
     with tempfile.NamedTemporaryFile(suffix=".pcapng") as file:
         file.write(capture)
         file.flush()
-        command = ["tshark", "-r", file.name, "-d", "udp.port==2944,megaco", *CHECKED, "-V"]
-        result = subprocess.run(command, capture_output=True, text=True, errors="replace", timeout=SECONDS, check=True)
-    return [of_frame(frame) for frame in re.split(r"^Frame \d+: ", result.stdout, flags=re.MULTILINE)[1:]]
+        command = ["tshark", "-r", file.name, *words]
+        return subprocess.run(command, capture_output=True, text=True, errors="replace", timeout=SECONDS, check=True).stdout
+
+
+def dissected(capture):
+    """What tshark says of each packet of a capture."""
+    text = by_tshark(capture, "-d", "udp.port==2944,megaco", *CHECKED, "-V")
+    return [of_frame(frame) for frame in re.split(r"^Frame \d+: ", text, flags=re.MULTILINE)[1:]]
+
+
+def summaries(capture):
+    """The line that tshark has for each packet of a capture, without what stands in parentheses, which not every version writes alike."""
+    return [re.sub(r"\(\S*\)", "", line).split() for line in by_tshark(capture).splitlines()]
