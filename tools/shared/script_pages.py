@@ -19,7 +19,8 @@ except ImportError:
 TARGET = "-o"
 USAGE = f"SCRIPT CERTIFICATE [PLAN] {TARGET} FILE"
 TEMPLATE = Path(__file__).with_name("script_page.html")
-YES, NO, UNREAD = 0, 1, (2, 3, 4, 5, 6)
+# The statuses with which there is a page.
+YES, NO = 0, 1
 # What is asked for: the names of the files, and that of the page.
 Wanted = namedtuple("Wanted", "names target")
 # What `mgexplain` says of a script and its certificate: the status, the value of --json, the text, and that of --dot.
@@ -163,6 +164,7 @@ def written(asked, find):
     if status not in (YES, NO):
         print(said, end="")
         return status
+    scripts.look(asked.names[::2], texts[::2])
     page = laid_out(asked.names, texts, verdict, run)
     with asking.written(asked.target) as file:
         file.write(page)

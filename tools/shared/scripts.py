@@ -16,3 +16,12 @@ def can_read():
 def read(written):
     """The script that these bytes hold; a ValueError or a RecursionError where they are no TOML."""
     return tomllib.loads(written.decode("utf-8-sig"))
+
+
+def look(names, texts):
+    """Ends the tool where this Python doesn't read a TOML text that the program has read: the two libraries could differ."""
+    for name, text in zip(names, texts):
+        try:
+            read(text)
+        except (RecursionError, ValueError) as error:
+            asking.stop(f"{name}: not as this Python reads it: {error}", asking.FILES)

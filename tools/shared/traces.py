@@ -114,6 +114,7 @@ def traced(asked, find):
     status, page, texts = told(asked, find)
     if "report" not in page:
         return status
+    scripts.look(asked.names[::2], texts[::2])
     sent = [*messages.of_run(page, texts)]
     data = captured(sent) if asked.capture is not None else b""
     if asked.folder is not None:
