@@ -1,12 +1,13 @@
--- The statement of the law that identifiers last, which an empty function carries: a run of as many executes as a plan may have goes as a shard's
--- run has to. A reader should check the numbers, and that what it asks of the class is what each of up to sixteen shards has.
+-- The statements of the laws that identifiers last, each of which an empty function carries: a run of as many executes as a plan may have goes as a shard's
+-- run has to, and identifiers are left at its end too. A reader should check the numbers, and that what they ask of the class is what each of up to sixteen
+-- shards has.
 use Rattle.std.specs.Prelude.{◌≡◌, ℕ, ◌+◌, ◌%◌, ◌<◌, ◌≤◌, IsTrue, List, [], ◌∷◌, length}
 use Rattle.std.specs.List.{All}
 use Rattle.mg_model.specs.declared.events.CallEvent.TheVariants as to_call
 use Rattle.mg_model.specs.declared.events.Event.{Event}
 use Rattle.mg_model.specs.declared.events.Event.TheVariants.{OfCall}
 use Rattle.mg_model.specs.Script.{Script, State}
-use Rattle.mg_model.specs.Shards.{RunsWithin}
+use Rattle.mg_model.specs.Shards.{HasIdentifiersLeft, RunsWithin}
 use Rattle.mg_model.specs.World.{World, Opened, Runs, IsOpening}
 
 -- the most commands that a state of a script has
@@ -43,3 +44,12 @@ IdentifiersLast =
     → ((n : ℕ) → n % stride ≡ first → IsTrue (start.gateway.board.class n))
     → IsOpening script calls start → Runs script history start end → executes_in history ≤ most_executes
     → RunsWithin script history start end
+
+-- and at its end as well
+abbrev pub IdentifiersAreLeft : Type 0
+IdentifiersAreLeft =
+    (script : Script) (calls : List Opened) (history : List Event) (start end : World) (first stride : ℕ)
+    → HasFewCommands script → first < stride → stride ≤ most_shards
+    → ((n : ℕ) → n % stride ≡ first → IsTrue (start.gateway.board.class n))
+    → IsOpening script calls start → Runs script history start end → executes_in history ≤ most_executes
+    → HasIdentifiersLeft end

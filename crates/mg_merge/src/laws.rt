@@ -1,6 +1,6 @@
 //! The laws of the merge, and of the identifiers that it needs.
 ghost use Rattle.mg_merge.specs.Laws.{MergesAreRuns};
-ghost use Rattle.mg_merge.specs.Identifiers.{IdentifiersLast};
+ghost use Rattle.mg_merge.specs.Identifiers.{IdentifiersAreLeft, IdentifiersLast};
 
 /// Where the history of each shard is a run from an opening of its calls, no call, line or identifier is of two shards, all shards were
 /// restarted equally often, and identifiers were left before each event, the merge of their histories (association by association, in each
@@ -15,4 +15,9 @@ pub fn merges_are_runs()
 /// This profile's own.
 pub fn identifiers_last()
     ensures { IdentifiersLast }
+{}
+
+/// Identifiers are left at the end of such a run as well: for each request that was sent there are as many as it has commands. This profile's own.
+pub fn identifiers_are_left()
+    ensures { IdentifiersAreLeft }
 {}

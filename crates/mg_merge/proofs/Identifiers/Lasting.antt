@@ -1,5 +1,5 @@
 -- The law that identifiers last: with each execute at most sixteen contexts and ephemerals more are used, and with no other event any; so before each
--- event of a run that has few executes a class has as many left as a request may want.
+-- event of a run that has few executes, and at its end, a class has as many left as a request may want.
 use Rattle.std.proofs.Common.{◌≡◌, ◌∙◌, ◌+◌, ◌*◌, ◌%◌, ◌<◌, ◌≤◌, ℕ, Bool, true, List, [], ◌∷◌, length, Option, is_some, refl, sym, ap, subst, arith, inl, inr}
 use Rattle.std.specs.Prelude.{Contains}
 use Rattle.std.proofs.Math.Nat.{add-mod_right, mod-eq_of_lt}
@@ -20,7 +20,7 @@ use Rattle.mg_model.specs.Shards.{HasIdentifiersLeft, RunsWithin, IsContextLeft,
 use Rattle.mg_model.specs.Tables.{line_places}
 use Rattle.mg_model.specs.World.{World, Opened, Occurs, OccursTo, Runs, IsOpening, AgentSteps, Executes, sent_in}
 use Rattle.mg_model.proofs.Single.{nothing_in}
-use Rattle.mg_merge.specs.Identifiers.{HasFewCommands, IdentifiersLast, executes_of, executes_in, most_commands, most_shards, most_executes}
+use Rattle.mg_merge.specs.Identifiers.{HasFewCommands, IdentifiersAreLeft, IdentifiersLast, executes_of, executes_in, most_commands, most_shards, most_executes}
 use Rattle.mg_merge.proofs.Identifiers.Candidates.{class_has_more}
 use Rattle.mg_merge.proofs.Identifiers.FewCommands.{IsShort, GivesShort, replied_short, passed_short, noted_short, timed_short, heard_short}
 use Rattle.mg_merge.proofs.Identifiers.UsedNumbers.{UsesFew, or_more, commands_use_few, settled_uses_few, nothing_used, restarted_uses_none}
@@ -150,7 +150,14 @@ module _ (script : Script) (few : HasFewCommands script) (class : ℕ → Bool) 
       (next, (occurs, runs_within more next end (most + most_commands * executes_of event) (event_sparing w next most event sparing occurs) (omega (arith, within)) runs)),
     )
 
--- ---- the law
+    left_behind : (history : List Event) (w end : World) (most : ℕ) → IsSparing class w most → most + most_commands * executes_in history ≤ most_commands * bound
+        → Runs script history w end → HasIdentifiersLeft end
+    unfolding Runs executes_in
+    left_behind [] w end most sparing within runs = subst HasIdentifiersLeft (sym runs) (left_before w most sparing (omega (arith, within)))
+    left_behind (event ∷ more) w end most sparing within (next, (occurs, runs)) =
+        left_behind more next end (most + most_commands * executes_of event) (event_sparing w next most event sparing occurs) (omega (arith, within)) runs
+
+-- ---- the laws
 
 start_sparing : (script : Script) (calls : List Opened) (w : World) → IsOpening script calls w → IsSparing w.gateway.board.class w 0
 start_sparing script calls w o = record {
@@ -163,4 +170,9 @@ start_sparing script calls w o = record {
 pub they_last : IdentifiersLast
 they_last script calls history start end first stride few below small gives opens runs count =
     runs_within script few start.gateway.board.class first stride most_executes below small gives (omega (arith, below, small)) history start end 0
+    (start_sparing script calls start opens) (omega (arith, count)) runs
+
+pub they_are_left : IdentifiersAreLeft
+they_are_left script calls history start end first stride few below small gives opens runs count =
+    left_behind script few start.gateway.board.class first stride most_executes below small gives (omega (arith, below, small)) history start end 0
     (start_sparing script calls start opens) (omega (arith, count)) runs
