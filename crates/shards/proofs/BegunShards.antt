@@ -1,11 +1,10 @@
 -- A shard in which a call begins on the lines of another: the new call has its slot in place of the old one's, and the beginning is the last of the history.
 -- And a shard in which it can't begin.
-use Rattle.std.proofs.Common.{◌≡◌, ◌∙◌, ◌+◌, ◌++◌, ◌==◌, inl, inr, ℕ, Bool, true, false, true≢false, List, [], ◌∷◌, Option, Some, None, Result, Ok, Err, if◌then◌else◌, refl, sym, ap, subst, arith}
+use Rattle.std.proofs.Common.{◌≡◌, ◌∙◌, ◌+◌, ◌++◌, ◌==◌, inl, ℕ, Bool, true, false, true≢false, List, [], ◌∷◌, Option, Some, None, Result, Ok, Err, if◌then◌else◌, refl, sym, ap, subst, arith}
 use Rattle.std.specs.Prelude.{is_some, not, ◌&&◌, ◌||◌}
 use Rattle.std.proofs.lemmas.Bool.{eqb-true, eqb-false, eq-eqb}
-use Rattle.mg_model.proofs.Cases.{none_is_some, none_of, some_is_none, some_of, the_some}
+use Rattle.mg_model.proofs.Cases.{none_is_some, the_some}
 use Rattle.mg_model.specs.declared.events.Event.{Event}
-use Rattle.mg_model.specs.Agent.{Agent}
 use Rattle.mg_model.specs.Gateway as gateway
 use Rattle.mg_model.specs.Gateway.{Gateway, MayBegin}
 use Rattle.mg_model.specs.World.{begin}
@@ -21,9 +20,10 @@ use Rattle.agent.specs.declared.call.Next.{Next}
 use Rattle.agent.specs.declared.call.Next.TheVariants as next
 use Rattle.agent.specs.declared.refusal.Refusal.{Refusal}
 use Rattle.agent.specs.declared.refusal.Refusal.TheVariants.{NoMemory}
+use Rattle.shards.proofs.NeverBegun.{never_begun, never_ended}
 use Rattle.shards.proofs.ShardLemmas.{led_on, one_more, shard_after, world_numbered}
 use Rattle.shards.proofs.ShardSteps.{AreSameSlots, refused_counts, shard_unchanged, step_refused}
-use Rattle.shards.proofs.ShownBegins.{begin_leads_on, differ, ended_so, free_number, used_number}
+use Rattle.shards.proofs.ShownBegins.{begin_leads_on, differ, free_number}
 use Rattle.shards.specs.Beginnings.{HandsOver, IsBegunBy, has_ended, refusal_of}
 use Rattle.shards.specs.Shards.{CountsEvents, HasHappened, IsShard, IsUnchanged, ShardValue, events_of}
 use Rattle.shards.specs.SlotTable.{slot_in}
@@ -40,12 +40,7 @@ module _ (v : ShardValue) (value : CallValue) (new old : ℕ) where
   not_own other w shown after a occurs goes = other (sym goes.1.0)
 
   pub not_ended : (s : CallRecord) → slot_in v.slots old ≡ Some s → has_ended v.script (agent_of s.agent) v.gateway.association ≡ false → CannotOccur v refusing (begin new old)
-  unfolding gateway_of
-  not_ended s there none w shown after a occurs goes =
-      let shows = shown.shows.calls old s there in
-      let same : agent_of s.agent ≡ occurs.before = the_some (agent_of s.agent) occurs.before (sym shows.agent ∙ occurs.open_call) in
-      true≢false (sym (ended_so v.script w occurs.before v.gateway.association (ap (λ (g : Gateway). g.association) shown.shows.gateway) occurs.ended)
-      ∙ ap (λ (x : Agent). has_ended v.script x v.gateway.association) (sym same) ∙ none)
+  not_ended s there none w shown after a occurs goes = never_ended v new old s there none w shown after occurs
 
 module _ (v : ShardValue) (was : IsShard v) (value : CallValue) (new old : ℕ) where
   abbrev handed : Next
@@ -151,20 +146,9 @@ module _ (v : ShardValue) (was : IsShard v) (value : CallValue) (new old : ℕ) 
     back_kept = shard_unchanged v back was back_unchanged (refused_counts v v.gateway before same_gateway same_slots was.counts)
 
   pub cannot : (h : GatewayValue) (why : BeginFault) → IsBegun v.gateway old new h (Err why) → IsRefusedStep v handed named (refusal_of why)
-  cannot h fault.UnknownCall is = inl closed
-    where
-      closed : CannotOccur v handed named
-      closed w shown after a occurs goes =
-          none_is_some occurs.before (sym (shown.shows.no_others old (none_of (slot_in v.slots old) (sym (shown.shows.open_calls old) ∙ is.0))) ∙ occurs.open_call)
-  cannot h fault.Taken is = inl taken
-    where
-      taken : CannotOccur v handed named
-      taken w shown after a occurs goes = elim (used_number v.gateway new is.1) [
-        | inl stands ↦ (let slot = some_of (slot_in v.slots new) (sym (shown.shows.open_calls new) ∙ stands) in
-            some_is_none (agent_of slot.0.agent) (sym (shown.shows.calls new slot.0 slot.1).agent ∙ occurs.unused))
-        | inr gone ↦ true≢false (sym gone ∙ ap (λ (g : Gateway). g.retired new) (sym shown.shows.gateway) ∙ occurs.not_retired)
-      ]
-  cannot h fault.CannotHappen is = inl (λ w shown after a occurs goes. is.2 (subst (λ (g : Gateway). MayBegin g old) shown.shows.gateway occurs.may))
+  cannot h fault.UnknownCall is = inl (λ w shown after a occurs goes. never_begun v new old fault.UnknownCall is.0 w shown after occurs)
+  cannot h fault.Taken is = inl (λ w shown after a occurs goes. never_begun v new old fault.Taken (is.0, is.1) w shown after occurs)
+  cannot h fault.CannotHappen is = inl (λ w shown after a occurs goes. never_begun v new old fault.CannotHappen (is.0, is.1, is.2) w shown after occurs)
   cannot h fault.NoMemory is = tt
 
   same_after : (h : GatewayValue) (why : BeginFault) → IsBegun v.gateway old new h (Err why) → h ≡ v.gateway

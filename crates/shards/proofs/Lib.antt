@@ -21,7 +21,9 @@ pub mod ShardSteps
 pub mod ShownBegins
 pub mod TakenSteps
 pub mod GatewaySteps
+pub mod NeverBegun
 pub mod BegunShards
+pub mod Occurrences
 pub mod PossibleEvents
 pub mod OpenedShards
 pub mod LastingShards

@@ -40,7 +40,7 @@ module _ (script : Script) (w : World) (g : GatewayValue) (slot : ℕ → Option
   no_step step after none steps =
       none_is_some steps.agent (sym none ∙ ap step (the_some (agent_of s.agent) steps.before (sym own.agent ∙ steps.open_call)) ∙ steps.steps)
 
-  not_stepped : (event : CallEvent) (brought : Delivery) (after : World) → IsDelivered s.messages.sent event (Some brought)
+  pub not_stepped : (event : CallEvent) (brought : Delivery) (after : World) → IsDelivered s.messages.sent event (Some brought)
       → stepped_by script (agent_of s.agent) brought ≡ None → Occurs script w (OfCall (record { 0 = call }) event) after → ⊥
   not_stepped (to_call.OnLine line happens) brought after delivered none occurs = absurd delivered
   not_stepped (to_call.Execute number chosen) brought after delivered none occurs = absurd delivered
@@ -80,7 +80,7 @@ module _ (script : Script) (w : World) (g : GatewayValue) (slot : ℕ → Option
   not_stepped (to_call.Hear association) (delivery.Hear heard_of) after delivered none (told, steps) =
       no_step (λ a. heard script a association.0) after (ap (λ (n : Assoc). heard script (agent_of s.agent) n.0) (sym delivered) ∙ none) steps
 
-  not_brought : (event : CallEvent) (after : World) → IsAtAgent event → IsDelivered s.messages.sent event None
+  pub not_brought : (event : CallEvent) (after : World) → IsAtAgent event → IsDelivered s.messages.sent event None
       → Occurs script w (OfCall (record { 0 = call }) event) after → ⊥
   not_brought (to_call.OnLine line happens) after of_agent none occurs = of_agent
   not_brought (to_call.Execute number chosen) after of_agent none occurs = of_agent

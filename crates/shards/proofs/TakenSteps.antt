@@ -21,6 +21,7 @@ use Rattle.shards.proofs.ShardLemmas.{shard_after, world_numbered}
 use Rattle.shards.proofs.ShardSteps.{AreSameSlots, keeps_all, none_same, one_same, refused_counts, shard_unchanged, step_counts, step_happened, step_refused}
 use Rattle.shards.proofs.ShownSteps.{step_leads_on}
 use Rattle.shards.proofs.ValueSteps.{event_is, value_cannot, value_goes}
+use Rattle.shards.specs.CanOccur.{NeverOccurs}
 use Rattle.shards.specs.Shards.{CountsEvents, HasHappened, IsShard, IsUnchanged, IsWorldOf, ShardValue, events_of}
 use Rattle.shards.specs.Shows.{IsTold, is_told}
 use Rattle.shards.specs.SlotTable.{IsReady, CountsNotes, OthersStay, StepsIn, events_bound, slot_in}
@@ -70,18 +71,23 @@ told_in v w is (to_call.Note number) told = tt
 told_in v w is to_call.Timer told = tt
 told_in v w is (to_call.Begin old) told = tt
 
+-- an agent that isn't told of an association hears of it in no world that is shown
+pub never_told : (v : ShardValue) (call : ℕ) (event : CallEvent) → is_told v.gateway.association event ≡ false
+    → NeverOccurs v (OfCall (record { 0 = call }) event)
+unfolding gateway_of
+never_told v call (to_call.Hear association) told w is after occurs =
+    beyond association.0 v.gateway.association told (subst (λ (g : Gateway). association.0 ≤ g.association) is.shows.gateway occurs.0)
+never_told v call (to_call.OnLine line happens) told w is after occurs = true≢false told
+never_told v call (to_call.Execute number chosen) told w is after occurs = true≢false told
+never_told v call (to_call.Reply number) told w is after occurs = true≢false told
+never_told v call to_call.Pass told w is after occurs = true≢false told
+never_told v call (to_call.Note number) told w is after occurs = true≢false told
+never_told v call to_call.Timer told w is after occurs = true≢false told
+never_told v call (to_call.Begin old) told w is after occurs = true≢false told
+
 pub not_told : (v : ShardValue) (next : Next) (call : ℕ) (event : CallEvent) → is_told v.gateway.association event ≡ false
     → CannotOccur v next (OfCall (record { 0 = call }) event)
-unfolding gateway_of
-not_told v next call (to_call.Hear association) told w is after a occurs goes =
-    beyond association.0 v.gateway.association told (subst (λ (g : Gateway). association.0 ≤ g.association) is.shows.gateway occurs.0)
-not_told v next call (to_call.OnLine line happens) told w is after a occurs goes = true≢false told
-not_told v next call (to_call.Execute number chosen) told w is after a occurs goes = true≢false told
-not_told v next call (to_call.Reply number) told w is after a occurs goes = true≢false told
-not_told v next call to_call.Pass told w is after a occurs goes = true≢false told
-not_told v next call (to_call.Note number) told w is after a occurs goes = true≢false told
-not_told v next call to_call.Timer told w is after a occurs goes = true≢false told
-not_told v next call (to_call.Begin old) told w is after a occurs goes = true≢false told
+not_told v next call event told w is after a occurs goes = never_told v call event told w is after occurs
 
 -- an event of another call is none of the one that is handed in
 pub of_another : (v : ShardValue) (next : Next) (call : ℕ) (event : CallEvent) → IsAtAgent event ⊎ (is_of_gateway event ≡ true) → (call_in next ≡ call → ⊥)

@@ -9,3 +9,4 @@ pub mod Stepping
 pub mod Opening
 pub mod Lasting
 pub mod Meaning
+pub mod CanOccur

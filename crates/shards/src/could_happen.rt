@@ -19,7 +19,12 @@ use mg_names::identifiers::{CallNo, LineNo};
 use script_table::Script;
 
 /// Whether a call holds a line, and the event can happen there.
-fn could_happen_on(gateway: &Gateway, call: CallNo, line: LineNo, event: LineEvent) -> bool
+pub(crate) fn could_happen_on(
+    gateway: &Gateway,
+    call: CallNo,
+    line: LineNo,
+    event: LineEvent,
+) -> bool
     ensures { IsPossibleOn gateway.now call.0 line.0 event result }
 {
     if gateway.holder(line) != Some(call) {
@@ -29,7 +34,7 @@ fn could_happen_on(gateway: &Gateway, call: CallNo, line: LineNo, event: LineEve
 }
 
 /// Whether a call sent a request with this number, and the gateway would take it.
-fn could_execute(gateway: &Gateway, slot: &CallRecord, call: CallNo, number: u32) -> bool
+pub(crate) fn could_execute(gateway: &Gateway, slot: &CallRecord, call: CallNo, number: u32) -> bool
     ensures { IsPossibleRequest gateway.now call.0 number slot.now result }
 {
     let Some(request) = at_gateway::request(slot, number) else {

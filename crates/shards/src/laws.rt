@@ -1,5 +1,5 @@
 //! Laws of shards: what holds of one, whatever was done with it. Their functions do nothing: a contract is the law, which a crate above has by calling it.
-ghost use Rattle.shards.specs.Lasting.{IdentifiersLasted, WorldsAreGood};
+ghost use Rattle.shards.specs.Lasting.{IdentifiersAreLeft, IdentifiersLasted, WorldsAreGood};
 ghost use Rattle.shards.specs.Shards.{IsShard};
 
 use crate::shard::Shard;
@@ -30,6 +30,14 @@ impl<'s> Shard<'s> {
         ensures { IdentifiersLasted self.now }
     {
         laws::identifiers_last();
+        // What the type keeps is at hand where a field is read.
+        let _script = self.script;
+    }
+    /// And they are left now: as many as any request that was sent has commands.
+    pub fn identifiers_are_left(&self)
+        ensures { IdentifiersAreLeft self.now }
+    {
+        laws::identifiers_are_left();
         // What the type keeps is at hand where a field is read.
         let _script = self.script;
     }

@@ -11,6 +11,7 @@ mod at_agent;
 mod at_gateway;
 mod begin;
 mod call_record;
+mod can_occur;
 mod could_happen;
 mod fault;
 mod laws;
