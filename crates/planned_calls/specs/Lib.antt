@@ -1,9 +1,7 @@
-pub mod CallChains
+pub mod Counts
 pub mod Disagreements
 pub mod FaultNames
 pub mod Parts
-pub mod Replays
 pub mod ReportLines
 pub mod RunShards
-pub mod Turnings
-pub mod Turns
+pub mod Taking

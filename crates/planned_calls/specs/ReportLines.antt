@@ -7,12 +7,10 @@ use Rattle.mg_model.specs.Reports.{IsReport, ReportLine}
 use Rattle.mg_model.specs.Script.{Script}
 use Rattle.mg_model.specs.Tables.{state_of}
 use Rattle.mg_reports.specs.Sums.{AddUp}
-use Rattle.agent.specs.AgentValue.{agent_of}
 use Rattle.agent.specs.CallValue.{Kind, rests, waits, has_ended}
-use Rattle.agent.specs.Calls.{value_of, variant_of}
-use Rattle.agent.specs.declared.call.Next.{Next}
-use Rattle.planned_calls.specs.declared.call_chain.CallChain.{CallChain}
-use Rattle.planned_calls.specs.declared.call_chain.RetiredCall.{RetiredCall}
+use Rattle.shards.specs.declared.standing.Standing.{Standing}
+use Rattle.planned_calls.specs.declared.call_count.CallCount.{CallCount}
+use Rattle.planned_calls.specs.declared.call_count.RetiredCall.{RetiredCall}
 use Rattle.planned_calls.specs.declared.lines.CallPhase.{CallPhase}
 use Rattle.planned_calls.specs.declared.lines.CallPhase.TheVariants.{Lost, Resting, Waiting, Ended, Retired}
 use Rattle.planned_calls.specs.declared.lines.Line.{Line}
@@ -41,20 +39,16 @@ kind_phase has_ended = Ended
 abbrev pub phase_in : Bool → Kind → CallPhase
 phase_in is_current kind = if is_current then kind_phase kind else Lost
 
--- the line of a call that stands, where its gateway is in this association
-abbrev pub standing_line : Script → Next → (idle association : ℕ) → ReportLine
-standing_line script next idle association =
-    let agent = agent_of (value_of next).agent in
-    record {
-      state = (state_of script agent.state).name;
-      phase = phase_text (phase_in (agent.association == association) (variant_of next));
-      events = length (value_of next).transcript;
-      idle = idle;
-    }
+-- where a call is that stands so, where its gateway is in this association
+abbrev pub phase_standing : Script → Standing → (association : ℕ) → CallPhase
+phase_standing script s association =
+    phase_in (s.association.0 == association) (if s.is_resting then (if (state_of script s.state).is_end then has_ended else rests) else waits)
 
--- those of a call of the plan, with all that began within it
-abbrev pub lines_told : Script → CallChain → (association : ℕ) → List ReportLine
-lines_told script a association = map (gone_line script) a.gone.items ++ standing_line script a.next a.idle association ∷ []
+-- the lines of a call of the plan, of which this is counted, with all that began within it; the one that stands is in this state and phase
+abbrev pub lines_told : Script → CallCount → (state : ℕ) → CallPhase → List ReportLine
+lines_told script c state phase =
+    map (gone_line script) c.gone.items
+    ++ record { state = (state_of script state).name; phase = phase_text phase; events = c.events; idle = c.idle } ∷ []
 
 -- ---- numbers
 

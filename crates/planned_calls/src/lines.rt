@@ -1,12 +1,12 @@
 //! Where the calls of a run are at its end: a line for each call of the plan, and for each that began within it.
 ghost use Rattle.std.specs.Prelude.{◌≡◌, ◌++◌, ◌∷◌, [], IfOk, OnOk, length, map};
 ghost use Rattle.mg_model.specs.Script.{Script};
-ghost use Rattle.agent.specs.Calls.{variant_of};
-ghost use Rattle.planned_calls.specs.ReportLines.{AreNumbered, gone_line, kind_phase, line_of, lines_told, number_of, numbers_from, phase_text, standing_line};
+ghost use Rattle.planned_calls.specs.ReportLines.{AreNumbered, gone_line, line_of, lines_told, number_of, numbers_from, phase_standing, phase_text};
 
-use crate::call_chain::{CallChain, RetiredCall};
-use agent::Next;
+use crate::call_count::{CallCount, RetiredCall};
 use mg_names::identifiers::Assoc;
+use script_table::Script;
+use shards::Standing;
 use std::alloc::{AllocError, Global};
 
 /// Where a call is at the end of a run. This profile's own.
@@ -56,38 +56,6 @@ impl CallPhase {
     }
 }
 
-/// Where a call that stands is in its own association.
-fn phase_of(next: &Next<'_>) -> CallPhase
-    ensures { result ≡ kind_phase (variant_of next.now) }
-{
-    match next {
-        Next::Resting(_) => CallPhase::Resting,
-        Next::Waiting(_) => CallPhase::Waiting,
-        Next::Ended(_) => CallPhase::Ended,
-    }
-}
-
-/// The line of the call that stands, the latest that began within a call of the plan, where its gateway is in an association.
-fn standing(call: u32, chain: &CallChain<'_>, association: Assoc) -> Line
-    ensures told { (script : Script) → line_of script result ≡ standing_line script chain.now.next chain.now.idle association.0 }
-    ensures numbered { number_of result ≡ (call, length chain.now.gone.items) }
-{
-    let next = &chain.next;
-    let phase = if next.association() == association {
-        phase_of(next)
-    } else {
-        CallPhase::Lost
-    };
-    Line {
-        call,
-        begun: chain.gone.len(),
-        state: next.state(),
-        phase,
-        events: next.transcript().len(),
-        idle: chain.idle,
-    }
-}
-
 /// Adds the lines of those that others began on.
 fn push_gone(lines: &mut Vec<Line>, call: u32, gone: &[RetiredCall]) -> Result<(), AllocError>
     ensures told { OnOk result ((script : Script) → map (line_of script) lines.new.items ≡ map (line_of script) lines.old.items ++ map (gone_line script) gone.now) }
@@ -111,17 +79,43 @@ fn push_gone(lines: &mut Vec<Line>, call: u32, gone: &[RetiredCall]) -> Result<(
     Ok(())
 }
 
-/// The lines of a call of the plan and of those that began within it.
+/// Where a call is that stands so, where its gateway is in this association.
+pub fn phase_of(script: &Script, standing: Standing, association: Assoc) -> CallPhase
+    ensures { result ≡ phase_standing script.now standing association.0 }
+{
+    if standing.association != association {
+        return CallPhase::Lost;
+    }
+    if !standing.is_resting {
+        return CallPhase::Waiting;
+    }
+    if script.ends_in(standing.state) {
+        CallPhase::Ended
+    } else {
+        CallPhase::Resting
+    }
+}
+
+/// The lines of a call of the plan, of which this is counted, and of those that began within it: the one that stands stands so, in this phase.
 pub fn lines_of(
     alloc: Global,
     call: u32,
-    chain: &CallChain<'_>,
-    association: Assoc,
+    count: &CallCount,
+    state: u8,
+    phase: CallPhase,
 ) -> Result<Vec<Line>, AllocError>
-    ensures { IfOk result (λ lines. ((script : Script) → map (line_of script) lines.items ≡ lines_told script chain.now association.0) × AreNumbered call lines.items) }
+    ensures { IfOk result (λ lines. ((script : Script) → map (line_of script) lines.items ≡ lines_told script count.now state phase) × AreNumbered call lines.items) }
 {
     let mut lines = Vec::new(alloc);
-    push_gone(&mut lines, call, chain.gone.as_slice())?;
-    lines.push(standing(call, chain, association))?;
+    let gone = count.gone.as_slice();
+    push_gone(&mut lines, call, gone)?;
+    lines.push(Line {
+        call,
+        begun: gone.len(),
+        state,
+        phase,
+        events: count.events,
+        idle: count.idle,
+    })?;
     Ok(lines)
 }

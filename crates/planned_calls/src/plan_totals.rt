@@ -3,7 +3,6 @@ ghost use Rattle.std.specs.Prelude.{◌≡◌, ◌∷◌, ◌<◌, [], IfNone, I
 ghost use Rattle.mg_model.specs.Plans as plans;
 ghost use Rattle.planned_calls.specs.Disagreements.{last_count};
 
-use crate::turns::epochs_of;
 use mg_model::plans::PlanStep;
 use plans::{Plan, PlanCall};
 use std::marker::Model;
@@ -25,6 +24,17 @@ impl<'a> Model for PlanTotals<'a> {
     ghost view = { λ m. m.plan.now };
 
     ghost invariant = { λ m. (m.epochs ≡ plans.epochs_of m.plan.now.calls) × (m.restarts ≡ plans.restarts_of_all m.plan.now.calls) };
+}
+
+/// As many epochs as the plan's longest call has.
+pub fn epochs_of(plan: &Plan) -> usize
+    ensures { result ≡ plans.epochs_of plan.now.calls }
+{
+    let mut most = 0;
+    for call in plan.calls() {
+        most = most.max(call.epochs().len());
+    }
+    most
 }
 
 /// 1 for a restart, and 0 for any other step.
@@ -50,7 +60,7 @@ fn restarts_among(steps: &[PlanStep]) -> Option<usize>
 }
 
 /// How many steps of a call are restarts.
-pub fn restarts_asked(call: &PlanCall) -> Option<usize>
+fn restarts_asked(call: &PlanCall) -> Option<usize>
     ensures counted { IfSome result (λ restarts. restarts ≡ plans.restarts_asked call.now.epochs) }
     ensures none { IfNone result (last_count < plans.restarts_asked call.now.epochs) }
 {

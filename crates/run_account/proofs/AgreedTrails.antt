@@ -12,7 +12,8 @@ use Rattle.mg_model.specs.Numbers.{plan_calls}
 use Rattle.mg_model.specs.Shards.{cut_at_restarts, merged, restarts_in}
 use Rattle.mg_model.specs.World.{is_of_call}
 use Rattle.agent.specs.Calls.{value_of}
-use Rattle.run_account.specs.Comparing.{Agree, trail_at, trail_of, trails_of}
+use Rattle.run_account.specs.Comparing.{Agree, trail_at, trails_of}
+use Rattle.planned_calls.specs.Taking.{trail_of}
 use Rattle.planned_calls.specs.Parts.{of_call}
 use Rattle.run_account.specs.Runs.{IsOutcome, is_within, within}
 use Rattle.planned_calls.specs.declared.planned_call.PlannedCall.{PlannedCall}
@@ -81,10 +82,10 @@ of_call_in_trail history trails call is = sym (of_call_within call history) ∙ 
 pub of_planned_call : (planned_calls : List PlannedCall) (history : List Event) (call : ℕ)
     → IsOutcome history (trails_of planned_calls) → (d : PlannedCall) → call % plan_calls < length planned_calls
     → (of_call call (get_or planned_calls (call % plan_calls) d).log.trail.items
-    ++ of_call call (value_of (get_or planned_calls (call % plan_calls) d).chain.next).transcript) ≡ of_call call history
+    ++ of_call call (value_of (get_or planned_calls (call % plan_calls) d).next).transcript) ≡ of_call call history
 of_planned_call planned_calls history call is d within =
     let planned = get_or planned_calls (call % plan_calls) d in
-    sym (filter-append (is_of_call call) planned.log.trail.items (value_of planned.chain.next).transcript)
+    sym (filter-append (is_of_call call) planned.log.trail.items (value_of planned.next).transcript)
     ∙ ap (of_call call) (sym (get_or-map trail_of planned_calls (call % plan_calls) d [] within))
     ∙ sym (of_call_in_trail history (trails_of planned_calls) call is)
 

@@ -33,12 +33,16 @@ numbered_below number (call ∷ more) one among =
     by_place (inl is) on = let same : number ≡ one.call = ap (λ (x : Opened). x.call) is in (omega (arith, same), omega (arith, same))
     by_place (inr later) on = let within = on later in (omega (arith, within.0), omega (arith, within.1))
 
+pub part_below : (plan : Plan) (count shard : ℕ) → length plan.calls ≤ plan_calls → (one : Opened) → Contains (opened_in count shard 0 plan.calls) one
+    → one.call < plan_calls
+part_below plan count shard few one among =
+    let below = (numbered_below 0 plan.calls one (part_in_plan count shard 0 plan.calls one among)).1 in
+    omega (arith, below, few)
+
 pub part_numbered : (plan : Plan) (count shard : ℕ) → length plan.calls ≤ plan_calls → (one : Opened) → Contains (opened_in count shard 0 plan.calls) one
     → IsTrue (numbers_in count shard one.call)
 part_numbered plan count shard few one among =
-    let below = (numbered_below 0 plan.calls one (part_in_plan count shard 0 plan.calls one among)).1 in
-    let within : one.call < plan_calls = omega (arith, below, few) in
-    ap (has_rest count shard) (mod-eq_of_lt within) ∙ part_has_rest count shard 0 plan.calls one among
+    ap (has_rest count shard) (mod-eq_of_lt (part_below plan count shard few one among)) ∙ part_has_rest count shard 0 plan.calls one among
 
 -- ---- lines
 

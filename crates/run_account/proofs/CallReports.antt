@@ -1,25 +1,30 @@
 -- What is told of each call of a plan is the plan's report.
 use Rattle.std.proofs.Common.{◌≡◌, ◌∙◌, ◌+◌, ◌<◌, ◌++◌, ℕ, suc, zero, List, [], ◌∷◌, length, map, inl, inr, refl, sym, ap, subst, arith}
 use Rattle.std.specs.List.{AllZip, flat_map, range_with_len}
-use Rattle.std.specs.Prelude.{Contains, IfErr, IfOk, MatchResult, Result, Ok, Err, slice_get, slice_index_or}
+use Rattle.std.specs.Prelude.{◌%◌, Contains, IfErr, IfOk, MatchResult, Result, Ok, Err, Some, slice_get, slice_index_or}
 use Rattle.std.specs.declared.alloc.Global.{Global}
 use Rattle.std.specs.declared.vec.Vec.{Vec}
 use Rattle.std.proofs.lemmas.List.Elements.{Contains-append_cases, Contains-append_left, Contains-append_right}
-use Rattle.std.proofs.lemmas.Option.{same_Some}
 use Rattle.mg_model.proofs.Single.{first_in, first_or_later, later_in, none_in}
 use Rattle.mg_model.specs.declared.events.Event.{Event}
 use Rattle.mg_model.specs.declared.events.Event.TheVariants.{OfCall}
 use Rattle.mg_model.specs.Plans.{Plan, PlanCall, epochs_of, opened_as, restarts_of_others, steps_in}
 use Rattle.mg_model.specs.Reports.{AreReported, IsReported}
+use Rattle.mg_model.specs.Entries.{Entry}
 use Rattle.mg_model.specs.Script.{Script}
+use Rattle.mg_one_report.specs.Logs.{LogsTellReports}
+use Rattle.composition.specs.Verdict.{IsChecked}
 use Rattle.shards.specs.Shards.{ShardValue}
 use Rattle.planned_calls.proofs.Faults.{because}
 use Rattle.run_account.specs.FinalState.{HaveLines, IsLeftAmong}
 use Rattle.planned_calls.specs.Disagreements.{IsBecause}
 use Rattle.planned_calls.specs.ReportLines.{AreAllNumbered, line_of}
-use Rattle.run_account.specs.CallReport.{IsTold}
+use Rattle.run_shards.specs.declared.shard_count.ShardCount.{ShardCount}
+use Rattle.run_account.specs.CallReport.{HavePlayed, IsTold}
 use Rattle.planned_calls.specs.declared.fault.RunFault.{RunFault}
 use Rattle.planned_calls.specs.declared.lines.Line.{Line}
+use Rattle.run_account.proofs.CountedReports.{reported}
+use Rattle.run_account.proofs.EachShard.{counted_at, taken_at, there}
 
 -- ---- two lists, item by item
 
@@ -91,9 +96,25 @@ if_one why Q P xs rs (Err fault) all is on =
 
 -- ---- all calls of a plan
 
-module _ (script : Script) (plan : Plan) (shards : List ShardValue) (trails : List (List Event)) where
+module _ (script : Script) (plan : Plan) (shards : List ShardValue) (counts : List ShardCount) (trails : List (List Event)) where
   abbrev Told : ℕ → List Line → Type 0
-  Told = IsTold script plan shards trails
+  Told = IsTold script plan shards counts trails
+
+  -- what is told of a call is its report
+  abbrev pub TellsReport : (number : ℕ) → PlanCall → List Line → Type 0
+  TellsReport number call lines =
+      IsReported script (opened_as number call) (steps_in (epochs_of plan.calls) call.epochs) (restarts_of_others plan call) (map (line_of script) lines)
+
+  abbrev pub TellReports : Type 0
+  TellReports = (number : ℕ) (call : PlanCall) (lines : List Line) → slice_get plan.calls number ≡ Some call → Told number lines → TellsReport number call lines
+
+  pub tell_reports : LogsTellReports → (entries : List Entry) (points : ℕ) → IsChecked script entries points → HavePlayed script plan shards counts → TellReports
+  tell_reports law entries points checked played number call lines is told =
+      let k = number % plan.shards in
+      reported law script entries points checked plan played.few (0 + k) told.shard told.count
+      (counted_at script plan.calls plan.shards 0 k shards counts told.shard told.count played.counted told.own_shard told.own_count)
+      (played.executes told.shard (there shards k told.shard told.own_shard)) (taken_at plan 0 k counts told.count played.taken told.own_count)
+      number call is (let same : k ≡ 0 + k = omega arith in same) lines told.counted
 
   -- these calls are those of the plan from a number on
   abbrev pub AreFrom : ℕ → List PlanCall → Type 0
@@ -103,29 +124,24 @@ module _ (script : Script) (plan : Plan) (shards : List ShardValue) (trails : Li
   more_from number call calls from i =
       from (suc i) ∙ ap (slice_get plan.calls) (let same : number + suc i ≡ number + 1 + i = omega arith in same)
 
-  own_call : (number : ℕ) (call : PlanCall) (calls : List PlanCall) (own : List Line) → AreFrom number (call ∷ calls) → (told : Told number own) → told.call ≡ call
-  own_call number call calls own from told =
-      same_Some told.call call
-      (sym told.is ∙ ap (slice_get plan.calls) (let same : number ≡ number + 0 = omega arith in same) ∙ sym (from 0))
+  first_from : (number : ℕ) (call : PlanCall) (calls : List PlanCall) → AreFrom number (call ∷ calls) → slice_get plan.calls number ≡ Some call
+  first_from number call calls from = ap (slice_get plan.calls) (let same : number ≡ number + 0 = omega arith in same) ∙ sym (from 0)
 
-  pub are_reported : (number : ℕ) (calls : List PlanCall) (all : List (List Line)) → AreFrom number calls
+  pub are_reported : TellReports → (number : ℕ) (calls : List PlanCall) (all : List (List Line)) → AreFrom number calls
       → AllZip Told (range_with_len number (length calls)) all
       → AreReported script plan number calls (map (λ (own : List Line). map (line_of script) own) all)
   unfolding AreReported
-  are_reported number [] [] from told = tt
-  are_reported number [] (own ∷ all) from told = absurd told
-  are_reported number (call ∷ calls) [] from told = absurd told
-  are_reported number (call ∷ calls) (own ∷ all) from (one, told) = (
-    subst (λ (c : PlanCall). IsReported script (opened_as number c) (steps_in (epochs_of plan.calls) c.epochs) (restarts_of_others plan c) (map (line_of script) own))
-        (own_call number call calls own from one) one.reported,
-    are_reported (number + 1) calls all (more_from number call calls from) told,
-  )
+  are_reported each number [] [] from told = tt
+  are_reported each number [] (own ∷ all) from told = absurd told
+  are_reported each number (call ∷ calls) [] from told = absurd told
+  are_reported each number (call ∷ calls) (own ∷ all) from (one, told) =
+      (each number call own (first_from number call calls from) one, are_reported each (number + 1) calls all (more_from number call calls from) told)
 
   pub are_numbered : (number count : ℕ) (all : List (List Line)) → AllZip Told (range_with_len number count) all → AreAllNumbered number all
   are_numbered number zero [] told = tt
   are_numbered number zero (own ∷ all) told = absurd told
   are_numbered number (suc count) [] told = absurd told
-  are_numbered number (suc count) (own ∷ all) (one, told) = (one.numbered, are_numbered (number + 1) count all told)
+  are_numbered number (suc count) (own ∷ all) (one, told) = (one.counted.numbered, are_numbered (number + 1) count all told)
 
   pub are_left : (number count : ℕ) (all : List (List Line)) → AllZip Told (range_with_len number count) all
       → (l : Line) → Contains (flat_map (λ (own : List Line). own) all) l → IsLeftAmong script plan.shards shards trails l

@@ -1,5 +1,5 @@
 -- Where the walk along the trails stops, the histories aren't what the calls went through.
-use Rattle.std.proofs.Common.{◌≡◌, ◌∙◌, ◌+◌, ◌<◌, ◌≤◌, ◌++◌, ◌⊎◌, inl, inr, ℕ, zero, suc, Bool, true, false, List, [], ◌∷◌, Some, length, take, drop, get_or, replicate, if◌then◌else◌, refl, sym, ap, subst, add-one, drop-cons, arith}
+use Rattle.std.proofs.Common.{◌≡◌, ◌∙◌, ◌+◌, ◌<◌, ◌≤◌, ◌++◌, inl, inr, ℕ, zero, suc, Bool, true, List, [], ◌∷◌, Some, length, take, drop, get_or, replicate, if◌then◌else◌, refl, sym, ap, subst, add-one, drop-cons, arith}
 use Rattle.std.specs.Prelude.{◌%◌, slice_get, slice_index_or}
 use Rattle.std.specs.List.{flat_map}
 use Rattle.std.proofs.lemmas.Bool.{eq-eqb}
@@ -9,7 +9,7 @@ use Rattle.std.proofs.lemmas.List.Elements.{filter-append}
 use Rattle.mg_model.specs.declared.events.Event.{Event}
 use Rattle.mg_model.specs.declared.events.Event.TheVariants.{OfCall, Restart}
 use Rattle.mg_model.specs.Numbers.{plan_calls}
-use Rattle.run_account.specs.Comparing.{Agree, Differ, FollowAll, Follows, IsAtEnd, StrayAmong, Strays, StraysIn, last_place, place_at, trail_at}
+use Rattle.run_account.specs.Comparing.{Agree, Differ, FollowAll, Follows, IsAtEnd, StrayAmong, Strays, StraysIn, place_at, trail_at}
 use Rattle.run_account.specs.Runs.{is_within, within}
 
 -- ---- places in lists

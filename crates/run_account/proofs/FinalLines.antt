@@ -1,5 +1,5 @@
 -- The lines of a call of the plan, one after the other: each has the events behind those of the lines before it, and tells what its shard shows.
-use Rattle.std.proofs.Common.{◌≡◌, ◌∙◌, ◌+◌, ◌<◌, ◌≤◌, ◌++◌, ◌==◌, ◌⊎◌, inl, inr, ℕ, Bool, Some, List, [], ◌∷◌, length, get_or, take, if◌then◌else◌, refl, sym, ap, subst, arith}
+use Rattle.std.proofs.Common.{◌≡◌, ◌∙◌, ◌+◌, ◌<◌, ◌≤◌, ◌++◌, ◌⊎◌, inl, inr, ℕ, Bool, Some, List, [], ◌∷◌, length, get_or, take, if◌then◌else◌, refl, sym, ap, subst, arith}
 use Rattle.std.specs.Prelude.{◌%◌, Contains}
 use Rattle.std.proofs.lemmas.Bool.{cases_eq, eq-eqb, ne_eqb}
 use Rattle.std.proofs.lemmas.List.{take_all, take_more}
@@ -7,48 +7,30 @@ use Rattle.std.proofs.lemmas.List.Elements.{Contains-append_cases, Contains-appe
 use Rattle.mg_model.proofs.Single.{none_in, only_one}
 use Rattle.mg_model.specs.declared.events.Event.{Event}
 use Rattle.mg_model.specs.declared.events.Event.TheVariants.{OfCall}
-use Rattle.mg_model.specs.Agent.{is_resting}
 use Rattle.mg_model.specs.Numbers.{plan_calls}
 use Rattle.mg_model.specs.Script.{Script}
-use Rattle.mg_model.specs.Tables.{state_of}
 use Rattle.mg_model.specs.World.{World, is_of_call}
-use Rattle.gateway.specs.GatewayValue.{gateway_of}
-use Rattle.agent.specs.CallValue.{rests, waits, has_ended}
 use Rattle.shards.specs.Shards.{IsWorldOf, ShardValue}
 use Rattle.shards.specs.Standings.{StandsAs}
 use Rattle.shards.specs.declared.standing.Standing.{Standing}
-use Rattle.run_account.specs.FinalStates.{AreAllOf, IsLineOf, Leaves, counted, phase_standing}
+use Rattle.run_account.specs.FinalStates.{AreAllOf, IsLineOf, Leaves, counted}
 use Rattle.run_account.specs.FinalState.{HaveLines, IsLeftBy, IsOpenAs, call_of}
 use Rattle.planned_calls.specs.Parts.{of_call}
-use Rattle.planned_calls.specs.ReportLines.{phase_in, phase_text}
+use Rattle.planned_calls.specs.ReportLines.{phase_standing, phase_text}
 use Rattle.planned_calls.specs.declared.lines.Line.{Line}
-use Rattle.planned_calls.proofs.ReportedAlone.{word_is}
 use Rattle.run_account.proofs.Passed.{passed_among, some_in}
+use Rattle.run_account.proofs.StandingWords.{standing_word}
 
 -- ---- a call that is open
 
--- the word for a call of an association, in a gateway's
-abbrev word_with : Script → (own current : ℕ) → (at_rest : Bool) → (state : ℕ) → List ℕ
-word_with script own current at_rest state =
-    phase_text (phase_in (own == current) (if at_rest then (if (state_of script state).is_end then has_ended else rests) else waits))
-
 pub open_as : (script : Script) (v : ShardValue) (w : World) (number association : ℕ) (s : Standing) (l : Line) → IsWorldOf v w → StandsAs w number s
     → association ≡ v.gateway.association → number ≡ call_of l → l.state ≡ s.state → l.phase ≡ phase_standing script s association → IsOpenAs script w l
-unfolding gateway_of
 open_as script v w number association s l is stands now of state phase = record {
   agent = stands.agent;
   open_call = subst (λ (n : ℕ). w.agent n ≡ Some stands.agent) of stands.open_call;
   state = state ∙ stands.state;
-  phase = ap phase_text phase
-      ∙ ap (λ (n : ℕ). word_with script n association s.is_resting s.state) stands.association
-      ∙ ap (λ (n : ℕ). word_with script stands.agent.association n s.is_resting s.state) shown
-      ∙ ap (λ (at_rest : Bool). word_with script stands.agent.association w.gateway.association at_rest s.state) stands.at_rest
-      ∙ ap (λ (n : ℕ). word_with script stands.agent.association w.gateway.association (is_resting stands.agent.phase) n) stands.state
-      ∙ word_is (stands.agent.association == w.gateway.association) (state_of script stands.agent.state).is_end stands.agent.phase;
+  phase = ap phase_text phase ∙ standing_word script v w number association s is stands now;
 }
-  where
-    shown : association ≡ w.gateway.association
-    shown = now ∙ sym (ap (λ g. g.association) is.shows.gateway)
 
 -- ---- one line after the other
 

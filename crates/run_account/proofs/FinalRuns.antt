@@ -1,5 +1,5 @@
 -- What is left of the lines in their shards is left in the world that the merged run ends in.
-use Rattle.std.proofs.Common.{◌≡◌, ◌∙◌, ◌+◌, ◌==◌, inl, inr, ℕ, zero, suc, true, false, List, [], ◌∷◌, Option, Some, length, if◌then◌else◌, sym, ap, subst, arith}
+use Rattle.std.proofs.Common.{◌≡◌, ◌∙◌, ◌+◌, ◌==◌, inl, inr, ℕ, zero, suc, List, [], ◌∷◌, Option, Some, length, sym, ap, subst, arith}
 use Rattle.std.specs.Prelude.{◌%◌, Contains, IsTrue, is_some, slice_get, slice_index_or}
 use Rattle.std.proofs.lemmas.Bool.{eq-eqb, true≢false}
 use Rattle.std.proofs.lemmas.Option.{same_Some}

@@ -1,7 +1,7 @@
 -- Shards that kept their runs, share nothing and were restarted equally often: the merge of their histories is a run of the plan's calls, in which every world
 -- is good.
-use Rattle.std.proofs.Common.{◌≡◌, ◌∙◌, ◌+◌, ◌<◌, ◌≤◌, ◌++◌, ◌⊎◌, inl, inr, ℕ, suc, Bool, true, false, List, [], ◌∷◌, length, map, refl, sym, ap, subst, arith}
-use Rattle.std.specs.Prelude.{◌%◌, ◌==◌, Contains, if◌then◌else◌, slice_index_or}
+use Rattle.std.proofs.Common.{◌≡◌, ◌∙◌, ◌+◌, ◌<◌, ◌≤◌, ◌++◌, inl, inr, ℕ, suc, Bool, true, false, List, [], ◌∷◌, length, map, refl, sym, ap, subst, arith}
+use Rattle.std.specs.Prelude.{◌%◌, ◌==◌, Contains, slice_index_or}
 use Rattle.std.proofs.lemmas.Bool.{eq-eqb, true≢false}
 use Rattle.std.proofs.lemmas.List.{length-map}
 use Rattle.mg_model.proofs.Single.{none_in, first_or_later}

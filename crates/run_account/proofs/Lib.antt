@@ -2,7 +2,9 @@ pub mod AgreedTrails
 pub mod ApartParts
 pub mod CallReports
 pub mod CountLemmas
+pub mod CountedReports
 pub mod DifferingTrails
+pub mod EachShard
 pub mod FinalLines
 pub mod FinalRuns
 pub mod FinishedRuns
@@ -14,4 +16,4 @@ pub mod MergedPlaces
 pub mod OtherLine
 pub mod Passed
 pub mod SameEvents
-pub mod SameLines
+pub mod StandingWords

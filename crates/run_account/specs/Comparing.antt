@@ -4,9 +4,9 @@ use Rattle.std.specs.Prelude.{◌≡◌, ℕ, ◌%◌, ◌<◌, ◌≤◌, ◌�
 use Rattle.std.specs.List.{flat_map}
 use Rattle.mg_model.specs.declared.events.Event.{Event}
 use Rattle.mg_model.specs.declared.events.Event.TheVariants.{OfCall, Restart}
-use Rattle.agent.specs.Calls.{value_of}
 use Rattle.mg_model.specs.Numbers.{plan_calls}
 use Rattle.run_account.specs.Runs.{within}
+use Rattle.planned_calls.specs.Taking.{trail_of}
 use Rattle.planned_calls.specs.declared.planned_call.PlannedCall.{PlannedCall}
 
 -- 1 for a restart, and 0 for an event of a call
@@ -14,10 +14,7 @@ abbrev pub restarts_of : Event → ℕ
 restarts_of (OfCall call happens) = 0
 restarts_of Restart = 1
 
--- what happened to a call of the plan, with all that began within it
-abbrev pub trail_of : PlannedCall → List Event
-trail_of planned = planned.log.trail.items ++ (value_of planned.chain.next).transcript
-
+-- what happened to each call of the plan, with all that began within it
 abbrev pub trails_of : List PlannedCall → List (List Event)
 trails_of planned_calls = map trail_of planned_calls
 

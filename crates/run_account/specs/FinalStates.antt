@@ -1,18 +1,13 @@
 -- How lines are compared with the transcripts and with a shard, one after the other. A reader should check that what happened up to a place is counted for every
--- call, and that the phase is that of the standing that a shard tells.
+-- call.
 use Rattle.std.specs.Prelude.{◌≡◌, ℕ, ◌+◌, ◌==◌, ◌%◌, if◌then◌else◌, List, length, take}
 use Rattle.mg_model.specs.declared.events.Event.{Event}
 use Rattle.mg_model.specs.Numbers.{plan_calls}
 use Rattle.mg_model.specs.Script.{Script}
-use Rattle.mg_model.specs.Tables.{state_of}
 use Rattle.mg_model.specs.World.{World}
-use Rattle.agent.specs.CallValue.{rests, waits, has_ended}
 use Rattle.shards.specs.Shards.{IsWorldOf, ShardValue}
-use Rattle.shards.specs.declared.standing.Standing.{Standing}
 use Rattle.run_account.specs.FinalState.{IsLeftIn, call_of}
 use Rattle.planned_calls.specs.Parts.{of_call}
-use Rattle.planned_calls.specs.ReportLines.{phase_in}
-use Rattle.planned_calls.specs.declared.lines.CallPhase.{CallPhase}
 use Rattle.planned_calls.specs.declared.lines.Line.{Line}
 
 -- how many events of a call stand before a place
@@ -23,11 +18,6 @@ counted call place trail = length (of_call call (take place trail))
 abbrev pub AreAllOf : (trail : List Event) → (number from count next : ℕ) → Type 0
 AreAllOf trail number from count next =
     (call : ℕ) → counted call next trail ≡ counted call from trail + (if number == call then count else 0)
-
--- where a call is that stands so, where its gateway is in this association
-abbrev pub phase_standing : Script → Standing → (association : ℕ) → CallPhase
-phase_standing script s association =
-    phase_in (s.association.0 == association) (if s.is_resting then (if (state_of script s.state).is_end then has_ended else rests) else waits)
 
 -- a line is of a call of the plan, or of one that began within it
 pub record IsLineOf (call : ℕ) (l : Line) : Type 0 where

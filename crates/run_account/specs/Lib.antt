@@ -7,3 +7,4 @@ pub mod Finishing
 pub mod Merging
 pub mod OtherLines
 pub mod Runs
+pub mod TakenAll

@@ -14,8 +14,9 @@ use Rattle.shards.specs.Standings.{StandsAs}
 use Rattle.shards.specs.declared.standing.Standing.{Standing}
 use Rattle.run_account.specs.Comparing.{last_place}
 use Rattle.run_account.specs.FinalState.{call_of}
-use Rattle.run_account.specs.FinalStates.{IsLineOf, phase_standing}
+use Rattle.run_account.specs.FinalStates.{IsLineOf}
 use Rattle.planned_calls.specs.Disagreements.{last_number}
+use Rattle.planned_calls.specs.ReportLines.{phase_standing}
 use Rattle.planned_calls.specs.declared.lines.CallPhase.TheVariants.{Retired}
 use Rattle.planned_calls.specs.declared.lines.Line.{Line}
 

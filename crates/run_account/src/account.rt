@@ -1,5 +1,5 @@
-//! The end of a run, once its threads are joined: the shards come out of their locks, their histories are compared with what the calls went through, and
-//! merged.
+//! The end of a run, once its threads are joined: the shards come out of their locks, with all steps of the plan counted in them, their histories are compared with
+//! what the calls went through, and merged.
 ghost use Rattle.std.specs.Prelude.{◌≡◌, ◌≤◌, false, IfErr, IfOk, IsTrue, length, map, vec_len};
 ghost use Rattle.mg_model.specs.Numbers.{plan_calls};
 ghost use Rattle.mg_model.specs.Script.{Script};
@@ -7,19 +7,21 @@ ghost use Rattle.plans.specs.Accepted.{IsPlanFor};
 ghost use Rattle.run_account.specs.Finishing.{AreFinished, HasUnfinished, IsFinished, IsUnfinished};
 ghost use Rattle.planned_calls.specs.Disagreements.{IsBecause};
 ghost use Rattle.planned_calls.specs.RunShards.{AreOfRun};
-ghost use Rattle.run_account.specs.Disagreements.{Disagreement, association_after, restarts_of_first};
+ghost use Rattle.run_shards.specs.Counting.{AreCounted};
+ghost use Rattle.run_account.specs.Disagreements.{Disagreement, restarts_of_first};
 ghost use Rattle.run_account.specs.Runs.{IsRunOf};
 
 use crate::compare::{self, agree};
 use crate::merge::merge;
 use crate::outcome::Outcome;
 use crate::report::{Source, report};
+use crate::taken_all::have_taken_all;
 use composition::Checked;
 use mg_merge::laws;
 use mg_model::events::Event;
-use mg_names::identifiers::Assoc;
 use planned_calls::{PlanTotals, PlannedCall, RunFault};
 use plans::Plan;
+use run_shards::ShardCount;
 use shards::Shard;
 use std::alloc::{AllocError, Global};
 use std::thread::Threads;
@@ -63,13 +65,6 @@ fn restarts_of(shards: &[Shard<'_>]) -> usize
     }
 }
 
-/// The association of gateways that were restarted so often, from 1.
-fn association_after(restarts: usize) -> Assoc
-    ensures { result ≡ association_after restarts }
-{
-    Assoc((restarts as u64).saturating_add(1))
-}
-
 /// The histories of the shards.
 fn histories<'a>(alloc: Global, shards: &'a [Shard<'_>]) -> Result<Vec<&'a [Event]>, AllocError>
     ensures { IfOk result (λ histories. map (λ history. history.now) histories.items ≡ map (λ v. v.history) shards.now) }
@@ -90,30 +85,47 @@ pub struct PlannedRun<'a> {
     pub plan: &'a Plan,
 }
 
-/// What a run of a plan on so many workers came to: `Disagree` where the shards weren't restarted equally often, or have another history than the calls went through, and
-/// `NoMemory` where memory ran out.
+/// The shards of a run, and what is counted of the calls of each.
+#[derive(Clone, Copy)]
+pub struct CountedShards<'a, 's> {
+    /// The shards, in the order of their numbers.
+    pub shards: &'a [Shard<'s>],
+    /// What is counted of the calls of each, in the same order.
+    pub counts: &'a [ShardCount],
+}
+
+/// What a run of a plan on so many workers came to: `Disagree` where the shards weren't restarted equally often, where the steps that are counted in one aren't all
+/// of the plan's, or where they have another history than the calls went through, and `NoMemory` where memory ran out.
 pub fn finish<'a, 's, R: Threads + Sync>(
     rt: &R,
     alloc: Global,
     run: PlannedRun<'a>,
-    shards: &'a [Shard<'s>],
+    played: CountedShards<'a, 's>,
     planned_calls: Vec<PlannedCall<'s>>,
     workers: usize,
 ) -> Result<Outcome<'s>, RunFault>
     requires plan { IsPlanFor run.checked.now.table run.plan.now }
     requires few { length run.plan.now.calls ≤ plan_calls }
-    requires kept { AreOfRun run.checked.now.table run.plan.now.calls run.plan.now.shards 0 shards.now }
+    requires kept { AreOfRun run.checked.now.table run.plan.now.calls run.plan.now.shards 0 played.shards.now }
+    requires counted { AreCounted run.checked.now.table run.plan.now.calls run.plan.now.shards 0 played.shards.now played.counts.now }
     requires all { vec_len planned_calls ≡ length run.plan.now.calls }
     ensures run { IfOk result (λ outcome. IsRunOf run.entry.checked.now.table run.entry.plan.now outcome) }
-    ensures disagreement { IfErr result (IsBecause (Disagreement run.entry.checked.now.table run.entry.plan.now shards.now planned_calls.entry.items)) }
+    ensures disagreement { IfErr result (IsBecause (Disagreement run.entry.checked.now.table run.entry.plan.now played.entry.shards.now played.entry.counts.now planned_calls.entry.items)) }
 {
     laws::merges_are_runs();
     let PlannedRun { checked, plan } = run;
+    let CountedShards { shards, counts } = played;
     if shards.len() != usize::from(plan.shards()) {
         return Err(RunFault::Disagree);
     }
     let restarts = restarts_of(shards);
     if !have_finished(shards, restarts) {
+        return Err(RunFault::Disagree);
+    }
+    let Some(totals) = PlanTotals::new(plan) else {
+        return Err(RunFault::Disagree);
+    };
+    if !have_taken_all(counts, &totals) {
         return Err(RunFault::Disagree);
     }
     let count = u32::from(plan.shards());
@@ -123,15 +135,12 @@ pub fn finish<'a, 's, R: Threads + Sync>(
     }
     let histories = histories(alloc, shards)?;
     let history = merge(alloc, histories.as_slice(), restarts)?;
-    let Some(totals) = PlanTotals::new(plan) else {
-        return Err(RunFault::Disagree);
-    };
     let source = Source {
         checked,
         totals,
         shards,
+        counts,
         planned_calls: planned_calls.as_slice(),
-        last: association_after(restarts),
     };
     let report = report(rt, alloc, &source, workers)?;
     Ok(Outcome {

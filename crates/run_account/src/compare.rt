@@ -2,7 +2,8 @@
 ghost use Rattle.std.specs.Prelude.{◌≡◌, ◌∷◌, [], ◌++◌, ◌≤◌, false, IfNone, IfOk, IfSome, IsTrue, OnOk, length, map, nat_le, slice_get, take};
 ghost use Rattle.mg_model.specs.Shards.{restarts_in};
 ghost use Rattle.mg_merge.specs.Identifiers.{executes_in, executes_of};
-ghost use Rattle.run_account.specs.Comparing.{Agree, Differ, FollowAll, Follows, IsAtEnd, IsNotNext, StrayAmong, Strays, StraysIn, restarts_of, trail_of, trails_of};
+ghost use Rattle.run_account.specs.Comparing.{Agree, Differ, FollowAll, Follows, IsAtEnd, IsNotNext, StrayAmong, Strays, StraysIn, restarts_of, trails_of};
+ghost use Rattle.planned_calls.specs.Taking.{trail_of};
 ghost use Rattle.planned_calls.specs.Parts.{of_call};
 ghost use Rattle.agent.specs.Calls.{value_of};
 
@@ -86,7 +87,7 @@ pub(crate) fn ends_at(planned: &PlannedCall<'_>, place: usize) -> bool
         .log
         .trail
         .len()
-        .checked_add(planned.chain.next.transcript().len());
+        .checked_add(planned.next.transcript().len());
     match all {
         Some(all) => all <= place,
         None => false,
@@ -101,7 +102,7 @@ pub(crate) fn event_at(planned: &PlannedCall<'_>, place: usize) -> Option<Event>
     if place < before {
         return planned.log.trail.as_slice().get(place).copied();
     }
-    planned.chain.next.transcript().get(place - before).copied()
+    planned.next.transcript().get(place - before).copied()
 }
 
 /// The place behind an event in the transcripts of a call of the plan. Nothing, where the event isn't the next one there.

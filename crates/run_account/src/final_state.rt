@@ -5,15 +5,17 @@ ghost use Rattle.mg_model.specs.declared.events.Event.TheVariants.{OfCall};
 ghost use Rattle.mg_model.specs.World.{begin};
 ghost use Rattle.mg_model.specs.declared.events.CallEvent.{CallEvent};
 ghost use Rattle.planned_calls.specs.declared.lines.Line.{Line};
-ghost use Rattle.run_account.specs.Comparing.{last_place, trail_of, trails_of};
-ghost use Rattle.run_account.specs.FinalStates.{AreAllOf, IsLineOf, Leaves, phase_standing};
+ghost use Rattle.run_account.specs.Comparing.{last_place, trails_of};
+ghost use Rattle.planned_calls.specs.Taking.{trail_of};
+ghost use Rattle.planned_calls.specs.ReportLines.{phase_standing};
+ghost use Rattle.run_account.specs.FinalStates.{AreAllOf, IsLineOf, Leaves};
 ghost use Rattle.run_account.specs.FinalState.{HaveLines, IsGone, IsLeftAmong, IsLeftBy, call_of};
 ghost use Rattle.run_account.specs.OtherLines.{AreLeftOtherwise, AreUnlike, IsInterrupted, IsLeftOtherwise, IsNoBeginningOn, IsNotGone, IsNotOf, IsOfNoCall, IsOtherStanding};
 
 use crate::compare::{ends_at, event_at};
 use mg_model::events::{CallEvent, Event};
 use mg_names::identifiers::{Assoc, CallNo};
-use planned_calls::{CallPhase, Line, PLAN_CALLS, PlannedCall};
+use planned_calls::{CallPhase, Line, PLAN_CALLS, PlannedCall, phase_of};
 use script_table::Script;
 use shards::{Shard, Standing};
 
@@ -77,23 +79,6 @@ fn is_begun_on(planned: &PlannedCall<'_>, place: usize, number: CallNo) -> bool
             },
         ) => old == number,
         _ => false,
-    }
-}
-
-/// Where a call is that stands so, where its gateway is in this association.
-fn phase_of(script: &Script, standing: Standing, association: Assoc) -> CallPhase
-    ensures { result ≡ phase_standing script.now standing association.0 }
-{
-    if standing.association != association {
-        return CallPhase::Lost;
-    }
-    if !standing.is_resting {
-        return CallPhase::Waiting;
-    }
-    if script.ends_in(standing.state) {
-        CallPhase::Ended
-    } else {
-        CallPhase::Resting
     }
 }
 

@@ -55,7 +55,7 @@ impl<'s> Outcome<'s> {
         }
         let planned = &self.planned_calls[number];
         push_of(call, planned.log.trail.as_slice(), &mut events)?;
-        push_of(call, planned.chain.next.transcript(), &mut events)?;
+        push_of(call, planned.next.transcript(), &mut events)?;
         Ok(events)
     }
 }

@@ -1,26 +1,25 @@
-//! The report of a run: for each call of the plan the lines that a run of it alone tells, which have to be those that the run itself tells, and what its shards
-//! and transcripts leave. The runs alone have nothing to do with each other, so threads tell them.
-ghost use Rattle.std.specs.Prelude.{◌≡◌, ◌<◌, ℕ, [], Contains, IfErr, IfOk, MatchResult, length, map, slice_index_or};
+//! The report of a run: for each call of the plan the lines that its shard counts, the last one as the shard shows the call that stands. They have to be what the
+//! shards and transcripts leave. The calls have nothing to do with each other here, so threads tell them.
+ghost use Rattle.std.specs.Prelude.{◌≡◌, ◌<◌, ℕ, [], Contains, IfErr, IfNone, IfOk, IfSome, MatchResult, length, slice_index_or};
 ghost use Rattle.std.specs.List.{flat_map, range_with_len, AllZip};
-ghost use Rattle.mg_model.specs.Plans as plans;
-ghost use Rattle.mg_model.specs.Script.{Script};
-ghost use Rattle.mg_model.specs.Reports.{IsReported};
+ghost use Rattle.planned_calls.specs.Disagreements.{IsBecause, last_number};
+ghost use Rattle.planned_calls.specs.ReportLines.{IsReportOf};
+ghost use Rattle.run_account.specs.CallReport.{AreCountedLines, HavePlayed, IsTold, number_standing};
 ghost use Rattle.run_account.specs.Comparing.{trails_of};
+ghost use Rattle.run_account.specs.Disagreements.{HasNotTold, IsNotCounted, IsNotTold};
 ghost use Rattle.run_account.specs.FinalState.{HaveLines, IsLeftAmong};
-ghost use Rattle.planned_calls.specs.Disagreements.{IsBecause};
-ghost use Rattle.planned_calls.specs.ReportLines.{AreNumbered, IsReportOf, line_of, lines_told};
-ghost use Rattle.run_account.specs.CallReport.{IsTold};
-ghost use Rattle.run_account.specs.Disagreements.{HasNotTold, IsNotAgreed, IsNotTold};
 
 use crate::final_state::are_left;
 use composition::Checked;
-use mg_names::identifiers::Assoc;
+use mg_names::identifiers::CallNo;
+use mg_one_report::laws::logs_tell_reports;
 use mg_reports::laws;
 use planned_calls::{
-    Line, Marked, PlanTotals, PlannedCall, RunFault, lines_alone, lines_of, restarts_asked,
+    CallCount, Line, PLAN_CALLS, PlanTotals, PlannedCall, RunFault, lines_of, phase_of,
 };
-use plans::PlanCall;
 use rayon::prelude::*;
+use run_shards::ShardCount;
+use script_table::Script;
 use shards::Shard;
 use std::alloc::{AllocError, Global};
 use std::thread::Threads;
@@ -34,63 +33,68 @@ pub(crate) struct Source<'a, 's> {
     pub(crate) totals: PlanTotals<'a>,
     /// The shards, in the order of their numbers.
     pub(crate) shards: &'a [Shard<'s>],
+    /// What is counted of the calls of each, in the same order.
+    pub(crate) counts: &'a [ShardCount],
     /// The calls of the plan, in their order.
     pub(crate) planned_calls: &'a [PlannedCall<'s>],
-    /// The association in which the run ended.
-    pub(crate) last: Assoc,
 }
 
-/// The lines of a call of the plan, and of those that began within it, by a run of it alone. `Disagree` where they aren't those that it has in this run.
-fn agreed_lines(
+/// The number of the call that stands of a call of the plan, of which this is counted; nothing where the numbers end.
+fn number_of(number: u32, own: &CallCount) -> Option<CallNo>
+    ensures number { IfSome result (λ standing. standing.0 ≡ number_standing number own.now) }
+    ensures none { IfNone result (last_number < number_standing number own.now) }
+{
+    let begun = u32::try_from(own.gone.len()).ok()?;
+    let before = PLAN_CALLS.checked_mul(begun)?;
+    Some(CallNo(before.checked_add(number)?))
+}
+
+/// The lines of a call of the plan, as its shard counts and shows them. `Disagree` where it doesn't, and `NoMemory` where memory ran out.
+fn counted_lines(
     alloc: Global,
-    source: &Source<'_, '_>,
+    script: &Script,
+    shard: &Shard<'_>,
+    count: &ShardCount,
     number: u32,
-    call: &PlanCall,
-    planned: &PlannedCall<'_>,
 ) -> Result<Vec<Line>, RunFault>
-    ensures reported { IfOk result (λ lines. IsReported source.now.checked.now.table (plans.opened_as number call.now) (plans.steps_in (plans.epochs_of source.now.totals.calls) call.now.epochs) (plans.restarts_of_others source.now.totals call.now) (map (line_of source.now.checked.now.table) lines.items)) }
-    ensures numbered { IfOk result (λ lines. AreNumbered number lines.items) }
-    ensures kept { IfOk result (λ lines. (script : Script) → map (line_of script) lines.items ≡ lines_told script planned.now.chain source.now.last.0) }
-    ensures not_agreed { IfErr result (IsBecause (IsNotAgreed source.now.checked.now.table source.now.totals number call.now planned.now source.now.last)) }
+    ensures counted { IfOk result (λ lines. AreCountedLines script.now shard.now count.now number lines.items) }
+    ensures not_counted { IfErr result (IsBecause (IsNotCounted shard.now count.now number)) }
 {
-    let Some(own) = restarts_asked(call) else {
+    let Some(own) = count.counts.get(number as usize) else {
         return Err(RunFault::Disagree);
     };
-    let last = source.last;
-    let marked = Marked {
-        number,
-        call,
-        marks: planned.log.marks.as_slice(),
-        others: source.totals.restarts().saturating_sub(own),
-        last,
-    };
-    let lines = lines_alone(alloc, source.checked, &source.totals, &marked)?;
-    let kept = lines_of(alloc, number, &planned.chain, last)?;
-    if lines.as_slice() != kept.as_slice() {
+    let Some(call) = number_of(number, own) else {
         return Err(RunFault::Disagree);
-    }
-    Ok(lines)
+    };
+    let Some(standing) = shard.standing(call) else {
+        return Err(RunFault::Disagree);
+    };
+    let phase = phase_of(script, standing, shard.association());
+    Ok(lines_of(alloc, number, own, standing.state, phase)?)
 }
 
-/// The lines of the call of the plan with a number, as a run of it alone tells them and as the run leaves it.
+/// The lines of the call of the plan with a number, as its shard counts them and as the run leaves it.
 fn call_report(alloc: Global, source: &Source<'_, '_>, place: usize) -> Result<Vec<Line>, RunFault>
-    ensures told { IfOk result (λ lines. IsTold source.now.checked.now.table source.now.totals source.now.shards.now (trails_of source.now.planned_calls.now) place lines.items) }
-    ensures not_told { IfErr result (IsBecause (IsNotTold source.now.checked.now.table source.now.totals source.now.shards.now source.now.planned_calls.now source.now.last place)) }
+    ensures told { IfOk result (λ lines. IsTold source.now.checked.now.table source.now.totals source.now.shards.now source.now.counts.now (trails_of source.now.planned_calls.now) place lines.items) }
+    ensures not_told { IfErr result (IsBecause (IsNotTold source.now.checked.now.table source.now.totals source.now.shards.now source.now.counts.now source.now.planned_calls.now place)) }
 {
-    let plan = source.totals.plan();
-    let Some(call) = plan.calls().get(place) else {
-        return Err(RunFault::Disagree);
-    };
-    let Some(planned) = source.planned_calls.get(place) else {
-        return Err(RunFault::Disagree);
-    };
     let Ok(number) = u32::try_from(place) else {
         return Err(RunFault::Disagree);
     };
-    let lines = agreed_lines(alloc, source, number, call, planned)?;
-    let count = u32::from(plan.shards());
+    let count = u32::from(source.totals.plan().shards());
+    let Some(own) = number.checked_rem(count) else {
+        return Err(RunFault::Disagree);
+    };
+    let Some(shard) = source.shards.get(own as usize) else {
+        return Err(RunFault::Disagree);
+    };
+    let Some(counted) = source.counts.get(own as usize) else {
+        return Err(RunFault::Disagree);
+    };
+    let script = source.checked.script();
+    let lines = counted_lines(alloc, script, shard, counted, number)?;
     if !are_left(
-        source.checked.script(),
+        script,
         count,
         source.shards,
         source.planned_calls,
@@ -109,8 +113,8 @@ fn all_reports<R: Threads + Sync>(
     source: &Source<'_, '_>,
     workers: usize,
 ) -> Result<Vec<Vec<Line>>, RunFault>
-    ensures told { IfOk result (λ all. AllZip (λ place lines. IsTold source.now.checked.now.table source.now.totals source.now.shards.now (trails_of source.now.planned_calls.now) place lines.items) (range_with_len 0 (length source.now.totals.calls)) all.items) }
-    ensures not_told { IfErr result (IsBecause (HasNotTold source.now.checked.now.table source.now.totals source.now.shards.now source.now.planned_calls.now source.now.last)) }
+    ensures told { IfOk result (λ all. AllZip (λ place lines. IsTold source.now.checked.now.table source.now.totals source.now.shards.now source.now.counts.now (trails_of source.now.planned_calls.now) place lines.items) (range_with_len 0 (length source.now.totals.calls)) all.items) }
+    ensures not_told { IfErr result (IsBecause (HasNotTold source.now.checked.now.table source.now.totals source.now.shards.now source.now.counts.now source.now.planned_calls.now)) }
 {
     let count = source.totals.plan().calls().len();
     let least = count.div_ceil(workers.max(1)).max(1);
@@ -119,7 +123,7 @@ fn all_reports<R: Threads + Sync>(
         .with_min_len(least)
         .map(
             |place: usize| -> Result<Vec<Line>, RunFault>
-                ensures { MatchResult result (λ lines. IsTold source.entry.now.checked.now.table source.entry.now.totals source.entry.now.shards.now (trails_of source.entry.now.planned_calls.now) place lines.items) (IsBecause (IsNotTold source.entry.now.checked.now.table source.entry.now.totals source.entry.now.shards.now source.entry.now.planned_calls.now source.entry.now.last place)) }
+                ensures { MatchResult result (λ lines. IsTold source.entry.now.checked.now.table source.entry.now.totals source.entry.now.shards.now source.entry.now.counts.now (trails_of source.entry.now.planned_calls.now) place lines.items) (IsBecause (IsNotTold source.entry.now.checked.now.table source.entry.now.totals source.entry.now.shards.now source.entry.now.counts.now source.entry.now.planned_calls.now place)) }
             { call_report(alloc, source, place) },
         )
         .collect(rt, alloc)?;
@@ -144,12 +148,15 @@ pub(crate) fn report<R: Threads + Sync>(
     source: &Source<'_, '_>,
     workers: usize,
 ) -> Result<Vec<Line>, RunFault>
+    requires { HavePlayed source.now.checked.now.table source.now.totals source.now.shards.now source.now.counts.now }
     ensures report { IfOk result (λ lines. IsReportOf source.now.checked.now.table source.now.totals lines.items) }
     ensures all { IfOk result (λ lines. (number : ℕ) → number < length source.now.totals.calls → HaveLines (slice_index_or (trails_of source.now.planned_calls.now) number []) lines.items) }
     ensures left { IfOk result (λ lines. (l : Line) → Contains lines.items l → IsLeftAmong source.now.checked.now.table source.now.totals.shards source.now.shards.now (trails_of source.now.planned_calls.now) l) }
-    ensures not_told { IfErr result (IsBecause (HasNotTold source.now.checked.now.table source.now.totals source.now.shards.now source.now.planned_calls.now source.now.last)) }
+    ensures not_told { IfErr result (IsBecause (HasNotTold source.now.checked.now.table source.now.totals source.now.shards.now source.now.counts.now source.now.planned_calls.now)) }
 {
     laws::reports_add_up();
+    logs_tell_reports();
+    source.checked.is_checked();
     let all = all_reports(rt, alloc, source, workers)?;
     let lines = joined(alloc, all.as_slice())?;
     Ok(lines)

@@ -72,7 +72,10 @@ fn open_shard<'s, B: Running>(
 {
     let calls = calls_of(alloc, plan.calls(), number, count)?;
     match Shard::open(alloc, checked, calls, number, count) {
-        Ok((shard, nexts)) => Ok((LockedShard::new(shard, number), nexts)),
+        Ok((shard, nexts)) => {
+            let locked = LockedShard::new(alloc, shard, plan.calls().len(), number)?;
+            Ok((locked, nexts))
+        }
         Err(OpenFault::NoMemory) => Err(RunFault::NoMemory),
         Err(_) => Err(RunFault::Disagree),
     }

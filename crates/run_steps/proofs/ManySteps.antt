@@ -5,11 +5,10 @@ use Rattle.std.proofs.lemmas.List.{append-nil, drop_all, take_more}
 use Rattle.mg_model.specs.Plans.{steps_in}
 use Rattle.mg_model.specs.declared.plans.PlanStep.{PlanStep}
 use Rattle.mg_model.specs.declared.plans.PlanStep.TheVariants.{Restarts}
-use Rattle.planned_calls.specs.Turns.{ending}
-use Rattle.planned_calls.proofs.TurnLemmas.{epoch_more}
-use Rattle.run_steps.specs.Telling.{TellsOn}
+use Rattle.run_steps.specs.Telling.{TellsOn, ending}
 use Rattle.run_steps.specs.declared.telling.Telling.{Telling}
 use Rattle.run_steps.proofs.GoneSteps.{tells_both}
+use Rattle.run_steps.proofs.Openings.{epoch_more}
 
 -- those up to the end are all
 pub up_to_end : (steps : List PlanStep) (i : ℕ) → length steps ≤ i → take i steps ≡ steps

@@ -1,8 +1,9 @@
 -- What is told of a call of a plan, step after step. A reader should check that what is told of a step is what it came to where those before it led, and that
 -- nothing but a restart of another call is told between two steps of the plan. This profile's own.
-use Rattle.std.specs.Prelude.{◌≡◌, ℕ, List, [], ◌∷◌, ◌++◌}
+use Rattle.std.specs.Prelude.{◌≡◌, ℕ, zero, suc, List, [], ◌∷◌, ◌++◌}
 use Rattle.mg_model.specs.declared.events.Event.{Event}
 use Rattle.mg_model.specs.declared.plans.PlanStep.{PlanStep}
+use Rattle.mg_model.specs.declared.plans.PlanStep.TheVariants.{Restarts}
 use Rattle.mg_model.specs.Script.{Script}
 use Rattle.mg_model.specs.World.{Opened}
 use Rattle.agent.specs.declared.call.Next.{Next}
@@ -26,6 +27,11 @@ own_step step came = step ∷ []
 abbrev pub own_steps : List ToldStep → List PlanStep
 own_steps [] = []
 own_steps (t ∷ more) = own_step t.step t.came ++ own_steps more
+
+-- before an epoch the one before it ends
+abbrev pub ending : (epoch : ℕ) → List PlanStep
+ending zero = []
+ending (suc epoch) = Restarts ∷ []
 
 -- ---- what they came to
 

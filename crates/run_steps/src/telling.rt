@@ -2,8 +2,7 @@
 ghost use Rattle.std.specs.Prelude.{◌≡◌, ◌∷◌, [], IfOk, slice_index_or};
 ghost use Rattle.mg_model.specs.Plans as plans;
 ghost use Rattle.mg_model.specs.declared.plans.PlanStep.TheVariants.{Restarts};
-ghost use Rattle.planned_calls.specs.Turns.{ending};
-ghost use Rattle.run_steps.specs.Telling.{IsOfRestart, TellsOn, own_step};
+ghost use Rattle.run_steps.specs.Telling.{IsOfRestart, TellsOn, ending, own_step};
 
 use crate::came::Came;
 use crate::position::position_of;

@@ -9,7 +9,7 @@ use composition::Checked;
 use mg_one_report::laws::one_report;
 use planned_calls::RunFault;
 use plans::Plan;
-use run_account::{Outcome, PlannedRun, finish};
+use run_account::{CountedShards, Outcome, PlannedRun, finish};
 use std::alloc::Global;
 use std::sync::Wait;
 use std::thread::Threads;
@@ -34,10 +34,13 @@ fn go<'s, G: Gate, R: Threads + Wait + Sync>(
     requires few { length plan.now.calls ≤ plan_calls }
     ensures { IfOk result (λ outcome. IsRunOf checked.now.table plan.now outcome) }
 {
-    let (shards, planned_calls) = run_calls(rt, alloc, checked, plan, workers, gate)?;
-    let shards = shards.as_slice();
+    let (played, planned_calls) = run_calls(rt, alloc, checked, plan, workers, gate)?;
     let run = PlannedRun { checked, plan };
-    finish(rt, alloc, run, shards, planned_calls, workers)
+    let counted = CountedShards {
+        shards: played.shards.as_slice(),
+        counts: played.counts.as_slice(),
+    };
+    finish(rt, alloc, run, counted, planned_calls, workers)
 }
 
 /// Runs a plan of calls of a checked script, which was read with that script, on 1 to 64 workers, over as many gateways as the plan has shards. Calls pass

@@ -3,15 +3,15 @@ ghost use Rattle.std.specs.Prelude.{◌≡◌, ◌≤◌, IfOk, length, vec_len}
 ghost use Rattle.mg_model.specs.Numbers.{plan_calls};
 ghost use Rattle.plans.specs.Accepted.{IsPlanFor};
 ghost use Rattle.planned_calls.specs.RunShards.{AreOfRun};
+ghost use Rattle.run_shards.specs.Counting.{AreCounted};
 
 use crate::epoch::pass;
 use crate::gate::Gate;
-use crate::workplace::{Workplace, restart_all};
+use crate::workplace::{Workplace, end_epoch};
 use composition::Checked;
 use planned_calls::{PlannedCall, RunFault, epochs_of};
 use plans::Plan;
-use run_shards::{Places, Running, all_planned, open_all, unlocked};
-use shards::Shard;
+use run_shards::{Places, PlayedShards, RunPlan, Running, all_planned, open_all, unlocked};
 use std::alloc::Global;
 use std::marker::Brand;
 use std::sync::Wait;
@@ -29,9 +29,9 @@ fn pass_all<'a, 's, G: Gate, B: Running + Send + Sync, R: Threads + Wait + Sync>
     ensures { IfOk result (λ back. vec_len back ≡ vec_len places.entry) }
 {
     let mut places = places;
-    for epoch in 0..epochs_of(first.plan) {
+    for epoch in 0..epochs_of(first.plan.plan()) {
         if epoch > 0 {
-            restart_all(rt, first.shards)?;
+            end_epoch(rt, alloc, first.shards, first.plan)?;
         }
         let workplace = Workplace {
             shards: first.shards,
@@ -52,30 +52,32 @@ fn go<'s, G: Gate, B: Running + Send + Sync, R: Threads + Wait + Sync>(
     plan: &Plan,
     workers: usize,
     gate: &G,
-) -> Result<(Vec<Shard<'s>>, Vec<PlannedCall<'s>>), RunFault>
+) -> Result<(PlayedShards<'s>, Vec<PlannedCall<'s>>), RunFault>
     requires plan { IsPlanFor checked.now.table plan.now }
     requires few { length plan.now.calls ≤ plan_calls }
     requires script { B.script ≡ checked.now.table }
     requires calls { B.calls ≡ plan.now.calls }
     requires count { B.count ≡ plan.now.shards }
-    ensures shards { IfOk result (λ r. AreOfRun checked.now.table plan.now.calls plan.now.shards 0 r.0.items) }
+    ensures shards { IfOk result (λ r. AreOfRun checked.now.table plan.now.calls plan.now.shards 0 r.0.shards.items) }
+    ensures counted { IfOk result (λ r. AreCounted checked.now.table plan.now.calls plan.now.shards 0 r.0.shards.items r.0.counts.items) }
     ensures all { IfOk result (λ r. vec_len r.1 ≡ length plan.now.calls) }
 {
     let (shards, places) = open_all::<B>(alloc, checked, plan)?;
+    let run_plan = RunPlan::<B>::new(plan);
     let first = Workplace {
         shards: shards.as_slice(),
-        plan,
+        plan: &run_plan,
         epoch: 0,
         gate,
     };
     let places = pass_all(rt, alloc, &first, workers, places)?;
-    let shards = unlocked(alloc, shards)?;
+    let played = unlocked(alloc, shards)?;
     let planned_calls = all_planned(alloc, places)?;
-    Ok((shards, planned_calls))
+    Ok((played, planned_calls))
 }
 
 /// The shards of a plan and its calls, once so many workers have gone through all of its epochs. Each shard is of this script and this plan, whatever happened
-/// in it, and each call is back. `Disagree` where a call is lost or a shard stands at another's number, and `NoMemory` where memory ran out.
+/// in it, what is counted of its calls is what a log of it counts, and each call is back. `Disagree` where a call is lost or a shard stands at another's number, and `NoMemory` where memory ran out.
 pub fn run_calls<'s, G: Gate, R: Threads + Wait + Sync>(
     rt: &R,
     alloc: Global,
@@ -83,10 +85,11 @@ pub fn run_calls<'s, G: Gate, R: Threads + Wait + Sync>(
     plan: &Plan,
     workers: usize,
     gate: &G,
-) -> Result<(Vec<Shard<'s>>, Vec<PlannedCall<'s>>), RunFault>
+) -> Result<(PlayedShards<'s>, Vec<PlannedCall<'s>>), RunFault>
     requires plan { IsPlanFor checked.now.table plan.now }
     requires few { length plan.now.calls ≤ plan_calls }
-    ensures shards { IfOk result (λ r. AreOfRun checked.now.table plan.now.calls plan.now.shards 0 r.0.items) }
+    ensures shards { IfOk result (λ r. AreOfRun checked.now.table plan.now.calls plan.now.shards 0 r.0.shards.items) }
+    ensures counted { IfOk result (λ r. AreCounted checked.now.table plan.now.calls plan.now.shards 0 r.0.shards.items r.0.counts.items) }
     ensures all { IfOk result (λ r. vec_len r.1 ≡ length plan.now.calls) }
 {
     go::<G, Brand, R>(rt, alloc, checked, plan, workers, gate)

@@ -1,33 +1,60 @@
 //! Where calls are run: the shards, each under its lock, the plan, the epoch, and the gate.
 ghost use Rattle.std.specs.Prelude.{◌≡◌, ◌+◌, ◌<◌, ◌%◌, IfSome, length};
-ghost use Rattle.mg_model.specs.declared.plans.PlanStep.TheVariants as steps;
-ghost use Rattle.workers.specs.PlanSteps.{step_at};
+ghost use Rattle.run_shards.specs.PlanSteps.{step_at};
 
 use crate::gate::Gate;
 use mg_model::plans::PlanStep;
-use planned_calls::{PlannedCall, RunFault, is_restart};
-use plans::Plan;
-use run_shards::{LockedShard, Running};
+use planned_calls::{CallLog, PlannedCall, RunFault, is_restart};
+use run_shards::{LockedShard, RunPlan, Running};
+use std::alloc::Global;
 use std::sync::{Mutex, Wait};
 
 /// Where calls are run, for all workers of an epoch.
 #[derive(Drop)]
 pub(crate) struct Workplace<'a, 's, G, B: Running> {
     pub(crate) shards: &'a [Mutex<LockedShard<'s, B>>],
-    pub(crate) plan: &'a Plan,
+    pub(crate) plan: &'a RunPlan<'a, B>,
     pub(crate) epoch: usize,
     pub(crate) gate: &'a G,
 }
 
-/// Restarts each shard, one after the other, each under its lock alone. `NoMemory` where memory ran out; the shards before it are restarted then.
-pub(crate) fn restart_all<'s, B: Running, R: Wait>(
+/// An epoch of all calls ends: each shard restarts, one after the other, each under its lock alone. `Disagree` where a call has a step left, and `NoMemory` where
+/// memory ran out; the shards before it are restarted then.
+pub(crate) fn end_epoch<'s, B: Running, R: Wait>(
     rt: &R,
+    alloc: Global,
     shards: &[Mutex<LockedShard<'s, B>>],
+    plan: &RunPlan<'_, B>,
 ) -> Result<(), RunFault> {
     for shard in shards {
-        shard.lock(rt).restart()?;
+        shard.lock(rt).end_epoch(alloc, plan)?;
     }
     Ok(())
+}
+
+/// A call of which one step more is begun, over all epochs and in this one.
+fn begin_step(planned: PlannedCall<'_>) -> PlannedCall<'_>
+    ensures { planned.entry.log.place + 1 < 18446744073709551616 → result.log.place ≡ planned.entry.log.place + 1 }
+{
+    let PlannedCall {
+        next,
+        standing,
+        log,
+    } = planned;
+    let CallLog {
+        trail,
+        begun,
+        place,
+    } = log;
+    PlannedCall {
+        next,
+        standing,
+        log: CallLog {
+            trail,
+            begun: begun.saturating_add(1),
+            place: place.saturating_add(1),
+        },
+    }
 }
 
 impl<'a, 's, G: Gate, B: Running> Workplace<'a, 's, G, B> {
@@ -35,7 +62,7 @@ impl<'a, 's, G: Gate, B: Running> Workplace<'a, 's, G, B> {
     pub(crate) fn step_of(&self, number: u32, planned: &PlannedCall<'s>) -> Option<PlanStep>
         ensures { result ≡ step_at self.now.plan.now.calls number self.now.epoch planned.now.log.place }
     {
-        let call = self.plan.calls().get(number as usize)?;
+        let call = self.plan.plan().calls().get(number as usize)?;
         let epoch = call.epochs().get(self.epoch)?;
         Some(*epoch.steps().get(planned.log.place)?)
     }
@@ -47,37 +74,25 @@ impl<'a, 's, G: Gate, B: Running> Workplace<'a, 's, G, B> {
         (number as usize).checked_rem(self.shards.len())
     }
 
-    /// A restart that the gate let pass: of each shard, in rising order; it is marked in the call's own, under the lock in which it was done there.
-    fn restart<R: Wait>(
-        &self,
-        rt: &R,
-        number: u32,
-        planned: &mut PlannedCall<'s>,
-    ) -> Result<(), RunFault>
-        requires { G.was_asked number (length planned.old.log.marks.items) }
-        ensures { planned.new.log.place ≡ planned.old.log.place }
+    /// A restart that the gate let pass as this step of a call: of each shard, in rising order.
+    fn restart<R: Wait>(&self, rt: &R, number: u32, _step: usize) -> Result<(), RunFault>
+        requires asked { G.was_asked number _step }
     {
-        let own = self.own_place(number);
-        for (place, shard) in self.shards.iter().enumerate() {
-            let mut locked = shard.lock(rt);
-            let association = locked.restart()?;
-            if own == Some(place) {
-                planned.mark(association)?;
-            }
+        for shard in self.shards {
+            shard.lock(rt).restart(self.plan, number)?;
         }
         Ok(())
     }
 
-    /// A step other than a restart that the gate let pass, in the call's shard under its lock.
+    /// A step other than a restart that the gate let pass as this one of a call, in the call's shard under its lock.
     fn step_in_shard<R: Wait>(
         &self,
         rt: &R,
         number: u32,
         planned: PlannedCall<'s>,
-        step: &PlanStep,
+        _step: usize,
     ) -> (PlannedCall<'s>, Result<(), RunFault>)
-        requires asked { G.was_asked number (length planned.log.marks.items) }
-        requires step { step.now ≡ steps.Restarts → ⊥ }
+        requires asked { G.was_asked number _step }
         ensures { result.0.log.place ≡ planned.entry.log.place }
     {
         let Some(place) = self.own_place(number) else {
@@ -87,7 +102,7 @@ impl<'a, 's, G: Gate, B: Running> Workplace<'a, 's, G, B> {
             return (planned, Err(RunFault::Disagree));
         };
         let mut locked = shard.lock(rt);
-        locked.step(planned, step)
+        locked.step(self.plan, planned)
     }
 
     /// A step of a call: the gate lets it pass, with no lock held, and it is done in the call's shard. It counts as done in its epoch.
@@ -100,13 +115,13 @@ impl<'a, 's, G: Gate, B: Running> Workplace<'a, 's, G, B> {
     ) -> (PlannedCall<'s>, Result<(), RunFault>)
         ensures { planned.entry.log.place + 1 < 18446744073709551616 → result.0.log.place ≡ planned.entry.log.place + 1 }
     {
-        self.gate.pass(rt, number, planned.log.marks.len());
-        let mut planned = planned;
-        planned.log.place = planned.log.place.saturating_add(1);
+        let begun = planned.log.begun;
+        self.gate.pass(rt, number, begun);
+        let planned = begin_step(planned);
         if is_restart(step) {
-            let done = self.restart(rt, number, &mut planned);
+            let done = self.restart(rt, number, begun);
             return (planned, done);
         }
-        self.step_in_shard(rt, number, planned, step)
+        self.step_in_shard(rt, number, planned, begun)
     }
 }

@@ -3,8 +3,8 @@ use Rattle.std.proofs.Common.{◌∙◌, ◌++◌, ℕ, List, [], ◌∷◌, get
 use Rattle.std.proofs.lemmas.List.{append_assoc, map-append, take_more}
 use Rattle.mg_model.specs.Reports.{ReportLine}
 use Rattle.planned_calls.specs.ReportLines.{gone_line, line_of, number_of, numbers_from}
-use Rattle.planned_calls.specs.declared.call_chain.RetiredCall.{RetiredCall}
-use Rattle.planned_calls.proofs.ReportedAlone.{numbered_next}
+use Rattle.planned_calls.specs.declared.call_count.RetiredCall.{RetiredCall}
+use Rattle.planned_calls.proofs.NumberedLines.{numbered_next}
 use Rattle.planned_calls.proofs.lines.push_gone.Goals as goal
 
 pub loop-begun-preserved : goal.loop-begun-preserved

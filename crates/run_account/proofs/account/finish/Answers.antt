@@ -1,6 +1,7 @@
 -- The shards share nothing and finished alike, so their merge is a run of the plan's calls; and they agree with what the calls went through. Or where they
 -- disagree.
 use Rattle.std.proofs.Common.{◌≡◌, ◌∙◌, ◌<◌, ℕ, List, length, map, rules, sym, ap, subst, arith}
+use Rattle.std.specs.List.{All}
 use Rattle.std.specs.Prelude.{[], Contains, slice_index_or}
 use Rattle.std.proofs.lemmas.List.{length-map}
 use Rattle.std.proofs.lemmas.Simd.{map-map}
@@ -8,27 +9,66 @@ use Rattle.mg_model.specs.declared.events.Event.{Event}
 use Rattle.mg_model.specs.Plans.{Plan}
 use Rattle.mg_model.specs.Shards.{History, cut_at_restarts, merged}
 use Rattle.mg_model.specs.Script.{Script}
-use Rattle.mg_names.specs.declared.identifiers.Assoc.{Assoc}
 use Rattle.shards.specs.Shards.{ShardValue}
-use Rattle.run_account.specs.Comparing.{Agree, Differ, trail_of, trails_of}
-use Rattle.run_account.specs.Disagreements.{Disagreement, HasNotTold, association_after, differ, not_told, other_count, restarts_of_first, unfinished}
+use Rattle.run_account.specs.Comparing.{Agree, Differ, trails_of}
+use Rattle.planned_calls.specs.Taking.{trail_of}
+use Rattle.run_account.specs.Disagreements.{Disagreement, HasNotTold, differ, not_told, one_left, other_count, unfinished}
 use Rattle.run_account.specs.Finishing.{AreFinished, HasUnfinished}
+use Rattle.run_account.specs.CallReport.{HavePlayed}
+use Rattle.run_account.specs.TakenAll.{HasOneLeft, HaveTakenAll}
+use Rattle.run_shards.specs.declared.shard_count.ShardCount.{ShardCount}
 use Rattle.planned_calls.proofs.Faults.{handed_on}
 use Rattle.run_account.specs.FinalState.{HaveLines, IsLeftAmong}
 use Rattle.run_account.specs.Runs.{IsOutcome}
 use Rattle.planned_calls.specs.ReportLines.{IsReportOf}
 use Rattle.planned_calls.specs.declared.planned_call.PlannedCall.{PlannedCall}
 use Rattle.planned_calls.specs.declared.lines.Line.{Line}
+use Rattle.run_account.proofs.EachShard.{all_places, as_many, few_executes}
 use Rattle.run_account.proofs.FinishedRuns.{is_outcome, is_run}
 use Rattle.run_account.proofs.account.finish.Goals as goal
 
-through_first : (script : Script) (plan : Plan) (shards : List ShardValue) (planned_calls : List PlannedCall)
-    → HasNotTold script plan shards planned_calls (association_after (restarts_of_first shards)) → Disagreement script plan shards planned_calls
-through_first script plan shards planned_calls (number, within) = not_told number within.0 within.1
+through : (script : Script) (plan : Plan) (shards : List ShardValue) (counts : List ShardCount) (planned_calls : List PlannedCall)
+    → HasNotTold script plan shards counts planned_calls → Disagreement script plan shards counts planned_calls
+through script plan shards counts planned_calls (number, within) = not_told number within.0 within.1
+
+-- ---- what is asked of the shards
+
+pub have_taken_all-requires-clause-few_shards : goal.have_taken_all-requires-clause-few_shards
+have_taken_all-requires-clause-few_shards g c =
+    let shards = c.args.played.shards.now in
+    let plan = c.args.run.plan.now in
+    let sized : length shards ≡ plan.shards = c.if-shards-from.false ∙ c.from.ensures ∙ c.shards.ensures in
+    let many : length c.args.played.counts.now ≡ length shards =
+    as_many c.args.run.checked.now.table plan.calls plan.shards 0 shards c.args.played.counts.now c.requires.counted in
+    omega (arith, many, sized, c.requires.plan.few_shards)
+
+pub have_taken_all-requires-clause-all : goal.have_taken_all-requires-clause-all
+have_taken_all-requires-clause-all g c =
+    let plan = c.args.run.plan.now in
+    subst (λ (p : Plan). All (λ (count : ShardCount). length count.places.items ≡ length p.calls) c.args.played.counts.now) (sym c.in-Some.ensures.totals)
+    (all_places c.args.run.checked.now.table plan.calls plan.shards 0 c.args.played.shards.now c.args.played.counts.now c.requires.counted)
+
+pub report-requires-after_bounds : goal.report-requires-after_bounds
+report-requires-after_bounds g c κs within =
+    let script = c.args.run.checked.now.table in
+    let plan = c.args.run.plan.now in
+    let shards = c.args.played.shards.now in
+    let counts = c.args.played.counts.now in
+    let finished : AreFinished c.restarts_of-restarts.result shards = c.if-not-have_finished.ensures.yes (search rules) in
+    let taken : HaveTakenAll c.in-Some.totals 0 counts = c.if-not-have_taken_all.ensures.yes (search rules) in
+    subst (λ (p : Plan). HavePlayed script p shards counts) (sym c.in-Some.ensures.totals)
+    (record {
+      few = c.requires.few;
+      counted = c.requires.counted;
+      executes = few_executes c.restarts_of-restarts.result shards finished;
+      taken = subst (λ (p : Plan). HaveTakenAll p 0 counts) c.in-Some.ensures.totals taken;
+    })
+
+-- ---- the run
 
 pub invariant_of-result : goal.invariant_of-result
 invariant_of-result g c =
-    let shards = c.args.shards.now in
+    let shards = c.args.played.shards.now in
     let plan = c.args.run.plan.now in
     let restarts = c.restarts_of-restarts.result in
     let planned_calls = c.args.planned_calls.items in
@@ -49,7 +89,7 @@ invariant_of-result g c =
 
 pub returns-clause-run : goal.returns-clause-run
 returns-clause-run g c =
-    let shards = c.args.shards.now in
+    let shards = c.args.played.shards.now in
     let plan = c.args.run.plan.now in
     let restarts = c.restarts_of-restarts.result in
     let planned_calls = c.args.planned_calls.items in
@@ -92,25 +132,27 @@ returns-then-shards-from-clause-disagreement g c = other_count (λ same. c.if-sh
 
 pub returns-then-not-have_finished-clause-disagreement : goal.returns-then-not-have_finished-clause-disagreement
 returns-then-not-have_finished-clause-disagreement g c =
-    unfinished (subst (λ (n : ℕ). HasUnfinished n c.args.shards.now) c.restarts_of-restarts.ensures (c.if-not-have_finished.ensures.no (search rules)))
+    unfinished (subst (λ (n : ℕ). HasUnfinished n c.args.played.shards.now) c.restarts_of-restarts.ensures (c.if-not-have_finished.ensures.no (search rules)))
 
 pub returns-then-not-agreed-clause-disagreement : goal.returns-then-not-agreed-clause-disagreement
 returns-then-not-agreed-clause-disagreement g c =
-    let histories = map (λ v. v.history) c.args.shards.now in
+    let histories = map (λ v. v.history) c.args.played.shards.now in
     let other : Differ c.from-count.result histories (trails_of c.as_slice.result.now) = c.in_ok-agreed.ensures.differ (search rules) in
     differ (subst (λ (n : ℕ). Differ n histories (trails_of c.args.planned_calls.items)) (c.from-count.ensures ∙ c.shards-2.ensures)
     (subst (λ (cs : List PlannedCall). Differ c.from-count.result histories (trails_of cs)) c.as_slice.ensures.value other))
+
+pub returns-then-not-have_taken_all-clause-disagreement : goal.returns-then-not-have_taken_all-clause-disagreement
+returns-then-not-have_taken_all-clause-disagreement g c =
+    one_left (subst (λ (p : Plan). HasOneLeft p c.args.played.counts.now) c.in-Some.ensures.totals (c.if-not-have_taken_all.ensures.no (search rules)))
 
 pub returns-in_err-report-clause-disagreement : goal.returns-in_err-report-clause-disagreement
 returns-in_err-report-clause-disagreement g c =
     let table = c.args.run.checked.now.table in
     let plan = c.args.run.plan.now in
-    let shards = c.args.shards.now in
-    let last = association_after (restarts_of_first shards) in
-    let ends : c.association_after.result ≡ last = c.association_after.ensures ∙ ap association_after c.restarts_of-restarts.ensures in
+    let shards = c.args.played.shards.now in
+    let counts = c.args.played.counts.now in
     handed_on _ _ c.from_residual-in_err-report.result c.in_err-report.field-0.0 c.from_residual-in_err-report.ensures.1
-    (λ not. through_first table plan shards c.args.planned_calls.items
-    (subst (λ (p : Plan). HasNotTold table p shards c.args.planned_calls.items last) c.in-Some.ensures.totals
-    (subst (λ (cs : List PlannedCall). HasNotTold table c.in-Some.totals shards cs last) c.as_slice-3.ensures.value
-    (subst (λ (l : Assoc). HasNotTold table c.in-Some.totals shards c.as_slice-3.result.now l) ends not))))
+    (λ not. through table plan shards counts c.args.planned_calls.items
+    (subst (λ (p : Plan). HasNotTold table p shards counts c.args.planned_calls.items) c.in-Some.ensures.totals
+    (subst (λ (cs : List PlannedCall). HasNotTold table c.in-Some.totals shards counts cs) c.as_slice-3.ensures.value not)))
     c.in_err-report.ensures.not_told

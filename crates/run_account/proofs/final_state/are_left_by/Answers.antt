@@ -1,8 +1,8 @@
 -- One line more is as the run leaves its call, or tells otherwise.
-use Rattle.std.proofs.Common.{◌≡◌, ◌∙◌, ◌≤◌, ℕ, List, length, rules, arith, refl, sym, ap, subst}
+use Rattle.std.proofs.Common.{◌≡◌, ◌∙◌, List, length, rules, arith, refl, sym, ap, subst}
 use Rattle.std.proofs.lemmas.Bool.{leb-false, leb-true}
 use Rattle.std.proofs.lemmas.List.{take_all}
-use Rattle.run_account.specs.Comparing.{trail_of}
+use Rattle.planned_calls.specs.Taking.{trail_of}
 use Rattle.run_account.specs.OtherLines.{a_line_is, events_told, goes_on, of_no_call}
 use Rattle.planned_calls.specs.declared.lines.Line.{Line}
 use Rattle.run_account.proofs.FinalLines.{AreLeftSoFar, all_have_lines, all_left, left_next, none_left}

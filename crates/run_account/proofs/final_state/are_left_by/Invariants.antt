@@ -1,10 +1,7 @@
 -- The lines so far tell where the run leaves their calls, and the place is behind the events that they tell.
-use Rattle.std.proofs.Common.{◌≡◌, ◌<◌, ◌≤◌, ℕ, take}
-use Rattle.std.specs.Prelude.{Contains}
-use Rattle.run_account.specs.Comparing.{trail_of}
-use Rattle.run_account.specs.FinalState.{call_of}
+use Rattle.std.proofs.Common.{◌≡◌, take}
+use Rattle.planned_calls.specs.Taking.{trail_of}
 use Rattle.run_account.specs.OtherLines.{events_told}
-use Rattle.planned_calls.specs.declared.lines.Line.{Line}
 use Rattle.run_account.proofs.FinalLines.{AreLeftSoFar}
 use Rattle.run_account.proofs.OtherLine.{IsBelow}
 use Rattle.run_account.proofs.final_state.are_left_by.Given as goal

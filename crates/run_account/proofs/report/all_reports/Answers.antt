@@ -21,8 +21,8 @@ use Rattle.run_account.proofs.report.all_reports.Goals as goal
 pub returns-clause-told : goal.returns-clause-told
 returns-clause-told g c =
     let source = c.args.source.now in
-    let told : ℕ → Vec Line Global → Type 0 = λ place lines. IsTold source.checked.now.table source.totals source.shards.now (trails_of source.planned_calls.now) place lines.items in
-    let why : ℕ → Type 0 = λ place. IsNotTold source.checked.now.table source.totals source.shards.now source.planned_calls.now source.last place in
+    let told : ℕ → Vec Line Global → Type 0 = λ place lines. IsTold source.checked.now.table source.totals source.shards.now source.counts.now (trails_of source.planned_calls.now) place lines.items in
+    let why : ℕ → Type 0 = λ place. IsNotTold source.checked.now.table source.totals source.shards.now source.counts.now source.planned_calls.now place in
     let n = length source.totals.calls in
     let ends = c.into_par_iter.ensures in
     let collected = c.in_ok-all.ensures in
@@ -34,8 +34,8 @@ returns-clause-told g c =
     let places = chain.1 ∙ ap (λ (it : Iter ℕ). nat_range (range_start it) (range_end it)) base
     ∙ (λ i. nat_range (ends.0 i) (ends.1 i)) ∙ ap (range_with_len 0) sized in
     let each = subst (λ f. AllZip (λ (place : ℕ) (one : Result (Vec Line Global) RunFault).
-    MatchResult one (λ lines. IsTold f.1.now.checked.now.table f.1.now.totals f.1.now.shards.now (trails_of f.1.now.planned_calls.now) place lines.items)
-    (IsBecause (IsNotTold f.1.now.checked.now.table f.1.now.totals f.1.now.shards.now f.1.now.planned_calls.now f.1.now.last place))) chain.0 collected.0) c.map.ensures.f chain.2 in
+    MatchResult one (λ lines. IsTold f.1.now.checked.now.table f.1.now.totals f.1.now.shards.now f.1.now.counts.now (trails_of f.1.now.planned_calls.now) place lines.items)
+    (IsBecause (IsNotTold f.1.now.checked.now.table f.1.now.totals f.1.now.shards.now f.1.now.counts.now f.1.now.planned_calls.now place))) chain.0 collected.0) c.map.ensures.f chain.2 in
     let all : AllZip (λ (place : ℕ) (one : Result (Vec Line Global) RunFault). MatchResult one (told place) (IsBecause (why place))) (range_with_len 0 n) collected.0 =
     subst (λ (ps : List ℕ). AllZip (λ (place : ℕ) (one : Result (Vec Line Global) RunFault). MatchResult one (told place) (IsBecause (why place))) ps collected.0) places each in
     if_all told (range_with_len 0 n) collected.0 c.in_ok-all.all (all_ok told (λ place. IsBecause (why place)) (range_with_len 0 n) collected.0 all) collected.2
@@ -43,8 +43,8 @@ returns-clause-told g c =
 pub returns-clause-not_told : goal.returns-clause-not_told
 returns-clause-not_told g c =
     let source = c.args.source.now in
-    let told : ℕ → Vec Line Global → Type 0 = λ place lines. IsTold source.checked.now.table source.totals source.shards.now (trails_of source.planned_calls.now) place lines.items in
-    let why : ℕ → Type 0 = λ place. IsNotTold source.checked.now.table source.totals source.shards.now source.planned_calls.now source.last place in
+    let told : ℕ → Vec Line Global → Type 0 = λ place lines. IsTold source.checked.now.table source.totals source.shards.now source.counts.now (trails_of source.planned_calls.now) place lines.items in
+    let why : ℕ → Type 0 = λ place. IsNotTold source.checked.now.table source.totals source.shards.now source.counts.now source.planned_calls.now place in
     let n = length source.totals.calls in
     let ends = c.into_par_iter.ensures in
     let collected = c.in_ok-all.ensures in
@@ -56,8 +56,8 @@ returns-clause-not_told g c =
     let places = chain.1 ∙ ap (λ (it : Iter ℕ). nat_range (range_start it) (range_end it)) base
     ∙ (λ i. nat_range (ends.0 i) (ends.1 i)) ∙ ap (range_with_len 0) sized in
     let each = subst (λ f. AllZip (λ (place : ℕ) (one : Result (Vec Line Global) RunFault).
-    MatchResult one (λ lines. IsTold f.1.now.checked.now.table f.1.now.totals f.1.now.shards.now (trails_of f.1.now.planned_calls.now) place lines.items)
-    (IsBecause (IsNotTold f.1.now.checked.now.table f.1.now.totals f.1.now.shards.now f.1.now.planned_calls.now f.1.now.last place))) chain.0 collected.0) c.map.ensures.f chain.2 in
+    MatchResult one (λ lines. IsTold f.1.now.checked.now.table f.1.now.totals f.1.now.shards.now f.1.now.counts.now (trails_of f.1.now.planned_calls.now) place lines.items)
+    (IsBecause (IsNotTold f.1.now.checked.now.table f.1.now.totals f.1.now.shards.now f.1.now.counts.now f.1.now.planned_calls.now place))) chain.0 collected.0) c.map.ensures.f chain.2 in
     let all : AllZip (λ (place : ℕ) (one : Result (Vec Line Global) RunFault). MatchResult one (told place) (IsBecause (why place))) (range_with_len 0 n) collected.0 =
     subst (λ (ps : List ℕ). AllZip (λ (place : ℕ) (one : Result (Vec Line Global) RunFault). MatchResult one (told place) (IsBecause (why place))) ps collected.0) places each in
     if_one why _ _ (range_with_len 0 n) collected.0 c.in_ok-all.all (all_err told (λ place. IsBecause (why place)) (range_with_len 0 n) collected.0 all)

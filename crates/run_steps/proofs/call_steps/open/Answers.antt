@@ -5,9 +5,9 @@ use Rattle.mg_model.specs.Plans as plans
 use Rattle.shards.specs.Opening.{AreEntered, IsNewShard}
 use Rattle.shards.specs.Shards.{ShardValue}
 use Rattle.shards.specs.declared.opened.OpenedCall.{OpenedCall}
-use Rattle.planned_calls.proofs.OpenedAlone.{entered_alone}
 use Rattle.run_steps.specs.Telling.{IsFirst}
 use Rattle.run_steps.specs.declared.telling.Telling.{Telling}
+use Rattle.run_steps.proofs.Openings.{entered_alone}
 use Rattle.run_steps.proofs.call_steps.open.Goals as goal
 
 pub returns : goal.returns

@@ -29,6 +29,6 @@ returns c =
     (c.in_ok-push_of.ensures ∙ ap (λ (events : List Event). events ++ of_call call c.as_slice.result.now) c.new-events.ensures.items)
     ∙ ap (λ (events : List Event). of_call call events ++ of_call call c.transcript.result.now) c.as_slice.ensures.value
     ∙ ap (λ (events : List Event). of_call call planned.log.trail.items ++ of_call call events) c.transcript.ensures
-    ∙ ap (λ (one : PlannedCall). of_call call one.log.trail.items ++ of_call call (value_of one.chain.next).transcript) c.index-planned.ensures
+    ∙ ap (λ (one : PlannedCall). of_call call one.log.trail.items ++ of_call call (value_of one.next).transcript) c.index-planned.ensures
     ∙ of_planned_call planned_calls.items c.self.inside.history.items call c.self.invariant planned within
     ∙ ap (λ (v : OutcomeValue). of_call call v.history) c.self.view_is
