@@ -1,11 +1,12 @@
 // A plain runner of calls, which nobody proved, for `make bench` to compare with: the same gateways, shards, locks and queues as those of `mgcall run`, with
-// histories, transcripts, their comparison, the merge, and each call alone once more. It reads no script and no plan: its calls go by one script, in which line
+// histories, transcripts, their comparison, the merge, and each call alone once more, but with the word `once`. It reads no script and no plan: its calls go by one script, in which line
 // a goes off hook and on again, and each call does so a number of times, the later ones as calls that begin on its lines.
-//     plain_runner CALLS ROUNDS SHARDS WORKERS
+//     plain_runner CALLS ROUNDS SHARDS WORKERS [once]
 // prints the events, the seconds by the clock of opening, steps, comparison with merge, and replay, and the processor seconds of all.
 #include <atomic>
 #include <chrono>
 #include <cstdint>
+#include <cstring>
 #include <cstdio>
 #include <cstdlib>
 #include <memory>
@@ -397,7 +398,8 @@ static bool replays_alike(const Script& script, const std::vector<Step>& steps, 
 }
 
 int main(int count, char** words) {
-    if (count != 5) fail("CALLS ROUNDS SHARDS WORKERS");
+    bool again = count == 5;
+    if (!again && (count != 6 || std::strcmp(words[5], "once"))) fail("CALLS ROUNDS SHARDS WORKERS [once]");
     size_t calls = std::atoi(words[1]), rounds = std::atoi(words[2]), shard_count = std::atoi(words[3]), workers = std::atoi(words[4]);
     Script script = watch();
     const std::vector<Step> round = {Step::OFF_A, Step::NOTE, Step::EXECUTE, Step::REPLY, Step::ON_A, Step::NOTE, Step::EXECUTE, Step::REPLY, Step::PASS};
@@ -451,7 +453,7 @@ int main(int count, char** words) {
     double compared = now();
     std::atomic<size_t> next{0};
     std::atomic<bool> alike{true};
-    auto replay = [&] { for (size_t number; (number = next++) < calls;) if (!replays_alike(script, steps, *courses[number])) alike = false; };
+    auto replay = [&] { for (size_t number; again && (number = next++) < calls;) if (!replays_alike(script, steps, *courses[number])) alike = false; };
     threads.clear();
     for (size_t worker = 1; worker < workers; worker++) threads.emplace_back(replay);
     replay();
