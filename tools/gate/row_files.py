@@ -1,31 +1,15 @@
-"""The files of tests/rows: which program answers for the layer that a file names, what it is given, and how what it writes is compared with the file."""
-import sys
-
+"""The files of tests/rows: which layer each names, what the program that answers them is given, and how what it writes is compared with the file."""
 from shared import programs
 
 ROWS = programs.TOP / "tests" / "rows"
 MARK = " => "
-# Which program answers for which layer.
-LAYERS = {
-    "digits": "test_lines",
-    "line_events": "test_lines",
-    "delivery": "test_lines",
-    "identifiers": "test_boards",
-    "terminations": "test_boards",
-    "contexts": "test_boards",
-    "requests": "test_gateway",
-    "gateway": "test_gateway",
-    "agents": "test_agents",
-    "calls": "test_calls",
-    "messages": "test_agents",
-    "shards": "test_shards",
-    "scripts": "test_readers",
-    "certificates": "test_readers",
-    "plans": "test_plans",
-    "checks": "test_readers",
-    "tables": "test_readers",
-    "devices": "test_engine",
-}
+# The program that answers them.
+PROGRAM = "test_rows"
+# The layers: of a gateway, of calls, of documents and of the whole program.
+GATEWAY = ("identifiers", "terminations", "contexts", "digits", "line_events", "delivery", "requests", "gateway")
+CALLS = ("agents", "messages", "calls", "shards")
+DOCUMENTS = ("plans", "scripts", "certificates", "checks", "tables")
+DEVICES = ("devices",)
 
 
 def files():
@@ -38,16 +22,13 @@ def is_row(line):
     return bool(line) and line[0] not in "#|"
 
 
-def program_name(path):
-    """The name of the program that answers for a file, whose first line names its layer."""
-    layer = path.read_text().partition("\n")[0].split()[-1]
-    if layer not in LAYERS:
-        sys.exit(f"{path}: no program answers for the layer {layer}")
-    return LAYERS[layer]
+def layer(path):
+    """The layer that the first line of a file names."""
+    return path.read_text().partition("\n")[0].split()[-1]
 
 
 def asked(path):
-    """What a program is given: the lines of a file without their answers."""
+    """What the program is given: the lines of a file without their answers."""
     lines = path.read_text().splitlines()
     return "".join((line.partition(MARK)[0] if is_row(line) else line) + "\n" for line in lines).encode()
 
@@ -59,7 +40,7 @@ def wanted(path):
 
 
 def answered(output):
-    """The rows that a program wrote."""
+    """The rows that the program wrote."""
     return [line for line in output.decode(errors="replace").splitlines() if is_row(line) and MARK in line]
 
 

@@ -47,11 +47,6 @@ impl Page {
         self.told.as_str()
     }
 
-    /// The rows with their answers were written.
-    pub fn clear(&mut self) {
-        self.told.clear();
-    }
-
     /// Tells what rows see before a call.
     fn look<L: Layer>(&mut self, layer: &L) -> Result<(), Failure> {
         self.before.clear();

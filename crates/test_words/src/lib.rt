@@ -1,4 +1,4 @@
-//! What the programs share that answer rows (`tests/rows`): what each reads, why one ends early and with which status, the lines of a file of rows, and
+//! What the crates share that answer rows (`tests/rows`): what their program reads, why one ends early and with which status, the lines of a file of rows, and
 //! the words of a row. No part of the product. It promises nothing; what it is proved to be is safe.
 #![tactic(auto)]
 
