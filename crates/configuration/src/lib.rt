@@ -6,7 +6,7 @@
 mod codes;
 pub mod config;
 mod cuts;
-mod fields;
+pub mod fields;
 pub mod formed;
 mod numbers;
 mod places;

@@ -45,8 +45,8 @@ impl Model for ValueSet {
     ghost inverse = { λ s. record { word = s.word; at = s.at; bits = s.bits; allowed = s.allowed } };
 }
 
-/// A configuration's word with a number.
-fn config_word(config: &Config, number: u8) -> u64
+/// A configuration's word with a number: the lines' is 0, the ephemerals' 1, the cuts' any other.
+pub fn config_word(config: &Config, number: u8) -> u64
     ensures value { result ≡ word_at config.now number }
     ensures packed { IsPacked config.now }
 {
@@ -91,21 +91,24 @@ impl ValueSet {
         }
     }
 
-    pub(crate) fn word(&self) -> u8
+    /// The number of the word that has the component's field: below 3.
+    pub fn word(&self) -> u8
         ensures value { result ≡ self.now.word }
         ensures small { result < 3 }
     {
         self.word
     }
 
-    pub(crate) fn place(&self) -> u32
+    /// The place of the component's field in its word, in bits from the low end.
+    pub fn place(&self) -> u32
         ensures value { result ≡ self.now.at }
         ensures small { result < 64 }
     {
         u32::from(self.at)
     }
 
-    pub(crate) fn size(&self) -> u32
+    /// The size of the component's field: at most 5 bits.
+    pub fn size(&self) -> u32
         ensures value { result ≡ self.now.bits }
         ensures small { result ≤ 5 }
         ensures within { self.now.at + result ≤ 64 }
@@ -113,7 +116,8 @@ impl ValueSet {
         u32::from(self.bits)
     }
 
-    pub(crate) fn allowed(&self) -> u64
+    /// A bit for each number of a value that is in the set.
+    pub fn allowed(&self) -> u64
         ensures { result ≡ self.now.allowed }
     {
         self.allowed
@@ -130,7 +134,7 @@ impl ValueSet {
     }
 
     /// Whether each number that the field can hold is that of a value in the set.
-    pub(crate) fn is_every(&self) -> bool
+    pub fn is_every(&self) -> bool
         ensures { IsTrue result → (w : Words) → is_in self.now w ≡ true }
     {
         match self.size() {
