@@ -7,14 +7,10 @@ use Rattle.mg_model.specs.declared.steps.StepName.{StepName}
 use Rattle.mg_model.specs.Script.{Script}
 use Rattle.mg_model.specs.Configuration.{Configuration}
 use Rattle.mg_model.specs.Steps.{Step, steps_of}
-use Rattle.mg_model.specs.Entries.{Entry, IsPointOf, IsCovered, Includes}
+use Rattle.mg_model.specs.Entries.{Entry, IsPointOf, IsCovered}
 use Rattle.mg_model.specs.Obligations.{JoinedAreMarked, EndedIsCleared, CreatedAreUnbound, NamesAreLive}
 use Rattle.closure.specs.declared.broken.Broken.{Broken}
 use Rattle.closure.specs.declared.broken.Broken.TheVariants.{JoinedMarked, EndedCleared, CreatedUnbound, NamesLive, StepsCovered}
-
--- the entry at a place has the configuration
-abbrev pub PlaceIncludes : List Entry → Configuration → ℕ → Type 0
-PlaceIncludes entries c place = (entry : Entry) × ((slice_get entries place ≡ Some entry) × Includes entry c)
 
 -- ---- steps
 

@@ -2,3 +2,5 @@ pub mod Products
 pub mod ChoiceLemmas
 pub mod TurnedLemmas
 pub mod RegionLemmas
+pub mod PlaceLemmas
+pub mod SievedLemmas

@@ -4,3 +4,5 @@ pub mod Shown
 pub mod Numbers
 pub mod Turned
 pub mod Regions
+pub mod Places
+pub mod Sieved

@@ -1,28 +1,44 @@
 //! Certificates.
-ghost use Rattle.std.specs.Prelude.{◌≡◌, IfOk, map};
+ghost use Rattle.std.specs.Prelude.{◌≡◌, ◌<◌, ◌↔◌, ℕ, IsTrue, IfOk, IfSome, IfNone, Some, length, map};
+ghost use Rattle.std.specs.List.{slice_get};
+ghost use Rattle.mg_model.specs.Configuration.{IsWellFormed};
+ghost use Rattle.mg_model.specs.Entries.{IsCovered};
+ghost use Rattle.configuration.specs.Config.{configuration_of};
 ghost use Rattle.entry_table.specs.Index.{IsIndex, places_of};
+ghost use Rattle.entry_table.specs.Places.{PlaceIncludes};
+ghost use Rattle.entry_table.specs.Sieved.{AreSieved};
 
 use crate::entry::Entry;
+use crate::sieved::all_sieves;
+use configuration::config::Config;
+use entry_index::Sieves;
 use std::alloc::{AllocError, Global};
 use std::marker::Model;
+
+/// How many entries of a state are sooner asked in turn than all at once.
+const FEW: usize = 8;
 
 /// A certificate: its entries in their order, and where those of each state stand among them. This profile's own.
 #[derive(Drop)]
 pub struct Cert {
     entries: Vec<Entry>,
+    /// For each state the places of its entries.
     places: Vec<Vec<usize>>,
+    /// For each state the sieves of its entries, in the order of the places.
+    sieves: Vec<Sieves>,
 }
 
 impl Model for Cert {
     ghost use Rattle.std.specs.Prelude.{List, map};
     ghost use Rattle.entry_table.specs.Listed.{Listed};
     ghost use Rattle.entry_table.specs.Index.{IsIndex};
+    ghost use Rattle.entry_table.specs.Sieved.{IsSieved};
 
     ghost Value = { List Listed };
 
     ghost view = { λ c. c.entries.items };
 
-    ghost invariant = { λ c. IsIndex (map (λ v. v.items) c.places.items) c.entries.items };
+    ghost invariant = { λ c. IsIndex (map (λ v. v.items) c.places.items) c.entries.items × IsSieved c.sieves.items c.entries.items };
 }
 
 impl Cert {
@@ -31,7 +47,12 @@ impl Cert {
         ensures { IfOk result (λ cert. cert ≡ entries.items) }
     {
         let places = all_places(alloc, entries.as_slice())?;
-        Ok(Cert { entries, places })
+        let sieves = all_sieves(alloc, entries.as_slice(), places.as_slice())?;
+        Ok(Cert {
+            entries,
+            places,
+            sieves,
+        })
     }
 
     /// The entries, in their order.
@@ -47,6 +68,69 @@ impl Cert {
     {
         let places = &self.places[state as usize];
         places.as_slice()
+    }
+
+    /// The place of the first entry that has a configuration that is well formed; nothing where none has it. The entries of its
+    /// state are asked in turn where they are few, and else all at once. This profile's own.
+    pub fn place_of(&self, config: &Config) -> Option<usize>
+        requires formed { IsWellFormed (configuration_of config.now) }
+        ensures has { IfSome result (PlaceIncludes self.now (configuration_of config.now)) }
+        ensures first { IfSome result (λ place. (other : ℕ) → other < place
+            → PlaceIncludes self.now (configuration_of config.now) other → ⊥) }
+        ensures none { IfNone result (IsCovered self.now (configuration_of config.now) → ⊥) }
+    {
+        let state = config.state();
+        if self.of_state(state).len() <= FEW {
+            return self.first_in_turn(state, config);
+        }
+        match self.sieves_of(state).first_left(config) {
+            Some(number) => Some(self.place_at(state, number)),
+            None => None,
+        }
+    }
+
+    /// Whether the entry at a place has a configuration that is well formed; none has it past the last place. This profile's own.
+    pub fn has_at(&self, place: usize, config: &Config) -> bool
+        requires formed { IsWellFormed (configuration_of config.now) }
+        ensures { IsTrue result ↔ PlaceIncludes self.now (configuration_of config.now) place }
+    {
+        match self.entries().get(place) {
+            Some(entry) => entry.contains_formed(config),
+            None => false,
+        }
+    }
+
+    /// The place of the first entry of a configuration's state that has it; each is asked.
+    fn first_in_turn(&self, state: u8, config: &Config) -> Option<usize>
+        requires formed { IsWellFormed (configuration_of config.now) }
+        requires state { state ≡ (configuration_of config.now).state }
+        ensures has { IfSome result (PlaceIncludes self.now (configuration_of config.now)) }
+        ensures first { IfSome result (λ place. (other : ℕ) → other < place
+            → PlaceIncludes self.now (configuration_of config.now) other → ⊥) }
+        ensures none { IfNone result (IsCovered self.now (configuration_of config.now) → ⊥) }
+    {
+        for place in self.of_state(state) {
+            if self.has_at(*place, config) {
+                return Some(*place);
+            }
+        }
+        None
+    }
+
+    /// The sieves of a state's entries.
+    fn sieves_of(&self, state: u8) -> &Sieves
+        ensures { AreSieved self.now (places_of state self.now) result.now }
+    {
+        &self.sieves[state as usize]
+    }
+
+    /// The place with a number among those of a state's entries.
+    fn place_at(&self, state: u8, number: usize) -> usize
+        requires { number < length (places_of state self.now) }
+        ensures { slice_get (places_of state self.now) number ≡ Some result }
+    {
+        let places = &self.places[state as usize];
+        places[number]
     }
 }
 

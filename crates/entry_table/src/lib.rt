@@ -9,6 +9,7 @@ mod component;
 mod entry;
 mod numbers;
 mod regions;
+mod sieved;
 mod turned;
 
 pub use cert::Cert;

@@ -14,7 +14,7 @@ use configuration::value_set::ValueSet;
 use std::alloc::{AllocError, Global};
 
 /// The values of a component, as a set.
-fn set_of(component: &Component) -> ValueSet
+pub(crate) fn set_of(component: &Component) -> ValueSet
     ensures { (w : Words) → IsPacked w → IsTrue (is_in result w) ↔ Allows (configuration_of w) (shown component.now) }
 {
     match component {

@@ -6,6 +6,7 @@ ghost use Rattle.closure.specs.Elementwise.{forget_pair, forget_pairs};
 ghost use Rattle.configuration.specs.Config.{configuration_of};
 
 use configuration::config::Config;
+use configuration::value_set::config_word;
 use configuration::well_formed::all_terminations;
 use mg_model::commands::Termination;
 
@@ -27,9 +28,12 @@ fn forget_each(config: &mut Config, termination: &Termination)
     }
 }
 
-/// Forgets what was set for the pairs of a termination.
+/// Forgets what was set for the pairs of a termination. Mostly nothing is cut, and then no pair is looked at.
 pub(super) fn forget_cuts(config: &mut Config, termination: &Termination)
     ensures { configuration_of config.new ≡ record (configuration_of config.old) { cut = without_cuts_of (is_same termination.now) (configuration_of config.old).cut } }
 {
+    if config_word(config, 2) == 0 {
+        return;
+    }
     forget_each(config, termination);
 }

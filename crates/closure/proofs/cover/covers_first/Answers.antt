@@ -1,18 +1,12 @@
--- Only the entries of the configuration's state can have it.
-use Rattle.std.proofs.Common.{◌≡◌, ◌∙◌, ℕ, ap, sym, subst}
-use Rattle.std.specs.List.{Any}
+-- The entry at the place that is found has it; where none is found none has it.
+use Rattle.std.proofs.Common.{refl}
 use Rattle.configuration.specs.Config.{configuration_of}
-use Rattle.entry_table.specs.Index.{places_of}
-use Rattle.closure.specs.Findings.{PlaceIncludes}
-use Rattle.closure.proofs.CoverLemmas.{covered_by_place, place_covers}
+use Rattle.closure.proofs.CoverLemmas.{place_covers}
 use Rattle.closure.proofs.cover.covers_first.Goals as goal
 
-pub returns : goal.returns
-returns c =
-    let entries = c.args.cert.now in
-    let config = configuration_of c.args.config.now in
-    let places : c.of_state.result.now ≡ places_of config.state entries =
-    c.of_state.ensures ∙ ap (λ (state : ℕ). places_of state entries) c.state.ensures in (
-      λ yes. place_covers entries config c.of_state.result.now (c.any_contains.ensures.0 yes),
-      λ covered. c.any_contains.ensures.1 (subst (Any (PlaceIncludes entries config)) (sym places) (covered_by_place entries config covered)),
-    )
+pub returns-in-Some : goal.returns-in-Some
+returns-in-Some c =
+    (λ yes. place_covers c.args.cert.now (configuration_of c.args.config.now) c.in-Some.place c.in-Some.ensures.has, λ covered. refl)
+
+pub returns-in-None : goal.returns-in-None
+returns-in-None c = (λ bad. absurd (cc), λ covered. absurd (c.in-None.ensures.none covered))

@@ -9,8 +9,8 @@ pub returns : goal.returns
 returns c =
     let lists = c.self.inside.places.items in
     let small : c.args.state < 256 = omega (arith, c.ranges.state.fits) in
-    let many = sym (length-map lists (λ v. v.items)) ∙ c.self.invariant.0 in
+    let many = sym (length-map lists (λ v. v.items)) ∙ c.self.invariant.0.0 in
     let inside : c.args.state < length lists = omega (arith, many) in
     c.as_slice.ensures.value
     ∙ sym (choice_at (λ v. v.items) lists c.args.state c.index-places.result.now [] inside c.index-places.ensures)
-    ∙ c.self.invariant.1 c.args.state [] small ∙ ap (places_of c.args.state) c.self.view_is
+    ∙ c.self.invariant.0.1 c.args.state [] small ∙ ap (places_of c.args.state) c.self.view_is

@@ -1,0 +1,49 @@
+-- A sieve more is asked; at the end, all were.
+use Rattle.std.proofs.Common.{◌≡◌, ◌∙◌, ◌&&◌, ◌+◌, ◌<◌, ◌≤◌, List, Bool, true, false, length, drop, refl, subst, ap, sym}
+use Rattle.std.specs.List.{slice_index_or}
+use Rattle.std.proofs.lemmas.List.{drop_all}
+use Rattle.configuration.specs.Bits.{has}
+use Rattle.configuration.proofs.BitLemmas.{has_none}
+use Rattle.entry_index.specs.Sieves.{Sieve, passes_all}
+use Rattle.entry_index.proofs.SieveLemmas.{sifted}
+use Rattle.entry_index.proofs.group.Group.left_of.Goals as goal
+
+nothing : (a b : Bool) → a ≡ false → a ≡ (a && b)
+nothing true b is = absurd (cc)
+nothing false b is = refl
+
+all_of_it : (a b : Bool) → b ≡ true → a ≡ (a && b)
+all_of_it true b is = sym is
+all_of_it false b is = refl
+
+pub loop-sieve-preserved : goal.loop-sieve-preserved
+loop-sieve-preserved c member =
+    let sieves = c.args.self.now in
+    let i = c.loop-sieve.sieve-index in
+    let same : c.deref-sieve-items.result.now ≡ sieves = c.deref-sieve-items.ensures.value ∙ c.self.view_is in
+    sifted sieves i c.sieve-item.result c.loop-sieve.left c.row-left.result member c.args.config.now
+    (subst (λ (xs : List Sieve). i < length xs) same c.loop-sieve-test.true)
+    (c.sieve-item.is ∙ ap (λ (xs : List Sieve). slice_index_or xs i c.sieve-item.result) same) c.row-left.ensures
+    ∙ c.loop-sieve.invariant member
+
+pub returns-then-left-eq0 : goal.returns-then-left-eq0
+returns-then-left-eq0 c member below =
+    let sieves = c.args.self.now in
+    let i = c.loop-sieve.sieve-index in
+    let rest = passes_all (drop (i + 1) sieves) member c.args.config.now in
+    let same : c.deref-sieve-items.result.now ≡ sieves = c.deref-sieve-items.ensures.value ∙ c.self.view_is in
+    nothing (has 0 member) rest (has_none member) ∙ ap (λ row. has row member && rest) (sym c.if-left-eq0.true)
+    ∙ sifted sieves i c.sieve-item.result c.loop-sieve.left c.row-left.result member c.args.config.now
+    (subst (λ (xs : List Sieve). i < length xs) same c.loop-sieve-test.true)
+    (c.sieve-item.is ∙ ap (λ (xs : List Sieve). slice_index_or xs i c.sieve-item.result) same) c.row-left.ensures
+    ∙ c.loop-sieve.invariant member
+
+pub returns : goal.returns
+returns c member below =
+    let sieves = c.args.self.now in
+    let i = c.loop-sieve.sieve-index in
+    let same : c.deref-sieve-items.result.now ≡ sieves = c.deref-sieve-items.ensures.value ∙ c.self.view_is in
+    let none = drop_all i sieves (subst (λ (xs : List Sieve). length xs ≤ i) same c.loop-sieve-test.false) in
+    all_of_it (has c.loop-sieve.left member) (passes_all (drop i sieves) member c.args.config.now)
+    (ap (λ (xs : List Sieve). passes_all xs member c.args.config.now) none)
+    ∙ c.loop-sieve.invariant member

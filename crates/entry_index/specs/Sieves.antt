@@ -1,0 +1,47 @@
+-- Which of some numbered lists of value sets have a configuration, as words of bits tell it.
+-- A reader should check that a list is left where the sieves of its group have its bit in the rows of the configuration's numbers.
+use Rattle.std.specs.Prelude.{◌≡◌, ℕ, ◌/◌, ◌%◌, ◌<◌, nat_lt, Bool, true, false, ◌&&◌, List, []}
+use Rattle.std.specs.List.{list_all, slice_index_or}
+use Rattle.configuration.specs.Bits.{has}
+use Rattle.configuration.specs.Fields.{field_of}
+use Rattle.configuration.specs.Packed.{Words}
+use Rattle.configuration.specs.Regions.{ValueSet, word_at}
+
+-- of one field the number of its word, its place and its size, and for each number a word with a bit for each of 64 members that
+-- allows it
+pub record Sieve : Type 0 where
+  pub word : ℕ
+  pub at : ℕ
+  pub bits : ℕ
+  pub rows : List ℕ
+
+-- the sieve's field is that of a set
+pub record IsOfField (sieve : Sieve) (set : ValueSet) : Type 0 where
+  pub word : sieve.word ≡ set.word
+  pub at : sieve.at ≡ set.at
+  pub bits : sieve.bits ≡ set.bits
+
+-- the row of the number that words have in the sieve's field
+abbrev pub row_of : Sieve → Words → ℕ
+row_of sieve w = slice_index_or sieve.rows (field_of (word_at w sieve.word) sieve.at sieve.bits) 0
+
+unfoldable pub passes : Sieve → ℕ → Words → Bool
+passes sieve member w = has (row_of sieve w) member
+
+abbrev pub passes_all : List Sieve → ℕ → Words → Bool
+passes_all sieves member w = list_all (λ sieve. passes sieve member w) sieves
+
+-- how many lists there are, and the sieves of each 64 of them
+pub record Sieves : Type 0 where
+  pub count : ℕ
+  pub groups : List (List Sieve)
+
+-- everything that the list with this number was narrowed by has the words
+unfoldable pub is_left : Sieves → ℕ → Words → Bool
+is_left sieves number w =
+    nat_lt number sieves.count && passes_all (slice_index_or sieves.groups (number / 64) []) (number % 64) w
+
+-- the list with this number is left, and none before it
+pub record IsFirstLeft (sieves : Sieves) (w : Words) (number : ℕ) : Type 0 where
+  pub left : is_left sieves number w ≡ true
+  pub before : (other : ℕ) → other < number → is_left sieves other w ≡ false

@@ -1,0 +1,46 @@
+//! The rows of a field: for each of its numbers a bit for each member of a group.
+ghost use Rattle.std.specs.Prelude.{◌≡◌, ◌-◌, ◌^◌, ◌<◌, ◌≤◌, ◌==◌, ◌&&◌, ◌||◌, ℕ, not, nat_lt, slice_index};
+ghost use Rattle.configuration.specs.Bits.{has};
+
+use configuration::fields::field;
+
+/// A bit for each of so many members, the first of a group.
+pub(crate) fn first_members(count: usize) -> u64
+    ensures { (b : ℕ) → b < 64 → has result b ≡ nat_lt b count }
+{
+    if count >= 64 {
+        return u64::MAX;
+    }
+    (1 << count) - 1
+}
+
+/// Rows with the bits of all members of a group.
+pub(crate) fn rows_of_all() -> [u64; 32]
+    ensures { (n : ℕ) → n < 32 → slice_index result n ≡ 2 ^ 64 - 1 }
+{
+    [u64::MAX; 32]
+}
+
+/// A row without a member's bit, unless the member allows the row's number.
+fn narrowed(row: u64, member: u32, is_allowed: bool) -> u64
+    requires { member < 64 }
+    ensures { (b : ℕ) → b < 64 → has result b ≡ (has row b && (not (b == member) || is_allowed)) }
+{
+    if is_allowed {
+        return row;
+    }
+    row & !(1 << member)
+}
+
+/// Clears a member's bit in the row of each number of so many bits that isn't allowed.
+pub(crate) fn narrow_rows(rows: &mut [u64; 32], bits: u32, member: u32, allowed: u64)
+    requires bits { bits ≤ 5 }
+    requires member { member < 64 }
+    ensures { (n b : ℕ) → n < 2 ^ bits → b < 64
+        → has (slice_index rows.new n) b ≡ (has (slice_index rows.old n) b && (not (b == member) || has allowed n)) }
+{
+    for number in 0..1usize << bits {
+        let is_allowed = field(allowed, number as u32, 1) != 0;
+        rows[number] = narrowed(rows[number], member, is_allowed);
+    }
+}

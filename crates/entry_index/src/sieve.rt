@@ -1,0 +1,75 @@
+//! A sieve: which members of a group allow which numbers of one field.
+use crate::rows::{narrow_rows, rows_of_all};
+use configuration::config::Config;
+use configuration::fields::field;
+use configuration::value_set::{ValueSet, config_word};
+use std::marker::Model;
+
+/// Which members of a group of 64 allow which numbers of one field.
+#[derive(Drop)]
+pub(crate) struct Sieve {
+    /// The number of the field's word.
+    word: u8,
+    /// The field's place in it.
+    at: u32,
+    /// Its size.
+    bits: u32,
+    /// For each number a bit for each member that allows it.
+    rows: [u64; 32],
+}
+
+impl Model for Sieve {
+    ghost use Rattle.std.specs.Prelude.{◌<◌, ◌≤◌};
+    ghost use Rattle.entry_index.specs.Sieves as sieves;
+
+    ghost Value = { sieves.Sieve };
+
+    ghost view = { λ s. record { word = s.word; at = s.at; bits = s.bits; rows = s.rows } };
+
+    ghost invariant = { λ s. (s.at < 64) × (s.bits ≤ 5) };
+}
+
+impl Sieve {
+    ghost use Rattle.std.specs.Prelude.{◌≡◌, ◌↔◌, ◌<◌, ◌==◌, ◌&&◌, ◌||◌, ℕ, true, not, IsTrue};
+    ghost use Rattle.configuration.specs.Packed.{Words};
+    ghost use Rattle.configuration.specs.Regions.{is_in};
+    ghost use Rattle.entry_index.specs.Sieves.{IsOfField, passes, row_of};
+
+    /// The sieve of a set's field that lets every member pass.
+    pub(crate) fn of_field(set: &ValueSet) -> Sieve
+        ensures field { IsOfField result set.now }
+        ensures every { (member : ℕ) (w : Words) → member < 64 → passes result member w ≡ true }
+    {
+        Sieve {
+            word: set.word(),
+            at: set.place(),
+            bits: set.size(),
+            rows: rows_of_all(),
+        }
+    }
+
+    /// Whether its field is that of a set.
+    pub(crate) fn is_of_field(&self, set: &ValueSet) -> bool
+        ensures { IsTrue result → IsOfField self.now set.now }
+    {
+        self.word == set.word() && self.at == set.place() && self.bits == set.size()
+    }
+
+    /// The members that allow the number that a configuration has in the field.
+    pub(crate) fn row(&self, config: &Config) -> u64
+        ensures { result ≡ row_of self.now config.now }
+    {
+        let number = field(config_word(config, self.word), self.at, self.bits);
+        self.rows[number as usize]
+    }
+
+    /// Lets a member pass with the values of a set alone.
+    pub(crate) fn narrow(&mut self, member: u32, set: &ValueSet)
+        requires member { member < 64 }
+        requires field { IsOfField self.old set.now }
+        ensures { (other : ℕ) (w : Words) → other < 64
+            → passes self.new other w ≡ (passes self.old other w && (not (other == member) || is_in set.now w)) }
+    {
+        narrow_rows(&mut self.rows, self.bits, member, set.allowed());
+    }
+}
