@@ -1,0 +1,9 @@
+pub mod Lists
+pub mod Exploring
+pub mod Growth
+pub mod Keeping
+pub mod Moving
+pub mod Seeking
+pub mod Shown
+pub mod Steps
+pub mod Tracing
