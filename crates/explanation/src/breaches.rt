@@ -108,8 +108,8 @@ fn is_bound_ephemeral(script: &Script, config: &Config, ephemeral: Slot) -> bool
     is_ephemeral_created(script.commands_of(config.state()), ephemeral)
 }
 
-/// Whether a context name is bound to one that has been deleted.
-fn is_stale(value: ContextValue) -> bool
+/// Whether a context name is bound to one that has been deleted. This profile's own.
+pub fn is_stale(value: ContextValue) -> bool
     ensures { IsTrue result ↔ value ≡ ContextValue.Stale }
 {
     match value {
@@ -119,8 +119,8 @@ fn is_stale(value: ContextValue) -> bool
     }
 }
 
-/// Whether a Remote names an ephemeral that has been destroyed.
-fn is_gone(remote: Remote) -> bool
+/// Whether a Remote names an ephemeral that has been destroyed. This profile's own.
+pub fn is_gone(remote: Remote) -> bool
     ensures { IsTrue result ↔ remote ≡ Remote.Gone }
 {
     match remote {

@@ -19,7 +19,7 @@ mod uncovered;
 mod widened;
 
 pub use breach::Breach;
-pub use breaches::find_breaches;
+pub use breaches::{find_breaches, is_gone, is_stale};
 pub use located::{Located, locate};
 pub use mended::{Mended, alone, mend};
 pub use nearest::{Nearest, find_nearest, lacking};

@@ -1,0 +1,2 @@
+pub mod LastSoFar
+pub mod Causes
