@@ -1,14 +1,17 @@
 //! The page on a No: what the first broken obligation is about.
-use crate::facts::facts;
 use crate::listed::listed_text;
 use crate::page::{FORMAT, FaultText, Lack, NearText, Page, PointText};
-use crate::place_text::PlaceText;
+use crate::room::{NO_ROOM, WIDENED, is_full, make_room};
 use crate::rules::{advice, obligation_key, obligation_rule};
+use crate::way::{add_way, moves_of};
+use breach_words::facts;
+use call_ways::find::find_way;
 use closure::steps::{opening, reset};
 use configuration::config::Config;
 use configuration::well_formed::is_well_formed;
 use entry_table::{Cert, Component};
 use explanation::{Located, alone, find_nearest, locate, mend, uncovered_step};
+use fault_words::PlaceText;
 use mg_model::faults::Fault;
 use mg_names::obligations::Obligation;
 use program_rim::status::Status;
@@ -48,6 +51,8 @@ pub fn new_page<'a>(
         rule,
         place,
         point: None,
+        way: None,
+        part: None,
         facts: Vec::new(alloc),
         step: None,
         uncovered: None,
@@ -110,6 +115,24 @@ fn near_text<'a>(
     }))
 }
 
+/// Adds an entry in the place of one that there is, which has a configuration too, where its state has as many as it may.
+fn add_room(
+    alloc: Global,
+    page: &mut Page<'_>,
+    documents: &Documents<'_>,
+    config: &Config,
+) -> Result<(), AllocError> {
+    match make_room(alloc, documents, config)? {
+        Some((place, entry)) => {
+            page.entry = Some(entry_text(alloc, documents.script, &entry)?);
+            page.widens = Some(place);
+            page.advice = Some(WIDENED);
+        }
+        None => page.advice = Some(NO_ROOM),
+    }
+    Ok(())
+}
+
 /// Adds an entry that has a configuration, and where that is another one widened, the one of that point alone; if it is well formed, as those that
 /// a step leads to are.
 fn add_mended(
@@ -120,6 +143,9 @@ fn add_mended(
 ) -> Result<(), AllocError> {
     if !is_well_formed(config) {
         return Ok(());
+    }
+    if is_full(documents, config) {
+        return add_room(alloc, page, documents, config);
     }
     let mended = mend(alloc, documents.script, documents.cert, config)?;
     page.entry = Some(entry_text(alloc, documents.script, &mended.entry)?);
@@ -204,10 +230,18 @@ fn add_fault<'a>(
         return add_whole(alloc, page, documents, obligation);
     };
     add_point(alloc, page, documents, &point)?;
+    let way = find_way(alloc, documents.script, documents.cert, &point.config)?;
+    add_way(alloc, page, documents, &point, &way)?;
     if matches!(obligation, Obligation::StepsCovered) {
         return add_step(alloc, page, documents, &point.config);
     }
-    page.facts = facts(alloc, documents.script, &point.config, obligation)?;
+    page.facts = facts(
+        alloc,
+        documents.script,
+        &point.config,
+        obligation,
+        moves_of(&way),
+    )?;
     Ok(())
 }
 

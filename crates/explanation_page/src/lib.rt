@@ -2,18 +2,15 @@
 //! themselves are those of the crate `explanation`.
 //!
 //! The way of a No: `explain` asks for what its first broken obligation is about, and puts it into a `page`: the rule (`rules`), the entry as the
-//! certificate has it (`listed`), what of the point breaks the obligation (`facts`). Of a fault of a document there are its rule and its place
-//! (`places`, `dividers`, as a `place_text`). This profile's own.
+//! certificate has it (`listed`), and the way on which a call comes to the point (`way`). What of the point breaks the obligation is said by
+//! `breach_words`, and of a fault of a document the rule and the place by `fault_words`. This profile's own.
 #![tactic(auto)]
 
-pub mod dividers;
 pub mod explain;
-mod facts;
 mod listed;
 mod page;
-mod place_text;
-pub mod places;
+mod room;
 pub mod rules;
+mod way;
 
 pub use page::{FaultText, Page};
-pub use place_text::PlaceText;

@@ -1,6 +1,6 @@
 //! An entry as it stands in the text of a certificate.
-use crate::places::line_of;
 use entry_table::Entry;
+use fault_words::places::line_of;
 use found_places::entry_ends;
 use script_table::Script;
 use script_words::entry_text::{EntryText, entry_text};

@@ -1,12 +1,13 @@
 //! What is said of a script and a certificate under the line of the check: as text paragraph by paragraph, and as one JSON value with that line.
-use crate::facts::Fact;
 use crate::listed::ListedText;
-use crate::place_text::PlaceText;
+use breach_words::Fact;
+use fault_words::PlaceText;
 use script_words::config_text::ConfigText;
 use script_words::entry_text::EntryText;
 use script_words::step_text::StepText;
 use serde::Serialize;
 use std::fmt;
+use way_words::WayText;
 
 /// A component of an entry that doesn't have a configuration's value.
 #[derive(Drop, Serialize)]
@@ -77,6 +78,12 @@ pub struct Page<'a> {
     /// The point that a No names.
     #[serde(skip_serializing_if = "Option::is_none")]
     pub(crate) point: Option<PointText<'a>>,
+    /// The way on which a call comes there.
+    #[serde(skip_serializing_if = "Option::is_none")]
+    pub(crate) way: Option<WayText<'a>>,
+    /// Where none does, the part of the point's entry that calls come to.
+    #[serde(skip_serializing_if = "Option::is_none")]
+    pub(crate) part: Option<EntryText>,
     /// What of the point breaks the obligation.
     #[serde(skip_serializing_if = "Vec::is_empty")]
     pub(crate) facts: Vec<Fact<'a>>,
@@ -171,6 +178,8 @@ impl fmt::Display for Page<'_> {
         sentence(f, &self.rule)?;
         sentence(f, &self.place)?;
         paragraph(f, &self.point)?;
+        paragraph(f, &self.way)?;
+        self.write_part(f)?;
         for fact in self.facts.as_slice() {
             write!(f, "\n{fact}")?;
         }
@@ -183,6 +192,14 @@ impl fmt::Display for Page<'_> {
 }
 
 impl Page<'_> {
+    /// Writes the part of the point's entry that calls come to, under the sentence on it.
+    fn write_part<W: fmt::Write>(&self, f: &mut fmt::Formatter<W>) -> fmt::Result {
+        match &self.part {
+            Some(entry) => writeln!(f, "  {}", entry.line),
+            None => Ok(()),
+        }
+    }
+
     /// Writes the entry that would have the configuration, and where to put it.
     fn write_entry<W: fmt::Write>(&self, f: &mut fmt::Formatter<W>) -> fmt::Result {
         let Some(entry) = &self.entry else {
@@ -193,7 +210,7 @@ impl Page<'_> {
             Some(place) => {
                 writeln!(
                     f,
-                    "\nThis is entry {place} with that value, and would have it. Put it in the place of that one:"
+                    "\nThis is entry {place} with what it lacks, and would have it. Put it in the place of that one:"
                 )?;
             }
             None => writeln!(

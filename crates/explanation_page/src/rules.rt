@@ -1,7 +1,5 @@
-//! The rules: a sentence for each obligation, and for each fault of a script and of a certificate.
-use certificate::CertFault;
+//! The rules of the check: a sentence for each obligation, and what may be done where it is broken.
 use mg_names::obligations::Obligation;
-use script_faults::ScriptFault;
 
 /// What a yes says.
 pub const YES_RULE: &str =
@@ -56,7 +54,7 @@ pub(crate) fn advice(obligation: Obligation) -> Option<&'static str> {
             Some("If no call is to come there, it is the script that has to change.")
         }
         Obligation::JoinedMarked => Some(
-            "If they may talk here, give the state the pair in its `talk`. At link `sent` and `fault` there stands what the states before have left: a state that parts them has the pair too. Else a state before has to part them, or the entry has more than calls come to.",
+            "A state before has to part them, by a topology or by taking one of them out of the context. If they are to talk here, give the state the pair in its `talk`: that mark takes this check off the pair wherever a call is in the state. At link `sent` and `fault` there stands what the states before have left: a state that parts them has the pair too. Else the entry has more than calls come to.",
         ),
         Obligation::EndedCleared => Some(
             "A state that leads here has to do this in its request, and lead here by `ok` alone. If one does, the entry has more than calls come to.",
@@ -67,61 +65,5 @@ pub(crate) fn advice(obligation: Obligation) -> Option<&'static str> {
         Obligation::NamesLive => Some(
             "Take the last one out of a context by `subtract CONTEXT *`, which frees its name, and set a Remote to `none` before what it names is subtracted. If this is done, the entry has more than calls come to.",
         ),
-    }
-}
-
-/// What a script must be for it not to have this fault.
-pub fn script_rule(fault: &ScriptFault) -> &'static str {
-    match fault {
-        ScriptFault::NotToml => "A script is a TOML document.",
-        ScriptFault::BadKey => {
-            "A script has the keys of the format and no others, each with a value of its kind, each text in one of the format's forms, and at least two lines."
-        }
-        ScriptFault::BadName => {
-            "A name that is declared has 1 to 16 lower-case letters, digits and `_`, the first a letter, and is not `none`, `armed`, `gone` or `absent`."
-        }
-        ScriptFault::Duplicate => {
-            "A name is declared once in its name space, an event or a signal stands once in a list, a pair and a topology have two names, and a state creates a name once."
-        }
-        ScriptFault::Unknown => {
-            "A name is declared as what its place asks for: a state as a target, a line for `events=` and `signals=`, an ephemeral for `remote=`, and so on."
-        }
-        ScriptFault::BadMap => {
-            "A digit map is one alternative or more, at most 16 of at most 16 positions: digits, `E`, `F`, `x` and ranges in brackets."
-        }
-        ScriptFault::NoStart => "`start` names the state that a call opens in.",
-        ScriptFault::NoRestart => {
-            "`restart` names the state that a call enters when it hears that the gateway restarted."
-        }
-        ScriptFault::NoFault => {
-            "A state with commands has `fault`: where a reply with a failed command leads."
-        }
-        ScriptFault::OkWithoutActions => "A state without commands has no `ok` and no `fault`.",
-        ScriptFault::EndWithTransitions => "An end state has no commands and leads nowhere.",
-        ScriptFault::MadeAndSubtracted => {
-            "A state doesn't create an ephemeral and subtract it, nor a context and subtract all of it."
-        }
-        ScriptFault::TooMany => {
-            "A script has at most 4 lines, 4 contexts, 4 ephemerals and 64 states, 16 commands in a state, and 16 each of events lists, signals lists and maps."
-        }
-    }
-}
-
-/// What a certificate must be for it not to have this fault.
-pub fn certificate_rule(fault: &CertFault) -> &'static str {
-    match fault {
-        CertFault::NotJson => "A certificate is a JSON text in UTF-8.",
-        CertFault::BadKey => {
-            "A certificate has the keys of the format and no others, those that are needed, each with a value of its kind, and the version 2."
-        }
-        CertFault::Unknown => {
-            "Each state, name and word of a certificate is known in its place: the script declares it, or the format's table has it."
-        }
-        CertFault::EmptySet => "The list of a component has a value.",
-        CertFault::TooManyEntries => "A state has at most 256 entries.",
-        CertFault::TooManyPoints => "The product of an entry's lists is at most 65,536.",
-        CertFault::OldVersion => {
-            "The version of a certificate is 2; version 1 did not ask that names stand for what exists."
-        }
     }
 }

@@ -14,7 +14,7 @@ const NOWHERE: &str =
     "The reader tells no place for this fault: of all that the document has, it gives the one with the lowest number.";
 
 /// The line of a byte of a text, from 1.
-pub(crate) fn line_of(text: &[u8], byte: usize) -> usize {
+pub fn line_of(text: &[u8], byte: usize) -> usize {
     let end = byte.min(text.len());
     text[..end].iter().filter(|other| **other == b'\n').count() + 1
 }

@@ -1,4 +1,6 @@
-//! What of a point breaks an obligation, in sentences; and the ways that media takes between joined lines, hop by hop.
+//! A sentence on one thing that breaks an obligation; and the way that media takes between joined lines, hop by hop.
+use crate::left_by::{LeftBy, left_by};
+use call_ways::way::WayStep;
 use configuration::config::Config;
 use explanation::{Breach, Crossing, find_breaches, find_path};
 use mg_model::commands::Termination;
@@ -14,7 +16,7 @@ use std::fmt;
 
 /// A hop of media within a context, or its crossing from one ephemeral to another.
 #[derive(Drop, Serialize)]
-pub(crate) struct Hop<'a> {
+struct Hop<'a> {
     from: &'a str,
     to: &'a str,
     /// The context of a hop; none for a crossing.
@@ -33,12 +35,15 @@ impl fmt::Display for Hop<'_> {
 
 /// One thing that breaks the obligation.
 #[derive(Drop, Serialize)]
-pub(crate) struct Fact<'a> {
+pub struct Fact<'a> {
     /// What it is.
     says: String,
     /// For joined lines, the way that media takes.
     #[serde(skip_serializing_if = "Vec::is_empty")]
     path: Vec<Hop<'a>>,
+    /// Where a call comes there, the command that left it so.
+    #[serde(skip_serializing_if = "Option::is_none")]
+    left_by: Option<LeftBy<'a>>,
 }
 
 impl fmt::Display for Fact<'_> {
@@ -47,6 +52,9 @@ impl fmt::Display for Fact<'_> {
         writeln!(f, "{says}")?;
         for hop in self.path.as_slice() {
             write!(f, "{hop}")?;
+        }
+        if let Some(left_by) = &self.left_by {
+            write!(f, "{left_by}")?;
         }
         Ok(())
     }
@@ -189,6 +197,7 @@ fn fact_on<'a>(
     script: &'a Script,
     config: &Config,
     breach: &Breach,
+    way: &[WayStep],
 ) -> Result<Fact<'a>, AllocError> {
     let path = match *breach {
         Breach::Joined(pair) => path(alloc, script, config, pair)?,
@@ -197,20 +206,22 @@ fn fact_on<'a>(
     Ok(Fact {
         says: says(alloc, script, config, breach)?,
         path,
+        left_by: left_by(alloc, script, way, breach)?,
     })
 }
 
-/// All that breaks an obligation of a configuration.
-pub(crate) fn facts<'a>(
+/// All that breaks an obligation of a configuration, to which a way leads; an empty one where none is known. The only error is running out of memory.
+pub fn facts<'a>(
     alloc: Global,
     script: &'a Script,
     config: &Config,
     obligation: Obligation,
+    way: &[WayStep],
 ) -> Result<Vec<Fact<'a>>, AllocError> {
     let found = find_breaches(alloc, script, config, obligation)?;
     let mut facts = Vec::new(alloc);
     for breach in found.as_slice() {
-        facts.push(fact_on(alloc, script, config, breach)?)?;
+        facts.push(fact_on(alloc, script, config, breach, way)?)?;
     }
     Ok(facts)
 }
