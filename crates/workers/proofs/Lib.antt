@@ -1,4 +1,1 @@
-pub mod AccountLemmas
-pub mod BeginLemmas
-pub mod WorkerQueueLemmas
-pub mod ServedLemmas
+pub mod GivenValues

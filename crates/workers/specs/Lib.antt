@@ -1,2 +1,1 @@
 pub mod PlanSteps
-pub mod Passing

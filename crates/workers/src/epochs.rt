@@ -2,20 +2,34 @@
 ghost use Rattle.std.specs.Prelude.{◌≡◌, ◌≤◌, IfOk, length, vec_len};
 ghost use Rattle.mg_model.specs.Numbers.{plan_calls};
 ghost use Rattle.plans.specs.Accepted.{IsPlanFor};
-ghost use Rattle.planned_calls.specs.RunShards.{AreOfRun};
-ghost use Rattle.run_shards.specs.Counting.{AreCounted};
+ghost use Rattle.call_workers.specs.RunShards.{AreOfRun};
+ghost use Rattle.call_workers.specs.Counting.{AreCounted};
 
 use crate::epoch::pass;
-use crate::gate::Gate;
-use crate::workplace::{Workplace, end_epoch};
+use call_workers::{
+    Gate, LockedShard, Places, PlannedCall, PlayedShards, RunFault, RunPlan, Running, Workplace,
+    all_planned, epochs_of, open_all, unlocked,
+};
 use composition::Checked;
-use planned_calls::{PlannedCall, RunFault, epochs_of};
 use plans::Plan;
-use run_shards::{Places, PlayedShards, RunPlan, Running, all_planned, open_all, unlocked};
 use std::alloc::Global;
 use std::marker::Brand;
-use std::sync::Wait;
+use std::sync::{Mutex, Wait};
 use std::thread::Threads;
+
+/// An epoch of all calls ends: each shard restarts, one after the other, each under its lock alone. `Disagree` where a call has a step left, and `NoMemory` where
+/// memory ran out; the shards before it are restarted then.
+fn end_epoch<'s, B: Running, R: Wait>(
+    rt: &R,
+    alloc: Global,
+    shards: &[Mutex<LockedShard<'s, B>>],
+    plan: &RunPlan<'_, B>,
+) -> Result<(), RunFault> {
+    for shard in shards {
+        shard.lock(rt).end_epoch(alloc, plan)?;
+    }
+    Ok(())
+}
 
 /// All epochs of the plan, with a restart of every shard between two. All workers of an epoch are joined before it.
 fn pass_all<'a, 's, G: Gate, B: Running + Send + Sync, R: Threads + Wait + Sync>(

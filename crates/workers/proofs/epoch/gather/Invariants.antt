@@ -1,7 +1,7 @@
 -- The run's places are still the run's, and those that are left are workers' still.
 use Rattle.std.specs.List.{All}
 use Rattle.std.specs.Vec.Iter.{into_iter_items}
-use Rattle.workers.specs.Passing.{IsOwner, IsWorkersAt}
+use Rattle.call_queues.specs.Passing.{IsOwner, IsWorkersAt}
 use Rattle.workers.proofs.epoch.gather.Given as goal
 
 abbrev pub invariant-loop-worked : goal.invariant-loop-worked

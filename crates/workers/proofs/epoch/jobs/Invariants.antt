@@ -2,7 +2,7 @@
 use Rattle.std.proofs.Common.{◌≡◌}
 use Rattle.std.specs.Prelude.{vec_len}
 use Rattle.std.specs.List.{All}
-use Rattle.workers.specs.Passing.{IsOwner, IsWorkersAt}
+use Rattle.call_queues.specs.Passing.{IsOwner, IsWorkersAt}
 use Rattle.workers.proofs.epoch.jobs.Given as goal
 
 abbrev pub invariant-loop-worker : goal.invariant-loop-worker

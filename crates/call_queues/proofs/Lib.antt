@@ -1,0 +1,4 @@
+pub mod AccountLemmas
+pub mod BeginLemmas
+pub mod WorkerQueueLemmas
+pub mod ServedLemmas

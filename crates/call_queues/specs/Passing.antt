@@ -1,0 +1,44 @@
+-- How calls pass through the workers of an epoch. A reader should check that each that went into a queue comes back from it once: the numbers of those that
+-- come back are those of the ones that were begun.
+use Rattle.std.specs.Prelude.{◌≡◌, ℕ, ◌+◌, List, [], Some, slice_get}
+use Rattle.handover.specs.Hands.{all_parts, numbers_of, times}
+use Rattle.handover.specs.Queues.{IsShareOf, hand_of}
+use Rattle.handover.specs.declared.hand.NumberedItem.{NumberedItem}
+use Rattle.handover.specs.declared.hand.Hand.{Hand}
+use Rattle.handover.specs.declared.queue.Queue.{Queue}
+use Rattle.call_queues.specs.declared.queue_owner.QueueOwner.{QueueOwner}
+use Rattle.call_queues.specs.declared.worker_queue.WorkerQueue.{WorkerQueue}
+
+-- these things are all that was begun or taken by a share, and wasn't put back
+abbrev pub Accounts : {T : Type 0} → Hand → List (NumberedItem T) → Type 0
+Accounts v things = (number : ℕ) → times number (numbers_of things) + times number v.put ≡ times number v.begun + times number v.taken
+
+-- it holds nothing: all that it began or took was put in
+abbrev pub HoldsNothing : Hand → Type 0
+HoldsNothing v = (number : ℕ) → times number v.put ≡ times number v.begun + times number v.taken
+
+-- the things are those that were begun
+abbrev pub HaveBegun : {T : Type 0} → List ℕ → List (NumberedItem T) → Type 0
+HaveBegun begun things = (number : ℕ) → times number (numbers_of things) ≡ times number begun
+
+module _ {T : Type 0} where
+  -- a worker's place: a share of this queue with the one part that it was given, which accounts for what the worker is done with there
+  pub record IsWorkers (queue : Queue T) (worker_queue : WorkerQueue T) : Type 0 where
+    pub share : IsShareOf queue worker_queue.share
+    pub part : (hand_of worker_queue.share).parts ≡ 1
+    pub begun : (hand_of worker_queue.share).begun ≡ []
+    pub accounts : Accounts (hand_of worker_queue.share) worker_queue.done.items
+
+  -- one at the queue of its shard
+  pub record IsWorkersAt (queues : List (Queue T)) (worker_queue : WorkerQueue T) : Type 0 where
+    pub queue : Queue T
+    pub at : slice_get queues worker_queue.shard ≡ Some queue
+    pub workers : IsWorkers queue worker_queue
+
+  -- the run's own place at the queue of a shard: a share of that queue with all parts but those that workers have, which accounts for what came back
+  pub record IsOwner (queues : List (Queue T)) (owner : QueueOwner T) : Type 0 where
+    pub queue : Queue T
+    pub at : slice_get queues owner.worker_queue.shard ≡ Some queue
+    pub share : IsShareOf queue owner.worker_queue.share
+    pub parts : (hand_of owner.worker_queue.share).parts + owner.away ≡ all_parts
+    pub accounts : Accounts (hand_of owner.worker_queue.share) owner.worker_queue.done.items

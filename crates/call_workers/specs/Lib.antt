@@ -1,0 +1,3 @@
+pub use Rattle.run_shards.specs.Counting
+pub use Rattle.run_shards.specs.PlannedCall
+pub use Rattle.run_shards.specs.RunShards
