@@ -114,12 +114,19 @@ def imports(text):
     return {(crate, module.replace(".", "/")) for crate, module in IMPORT.findall(text) if "declared" not in module}
 
 
+def passed_on(crate, module):
+    """The file of a crate below that this one passes on under this name, if it does."""
+    path = crates.folder(crate) / "specs" / "Lib.antt"
+    text = path.read_text() if path.is_file() else ""
+    return frozenset(imports("\n".join(re.findall(rf"^pub use .*\.{module}$", text, re.MULTILINE))))
+
+
 @functools.cache
 def definitions(crate, module):
     """The definitions of a file, each with its text, and the files that it hands on; nothing where there is no such file."""
     path = crates.folder(crate) / "specs" / f"{module}.antt"
     if not path.is_file():
-        return {}, frozenset(), frozenset()
+        return {}, passed_on(crate, module), passed_on(crate, module)
     text = path.read_text()
     found, name = {}, None
     for line in text.splitlines():

@@ -5,3 +5,12 @@ pub mod Parts
 pub mod ReportLines
 pub mod RunShards
 pub mod Taking
+pub use Rattle.shards.specs.Lasting
+pub use Rattle.shards.specs.Shards
+pub use Rattle.shards.specs.Standings
+pub use Rattle.shards.specs.declared.standing.Standing
+pub use Rattle.shards.specs.Meaning
+pub use Rattle.shards.specs.Opening
+pub use Rattle.shards.specs.Stepping
+pub use Rattle.shards.specs.declared.opened.OpenedCall
+pub use Rattle.shards.specs.declared.stepped.Stepped

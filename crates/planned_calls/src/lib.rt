@@ -19,3 +19,4 @@ pub use lines::{CallPhase, Line, lines_of, phase_of};
 pub use opening::opened_call;
 pub use plan_totals::{PlanTotals, epochs_of};
 pub use planned_call::{CallLog, PLAN_CALLS, PlannedCall, TakenStep, is_restart};
+pub use shards::{OpenFault, OpenedCall, Shard, Standing, Stepped};

@@ -52,6 +52,19 @@ pub struct PlannedCall<'s> {
     pub log: CallLog,
 }
 
+impl TakenStep {
+    /// A step in a state, and the event that it was.
+    fn new(first: u32, state: u8, event: Option<Event>) -> TakenStep
+        ensures { result ≡ record { first = first; state = state; event = event } }
+    {
+        TakenStep {
+            first,
+            state,
+            event,
+        }
+    }
+}
+
 /// Whether a step is a restart, which is no step of one call alone.
 pub fn is_restart(step: &PlanStep) -> bool
     ensures yes { result ≡ true → step.now ≡ steps.Restarts }
@@ -168,14 +181,7 @@ impl<'s> PlannedCall<'s> {
         let first = planned.standing.0 % PLAN_CALLS;
         let state = stands.state;
         let Some(event) = shard.meaning(planned.standing, begins, step) else {
-            return (
-                planned,
-                Ok(TakenStep {
-                    first,
-                    state,
-                    event: None,
-                }),
-            );
+            return (planned, Ok(TakenStep::new(first, state, None)));
         };
         shard.keeps_its_run();
         let PlannedCall {
@@ -190,14 +196,7 @@ impl<'s> PlannedCall<'s> {
             log,
         };
         match planned.settle(shard, event, begins, done) {
-            Ok(event) => (
-                planned,
-                Ok(TakenStep {
-                    first,
-                    state,
-                    event,
-                }),
-            ),
+            Ok(event) => (planned, Ok(TakenStep::new(first, state, event))),
             Err(fault) => (planned, Err(fault)),
         }
     }

@@ -13,10 +13,10 @@ use Rattle.mg_model.specs.Shards.{cut_at_restarts, merged, restarts_in}
 use Rattle.mg_model.specs.World.{is_of_call}
 use Rattle.agent.specs.Calls.{value_of}
 use Rattle.run_account.specs.Comparing.{Agree, trail_at, trails_of}
-use Rattle.planned_calls.specs.Taking.{trail_of}
-use Rattle.planned_calls.specs.Parts.{of_call}
+use Rattle.run_shards.specs.Taking.{trail_of}
+use Rattle.run_shards.specs.Parts.{of_call}
 use Rattle.run_account.specs.Runs.{IsOutcome, is_within, within}
-use Rattle.planned_calls.specs.declared.planned_call.PlannedCall.{PlannedCall}
+use Rattle.run_shards.specs.PlannedCall.{PlannedCall}
 use Rattle.run_account.proofs.MergedParts.{merged_alone}
 
 -- ---- one history that has the events of a call

@@ -14,8 +14,8 @@ use Rattle.mg_model.specs.World.{Opened}
 use Rattle.plans.specs.Accepted.{IsPlanFor}
 use Rattle.plans.specs.Tables.{has_twice}
 use Rattle.mg_model.specs.Members.{is_among}
-use Rattle.planned_calls.specs.Parts.{ArePartsFrom, IsPart, numbers_in, opened_calls, opened_in}
-use Rattle.planned_calls.proofs.PartCalls.{has_rest, part_has_rest, part_in_plan}
+use Rattle.run_shards.specs.Parts.{ArePartsFrom, IsPart, numbers_in, opened_calls, opened_in}
+use Rattle.run_shards.proofs.PartCalls.{has_rest, part_has_rest, part_in_plan}
 
 -- ---- numbers
 

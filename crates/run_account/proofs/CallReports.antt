@@ -14,15 +14,15 @@ use Rattle.mg_model.specs.Entries.{Entry}
 use Rattle.mg_model.specs.Script.{Script}
 use Rattle.mg_one_report.specs.Logs.{LogsTellReports}
 use Rattle.composition.specs.Verdict.{IsChecked}
-use Rattle.shards.specs.Shards.{ShardValue}
-use Rattle.planned_calls.proofs.Faults.{because}
+use Rattle.run_shards.specs.Shards.{ShardValue}
+use Rattle.run_shards.proofs.Faults.{because}
 use Rattle.run_account.specs.FinalState.{HaveLines, IsLeftAmong}
-use Rattle.planned_calls.specs.Disagreements.{IsBecause}
-use Rattle.planned_calls.specs.ReportLines.{AreAllNumbered, line_of}
+use Rattle.run_shards.specs.Disagreements.{IsBecause}
+use Rattle.run_shards.specs.ReportLines.{AreAllNumbered, line_of}
 use Rattle.run_shards.specs.declared.shard_count.ShardCount.{ShardCount}
 use Rattle.run_account.specs.CallReport.{HavePlayed, IsTold}
-use Rattle.planned_calls.specs.declared.fault.RunFault.{RunFault}
-use Rattle.planned_calls.specs.declared.lines.Line.{Line}
+use Rattle.run_shards.specs.RunFault.{RunFault}
+use Rattle.run_shards.specs.Line.{Line}
 use Rattle.run_account.proofs.CountedReports.{reported}
 use Rattle.run_account.proofs.EachShard.{counted_at, taken_at, there}
 

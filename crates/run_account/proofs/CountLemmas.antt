@@ -13,7 +13,7 @@ use Rattle.mg_model.specs.Shards.{restarts_in}
 use Rattle.mg_merge.specs.Identifiers.{executes_in, executes_of}
 use Rattle.run_account.specs.Comparing.{restarts_of}
 use Rattle.run_account.specs.FinalStates.{AreAllOf, counted}
-use Rattle.planned_calls.specs.Parts.{of_call}
+use Rattle.run_shards.specs.Parts.{of_call}
 
 pub restarts_more : (history : List Event) (event : Event) → restarts_in (history ++ event ∷ []) ≡ restarts_in history + restarts_of event
 unfolding restarts_in

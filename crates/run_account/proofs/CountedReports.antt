@@ -16,13 +16,13 @@ use Rattle.mg_model.specs.Tables.{state_of}
 use Rattle.mg_model.specs.World.{Opened, World}
 use Rattle.mg_one_report.specs.Logs.{Counted, LogEntry, LogRuns, LogsTellReports, counted, line_counted, none_counted, restarts_logged, steps_logged}
 use Rattle.composition.specs.Verdict.{IsChecked}
-use Rattle.shards.specs.Shards.{IsWorldOf, ShardValue}
-use Rattle.shards.specs.Standings.{StandsAs}
-use Rattle.planned_calls.specs.Counts.{counts_of}
-use Rattle.planned_calls.specs.Parts.{opened_in}
-use Rattle.planned_calls.specs.ReportLines.{gone_line, line_of, phase_standing, phase_text}
-use Rattle.planned_calls.specs.declared.call_count.CallCount.{CallCount}
-use Rattle.planned_calls.specs.declared.lines.Line.{Line}
+use Rattle.run_shards.specs.Shards.{IsWorldOf, ShardValue}
+use Rattle.run_shards.specs.Standings.{StandsAs}
+use Rattle.run_shards.specs.Counts.{counts_of}
+use Rattle.run_shards.specs.Parts.{opened_in}
+use Rattle.run_shards.specs.ReportLines.{gone_line, line_of, phase_standing, phase_text}
+use Rattle.run_shards.specs.CallCount.{CallCount}
+use Rattle.run_shards.specs.Line.{Line}
 use Rattle.run_shards.proofs.LogLemmas.{own_restarts}
 use Rattle.run_shards.proofs.StepLemmas.{asked_within, epochs_within, no_epochs, opened_among, restarts_in_steps, steps_all}
 use Rattle.run_shards.specs.Counting.{IsCounted, IsLogged, all_restarts_logged, epochs_logged, place_of, steps_so_far}

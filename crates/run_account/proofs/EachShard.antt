@@ -7,7 +7,7 @@ use Rattle.mg_merge.specs.Identifiers.{executes_in, most_executes}
 use Rattle.mg_model.proofs.Single.{first_in, first_or_later, later_in, none_in}
 use Rattle.mg_model.specs.Plans.{Plan, PlanCall}
 use Rattle.mg_model.specs.Script.{Script}
-use Rattle.shards.specs.Shards.{ShardValue}
+use Rattle.run_shards.specs.Shards.{ShardValue}
 use Rattle.run_shards.specs.Counting.{AreCounted, IsCounted}
 use Rattle.run_shards.specs.declared.shard_count.ShardCount.{ShardCount}
 use Rattle.run_account.specs.Finishing.{AreFinished}

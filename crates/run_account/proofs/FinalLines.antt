@@ -10,14 +10,14 @@ use Rattle.mg_model.specs.declared.events.Event.TheVariants.{OfCall}
 use Rattle.mg_model.specs.Numbers.{plan_calls}
 use Rattle.mg_model.specs.Script.{Script}
 use Rattle.mg_model.specs.World.{World, is_of_call}
-use Rattle.shards.specs.Shards.{IsWorldOf, ShardValue}
-use Rattle.shards.specs.Standings.{StandsAs}
-use Rattle.shards.specs.declared.standing.Standing.{Standing}
+use Rattle.run_shards.specs.Shards.{IsWorldOf, ShardValue}
+use Rattle.run_shards.specs.Standings.{StandsAs}
+use Rattle.run_shards.specs.Standing.{Standing}
 use Rattle.run_account.specs.FinalStates.{AreAllOf, IsLineOf, Leaves, counted}
 use Rattle.run_account.specs.FinalState.{HaveLines, IsLeftBy, IsOpenAs, call_of}
-use Rattle.planned_calls.specs.Parts.{of_call}
-use Rattle.planned_calls.specs.ReportLines.{phase_standing, phase_text}
-use Rattle.planned_calls.specs.declared.lines.Line.{Line}
+use Rattle.run_shards.specs.Parts.{of_call}
+use Rattle.run_shards.specs.ReportLines.{phase_standing, phase_text}
+use Rattle.run_shards.specs.Line.{Line}
 use Rattle.run_account.proofs.Passed.{passed_among, some_in}
 use Rattle.run_account.proofs.StandingWords.{standing_word}
 

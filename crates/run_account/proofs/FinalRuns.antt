@@ -11,12 +11,12 @@ use Rattle.mg_model.specs.Script.{Script}
 use Rattle.mg_model.specs.Shards.{IsMergedRun}
 use Rattle.mg_model.specs.Tables.{state_of}
 use Rattle.mg_model.specs.World.{World}
-use Rattle.shards.specs.Shards.{ShardValue}
+use Rattle.run_shards.specs.Shards.{ShardValue}
 use Rattle.run_account.specs.Finishing.{AreFinished, IsFinished}
 use Rattle.run_account.specs.FinalState.{IsLeft, IsLeftAmong, IsLeftIn, call_of}
-use Rattle.planned_calls.specs.Parts.{numbers_in, of_call}
+use Rattle.run_shards.specs.Parts.{numbers_in, of_call}
 use Rattle.run_account.specs.Runs.{IsOutcome, is_within}
-use Rattle.planned_calls.specs.declared.lines.Line.{Line}
+use Rattle.run_shards.specs.Line.{Line}
 use Rattle.run_account.proofs.AgreedTrails.{of_call_in_trail}
 use Rattle.run_account.proofs.FinishedShards.{shard_of, shards_from}
 use Rattle.run_account.proofs.Passed.{passed_in}

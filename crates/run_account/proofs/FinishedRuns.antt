@@ -17,21 +17,21 @@ use Rattle.mg_merge.specs.Laws.{MergesAreRuns}
 use Rattle.mg_safety.specs.Headline.{RunsAreGood}
 use Rattle.identifiers.specs.Class.{is_of_class}
 use Rattle.plans.specs.Accepted.{IsPlanFor}
-use Rattle.shards.specs.Shards.{ShardValue, opened_as}
+use Rattle.run_shards.specs.Shards.{ShardValue, opened_as}
 use Rattle.run_account.specs.Comparing.{Agree}
 use Rattle.run_account.specs.Finishing.{AreFinished, IsFinished}
-use Rattle.planned_calls.specs.RunShards.{AreOfRun, IsOfRun}
+use Rattle.run_shards.specs.RunShards.{AreOfRun, IsOfRun}
 use Rattle.run_account.specs.FinalState.{HaveLines, IsLeftAmong}
-use Rattle.planned_calls.specs.Parts.{ArePartsFrom, IsPart, numbers_in, opened_calls}
-use Rattle.planned_calls.specs.ReportLines.{IsReportOf}
+use Rattle.run_shards.specs.Parts.{ArePartsFrom, IsPart, numbers_in, opened_calls}
+use Rattle.run_shards.specs.ReportLines.{IsReportOf}
 use Rattle.run_account.specs.Runs.{IsOutcome, IsRunOf, OutcomeValue, is_within, within}
-use Rattle.planned_calls.specs.declared.lines.Line.{Line}
+use Rattle.run_shards.specs.Line.{Line}
 use Rattle.run_account.proofs.AgreedTrails.{trails_agree}
 use Rattle.run_account.proofs.ApartParts.{part_numbered, shards_apart}
 use Rattle.run_account.proofs.FinishedShards.{all_histories, all_shards, shard_of, shards_from}
 use Rattle.run_account.proofs.FinalRuns.{line_left}
 use Rattle.run_account.proofs.Passed.{not_past, passed_among}
-use Rattle.planned_calls.proofs.PartCalls.{all_in_parts, parts_in_all}
+use Rattle.run_shards.proofs.PartCalls.{all_in_parts, parts_in_all}
 
 -- ---- one more shard
 

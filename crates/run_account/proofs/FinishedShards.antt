@@ -1,9 +1,9 @@
 -- The shards of a run, as the model has them.
 use Rattle.std.proofs.Common.{◌≡◌, ◌+◌, ℕ, suc, List, [], ◌∷◌, length, map, refl, ap}
 use Rattle.mg_model.specs.Shards.{History, Shard, cut_at_restarts, histories}
-use Rattle.shards.specs.Shards.{ShardValue, opened_as}
+use Rattle.run_shards.specs.Shards.{ShardValue, opened_as}
 use Rattle.run_account.specs.Finishing.{AreFinished, IsFinished}
-use Rattle.planned_calls.specs.Parts.{numbers_in}
+use Rattle.run_shards.specs.Parts.{numbers_in}
 
 abbrev pub shard_of : (count restarts number : ℕ) (v : ShardValue) → IsFinished restarts v → Shard
 shard_of count restarts number v is = record {

@@ -6,12 +6,12 @@ use Rattle.std.proofs.lemmas.List.Sums.{sum_by_more}
 use Rattle.std.proofs.lemmas.List.Elements.{Contains-push}
 use Rattle.mg_model.specs.declared.events.Event.{Event}
 use Rattle.mg_model.specs.Script.{Script}
-use Rattle.shards.specs.Shards.{ShardValue}
-use Rattle.planned_calls.specs.Disagreements.{last_number}
+use Rattle.run_shards.specs.Shards.{ShardValue}
+use Rattle.run_shards.specs.Disagreements.{last_number}
 use Rattle.run_account.specs.Comparing.{last_place}
 use Rattle.run_account.specs.FinalState.{call_of}
 use Rattle.run_account.specs.OtherLines.{AreUnlike, HasUnlike, IsInterrupted, IsLeftOtherwise, IsUnlike, events_told, a_line_is, left_otherwise, not_above, numbers_end, other_events, too_long}
-use Rattle.planned_calls.specs.declared.lines.Line.{Line}
+use Rattle.run_shards.specs.Line.{Line}
 use Rattle.run_account.proofs.DifferingTrails.{split_at}
 
 -- each number below this one isn't above that of some line

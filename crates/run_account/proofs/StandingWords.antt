@@ -7,10 +7,10 @@ use Rattle.mg_model.specs.Tables.{state_of}
 use Rattle.mg_model.specs.World.{World}
 use Rattle.agent.specs.CallValue.{rests, waits, has_ended}
 use Rattle.gateway.specs.GatewayValue.{gateway_of}
-use Rattle.shards.specs.Shards.{IsWorldOf, ShardValue}
-use Rattle.shards.specs.Standings.{StandsAs}
-use Rattle.shards.specs.declared.standing.Standing.{Standing}
-use Rattle.planned_calls.specs.ReportLines.{phase_in, phase_standing, phase_text}
+use Rattle.run_shards.specs.Shards.{IsWorldOf, ShardValue}
+use Rattle.run_shards.specs.Standings.{StandsAs}
+use Rattle.run_shards.specs.Standing.{Standing}
+use Rattle.run_shards.specs.ReportLines.{phase_in, phase_standing, phase_text}
 
 word_is : (test is_end : Bool) (phase : Phase)
     → phase_text (phase_in test (if is_resting phase then (if is_end then has_ended else rests) else waits)) ≡ phase_word test is_end phase

@@ -7,12 +7,12 @@ use Rattle.mg_model.specs.Numbers.{plan_calls}
 use Rattle.mg_model.specs.Plans.{Plan, number_begun}
 use Rattle.mg_model.specs.Script.{Script}
 use Rattle.mg_model.specs.World.{World}
-use Rattle.shards.specs.Shards.{IsWorldOf, ShardValue}
-use Rattle.shards.specs.Standings.{StandsAs}
-use Rattle.shards.specs.declared.standing.Standing.{Standing}
-use Rattle.planned_calls.specs.ReportLines.{AreNumbered, line_of, lines_told, phase_standing}
-use Rattle.planned_calls.specs.declared.call_count.CallCount.{CallCount}
-use Rattle.planned_calls.specs.declared.lines.Line.{Line}
+use Rattle.run_shards.specs.Shards.{IsWorldOf, ShardValue}
+use Rattle.run_shards.specs.Standings.{StandsAs}
+use Rattle.run_shards.specs.Standing.{Standing}
+use Rattle.run_shards.specs.ReportLines.{AreNumbered, line_of, lines_told, phase_standing}
+use Rattle.run_shards.specs.CallCount.{CallCount}
+use Rattle.run_shards.specs.Line.{Line}
 use Rattle.run_shards.specs.Counting.{AreCounted}
 use Rattle.run_shards.specs.declared.shard_count.ShardCount.{ShardCount}
 use Rattle.run_account.specs.FinalState.{HaveLines, IsLeftAmong}

@@ -6,8 +6,8 @@ use Rattle.mg_model.specs.declared.events.Event.{Event}
 use Rattle.mg_model.specs.declared.events.Event.TheVariants.{OfCall, Restart}
 use Rattle.mg_model.specs.Numbers.{plan_calls}
 use Rattle.run_account.specs.Runs.{within}
-use Rattle.planned_calls.specs.Taking.{trail_of}
-use Rattle.planned_calls.specs.declared.planned_call.PlannedCall.{PlannedCall}
+use Rattle.run_shards.specs.Taking.{trail_of}
+use Rattle.run_shards.specs.PlannedCall.{PlannedCall}
 
 -- 1 for a restart, and 0 for an event of a call
 abbrev pub restarts_of : Event → ℕ

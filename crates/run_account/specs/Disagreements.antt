@@ -5,11 +5,11 @@ use Rattle.mg_model.specs.Plans.{Plan, restarts_of_all}
 use Rattle.mg_model.specs.Script.{Script}
 use Rattle.mg_model.specs.Shards.{restarts_in}
 use Rattle.mg_model.specs.World.{World}
-use Rattle.shards.specs.Shards.{IsWorldOf, ShardValue}
-use Rattle.planned_calls.specs.Disagreements.{last_count, last_number}
-use Rattle.planned_calls.specs.declared.call_count.CallCount.{CallCount}
-use Rattle.planned_calls.specs.declared.lines.Line.{Line}
-use Rattle.planned_calls.specs.declared.planned_call.PlannedCall.{PlannedCall}
+use Rattle.run_shards.specs.Shards.{IsWorldOf, ShardValue}
+use Rattle.run_shards.specs.Disagreements.{last_count, last_number}
+use Rattle.run_shards.specs.CallCount.{CallCount}
+use Rattle.run_shards.specs.Line.{Line}
+use Rattle.run_shards.specs.PlannedCall.{PlannedCall}
 use Rattle.run_shards.specs.declared.shard_count.ShardCount.{ShardCount}
 use Rattle.run_account.specs.CallReport.{AreCountedLines, number_standing}
 use Rattle.run_account.specs.Comparing.{Differ, trails_of}

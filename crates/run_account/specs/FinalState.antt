@@ -13,11 +13,11 @@ use Rattle.mg_model.specs.Reports.{phase_word}
 use Rattle.mg_model.specs.Script.{Script}
 use Rattle.mg_model.specs.Tables.{state_of}
 use Rattle.mg_model.specs.World.{World, begin}
-use Rattle.shards.specs.Shards.{IsWorldOf, ShardValue}
-use Rattle.planned_calls.specs.Parts.{of_call}
-use Rattle.planned_calls.specs.ReportLines.{phase_text}
-use Rattle.planned_calls.specs.declared.lines.CallPhase.TheVariants.{Retired}
-use Rattle.planned_calls.specs.declared.lines.Line.{Line}
+use Rattle.run_shards.specs.Shards.{IsWorldOf, ShardValue}
+use Rattle.run_shards.specs.Parts.{of_call}
+use Rattle.run_shards.specs.ReportLines.{phase_text}
+use Rattle.run_shards.specs.CallPhase.TheVariants.{Retired}
+use Rattle.run_shards.specs.Line.{Line}
 
 -- the number of the call that a line tells of
 abbrev pub call_of : Line → ℕ

@@ -5,10 +5,10 @@ use Rattle.mg_model.specs.declared.events.Event.{Event}
 use Rattle.mg_model.specs.Numbers.{plan_calls}
 use Rattle.mg_model.specs.Script.{Script}
 use Rattle.mg_model.specs.World.{World}
-use Rattle.shards.specs.Shards.{IsWorldOf, ShardValue}
+use Rattle.run_shards.specs.Shards.{IsWorldOf, ShardValue}
 use Rattle.run_account.specs.FinalState.{IsLeftIn, call_of}
-use Rattle.planned_calls.specs.Parts.{of_call}
-use Rattle.planned_calls.specs.declared.lines.Line.{Line}
+use Rattle.run_shards.specs.Parts.{of_call}
+use Rattle.run_shards.specs.Line.{Line}
 
 -- how many events of a call stand before a place
 abbrev pub counted : (call place : ℕ) → List Event → ℕ

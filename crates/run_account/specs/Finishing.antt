@@ -4,7 +4,7 @@ use Rattle.std.specs.Prelude.{◌≡◌, ℕ, ◌<◌, ◌≤◌, ◌⊎◌, Lis
 use Rattle.mg_merge.specs.Identifiers.{executes_in, most_executes}
 use Rattle.mg_model.specs.Shards.{RunsWithin, restarts_in}
 use Rattle.mg_model.specs.World.{World}
-use Rattle.shards.specs.Shards.{IsShard, IsWorldOf, ShardValue}
+use Rattle.run_shards.specs.Shards.{IsShard, IsWorldOf, ShardValue}
 
 -- it kept its run, with identifiers left before each event, was restarted so often, and executed no more than a plan may
 pub record IsFinished (restarts : ℕ) (v : ShardValue) : Type 0 where

@@ -8,3 +8,8 @@ pub mod Merging
 pub mod OtherLines
 pub mod Runs
 pub mod TakenAll
+pub use Rattle.run_shards.specs.FaultNames
+pub use Rattle.run_shards.specs.Parts
+pub use Rattle.run_shards.specs.ReportLines
+pub use Rattle.run_shards.specs.RunFault
+pub use Rattle.run_shards.specs.Line

@@ -9,16 +9,16 @@ use Rattle.mg_model.specs.declared.events.Event.TheVariants.{OfCall}
 use Rattle.mg_model.specs.Script.{Script}
 use Rattle.mg_model.specs.Tables.{state_of}
 use Rattle.mg_model.specs.World.{World, begin}
-use Rattle.shards.specs.Shards.{IsWorldOf, ShardValue}
-use Rattle.shards.specs.Standings.{StandsAs}
-use Rattle.shards.specs.declared.standing.Standing.{Standing}
+use Rattle.run_shards.specs.Shards.{IsWorldOf, ShardValue}
+use Rattle.run_shards.specs.Standings.{StandsAs}
+use Rattle.run_shards.specs.Standing.{Standing}
 use Rattle.run_account.specs.Comparing.{last_place}
 use Rattle.run_account.specs.FinalState.{call_of}
 use Rattle.run_account.specs.FinalStates.{IsLineOf}
-use Rattle.planned_calls.specs.Disagreements.{last_number}
-use Rattle.planned_calls.specs.ReportLines.{phase_standing}
-use Rattle.planned_calls.specs.declared.lines.CallPhase.TheVariants.{Retired}
-use Rattle.planned_calls.specs.declared.lines.Line.{Line}
+use Rattle.run_shards.specs.Disagreements.{last_number}
+use Rattle.run_shards.specs.ReportLines.{phase_standing}
+use Rattle.run_shards.specs.CallPhase.TheVariants.{Retired}
+use Rattle.run_shards.specs.Line.{Line}
 
 -- ---- one thing that a line tells
 

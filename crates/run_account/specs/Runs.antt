@@ -10,11 +10,11 @@ use Rattle.mg_model.specs.Script.{Script}
 use Rattle.mg_model.specs.Shards.{Shard, IsShardRun, histories, merged, restarts_in}
 use Rattle.mg_model.specs.World.{World, IsGood, IsOpening, Runs}
 use Rattle.run_account.specs.FinalState.{HaveLines, IsLeft}
-use Rattle.planned_calls.specs.Parts.{ArePartsFrom, opened_calls}
-use Rattle.planned_calls.specs.ReportLines.{IsReportOf}
-use Rattle.planned_calls.specs.declared.lines.Line.{Line}
-use Rattle.planned_calls.specs.declared.fault.RunFault.{RunFault}
-use Rattle.planned_calls.specs.declared.fault.RunFault.TheVariants.{BadWorkers, TooManyCalls, Disagree, NoMemory}
+use Rattle.run_shards.specs.Parts.{ArePartsFrom, opened_calls}
+use Rattle.run_shards.specs.ReportLines.{IsReportOf}
+use Rattle.run_shards.specs.Line.{Line}
+use Rattle.run_shards.specs.RunFault.{RunFault}
+use Rattle.run_shards.specs.RunFault.TheVariants.{BadWorkers, TooManyCalls, Disagree, NoMemory}
 
 -- ---- an outcome
 

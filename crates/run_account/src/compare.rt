@@ -3,15 +3,14 @@ ghost use Rattle.std.specs.Prelude.{◌≡◌, ◌∷◌, [], ◌++◌, ◌≤�
 ghost use Rattle.mg_model.specs.Shards.{restarts_in};
 ghost use Rattle.mg_merge.specs.Identifiers.{executes_in, executes_of};
 ghost use Rattle.run_account.specs.Comparing.{Agree, Differ, FollowAll, Follows, IsAtEnd, IsNotNext, StrayAmong, Strays, StraysIn, restarts_of, trails_of};
-ghost use Rattle.planned_calls.specs.Taking.{trail_of};
-ghost use Rattle.planned_calls.specs.Parts.{of_call};
+ghost use Rattle.run_shards.specs.Taking.{trail_of};
+ghost use Rattle.run_shards.specs.Parts.{of_call};
 ghost use Rattle.agent.specs.Calls.{value_of};
 
 use agent::Next;
 use mg_model::events::{CallEvent, Event};
 use mg_names::identifiers::CallNo;
-use planned_calls::{PLAN_CALLS, PlannedCall};
-use shards::Shard;
+use run_shards::{PLAN_CALLS, PlannedCall, Shard};
 use std::alloc::{AllocError, Global};
 
 /// 1 for a restart, and 0 for an event of a call.

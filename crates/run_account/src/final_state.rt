@@ -4,10 +4,10 @@ ghost use Rattle.std.specs.Prelude.{◌≡◌, ℕ, ◌+◌, ◌<◌, ◌⊎◌,
 ghost use Rattle.mg_model.specs.declared.events.Event.TheVariants.{OfCall};
 ghost use Rattle.mg_model.specs.World.{begin};
 ghost use Rattle.mg_model.specs.declared.events.CallEvent.{CallEvent};
-ghost use Rattle.planned_calls.specs.declared.lines.Line.{Line};
+ghost use Rattle.run_shards.specs.Line.{Line};
 ghost use Rattle.run_account.specs.Comparing.{last_place, trails_of};
-ghost use Rattle.planned_calls.specs.Taking.{trail_of};
-ghost use Rattle.planned_calls.specs.ReportLines.{phase_standing};
+ghost use Rattle.run_shards.specs.Taking.{trail_of};
+ghost use Rattle.run_shards.specs.ReportLines.{phase_standing};
 ghost use Rattle.run_account.specs.FinalStates.{AreAllOf, IsLineOf, Leaves};
 ghost use Rattle.run_account.specs.FinalState.{HaveLines, IsGone, IsLeftAmong, IsLeftBy, call_of};
 ghost use Rattle.run_account.specs.OtherLines.{AreLeftOtherwise, AreUnlike, IsInterrupted, IsLeftOtherwise, IsNoBeginningOn, IsNotGone, IsNotOf, IsOfNoCall, IsOtherStanding};
@@ -15,9 +15,8 @@ ghost use Rattle.run_account.specs.OtherLines.{AreLeftOtherwise, AreUnlike, IsIn
 use crate::compare::{ends_at, event_at};
 use mg_model::events::{CallEvent, Event};
 use mg_names::identifiers::{Assoc, CallNo};
-use planned_calls::{CallPhase, Line, PLAN_CALLS, PlannedCall, phase_of};
+use run_shards::{CallPhase, Line, PLAN_CALLS, PlannedCall, Shard, Standing, phase_of};
 use script_table::Script;
-use shards::{Shard, Standing};
 
 /// The number of the call that a line of a call of the plan tells of; nothing where it is of another, or where the numbers end.
 fn number_of(call: u32, line: &Line) -> Option<CallNo>

@@ -16,3 +16,4 @@ mod taken_all;
 
 pub use account::{CountedShards, PlannedRun, finish};
 pub use outcome::Outcome;
+pub use run_shards::{CallPhase, Line, PLAN_CALLS, RunFault, epochs_of, is_restart, opened_call};

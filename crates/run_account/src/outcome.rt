@@ -1,11 +1,11 @@
 //! What a run of a plan came to: one history of all shards, and what each call went through.
 ghost use Rattle.std.specs.Prelude.{◌≡◌, IfOk, length};
-ghost use Rattle.planned_calls.specs.Parts.{of_call};
+ghost use Rattle.run_shards.specs.Parts.{of_call};
 
 use crate::compare::push_of;
 use mg_model::events::Event;
 use mg_names::identifiers::CallNo;
-use planned_calls::{Line, PLAN_CALLS, PlannedCall};
+use run_shards::{Line, PLAN_CALLS, PlannedCall};
 use std::alloc::{AllocError, Global};
 use std::marker::Model;
 

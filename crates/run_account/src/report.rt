@@ -2,8 +2,8 @@
 //! shards and transcripts leave. The calls have nothing to do with each other here, so threads tell them.
 ghost use Rattle.std.specs.Prelude.{◌≡◌, ◌<◌, ℕ, [], Contains, IfErr, IfNone, IfOk, IfSome, MatchResult, length, slice_index_or};
 ghost use Rattle.std.specs.List.{flat_map, range_with_len, AllZip};
-ghost use Rattle.planned_calls.specs.Disagreements.{IsBecause, last_number};
-ghost use Rattle.planned_calls.specs.ReportLines.{IsReportOf};
+ghost use Rattle.run_shards.specs.Disagreements.{IsBecause, last_number};
+ghost use Rattle.run_shards.specs.ReportLines.{IsReportOf};
 ghost use Rattle.run_account.specs.CallReport.{AreCountedLines, HavePlayed, IsTold, number_standing};
 ghost use Rattle.run_account.specs.Comparing.{trails_of};
 ghost use Rattle.run_account.specs.Disagreements.{HasNotTold, IsNotCounted, IsNotTold};
@@ -14,13 +14,12 @@ use composition::Checked;
 use mg_names::identifiers::CallNo;
 use mg_one_report::laws::logs_tell_reports;
 use mg_reports::laws;
-use planned_calls::{
-    CallCount, Line, PLAN_CALLS, PlanTotals, PlannedCall, RunFault, lines_of, phase_of,
-};
 use rayon::prelude::*;
-use run_shards::ShardCount;
+use run_shards::{
+    CallCount, Line, PLAN_CALLS, PlanTotals, PlannedCall, RunFault, Shard, ShardCount, lines_of,
+    phase_of,
+};
 use script_table::Script;
-use shards::Shard;
 use std::alloc::{AllocError, Global};
 use std::thread::Threads;
 

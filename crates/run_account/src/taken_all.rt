@@ -5,8 +5,7 @@ ghost use Rattle.mg_model.specs.Numbers.{plan_calls};
 ghost use Rattle.mg_model.specs.Plans.{epochs_of};
 ghost use Rattle.run_account.specs.TakenAll.{HasNotTakenAll, HasOneLeft, HasTakenAll, HaveTakenAll};
 
-use planned_calls::PlanTotals;
-use run_shards::ShardCount;
+use run_shards::{PlanTotals, ShardCount};
 
 /// Whether it is the plan's last epoch. Where no call has an epoch, the first is the last.
 fn is_last_epoch(count: &ShardCount, totals: &PlanTotals<'_>) -> bool

@@ -10,7 +10,7 @@ use Rattle.std.specs.Result.{OnOk}
 use Rattle.program_rim.specs.Devices.{Passes, WritesFront}
 use Rattle.program_rim.proofs.Gathering.{before_more, next_text}
 use Rattle.mg_model.specs.Script.{Script}
-use Rattle.planned_calls.specs.declared.lines.Line.{Line}
+use Rattle.runner.specs.Line.{Line}
 use Rattle.check_lines.specs.Output.{Text, call_text}
 use Rattle.run_reports.specs.RunAnswers.{call_line, call_lines}
 

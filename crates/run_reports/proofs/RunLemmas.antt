@@ -14,10 +14,10 @@ use Rattle.plans.specs.declared.fault.PlanFault.{PlanFault}
 use Rattle.typed_values.specs.Unread.{OrNoMemory}
 use Rattle.typed_values.specs.declared.unread.Unread.{Unread}
 use Rattle.typed_values.specs.declared.unread.Unread.TheVariants as unreads
-use Rattle.planned_calls.specs.FaultNames as run_names
-use Rattle.run_account.specs.Runs.{HasRun}
-use Rattle.planned_calls.specs.declared.fault.RunFault.{RunFault}
-use Rattle.planned_calls.specs.declared.fault.RunFault.TheVariants as runs
+use Rattle.runner.specs.FaultNames as run_names
+use Rattle.runner.specs.Runs.{HasRun}
+use Rattle.runner.specs.RunFault.{RunFault}
+use Rattle.runner.specs.RunFault.TheVariants as runs
 use Rattle.check_lines.specs.Output.{Text, Line, line, usage, sections, too_long, script_fault, certificate_fault, plan_fault, run_fault, yes, no, no_memory}
 use Rattle.run_reports.specs.RunAnswers.{AnswersPlan, AnswersRun, Refuses, TellsPlanFault, TellsRunFault}
 use Rattle.check_lines.specs.VerdictLines.{Judges, NamesFault, NamesRefusal}

@@ -2,7 +2,7 @@
 use Rattle.std.proofs.Common.{◌≡◌, ◌∙◌, ℕ, List, [], ◌∷◌, map, refl, sym, ap}
 use Rattle.mg_model.specs.Reports.{ReportLine}
 use Rattle.mg_model.specs.Script.{Script}
-use Rattle.planned_calls.specs.declared.lines.Line.{Line as RunLine}
+use Rattle.runner.specs.Line.{Line as RunLine}
 use Rattle.check_lines.specs.Output.{CallLine}
 use Rattle.runner.specs.OnlyReport.{told_of}
 use Rattle.run_reports.specs.RunAnswers.{call_line, call_lines}

@@ -1,1 +1,2 @@
 pub mod RunAnswers
+pub use Rattle.runner.specs.Line

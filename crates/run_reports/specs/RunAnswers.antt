@@ -11,12 +11,12 @@ use Rattle.plans.specs.Reading.{ReadsPlan}
 use Rattle.plans.specs.declared.fault.PlanFault.{PlanFault}
 use Rattle.typed_values.specs.declared.unread.Unread.{Unread}
 use Rattle.typed_values.specs.declared.unread.Unread.TheVariants as unreads
-use Rattle.planned_calls.specs.FaultNames as run_names
-use Rattle.planned_calls.specs.ReportLines.{IsReportOf, line_of}
-use Rattle.run_account.specs.Runs.{HasRun, OutcomeValue}
-use Rattle.planned_calls.specs.declared.fault.RunFault.{RunFault}
-use Rattle.planned_calls.specs.declared.fault.RunFault.TheVariants as runs
-use Rattle.planned_calls.specs.declared.lines.Line.{Line as RunLine}
+use Rattle.runner.specs.FaultNames as run_names
+use Rattle.runner.specs.ReportLines.{IsReportOf, line_of}
+use Rattle.runner.specs.Runs.{HasRun, OutcomeValue}
+use Rattle.runner.specs.RunFault.{RunFault}
+use Rattle.runner.specs.RunFault.TheVariants as runs
+use Rattle.runner.specs.Line.{Line as RunLine}
 use Rattle.check_lines.specs.Output.{Text, Line, Output, CallLine, line, report, plan_fault, run_fault, yes, no_memory}
 use Rattle.check_lines.specs.VerdictLines.{Judges}
 

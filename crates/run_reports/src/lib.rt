@@ -6,3 +6,6 @@
 
 mod report;
 pub mod run;
+
+pub use report::state_name;
+pub use runner::{Line, PLAN_CALLS, RunFault};

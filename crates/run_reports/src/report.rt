@@ -15,8 +15,8 @@ use program_rim::status::Status;
 use runner::Line;
 use script_table::Script;
 
-/// The name of the state at a place.
-fn state_name(script: &Script, place: u8) -> &str
+/// The name of the state at a place; an empty one where the script has no such state. This profile's own.
+pub fn state_name(script: &Script, place: u8) -> &str
     ensures { result.now ≡ (state_of script.now place).name }
 {
     match script.state(place) {

@@ -2,7 +2,7 @@
 use Rattle.std.proofs.Common.{◌≡◌, ◌+◌, ◌++◌, ℕ, suc, List, [], ◌∷◌, length, subst, arith}
 use Rattle.mg_model.specs.Plans.{PlanCall}
 use Rattle.mg_model.specs.Script.{Script}
-use Rattle.shards.specs.Shards.{ShardValue}
+use Rattle.planned_calls.specs.Shards.{ShardValue}
 use Rattle.run_shards.specs.Counting.{AreCounted, IsCounted}
 use Rattle.run_shards.specs.declared.shard_count.ShardCount.{ShardCount}
 

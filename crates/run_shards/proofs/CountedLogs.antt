@@ -13,8 +13,8 @@ use Rattle.mg_model.specs.Shards.{HasIdentifiersLeft}
 use Rattle.mg_model.specs.World.{World, IsOpening, Occurs, Opened, Runs}
 use Rattle.mg_merge.specs.Identifiers.{executes_in, executes_of, most_executes}
 use Rattle.mg_one_report.specs.Logs.{Counted, LogEntry, LogRuns, StepTaken, count_step, counted, epoch_ended, none_counted, restarted, steps_logged, took}
-use Rattle.shards.specs.Lasting.{IdentifiersAreLeft}
-use Rattle.shards.specs.Shards.{HasHappened, HasSameOpening, IsShard, IsWorldOf, ShardValue, opened_as}
+use Rattle.planned_calls.specs.Lasting.{IdentifiersAreLeft}
+use Rattle.planned_calls.specs.Shards.{HasHappened, HasSameOpening, IsShard, IsWorldOf, ShardValue, opened_as}
 use Rattle.planned_calls.specs.Counts.{counts_of}
 use Rattle.planned_calls.specs.Parts.{opened_in}
 use Rattle.planned_calls.specs.RunShards.{IsOfRun}

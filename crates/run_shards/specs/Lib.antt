@@ -1,2 +1,17 @@
 pub mod Counting
 pub mod PlanSteps
+pub use Rattle.planned_calls.specs.Counts
+pub use Rattle.planned_calls.specs.Disagreements
+pub use Rattle.planned_calls.specs.FaultNames
+pub use Rattle.planned_calls.specs.Parts
+pub use Rattle.planned_calls.specs.ReportLines
+pub use Rattle.planned_calls.specs.RunShards
+pub use Rattle.planned_calls.specs.Taking
+pub use Rattle.planned_calls.specs.declared.call_count.CallCount
+pub use Rattle.planned_calls.specs.declared.fault.RunFault
+pub use Rattle.planned_calls.specs.declared.lines.CallPhase
+pub use Rattle.planned_calls.specs.declared.lines.Line
+pub use Rattle.planned_calls.specs.declared.planned_call.PlannedCall
+pub use Rattle.planned_calls.specs.Shards
+pub use Rattle.planned_calls.specs.Standings
+pub use Rattle.planned_calls.specs.Standing

@@ -7,8 +7,7 @@ use crate::locked_shard::LockedShard;
 use crate::places::Places;
 use crate::running::Running;
 use crate::shard_count::ShardCount;
-use planned_calls::{PlannedCall, RunFault};
-use shards::Shard;
+use planned_calls::{PlannedCall, RunFault, Shard};
 use std::alloc::Global;
 use std::sync::Mutex;
 

@@ -19,6 +19,10 @@ pub use joined::{PlayedShards, all_planned, unlocked};
 pub use locked_shard::LockedShard;
 pub use opening::open_all;
 pub use places::Places;
+pub use planned_calls::{
+    CallCount, CallLog, CallPhase, Line, PLAN_CALLS, PlanTotals, PlannedCall, RunFault, Shard,
+    Standing, epochs_of, is_restart, lines_of, opened_call, phase_of,
+};
 pub use run_plan::RunPlan;
 pub use running::Running;
 pub use shard_count::ShardCount;

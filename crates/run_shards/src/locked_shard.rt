@@ -6,8 +6,7 @@ ghost use Rattle.run_shards.specs.Counting.{IsCounted};
 use crate::run_plan::RunPlan;
 use crate::running::Running;
 use crate::shard_count::ShardCount;
-use planned_calls::{PlannedCall, RunFault};
-use shards::Shard;
+use planned_calls::{PlannedCall, RunFault, Shard};
 use std::alloc::{AllocError, Global};
 use std::marker::{Model, PhantomData};
 
@@ -23,7 +22,7 @@ pub struct LockedShard<'s, B: Running> {
 }
 
 impl<'s, B: Running> Model for LockedShard<'s, B> {
-    ghost use Rattle.shards.specs.Shards.{ShardValue};
+    ghost use Rattle.planned_calls.specs.Shards.{ShardValue};
     ghost use Rattle.planned_calls.specs.RunShards.{IsOfRun};
     ghost use Rattle.run_shards.specs.Counting.{IsCounted};
 

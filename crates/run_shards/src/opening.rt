@@ -2,7 +2,7 @@
 ghost use Rattle.std.specs.Prelude.{◌≡◌, ◌++◌, ◌<◌, ◌≤◌, IfOk, OnOk, length, map, vec_len};
 ghost use Rattle.mg_model.specs.Numbers.{plan_calls};
 ghost use Rattle.mg_model.specs.Plans as plans;
-ghost use Rattle.shards.specs.Shards.{opened_as};
+ghost use Rattle.planned_calls.specs.Shards.{opened_as};
 ghost use Rattle.planned_calls.specs.Parts.{one_in, opened_in};
 
 use crate::locked_shard::LockedShard;
@@ -11,9 +11,8 @@ use crate::running::Running;
 use agent::Next;
 use composition::Checked;
 use mg_names::identifiers::CallNo;
-use planned_calls::{PlannedCall, RunFault, opened_call};
+use planned_calls::{OpenFault, OpenedCall, PlannedCall, RunFault, Shard, opened_call};
 use plans::{Plan, PlanCall};
-use shards::{OpenFault, OpenedCall, Shard};
 use std::alloc::{AllocError, Global};
 use std::sync::Mutex;
 

@@ -2,15 +2,14 @@
 ghost use Rattle.std.specs.Prelude.{◌≡◌, ◌<◌, ◌≤◌, OnOk, length};
 ghost use Rattle.mg_model.specs.Numbers.{plan_calls};
 ghost use Rattle.mg_model.specs.declared.events.Event.TheVariants.{Restart};
-ghost use Rattle.shards.specs.Lasting.{IdentifiersAreLeft};
-ghost use Rattle.shards.specs.Shards.{HasHappened, HasSameOpening};
+ghost use Rattle.planned_calls.specs.Lasting.{IdentifiersAreLeft};
+ghost use Rattle.planned_calls.specs.Shards.{HasHappened, HasSameOpening};
 ghost use Rattle.run_shards.specs.Counting.{AsksForRestart, StaysCountedAs, StaysCountedBy, TakesEnd, TakesRestart};
 
 use crate::shard_count::{ShardCount, raise};
 use mg_model::plans::PlanStep;
-use planned_calls::RunFault;
+use planned_calls::{RunFault, Shard};
 use plans::Plan;
-use shards::Shard;
 use std::alloc::Global;
 
 /// The gateway of a shard restarts, with identifiers left. `Disagree` in the last association, which no plan reaches, and `NoMemory` where memory ran out.

@@ -1,14 +1,13 @@
 //! What is counted of the calls of a shard: each step that is taken in it is the plan's next one, and is counted as it is taken.
 ghost use Rattle.std.specs.Prelude.{◌≡◌, ◌<◌, ◌≤◌, [], IfOk, IsTrue, OnOk, false, length};
 ghost use Rattle.mg_model.specs.Numbers.{plan_calls};
-ghost use Rattle.shards.specs.Shards.{HasSameOpening};
+ghost use Rattle.planned_calls.specs.Shards.{HasSameOpening};
 ghost use Rattle.run_shards.specs.Counting.{AreAtEnd, AreNoneCounted, CountsOne, HasStepsLeft, IsNewCount, RaisesOne, StaysCounted, TakesStep, place_of};
 ghost use Rattle.run_shards.specs.PlanSteps.{step_at};
 
 use mg_model::plans::PlanStep;
-use planned_calls::{CallCount, PLAN_CALLS, PlannedCall, RunFault, TakenStep, is_restart};
+use planned_calls::{CallCount, PLAN_CALLS, PlannedCall, RunFault, Shard, TakenStep, is_restart};
 use plans::Plan;
-use shards::Shard;
 use std::alloc::{AllocError, Global};
 
 /// What is counted of the calls of a shard of a run. This profile's own.

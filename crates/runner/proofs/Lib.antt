@@ -1,1 +1,2 @@
 pub mod OnlyReport
+pub use Rattle.run_account.proofs.SameEvents

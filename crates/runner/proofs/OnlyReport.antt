@@ -10,8 +10,8 @@ use Rattle.mg_model.specs.Reports.{AreReported, IsReported, ReportLine}
 use Rattle.mg_model.specs.Script.{Script}
 use Rattle.mg_one_report.specs.Laws.{OneReport}
 use Rattle.composition.specs.Verdict.{IsChecked}
-use Rattle.planned_calls.specs.ReportLines.{AreAllNumbered, AreNumbered, IsReportOf, line_of, number_of, numbers_from}
-use Rattle.planned_calls.specs.declared.lines.Line.{Line}
+use Rattle.run_account.specs.ReportLines.{AreAllNumbered, AreNumbered, IsReportOf, line_of, number_of, numbers_from}
+use Rattle.run_account.specs.Line.{Line}
 use Rattle.runner.specs.OnlyReport.{IsOnlyReport, told_of}
 
 -- ---- what is told of lines

@@ -5,8 +5,8 @@ use Rattle.mg_model.specs.Plans.{Plan}
 use Rattle.mg_model.specs.Reports.{ReportLine}
 use Rattle.mg_model.specs.Script.{Script}
 use Rattle.mg_one_report.specs.Laws.{HaveNoRestartsOfOthers}
-use Rattle.planned_calls.specs.ReportLines.{IsReportOf, line_of, number_of}
-use Rattle.planned_calls.specs.declared.lines.Line.{Line}
+use Rattle.run_account.specs.ReportLines.{IsReportOf, line_of, number_of}
+use Rattle.run_account.specs.Line.{Line}
 
 -- all that is written of a line
 abbrev pub told_of : Script → Line → (ℕ × ℕ) × ReportLine

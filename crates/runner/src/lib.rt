@@ -8,6 +8,7 @@
 mod plan_run;
 
 pub use plan_run::run;
-pub use planned_calls::{CallPhase, Line, RunFault};
-pub use run_account::Outcome;
+pub use run_account::{
+    CallPhase, Line, Outcome, PLAN_CALLS, RunFault, epochs_of, is_restart, opened_call,
+};
 pub use workers::{Gate, NoGate};

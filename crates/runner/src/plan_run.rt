@@ -7,9 +7,8 @@ ghost use Rattle.runner.specs.OnlyReport.{IsOnlyReport};
 
 use composition::Checked;
 use mg_one_report::laws::one_report;
-use planned_calls::RunFault;
 use plans::Plan;
-use run_account::{CountedShards, Outcome, PlannedRun, finish};
+use run_account::{CountedShards, Outcome, PlannedRun, RunFault, finish};
 use std::alloc::Global;
 use std::sync::Wait;
 use std::thread::Threads;

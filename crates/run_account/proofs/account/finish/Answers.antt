@@ -9,20 +9,20 @@ use Rattle.mg_model.specs.declared.events.Event.{Event}
 use Rattle.mg_model.specs.Plans.{Plan}
 use Rattle.mg_model.specs.Shards.{History, cut_at_restarts, merged}
 use Rattle.mg_model.specs.Script.{Script}
-use Rattle.shards.specs.Shards.{ShardValue}
+use Rattle.run_shards.specs.Shards.{ShardValue}
 use Rattle.run_account.specs.Comparing.{Agree, Differ, trails_of}
-use Rattle.planned_calls.specs.Taking.{trail_of}
+use Rattle.run_shards.specs.Taking.{trail_of}
 use Rattle.run_account.specs.Disagreements.{Disagreement, HasNotTold, differ, not_told, one_left, other_count, unfinished}
 use Rattle.run_account.specs.Finishing.{AreFinished, HasUnfinished}
 use Rattle.run_account.specs.CallReport.{HavePlayed}
 use Rattle.run_account.specs.TakenAll.{HasOneLeft, HaveTakenAll}
 use Rattle.run_shards.specs.declared.shard_count.ShardCount.{ShardCount}
-use Rattle.planned_calls.proofs.Faults.{handed_on}
+use Rattle.run_shards.proofs.Faults.{handed_on}
 use Rattle.run_account.specs.FinalState.{HaveLines, IsLeftAmong}
 use Rattle.run_account.specs.Runs.{IsOutcome}
-use Rattle.planned_calls.specs.ReportLines.{IsReportOf}
-use Rattle.planned_calls.specs.declared.planned_call.PlannedCall.{PlannedCall}
-use Rattle.planned_calls.specs.declared.lines.Line.{Line}
+use Rattle.run_shards.specs.ReportLines.{IsReportOf}
+use Rattle.run_shards.specs.PlannedCall.{PlannedCall}
+use Rattle.run_shards.specs.Line.{Line}
 use Rattle.run_account.proofs.EachShard.{all_places, as_many, few_executes}
 use Rattle.run_account.proofs.FinishedRuns.{is_outcome, is_run}
 use Rattle.run_account.proofs.account.finish.Goals as goal

@@ -1,7 +1,7 @@
 -- One shard more has finished.
 use Rattle.std.proofs.Common.{◌∙◌, ◌++◌, [], ◌∷◌, List, rules, sym, ap, subst, take}
 use Rattle.std.proofs.lemmas.List.{take_more}
-use Rattle.shards.specs.Shards.{ShardValue}
+use Rattle.run_shards.specs.Shards.{ShardValue}
 use Rattle.run_account.specs.Finishing.{AreFinished}
 use Rattle.run_account.proofs.FinishedRuns.{finished_more}
 use Rattle.run_account.proofs.account.have_finished.Goals as goal

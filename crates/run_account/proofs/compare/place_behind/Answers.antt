@@ -5,7 +5,7 @@ use Rattle.std.specs.Option.{option_eq}
 use Rattle.std.proofs.lemmas.Grind.{common_steps}
 use Rattle.mg_model.specs.contracts.events.EventPartialEq.TheImpl.{eq-value as events}
 use Rattle.mg_model.specs.declared.events.Event.{Event}
-use Rattle.planned_calls.specs.Taking.{trail_of}
+use Rattle.run_shards.specs.Taking.{trail_of}
 use Rattle.run_account.proofs.CountLemmas.{one_more}
 use Rattle.run_account.proofs.SameEvents.{same_event}
 use Rattle.run_account.proofs.compare.place_behind.Goals as goal

@@ -1,6 +1,6 @@
 -- The events of the call so far.
 use Rattle.std.proofs.Common.{◌≡◌, ◌++◌, take}
-use Rattle.planned_calls.specs.Parts.{of_call}
+use Rattle.run_shards.specs.Parts.{of_call}
 use Rattle.run_account.proofs.compare.push_of.Given as goal
 
 abbrev pub invariant-loop-event : goal.invariant-loop-event

@@ -5,7 +5,7 @@ use Rattle.std.proofs.lemmas.List.{get_or-map}
 use Rattle.std.proofs.lemmas.Option.{slice_get_read}
 use Rattle.mg_model.specs.declared.events.Event.{Event}
 use Rattle.run_account.specs.Comparing.{trails_of}
-use Rattle.planned_calls.specs.Taking.{trail_of}
+use Rattle.run_shards.specs.Taking.{trail_of}
 use Rattle.run_account.specs.FinalState.{HaveLines, IsLeftBy}
 use Rattle.run_account.specs.OtherLines.{AreUnlike, unlike}
 use Rattle.run_account.proofs.final_state.are_left.Goals as goal

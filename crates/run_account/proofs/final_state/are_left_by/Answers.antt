@@ -2,9 +2,9 @@
 use Rattle.std.proofs.Common.{◌≡◌, ◌∙◌, List, length, rules, arith, refl, sym, ap, subst}
 use Rattle.std.proofs.lemmas.Bool.{leb-false, leb-true}
 use Rattle.std.proofs.lemmas.List.{take_all}
-use Rattle.planned_calls.specs.Taking.{trail_of}
+use Rattle.run_shards.specs.Taking.{trail_of}
 use Rattle.run_account.specs.OtherLines.{a_line_is, events_told, goes_on, of_no_call}
-use Rattle.planned_calls.specs.declared.lines.Line.{Line}
+use Rattle.run_shards.specs.Line.{Line}
 use Rattle.run_account.proofs.FinalLines.{AreLeftSoFar, all_have_lines, all_left, left_next, none_left}
 use Rattle.run_account.proofs.OtherLine.{below_next, below_none, interrupted, last_one, not_rising, otherwise, told_next, unlike_at}
 use Rattle.run_account.proofs.final_state.are_left_by.Goals as goal

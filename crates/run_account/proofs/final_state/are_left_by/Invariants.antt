@@ -1,6 +1,6 @@
 -- The lines so far tell where the run leaves their calls, and the place is behind the events that they tell.
 use Rattle.std.proofs.Common.{◌≡◌, take}
-use Rattle.planned_calls.specs.Taking.{trail_of}
+use Rattle.run_shards.specs.Taking.{trail_of}
 use Rattle.run_account.specs.OtherLines.{events_told}
 use Rattle.run_account.proofs.FinalLines.{AreLeftSoFar}
 use Rattle.run_account.proofs.OtherLine.{IsBelow}

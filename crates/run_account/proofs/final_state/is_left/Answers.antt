@@ -1,6 +1,6 @@
 -- A call that its shard shows is told as it stands there.
 use Rattle.std.proofs.Common.{ℕ, inl, subst}
-use Rattle.shards.specs.Standings.{StandsAs}
+use Rattle.run_shards.specs.Standings.{StandsAs}
 use Rattle.run_account.specs.OtherLines.{IsOtherStanding, stands_otherwise}
 use Rattle.run_account.proofs.FinalLines.{open_as}
 use Rattle.run_account.proofs.final_state.is_left.Goals as goal

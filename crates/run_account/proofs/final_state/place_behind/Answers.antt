@@ -1,6 +1,6 @@
 -- One event more of the call.
 use Rattle.std.proofs.Common.{◌≡◌, ◌+◌, ℕ, arith, rules, subst}
-use Rattle.planned_calls.specs.Taking.{trail_of}
+use Rattle.run_shards.specs.Taking.{trail_of}
 use Rattle.run_account.specs.FinalStates.{AreAllOf}
 use Rattle.run_account.proofs.CountLemmas.{all_more}
 use Rattle.run_account.proofs.final_state.place_behind.Goals as goal

@@ -1,6 +1,6 @@
 -- All so far happened to the call, and the place is behind them.
 use Rattle.std.proofs.Common.{◌≡◌, ◌+◌}
-use Rattle.planned_calls.specs.Taking.{trail_of}
+use Rattle.run_shards.specs.Taking.{trail_of}
 use Rattle.run_account.specs.FinalStates.{AreAllOf}
 use Rattle.run_account.proofs.final_state.place_behind.Given as goal
 

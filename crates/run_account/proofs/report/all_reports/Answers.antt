@@ -11,9 +11,9 @@ use Rattle.rayon.specs.declared.range.Iter.{Iter}
 use Rattle.mg_model.specs.Plans.{Plan, PlanCall}
 use Rattle.run_account.specs.Comparing.{trails_of}
 use Rattle.run_account.specs.CallReport.{IsTold}
-use Rattle.planned_calls.specs.declared.fault.RunFault.{RunFault}
-use Rattle.planned_calls.specs.declared.lines.Line.{Line}
-use Rattle.planned_calls.specs.Disagreements.{IsBecause}
+use Rattle.run_shards.specs.RunFault.{RunFault}
+use Rattle.run_shards.specs.Line.{Line}
+use Rattle.run_shards.specs.Disagreements.{IsBecause}
 use Rattle.run_account.specs.Disagreements.{IsNotTold}
 use Rattle.run_account.proofs.CallReports.{all_err, all_ok, if_all, if_one, ranged}
 use Rattle.run_account.proofs.report.all_reports.Goals as goal

@@ -9,8 +9,8 @@ use Rattle.run_account.specs.Comparing.{trails_of}
 use Rattle.run_account.specs.Disagreements.{IsNotCounted, left_otherwise, not_counted}
 use Rattle.run_account.specs.FinalState.{HaveLines, IsLeftAmong}
 use Rattle.run_account.specs.OtherLines.{AreLeftOtherwise}
-use Rattle.planned_calls.specs.declared.lines.Line.{Line}
-use Rattle.planned_calls.proofs.Faults.{handed_on}
+use Rattle.run_shards.specs.Line.{Line}
+use Rattle.run_shards.proofs.Faults.{handed_on}
 use Rattle.run_account.proofs.report.call_report.Goals as goal
 
 pub returns-clause-told : goal.returns-clause-told

@@ -2,10 +2,10 @@
 use Rattle.std.proofs.Common.{◌≡◌, ◌∙◌, ℕ, List, None, Some, length, refl, ap, subst}
 use Rattle.std.specs.Prelude.{slice_get}
 use Rattle.std.proofs.lemmas.Option.{slice_get_read}
-use Rattle.shards.specs.Standings.{StandsAs}
-use Rattle.planned_calls.specs.ReportLines.{lines_told, phase_standing}
-use Rattle.planned_calls.specs.declared.call_count.CallCount.{CallCount}
-use Rattle.planned_calls.specs.declared.lines.CallPhase.{CallPhase}
+use Rattle.run_shards.specs.Standings.{StandsAs}
+use Rattle.run_shards.specs.ReportLines.{lines_told, phase_standing}
+use Rattle.run_shards.specs.CallCount.{CallCount}
+use Rattle.run_shards.specs.CallPhase.{CallPhase}
 use Rattle.run_account.specs.Disagreements.{not_open, numbers_end}
 use Rattle.run_account.proofs.report.counted_lines.Goals as goal
 

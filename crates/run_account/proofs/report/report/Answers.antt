@@ -6,10 +6,10 @@ use Rattle.std.specs.declared.alloc.Global.{Global}
 use Rattle.std.specs.declared.vec.Vec.{Vec}
 use Rattle.mg_model.specs.Reports.{IsReport}
 use Rattle.run_account.specs.Comparing.{trails_of}
-use Rattle.planned_calls.specs.ReportLines.{line_of}
+use Rattle.run_shards.specs.ReportLines.{line_of}
 use Rattle.run_account.specs.CallReport.{IsTold}
 use Rattle.run_account.specs.FinalState.{HaveLines}
-use Rattle.planned_calls.specs.declared.lines.Line.{Line}
+use Rattle.run_shards.specs.Line.{Line}
 use Rattle.run_account.proofs.CallReports.{are_left, are_numbered, are_reported, have_lines, lines_owned, tell_reports, through}
 use Rattle.run_account.proofs.report.report.Goals as goal
 

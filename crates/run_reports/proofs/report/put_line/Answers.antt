@@ -3,8 +3,8 @@ use Rattle.std.proofs.Common.{◌≡◌, ◌∙◌, ◌++◌, [], Err, sym, ap, 
 use Rattle.std.proofs.lemmas.Result.{err_from_is_err_and}
 use Rattle.mg_model.specs.Script.{Script}
 use Rattle.mg_model.specs.Tables.{state_of}
-use Rattle.planned_calls.specs.ReportLines.{phase_text}
-use Rattle.planned_calls.specs.declared.lines.Line.{Line}
+use Rattle.runner.specs.ReportLines.{phase_text}
+use Rattle.runner.specs.Line.{Line}
 use Rattle.program_rim.proofs.Gathering.{cut_short, next_text}
 use Rattle.program_rim.specs.declared.source.DeviceFault.{DeviceFault}
 use Rattle.check_lines.specs.Output.{Text, counts_text, number_text, place_text}

@@ -3,7 +3,7 @@ use Rattle.std.proofs.Common.{List, Ok, subst, arith}
 use Rattle.std.proofs.lemmas.Result.{err_from_is_err_and}
 use Rattle.program_rim.specs.Devices.{Passes}
 use Rattle.program_rim.specs.declared.source.DeviceFault.{DeviceFault}
-use Rattle.planned_calls.specs.declared.lines.Line.{Line}
+use Rattle.runner.specs.Line.{Line}
 use Rattle.run_reports.proofs.ReportLemmas.{all_written, line_failed, line_more, texts, up_to_end}
 use Rattle.run_reports.proofs.report.write_lines.Goals as goal
 

@@ -1,7 +1,7 @@
 -- The report, or why there is none.
 use Rattle.std.proofs.Common.{◌≡◌, ◌∙◌, Ok, Err, sym, ap₂, subst, inr}
 use Rattle.mg_model.specs.Script.{Script}
-use Rattle.run_account.specs.Runs.{HasRun}
+use Rattle.runner.specs.Runs.{HasRun}
 use Rattle.plans.specs.Reading.{ReadsPlan}
 use Rattle.typed_values.specs.Unread.{OrNoMemory}
 use Rattle.check_lines.specs.Output.{report}

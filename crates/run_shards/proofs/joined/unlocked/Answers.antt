@@ -1,7 +1,7 @@
 -- One shard more is the next one.
 use Rattle.std.proofs.Common.{◌≡◌, ◌∙◌, ◌+◌, ◌++◌, ℕ, List, [], ◌∷◌, length, sym, ap, subst, arith}
 use Rattle.std.proofs.lemmas.List.{length-append}
-use Rattle.shards.specs.Shards.{ShardValue}
+use Rattle.planned_calls.specs.Shards.{ShardValue}
 use Rattle.planned_calls.specs.RunShards.{AreOfRun, IsOfRun}
 use Rattle.planned_calls.proofs.RunShardsLemmas.{kept_more}
 use Rattle.run_shards.specs.Counting.{AreCounted, IsCounted}

@@ -1,7 +1,7 @@
 -- One call of the plan more; where none is left, these are all.
 use Rattle.std.proofs.Common.{◌≡◌, ◌∙◌, ◌++◌, map, get_or, ap, arith}
 use Rattle.mg_model.specs.Plans.{PlanCall}
-use Rattle.shards.specs.Shards.{opened_as}
+use Rattle.planned_calls.specs.Shards.{opened_as}
 use Rattle.planned_calls.specs.Parts.{one_in, opened_in}
 use Rattle.planned_calls.proofs.PartCalls.{all_in, one_more_in}
 use Rattle.run_shards.proofs.opening.calls_of.Goals as goal

@@ -1,6 +1,6 @@
 -- The calls so far, and what is left of the plan, are all calls of the shard.
 use Rattle.std.proofs.Common.{◌≡◌, ◌++◌, drop, map}
-use Rattle.shards.specs.Shards.{opened_as}
+use Rattle.planned_calls.specs.Shards.{opened_as}
 use Rattle.planned_calls.specs.Parts.{opened_in}
 use Rattle.run_shards.proofs.opening.calls_of.Given as goal
 

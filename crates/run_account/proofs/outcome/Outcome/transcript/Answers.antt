@@ -4,9 +4,9 @@ use Rattle.std.specs.Prelude.{◌%◌}
 use Rattle.mg_model.specs.declared.events.Event.{Event}
 use Rattle.mg_model.specs.Numbers.{plan_calls}
 use Rattle.agent.specs.Calls.{value_of}
-use Rattle.planned_calls.specs.Parts.{of_call}
+use Rattle.run_shards.specs.Parts.{of_call}
 use Rattle.run_account.specs.Runs.{OutcomeValue}
-use Rattle.planned_calls.specs.declared.planned_call.PlannedCall.{PlannedCall}
+use Rattle.run_shards.specs.PlannedCall.{PlannedCall}
 use Rattle.run_account.proofs.AgreedTrails.{none_past, of_planned_call}
 use Rattle.run_account.proofs.outcome.Outcome.transcript.Goals as goal
 
