@@ -12,8 +12,8 @@ use Rattle.mg_model.specs.Entries.{Entry}
 use Rattle.mg_model.specs.Plans.{Plan}
 use Rattle.mg_model.specs.Script.{Script}
 use Rattle.plans.specs.Reading.{ReadsPlan}
-use Rattle.run_reports.specs.RunAnswers.{AnswersPlan, AnswersRun}
-use Rattle.run_reports.proofs.RunLemmas.{unread_told}
+use Rattle.run_words.specs.RunAnswers.{AnswersPlan, AnswersRun}
+use Rattle.run_words.proofs.RunLemmas.{unread_told}
 use Rattle.check_explanation.specs.Saying.{IsSaid, IsUnder}
 use Rattle.check_explanation.specs.declared.form.Form.{Form}
 use Rattle.check_explanation.specs.declared.form.Form.TheVariants as form

@@ -5,8 +5,8 @@ use Rattle.check_lines.specs.Output.{Text, Output, report, written, status_of}
 use Rattle.mg_model.specs.Script.{Script}
 use Rattle.mg_model.specs.Plans.{Plan}
 use Rattle.plans.specs.Reading.{ReadsPlan}
-use Rattle.planned_calls.specs.declared.lines.Line.{Line as RunLine}
-use Rattle.run_reports.specs.RunAnswers.{AnswersPlan, AnswersRun, call_lines}
+use Rattle.run_words.specs.Line.{Line as RunLine}
+use Rattle.run_words.specs.RunAnswers.{AnswersPlan, AnswersRun, call_lines}
 use Rattle.program_rim.specs.Statuses.{code_of}
 use Rattle.check_explanation.specs.declared.form.Form.{Form}
 use Rattle.check_explanation.specs.declared.form.Form.TheVariants as form

@@ -1,13 +1,18 @@
 -- A step more was gone: what was told before it leads to where it began.
 use Rattle.std.proofs.Common.{◌≡◌, ◌∙◌, ℕ, ◌++◌, List, [], ◌∷◌, refl, sym, ap, subst}
 use Rattle.std.proofs.lemmas.List.{append_assoc, append-nil}
+use Rattle.mg_names.specs.declared.identifiers.CallNo.{CallNo}
 use Rattle.mg_model.specs.declared.events.Event.{Event}
 use Rattle.mg_model.specs.declared.plans.PlanStep.{PlanStep}
 use Rattle.mg_model.specs.Script.{Script}
 use Rattle.mg_model.specs.World.{Opened}
 use Rattle.agent.specs.declared.call.Next.{Next}
-use Rattle.shards.specs.Shards.{ShardValue}
-use Rattle.run_steps.specs.Telling.{Goes, IsFirst, IsGone, IsToldStep, TellsOn, own_step, own_steps}
+use Rattle.taken_steps.specs.Shards.{ShardValue}
+use Rattle.taken_steps.specs.Positions.{IsPlaced}
+use Rattle.taken_steps.specs.Taking.{Comes}
+use Rattle.run_steps.specs.Telling.{Goes, IsFirst, IsGone, IsToldLast, IsToldStep, TellsOn, own_step, own_steps}
+use Rattle.taken_steps.specs.declared.came.Came.{Came}
+use Rattle.taken_steps.specs.declared.position.Position.{Position}
 use Rattle.run_steps.specs.declared.telling.Telling.{Telling}
 use Rattle.run_steps.specs.declared.told_step.ToldStep.{ToldStep}
 use Rattle.run_steps.proofs.ToldLists.{own_more}
@@ -38,6 +43,25 @@ tells_one before after t items told = record {
       subst (λ (steps : List ToldStep). Goes steps v a number after.shard after.next after.number.0) (sym items)
       (goes_on before.steps.items t v before.shard after.shard a before.next after.next number before.number.0 after.number.0 goes told);
 }
+
+-- the last one that was told is what was taken where those before it led
+pub tells_last : (before taken after : Telling) (step : PlanStep) (c : Came) (place : Position) → taken.steps.items ≡ before.steps.items
+    → Comes before.shard before.next before.number.0 step c taken.shard taken.next taken.number.0 → IsPlaced before.shard before.next place
+    → IsToldLast step c place taken after → TellsOn (own_step step c) before after
+tells_last before taken after step c place same comes placed last =
+    subst (λ (own : List PlanStep). TellsOn own before after) (ap (λ (s : PlanStep). own_step s last.told.came) last.step ∙ ap (own_step step) last.came)
+    (tells_one before after last.told (last.steps ∙ ap (λ (steps : List ToldStep). steps ++ last.told ∷ []) same) (record {
+      comes =
+          subst (λ (s : PlanStep). Comes before.shard before.next before.number.0 s last.told.came after.shard after.next after.number.0) (sym last.step)
+          (subst (λ (x : Came). Comes before.shard before.next before.number.0 step x after.shard after.next after.number.0) (sym last.came)
+          (subst (λ (v : ShardValue). Comes before.shard before.next before.number.0 step c v after.next after.number.0) (sym last.shard)
+          (subst (λ (b : Next). Comes before.shard before.next before.number.0 step c taken.shard b after.number.0) (sym last.next)
+          (subst (λ (n : CallNo). Comes before.shard before.next before.number.0 step c taken.shard taken.next n.0) (sym last.number) comes))));
+      call = ap (λ (n : CallNo). n.0) (last.call ∙ sym last.number);
+      before = subst (λ (p : Position). IsPlaced before.shard before.next p) (sym last.before) placed;
+      after = subst (λ (v : ShardValue). IsPlaced v after.next last.told.after) (sym last.shard)
+          (subst (λ (b : Next). IsPlaced taken.shard b last.told.after) (sym last.next) last.after);
+    }))
 
 -- ---- several
 

@@ -1,7 +1,6 @@
 pub mod GoneSteps
 pub mod ManySteps
 pub mod Openings
-pub mod Refusing
 pub mod Restarting
 pub mod SameTranscripts
 pub mod ToldLists

@@ -7,8 +7,8 @@ use Rattle.mg_model.specs.declared.plans.PlanStep.TheVariants.{Restarts}
 use Rattle.mg_model.specs.Plans.{steps_first, steps_in, steps_later}
 use Rattle.mg_model.specs.Script.{Script}
 use Rattle.agent.specs.declared.call.Next.{Next}
-use Rattle.shards.specs.Opening.{AreEntered, IsEntered}
-use Rattle.shards.specs.declared.opened.OpenedCall.{OpenedCall}
+use Rattle.taken_steps.specs.Opening.{AreEntered, IsEntered}
+use Rattle.taken_steps.specs.OpenedCall.{OpenedCall}
 use Rattle.run_steps.specs.Telling.{ending}
 
 -- the call that was handed out last, of one

@@ -4,11 +4,11 @@ use Rattle.mg_model.specs.declared.events.Event.TheVariants.{Restart}
 use Rattle.mg_model.specs.declared.plans.PlanStep.{PlanStep}
 use Rattle.mg_model.specs.declared.plans.PlanStep.TheVariants.{Restarts}
 use Rattle.agent.specs.declared.call.Next.{Next}
-use Rattle.shards.specs.Shards.{HasHappened, ShardValue}
-use Rattle.run_steps.specs.Taking.{Comes}
+use Rattle.taken_steps.specs.Shards.{HasHappened, ShardValue}
+use Rattle.taken_steps.specs.Taking.{Comes}
 use Rattle.run_steps.specs.Telling.{IsOfRestart, own_step}
-use Rattle.run_steps.specs.declared.came.Came.{Came}
-use Rattle.run_steps.specs.declared.came.Came.TheVariants as came
+use Rattle.taken_steps.specs.declared.came.Came.{Came}
+use Rattle.taken_steps.specs.declared.came.Came.TheVariants as came
 
 pub restarted : (v w : ShardValue) (a : Next) (number : ℕ) (c : Came) → IsOfRestart c → HasHappened v w Restart → Comes v a number Restarts c w a number
 restarted v w a number (came.Happened event) is happened = absurd is

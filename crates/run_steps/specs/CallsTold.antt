@@ -7,14 +7,14 @@ use Rattle.mg_model.specs.declared.events.Event.{Event}
 use Rattle.mg_model.specs.declared.events.Event.TheVariants.{OfCall, Restart}
 use Rattle.mg_model.specs.Plans as plans
 use Rattle.mg_model.specs.Script.{Script}
-use Rattle.run_account.specs.FinalState.{call_of}
-use Rattle.run_account.specs.Runs.{OutcomeValue, is_within}
-use Rattle.planned_calls.specs.Parts.{of_call}
-use Rattle.planned_calls.specs.declared.lines.Line.{Line}
+use Rattle.runner.specs.FinalState.{call_of}
+use Rattle.runner.specs.Runs.{OutcomeValue, is_within}
+use Rattle.runner.specs.Parts.{of_call}
+use Rattle.runner.specs.Line.{Line}
 use Rattle.run_steps.specs.Telling.{IsGone, own_steps}
 use Rattle.run_steps.specs.declared.call_steps.CallSteps.{CallSteps}
-use Rattle.run_steps.specs.declared.came.Came.{Came}
-use Rattle.run_steps.specs.declared.came.Came.TheVariants as came
+use Rattle.taken_steps.specs.declared.came.Came.{Came}
+use Rattle.taken_steps.specs.declared.came.Came.TheVariants as came
 use Rattle.run_steps.specs.declared.told_step.ToldStep.{ToldStep}
 
 -- an event of the call of the plan with this number, or of one that began within it, or a restart

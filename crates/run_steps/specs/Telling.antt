@@ -7,13 +7,14 @@ use Rattle.mg_model.specs.declared.plans.PlanStep.TheVariants.{Restarts}
 use Rattle.mg_model.specs.Script.{Script}
 use Rattle.mg_model.specs.World.{Opened}
 use Rattle.agent.specs.declared.call.Next.{Next}
-use Rattle.shards.specs.Opening.{IsEntered, IsNewShard}
-use Rattle.shards.specs.Shards.{ShardValue, opened_as}
-use Rattle.shards.specs.declared.opened.OpenedCall.{OpenedCall}
-use Rattle.run_steps.specs.Positions.{IsPlaced}
-use Rattle.run_steps.specs.Taking.{Comes}
-use Rattle.run_steps.specs.declared.came.Came.{Came}
-use Rattle.run_steps.specs.declared.came.Came.TheVariants as came
+use Rattle.taken_steps.specs.Opening.{IsEntered, IsNewShard}
+use Rattle.taken_steps.specs.Shards.{ShardValue, opened_as}
+use Rattle.taken_steps.specs.OpenedCall.{OpenedCall}
+use Rattle.taken_steps.specs.Positions.{IsPlaced}
+use Rattle.taken_steps.specs.Taking.{Comes}
+use Rattle.taken_steps.specs.declared.came.Came.{Came}
+use Rattle.taken_steps.specs.declared.came.Came.TheVariants as came
+use Rattle.taken_steps.specs.declared.position.Position.{Position}
 use Rattle.run_steps.specs.declared.telling.Telling.{Telling}
 use Rattle.run_steps.specs.declared.told_step.ToldStep.{ToldStep}
 
@@ -47,6 +48,19 @@ pub record IsToldStep (t : ToldStep) (v : ShardValue) (a : Next) (number : ℕ) 
   pub call : t.call.0 ≡ now
   pub before : IsPlaced v a t.before
   pub after : IsPlaced w b t.after
+
+-- one step more is told, of the call that stands: it came to this, and before it the call was here
+pub record IsToldLast (s : PlanStep) (c : Came) (p : Position) (old new : Telling) : Type 0 where
+  pub told : ToldStep
+  pub steps : new.steps.items ≡ old.steps.items ++ told ∷ []
+  pub step : told.step ≡ s
+  pub came : told.came ≡ c
+  pub call : told.call ≡ old.number
+  pub before : told.before ≡ p
+  pub after : IsPlaced old.shard old.next told.after
+  pub shard : new.shard ≡ old.shard
+  pub next : new.next ≡ old.next
+  pub number : new.number ≡ old.number
 
 -- and of several, one after the other
 unfoldable pub Goes : List ToldStep → ShardValue → Next → (number : ℕ) → ShardValue → Next → (now : ℕ) → Type 0

@@ -2,22 +2,20 @@
 ghost use Rattle.std.specs.Prelude.{◌≡◌, ◌==◌, ◌++◌, ◌∷◌, ◌≤◌, [], IfOk, IfSome, OnOk};
 ghost use Rattle.std.specs.List.{All, filter};
 ghost use Rattle.mg_model.specs.Plans as plans;
-ghost use Rattle.run_account.specs.FinalState.{call_of};
+ghost use Rattle.runner.specs.FinalState.{call_of};
 ghost use Rattle.run_steps.specs.CallsTold.{IsCallTold, IsLineTold, event_told, events_told, idle_told, idle_told_in, is_part_of};
 ghost use Rattle.run_steps.specs.Telling.{IsFirst, IsGone, own_steps};
 
-use crate::came::Came;
-use crate::scene::Scene;
+use crate::showing::open_scene;
 use crate::telling::Telling;
 use crate::told_step::ToldStep;
 use composition::Checked;
 use mg_model::events::Event;
 use mg_names::identifiers::{Assoc, CallNo};
-use planned_calls::{Line, PLAN_CALLS, RunFault, epochs_of, opened_call};
 use plans::{Plan, PlanCall};
-use runner::Outcome;
-use shards::{OpenFault, Shard};
+use runner::{Line, Outcome, PLAN_CALLS, RunFault, epochs_of, opened_call};
 use std::alloc::{AllocError, Global};
+use taken_steps::{Came, OpenFault, Shard};
 
 /// A call of a plan, told step by step. This profile's own.
 #[derive(Drop)]
@@ -65,7 +63,7 @@ fn open<'s>(
         shard,
         next,
         number,
-        scene: Scene::open(alloc, checked.script(), number, call.lines())?,
+        scene: open_scene(alloc, checked.script(), number, call.lines())?,
         steps: Vec::new(alloc),
     })
 }

@@ -1,9 +1,8 @@
 //! The order in which a run on one worker takes the steps of its calls, as its gate lets them pass.
 use mg_model::plans::PlanStep;
 use mg_names::identifiers::Assoc;
-use planned_calls::{RunFault, is_restart};
 use plans::{Plan, PlanCall};
-use runner::Gate;
+use runner::{Gate, RunFault, is_restart};
 use std::alloc::{AllocError, Global};
 use std::sync::{Mutex, Wait};
 

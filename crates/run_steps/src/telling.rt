@@ -1,20 +1,18 @@
 //! What is told of a call of a plan: its steps, one after the other, taken with the call alone on a gateway of its own.
-ghost use Rattle.std.specs.Prelude.{◌≡◌, ◌∷◌, [], IfOk, slice_index_or};
+ghost use Rattle.std.specs.Prelude.{◌≡◌, ◌∷◌, [], IfOk, OnOk, slice_index_or};
 ghost use Rattle.mg_model.specs.Plans as plans;
 ghost use Rattle.mg_model.specs.declared.plans.PlanStep.TheVariants.{Restarts};
-ghost use Rattle.run_steps.specs.Telling.{IsOfRestart, TellsOn, ending, own_step};
+ghost use Rattle.run_steps.specs.Telling.{IsOfRestart, IsToldLast, TellsOn, ending, own_step};
 
-use crate::came::Came;
-use crate::position::position_of;
-use crate::scene::Scene;
-use crate::taking::{Taken, take};
+use crate::showing::show;
 use crate::told_step::ToldStep;
 use agent::Next;
+use call_scenes::Scene;
 use mg_model::plans::PlanStep;
 use mg_names::identifiers::{Assoc, CallNo};
-use planned_calls::{RunFault, is_restart};
 use plans::Epoch;
-use shards::Shard;
+use runner::{RunFault, is_restart};
+use taken_steps::{Came, Position, Shard, Taken, position_of, take};
 
 /// How far a call of the plan is told.
 #[derive(Drop)]
@@ -42,6 +40,24 @@ fn steps_in(epochs: &[Epoch], epoch: usize) -> &[PlanStep]
 }
 
 impl<'s> Telling<'s> {
+    /// Tells a step of the call that stands: what it came to, where the call was before it and where it is, and what it shows. `Disagree` where the scene went
+    /// another way.
+    fn tell(&mut self, step: PlanStep, came: Came, before: Position) -> Result<(), RunFault>
+        ensures { OnOk result (IsToldLast step came before self.old self.new) }
+    {
+        let after = position_of(&self.shard, &self.next);
+        let shown = show(&mut self.scene, &came, &self.next)?;
+        self.steps.push(ToldStep {
+            call: self.number,
+            step,
+            came,
+            before,
+            after,
+            shown,
+        })?;
+        Ok(())
+    }
+
     /// A step of the plan other than a restart, as `taking` says.
     fn step(self, step: &PlanStep) -> Result<Telling<'s>, RunFault>
         requires { step.now ≡ Restarts → ⊥ }
@@ -51,28 +67,20 @@ impl<'s> Telling<'s> {
             mut shard,
             next,
             number,
-            mut scene,
-            mut steps,
+            scene,
+            steps,
         } = self;
         let before = position_of(&shard, &next);
         let Taken { next, number, came } = take(&mut shard, next, number, step)?;
-        let after = position_of(&shard, &next);
-        let shown = scene.show(&came, &next)?;
-        steps.push(ToldStep {
-            call: number,
-            step: *step,
-            came,
-            before,
-            after,
-            shown,
-        })?;
-        Ok(Telling {
+        let mut telling = Telling {
             shard,
             next,
             number,
             scene,
             steps,
-        })
+        };
+        telling.tell(*step, came, before)?;
+        Ok(telling)
     }
 
     /// The gateway restarts, for one reason or the other. `Disagree` in the last association.
@@ -80,32 +88,11 @@ impl<'s> Telling<'s> {
         requires { IsOfRestart came }
         ensures { IfOk result (λ after. TellsOn (own_step Restarts came) self.entry after) }
     {
-        let Telling {
-            mut shard,
-            next,
-            number,
-            mut scene,
-            mut steps,
-        } = self;
-        let before = position_of(&shard, &next);
-        shard.restart()?;
-        let after = position_of(&shard, &next);
-        let shown = scene.show(&came, &next)?;
-        steps.push(ToldStep {
-            call: number,
-            step: PlanStep::Restarts,
-            came,
-            before,
-            after,
-            shown,
-        })?;
-        Ok(Telling {
-            shard,
-            next,
-            number,
-            scene,
-            steps,
-        })
+        let mut telling = self;
+        let before = position_of(&telling.shard, &telling.next);
+        telling.shard.restart()?;
+        telling.tell(PlanStep::Restarts, came, before)?;
+        Ok(telling)
     }
 
     /// The gateway restarts for other calls until it is in an association. `Disagree` where it is past it.

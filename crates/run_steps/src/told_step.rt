@@ -1,9 +1,8 @@
 //! A step of a plan as it is told.
-use crate::came::Came;
-use crate::position::Position;
-use crate::shown::Shown;
+use call_scenes::Shown;
 use mg_model::plans::PlanStep;
 use mg_names::identifiers::CallNo;
+use taken_steps::{Came, Position};
 
 /// A step of a call of a plan as it is told. This profile's own.
 #[derive(Drop)]

@@ -1,1 +1,2 @@
-pub mod ReportTexts
+pub use Rattle.report_lines.proofs.RunLemmas
+pub use Rattle.report_lines.proofs.SameReports

@@ -1,17 +1,14 @@
 //! A line of the report in words, with its steps.
-use crate::line_text::LineText;
-use crate::told_text::{StepTold, Telling, step_told};
 use gateway::SignalSet;
 use mg_names::identifiers::{CallNo, LineNo};
-use planned_calls::PLAN_CALLS;
-use run_steps::call_steps::CallSteps;
-use run_steps::{Came, ToldStep};
-use runner::Line;
+use report_lines::{Line, LineText, PLAN_CALLS};
 use script_table::Script;
 use script_words::names::state_name;
 use serde::Serialize;
 use std::alloc::{AllocError, Global};
 use std::fmt;
+use told_steps::call_steps::CallSteps;
+use told_steps::{Came, StepTold, Telling, ToldStep, step_told};
 
 /// A line of the report, and its steps where they are told.
 #[derive(Drop, Serialize)]

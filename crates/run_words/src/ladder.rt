@@ -1,9 +1,8 @@
 //! The messages of a run as a ladder: the call on the left, its gateway on the right, a row for each message that is sent and for each that comes to its end.
 use crate::call_text::CallText;
 use crate::run_page::RunPage;
-use crate::told_text::StepTold;
 use std::alloc::{AllocError, Global};
-use step_words::request_text::ExecutedTold;
+use told_steps::{ExecutedTold, StepTold};
 
 /// How wide the columns are of what the call is at, and of what goes between it and its gateway.
 const LEFT: usize = 30;

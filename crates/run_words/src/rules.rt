@@ -1,5 +1,5 @@
 //! What keeps a plan that is read from having a report: a sentence for each fault.
-use runner::RunFault;
+use report_lines::RunFault;
 
 /// Why a plan has no report; nothing where memory ran out.
 pub fn run_rule(fault: &RunFault) -> Option<&'static str> {

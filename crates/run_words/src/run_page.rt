@@ -3,12 +3,12 @@ use crate::call_text::{CallText, calls_told, line_told};
 use mg_names::identifiers::Assoc;
 use plans::Plan;
 use program_rim::status::Status;
-use run_steps::PassedSteps;
-use run_steps::call_steps::{Ran, call_steps};
-use runner::RunFault;
+use report_lines::RunFault;
 use serde::Serialize;
 use std::alloc::{AllocError, Global};
 use std::fmt;
+use told_steps::PassedSteps;
+use told_steps::call_steps::{Ran, call_steps};
 
 /// Which keys the JSON value has, with which meanings: that of `explanation_page`.
 const FORMAT: u8 = 1;

@@ -1,8 +1,8 @@
 //! The numbers that a gateway gave: to the names of a script, as a call knows them, and to what a command of a request did.
 use crate::names::name_of;
+use call_scenes::{CommandResult, NamesBound};
 use mg_names::identifiers::LineNo;
 use mg_names::slots::Slot;
-use run_steps::{CommandResult, NamesBound};
 use script_table::Script;
 use script_words::names::{context_name, ephemeral_name};
 use serde::Serialize;

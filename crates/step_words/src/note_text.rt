@@ -1,8 +1,8 @@
 //! Notes in words.
 use crate::names::name_of;
+use call_scenes::NoteSent;
 use gateway::Method;
 use mg_names::identifiers::LineNo;
-use run_steps::NoteSent;
 use script_table::Script;
 use serde::Serialize;
 use std::alloc::{AllocError, Global};

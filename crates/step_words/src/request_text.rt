@@ -2,10 +2,10 @@
 use crate::identifier_text::{
     NumberTold, ResultTold, contexts_told, ephemerals_told, results_told,
 };
+use call_scenes::{Executed, Fate, Sent, TakenReply};
 use gateway::Failure;
 use mg_model::commands::Command;
 use mg_names::identifiers::LineNo;
-use run_steps::{Executed, Fate, Sent, TakenReply};
 use script_table::Script;
 use script_words::command_text::CommandText;
 use script_words::names::state_name;

@@ -4,8 +4,8 @@ use Rattle.mg_model.specs.Script.{Script}
 use Rattle.plans.specs.Reading.{ReadsPlan}
 use Rattle.typed_values.specs.Unread.{OrNoMemory}
 use Rattle.check_lines.specs.Replies.{line_of}
-use Rattle.run_reports.specs.RunAnswers.{AnswersPlan}
-use Rattle.run_reports.proofs.RunLemmas.{plan_refused}
+use Rattle.run_words.specs.RunAnswers.{AnswersPlan}
+use Rattle.run_words.proofs.RunLemmas.{plan_refused}
 use Rattle.run_explanation.proofs.RunSaying.{told_line, told_plan}
 use Rattle.run_explanation.proofs.told_run.plan_told.Goals as goal
 

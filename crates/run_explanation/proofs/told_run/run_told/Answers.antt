@@ -5,8 +5,8 @@ use Rattle.composition.specs.Verdict.{CheckedScript, RefutedScript}
 use Rattle.composition.specs.Verdicts.{IsVerdict}
 use Rattle.check_lines.specs.Replies.{answer_line}
 use Rattle.check_lines.specs.VerdictLines.{NamesFault}
-use Rattle.run_reports.specs.RunAnswers.{AnswersRun}
-use Rattle.run_reports.proofs.RunLemmas.{no_told}
+use Rattle.run_words.specs.RunAnswers.{AnswersRun}
+use Rattle.run_words.proofs.RunLemmas.{no_told}
 use Rattle.run_explanation.specs.Saying.{IsPlanTold}
 use Rattle.run_explanation.proofs.RunSaying.{told_line, told_unread, told_yes}
 use Rattle.run_explanation.proofs.told_run.run_told.Goals as goal

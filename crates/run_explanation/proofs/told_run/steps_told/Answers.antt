@@ -2,9 +2,9 @@
 use Rattle.std.proofs.Common.{refl}
 use Rattle.check_lines.specs.Output.{report}
 use Rattle.check_lines.specs.Replies.{line_of}
-use Rattle.run_reports.specs.RunAnswers.{call_lines}
-use Rattle.run_reports.proofs.RunLemmas.{run_refused}
-use Rattle.run_reports.proofs.SameReports.{same_lines}
+use Rattle.run_words.specs.RunAnswers.{call_lines}
+use Rattle.run_words.proofs.RunLemmas.{run_refused}
+use Rattle.run_words.proofs.SameReports.{same_lines}
 use Rattle.run_explanation.specs.Saying.{AnswersSteps}
 use Rattle.run_explanation.proofs.RunSaying.{told_line, told_output}
 use Rattle.run_explanation.proofs.told_run.steps_told.Goals as goal

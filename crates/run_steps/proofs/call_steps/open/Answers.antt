@@ -2,9 +2,9 @@
 use Rattle.std.proofs.Common.{◌≡◌, ◌∙◌, ◌++◌, List, [], ◌∷◌, refl, sym, ap, subst}
 use Rattle.agent.specs.declared.call.Next.{Next}
 use Rattle.mg_model.specs.Plans as plans
-use Rattle.shards.specs.Opening.{AreEntered, IsNewShard}
-use Rattle.shards.specs.Shards.{ShardValue}
-use Rattle.shards.specs.declared.opened.OpenedCall.{OpenedCall}
+use Rattle.taken_steps.specs.Opening.{AreEntered, IsNewShard}
+use Rattle.taken_steps.specs.Shards.{ShardValue}
+use Rattle.taken_steps.specs.OpenedCall.{OpenedCall}
 use Rattle.run_steps.specs.Telling.{IsFirst}
 use Rattle.run_steps.specs.declared.telling.Telling.{Telling}
 use Rattle.run_steps.proofs.Openings.{entered_alone}

@@ -1,11 +1,11 @@
 //! What is sent at a step of a call, and what plays behind it.
 use crate::names_bound::NamesBound;
 use crate::results::CommandResult;
-use digits::Dialled;
-use gateway::{Failure, Method, SentNote, SignalSet};
+use gateway::{Dialled, Failure, Method, SentNote, SignalSet};
 use mg_model::commands::Command;
 use mg_names::identifiers::{Assoc, LineNo};
 use mg_names::kinds::Kind;
+use std::alloc::Global;
 
 /// A request that a call sends. This profile's own.
 #[derive(Drop)]
@@ -120,4 +120,18 @@ pub struct Shown {
     pub sent: Option<Sent>,
     /// The signals of each line behind the step, in the order of the script.
     pub plays: Vec<SignalSet>,
+}
+
+impl Shown {
+    /// Nothing was sent, and nothing plays.
+    pub(crate) fn nothing(alloc: Global) -> Shown {
+        Shown {
+            executed: None,
+            reply: None,
+            note: None,
+            notes: Vec::new(alloc),
+            sent: None,
+            plays: Vec::new(alloc),
+        }
+    }
 }

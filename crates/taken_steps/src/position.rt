@@ -1,12 +1,11 @@
 //! Where a call is.
-ghost use Rattle.run_steps.specs.Positions.{IsPlaced};
+ghost use Rattle.taken_steps.specs.Positions.{IsPlaced};
 ghost use Rattle.std.specs.Prelude.{◌≡◌};
 ghost use Rattle.agent.specs.Calls.{variant_of};
 ghost use Rattle.planned_calls.specs.ReportLines.{kind_phase};
 
 use agent::Next;
-use planned_calls::CallPhase;
-use shards::Shard;
+use planned_calls::{CallPhase, Shard};
 
 /// Where a call is. This profile's own.
 #[derive(Clone, Copy, Debug, PartialEq, Eq)]
@@ -28,8 +27,8 @@ fn phase_of(next: &Next<'_>) -> CallPhase
     }
 }
 
-/// Where a call is on a gateway.
-pub(crate) fn position_of(shard: &Shard<'_>, next: &Next<'_>) -> Position
+/// Where a call is on a gateway: lost where it is of another association. This profile's own.
+pub fn position_of(shard: &Shard<'_>, next: &Next<'_>) -> Position
     ensures { IsPlaced shard.now next.now result }
 {
     let phase = if next.association() == shard.association() {

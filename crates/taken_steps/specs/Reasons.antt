@@ -10,9 +10,9 @@ use Rattle.agent.specs.AgentValue.{agent_of}
 use Rattle.agent.specs.CallValue.{Kind, rests, waits, has_ended}
 use Rattle.agent.specs.Calls.{value_of, variant_of}
 use Rattle.agent.specs.declared.call.Next.{Next}
-use Rattle.shards.specs.Stepping.{has_step}
-use Rattle.run_steps.specs.declared.idle.Idle.{Idle}
-use Rattle.run_steps.specs.declared.idle.Idle.TheVariants.{NothingSent, NoNoteWaits, Waits, Rests, HasEnded, Lost, NotAwaited, NotNew, NoTimer, NothingToHear, NotOnLine, NotReleased, NumbersEnd}
+use Rattle.planned_calls.specs.Stepping.{has_step}
+use Rattle.taken_steps.specs.declared.idle.Idle.{Idle}
+use Rattle.taken_steps.specs.declared.idle.Idle.TheVariants.{NothingSent, NoNoteWaits, Waits, Rests, HasEnded, Lost, NotAwaited, NotNew, NoTimer, NothingToHear, NotOnLine, NotReleased, NumbersEnd}
 
 -- ---- a step that means no event
 

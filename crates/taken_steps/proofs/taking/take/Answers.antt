@@ -1,9 +1,9 @@
 -- A step that means nothing is idle, and so is one whose event is refused.
 use Rattle.std.proofs.Common.{refl, sym, subst}
-use Rattle.run_steps.specs.Taking.{Comes, means_nothing}
-use Rattle.run_steps.specs.declared.came.Came.{Came}
-use Rattle.run_steps.proofs.Refusing.{refused}
-use Rattle.run_steps.proofs.taking.take.Goals as goal
+use Rattle.taken_steps.specs.Taking.{Comes, means_nothing}
+use Rattle.taken_steps.specs.declared.came.Came.{Came}
+use Rattle.taken_steps.proofs.Refusing.{refused}
+use Rattle.taken_steps.proofs.taking.take.Goals as goal
 
 pub returns-in_default-meaning : goal.returns-in_default-meaning
 returns-in_default-meaning c = (

@@ -9,15 +9,15 @@ use Rattle.mg_model.specs.declared.plans.PlanStep.{PlanStep}
 use Rattle.mg_model.specs.declared.plans.PlanStep.TheVariants.{Restarts}
 use Rattle.mg_model.specs.Numbers.{plan_calls}
 use Rattle.agent.specs.declared.call.Next.{Next}
-use Rattle.shards.specs.Meaning.{IsMeant}
-use Rattle.shards.specs.Shards.{HasHappened, IsUnchanged, ShardValue}
-use Rattle.shards.specs.Stepping.{IsNotEnabled, IsSameNext, IsTakenStep}
-use Rattle.shards.specs.declared.stepped.Stepped.{Stepped}
-use Rattle.shards.specs.declared.stepped.Stepped.TheVariants.{Done, Begun}
-use Rattle.run_steps.specs.Reasons.{IsRefusedFor, IsUnmeant}
-use Rattle.run_steps.specs.declared.came.Came.{Came}
-use Rattle.run_steps.specs.declared.came.Came.TheVariants as came
-use Rattle.run_steps.specs.declared.idle.Idle.{Idle}
+use Rattle.planned_calls.specs.Meaning.{IsMeant}
+use Rattle.planned_calls.specs.Shards.{HasHappened, IsUnchanged, ShardValue}
+use Rattle.planned_calls.specs.Stepping.{IsNotEnabled, IsSameNext, IsTakenStep}
+use Rattle.planned_calls.specs.Stepped.{Stepped}
+use Rattle.planned_calls.specs.Stepped.TheVariants.{Done, Begun}
+use Rattle.taken_steps.specs.Reasons.{IsRefusedFor, IsUnmeant}
+use Rattle.taken_steps.specs.declared.came.Came.{Came}
+use Rattle.taken_steps.specs.declared.came.Came.TheVariants as came
+use Rattle.taken_steps.specs.declared.idle.Idle.{Idle}
 
 -- ---- a step whose event happened
 

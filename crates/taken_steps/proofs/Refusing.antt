@@ -10,13 +10,13 @@ use Rattle.mg_model.specs.Script.{Script}
 use Rattle.agent.specs.declared.call.Next.{Next}
 use Rattle.agent.specs.declared.refusal.Refusal.{Refusal}
 use Rattle.agent.specs.declared.refusal.Refusal.TheVariants.{NotEnabled}
-use Rattle.shards.specs.Meaning.{IsMeant}
-use Rattle.shards.specs.Shards.{IsUnchanged, ShardValue}
-use Rattle.shards.specs.Stepping.{IsStep}
-use Rattle.shards.specs.declared.stepped.Stepped.{Stepped}
-use Rattle.run_steps.specs.Reasons.{IsRefusedFor}
-use Rattle.run_steps.specs.Taking.{IsIdle, is_refused}
-use Rattle.run_steps.specs.declared.idle.Idle.{Idle}
+use Rattle.planned_calls.specs.Meaning.{IsMeant}
+use Rattle.planned_calls.specs.Shards.{IsUnchanged, ShardValue}
+use Rattle.planned_calls.specs.Stepping.{IsStep}
+use Rattle.planned_calls.specs.Stepped.{Stepped}
+use Rattle.taken_steps.specs.Reasons.{IsRefusedFor}
+use Rattle.taken_steps.specs.Taking.{IsIdle, is_refused}
+use Rattle.taken_steps.specs.declared.idle.Idle.{Idle}
 
 pub refused : (v same w : ShardValue) (a b : Next) (number : ℕ) (step : PlanStep) (begins : CallNo) (event : Event) (call : CallNo) (happens : CallEvent)
     (script : Script) (current : ℕ) (why : Idle) (result : Result Stepped Refusal) (fault : Refusal)

@@ -2,8 +2,8 @@
 ghost use Rattle.std.specs.Prelude.{◌≡◌, ◌+◌, IfOk, IfSome};
 ghost use Rattle.mg_model.specs.Numbers.{plan_calls};
 ghost use Rattle.agent.specs.declared.refusal.Refusal.TheVariants.{NotEnabled};
-ghost use Rattle.run_steps.specs.Taking.{Comes};
-ghost use Rattle.run_steps.specs.declared.came.Came.TheVariants as cames;
+ghost use Rattle.taken_steps.specs.Taking.{Comes};
+ghost use Rattle.taken_steps.specs.declared.came.Came.TheVariants as cames;
 
 use crate::came::Came;
 use crate::idle::Idle;
@@ -12,15 +12,17 @@ use agent::{Next, Refusal};
 use mg_model::events::Event;
 use mg_model::plans::PlanStep;
 use mg_names::identifiers::CallNo;
-use planned_calls::{PLAN_CALLS, RunFault};
-use shards::{Shard, Stepped};
+use planned_calls::{PLAN_CALLS, RunFault, Shard, Stepped};
 
 /// A call after a step, with its number, and what the step came to.
 #[derive(Drop)]
-pub(crate) struct Taken<'s> {
-    pub(crate) next: Next<'s>,
-    pub(crate) number: CallNo,
-    pub(crate) came: Came,
+pub struct Taken<'s> {
+    /// The call behind it, or the one that began within it.
+    pub next: Next<'s>,
+    /// The number of that call.
+    pub number: CallNo,
+    /// What the step came to.
+    pub came: Came,
 }
 
 /// The number of the next call to begin on the lines of one; nothing where the numbers end.
@@ -42,8 +44,8 @@ fn came_of(fault: Refusal, why: Idle) -> Result<Came, RunFault>
 }
 
 /// A call takes a step of the plan, other than a restart, on its gateway. `Disagree` where the numbers of calls end, where the step means what no call of a
-/// plan is asked for, or where its transcript has another number of events than the gateway counts; `NoMemory` where memory ran out.
-pub(crate) fn take<'s>(
+/// plan is asked for, or where its transcript has another number of events than the gateway counts; `NoMemory` where memory ran out. This profile's own.
+pub fn take<'s>(
     shard: &mut Shard<'s>,
     next: Next<'s>,
     number: CallNo,

@@ -2,8 +2,8 @@
 ghost use Rattle.std.specs.Prelude.{◌≡◌, IfSome};
 ghost use Rattle.mg_model.specs.declared.events.CallEvent.TheVariants.{Timer};
 ghost use Rattle.agent.specs.Calls.{variant_of};
-ghost use Rattle.shards.specs.Stepping.{has_step};
-ghost use Rattle.run_steps.specs.Reasons.{IsKind, IsRefusedFor, IsUnmeant};
+ghost use Rattle.planned_calls.specs.Stepping.{has_step};
+ghost use Rattle.taken_steps.specs.Reasons.{IsKind, IsRefusedFor, IsUnmeant};
 
 use crate::idle::Idle;
 use agent::Next;

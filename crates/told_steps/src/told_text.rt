@@ -1,9 +1,9 @@
 //! A step of a call in words, with its messages.
 use crate::happened_text::{Reached, came_text};
+use call_scenes::NoteSent;
 use gateway::SignalSet;
 use mg_model::plans::PlanStep;
 use mg_names::identifiers::LineNo;
-use run_steps::{Came, NoteSent, Position, ToldStep};
 use script_table::Script;
 use script_words::names::state_name;
 use serde::Serialize;
@@ -16,46 +16,49 @@ use step_words::plays_text::{PlaysTold, plays_told};
 use step_words::request_text::{
     ExecutedTold, ReplyTold, SentTold, executed_told, reply_told, sent_told,
 };
+use step_words::{Came, Position, ToldStep};
 
 /// Where a call is.
 #[derive(Clone, Copy, Serialize)]
-pub(crate) struct PlaceTold<'a> {
+pub struct PlaceTold<'a> {
     state: &'a str,
     phase: &'static str,
 }
 
 /// A step of a call.
 #[derive(Drop, Serialize)]
-pub(crate) struct StepTold<'a> {
+pub struct StepTold<'a> {
     /// Its place among the steps of the call of the plan, from 0 over all epochs; none of what is no step of it.
     #[serde(skip_serializing_if = "Option::is_none")]
     step_place: Option<usize>,
     /// It, as the plan writes it.
-    pub(crate) step: String,
+    pub step: String,
     /// What it came to.
     came: &'static str,
     /// Why it is idle.
     #[serde(skip_serializing_if = "Option::is_none")]
-    pub(crate) reason: Option<&'static str>,
+    pub reason: Option<&'static str>,
     /// What happened, or why it is idle.
-    pub(crate) says: String,
+    pub says: String,
+    /// Where the call is before it.
     before: PlaceTold<'a>,
-    pub(crate) after: PlaceTold<'a>,
+    /// Where the call is behind it.
+    pub after: PlaceTold<'a>,
     /// The request that reached the gateway.
     #[serde(skip_serializing_if = "Option::is_none")]
-    pub(crate) executed: Option<ExecutedTold<'a>>,
+    pub executed: Option<ExecutedTold<'a>>,
     /// The reply that reached the call.
     #[serde(skip_serializing_if = "Option::is_none")]
-    pub(crate) reply: Option<ReplyTold>,
+    pub reply: Option<ReplyTold>,
     /// The note that reached the call.
     #[serde(skip_serializing_if = "Option::is_none")]
-    pub(crate) note: Option<NoteTold<'a>>,
+    pub note: Option<NoteTold<'a>>,
     /// The notes that the gateway sent.
     #[serde(skip_serializing_if = "Vec::is_empty")]
-    pub(crate) notes: Vec<NoteTold<'a>>,
+    pub notes: Vec<NoteTold<'a>>,
     /// The request that the call sent.
     #[serde(skip_serializing_if = "Option::is_none")]
-    pub(crate) sent: Option<SentTold<'a>>,
+    pub sent: Option<SentTold<'a>>,
     /// What plays behind it.
     #[serde(skip_serializing_if = "Vec::is_empty")]
     plays: Vec<PlaysTold<'a>>,
@@ -64,7 +67,7 @@ pub(crate) struct StepTold<'a> {
     is_other: bool,
     /// Whether it is of the call alone, and of no line and no message.
     #[serde(skip)]
-    pub(crate) is_of_call: bool,
+    pub is_of_call: bool,
 }
 
 impl fmt::Display for PlaceTold<'_> {
@@ -153,11 +156,15 @@ fn notes_told<'a>(
 
 /// What a step is told by: the script, the lines of its call, its place, and what played before it.
 #[derive(Clone, Copy)]
-pub(crate) struct Telling<'a, 'b> {
-    pub(crate) script: &'a Script,
-    pub(crate) lines: &'b [LineNo],
-    pub(crate) place: usize,
-    pub(crate) played: &'b [SignalSet],
+pub struct Telling<'a, 'b> {
+    /// The script.
+    pub script: &'a Script,
+    /// The lines of the call.
+    pub lines: &'b [LineNo],
+    /// The place of the step among those of the call, from 0.
+    pub place: usize,
+    /// What played before it, line by line; nothing before the first step.
+    pub played: &'b [SignalSet],
 }
 
 /// What is said of a step.
@@ -173,8 +180,8 @@ fn says(
     }
 }
 
-/// A step in words.
-pub(crate) fn step_told<'a>(
+/// A step in words. The only error is running out of memory.
+pub fn step_told<'a>(
     alloc: Global,
     by: Telling<'a, '_>,
     told: &ToldStep,

@@ -1,5 +1,5 @@
 //! What a call and its gateway send each other along its events, and what plays: a gateway goes along with the one that the steps are taken on.
-use crate::came::Came;
+use crate::fault::SceneFault;
 use crate::names_bound::NamesBound;
 use crate::results::{contexts_of, results_of};
 use crate::shown::{Executed, Fate, NoteSent, Sent, Shown, TakenReply};
@@ -10,8 +10,7 @@ use gateway::{
 };
 use mg_model::commands::Command;
 use mg_model::events::{CallEvent, Event};
-use mg_names::identifiers::{Assoc, CallNo, LineNo};
-use planned_calls::RunFault;
+use mg_names::identifiers::{CallNo, LineNo};
 use script_table::Script;
 use std::alloc::{AllocError, Global};
 
@@ -29,7 +28,7 @@ struct Asked {
 
 /// A gateway that goes along, with what the call that stands was sent. This profile's own.
 #[derive(Drop)]
-pub(crate) struct Scene<'s> {
+pub struct Scene<'s> {
     alloc: Global,
     script: &'s Script,
     lines: Vec<LineNo>,
@@ -57,15 +56,15 @@ fn outstanding<'a>(next: &'a Next<'_>, number: u32) -> Option<&'a Request> {
 
 impl<'s> Scene<'s> {
     /// A gateway that opens with a call of these lines.
-    pub(crate) fn open(
+    pub fn open(
         alloc: Global,
         script: &'s Script,
         call: CallNo,
         lines: &[LineNo],
-    ) -> Result<Scene<'s>, RunFault> {
+    ) -> Result<Scene<'s>, SceneFault> {
         let mut gateway = Gateway::new(alloc, lines)?;
         let Ok(()) = gateway.open_call(call, lines) else {
-            return Err(RunFault::NoMemory);
+            return Err(SceneFault::NoMemory);
         };
         Ok(Scene {
             alloc,
@@ -125,11 +124,11 @@ impl Scene<'_> {
         shown: &mut Shown,
         line: LineNo,
         event: LineEvent,
-    ) -> Result<(), RunFault> {
+    ) -> Result<(), SceneFault> {
         match self.gateway.happen(line, event) {
             Ok(Some(note)) => Ok(self.send_note(shown, NoteSent::of(&note))?),
             Ok(None) => Ok(()),
-            Err(_) => Err(RunFault::Disagree),
+            Err(_) => Err(SceneFault::Disagree),
         }
     }
 
@@ -151,9 +150,9 @@ impl Scene<'_> {
         place: usize,
         fate: Fate,
         reply: Option<Reply>,
-    ) -> Result<(), RunFault> {
+    ) -> Result<(), SceneFault> {
         let Some(asked) = self.asked.get_mut(place) else {
-            return Err(RunFault::Disagree);
+            return Err(SceneFault::Disagree);
         };
         let contexts = asked.contexts.as_slice();
         let (failure, results) = match &reply {
@@ -181,9 +180,9 @@ impl Scene<'_> {
         next: &Next<'_>,
         number: u32,
         chosen: Option<ChosenRefusal>,
-    ) -> Result<(), RunFault> {
+    ) -> Result<(), SceneFault> {
         let Some((place, id)) = self.found(number) else {
-            return Err(RunFault::Disagree);
+            return Err(SceneFault::Disagree);
         };
         let answer = self.answer(next, id, chosen);
         match answer {
@@ -193,21 +192,21 @@ impl Scene<'_> {
             }
             Answer::Kept(reply) => self.keep(shown, place, Fate::Repeated, Some(reply)),
             Answer::Discarded => self.keep(shown, place, Fate::Discarded, None),
-            Answer::CannotHappen => Err(RunFault::Disagree),
-            Answer::NoMemory => Err(RunFault::NoMemory),
+            Answer::CannotHappen => Err(SceneFault::Disagree),
+            Answer::NoMemory => Err(SceneFault::NoMemory),
         }
     }
 
     /// A reply reaches the call.
-    fn take_reply(&mut self, shown: &mut Shown, number: u32) -> Result<(), RunFault> {
+    fn take_reply(&mut self, shown: &mut Shown, number: u32) -> Result<(), SceneFault> {
         let Some(place) = self.place(number) else {
-            return Err(RunFault::Disagree);
+            return Err(SceneFault::Disagree);
         };
         let Some(asked) = self.asked.get(place) else {
-            return Err(RunFault::Disagree);
+            return Err(SceneFault::Disagree);
         };
         let Some(reply) = &asked.reply else {
-            return Err(RunFault::Disagree);
+            return Err(SceneFault::Disagree);
         };
         self.bound.take_reply(asked.commands.as_slice(), reply);
         shown.reply = Some(TakenReply {
@@ -218,20 +217,20 @@ impl Scene<'_> {
     }
 
     /// A note reaches the call.
-    fn take_note(&self, shown: &mut Shown, number: u32) -> Result<(), RunFault> {
+    fn take_note(&self, shown: &mut Shown, number: u32) -> Result<(), SceneFault> {
         for note in self.notes.as_slice() {
             if note.number == number {
                 shown.note = Some(note.copy());
                 return Ok(());
             }
         }
-        Err(RunFault::Disagree)
+        Err(SceneFault::Disagree)
     }
 
     /// A call begins on the lines of another. Nothing was sent to it or by it.
-    fn begin(&mut self, old: CallNo, call: CallNo) -> Result<(), RunFault> {
+    fn begin(&mut self, old: CallNo, call: CallNo) -> Result<(), SceneFault> {
         let Ok(()) = self.gateway.begin(old, call) else {
-            return Err(RunFault::Disagree);
+            return Err(SceneFault::Disagree);
         };
         self.bound = NamesBound::NONE;
         self.asked = Vec::new(self.alloc);
@@ -240,7 +239,7 @@ impl Scene<'_> {
     }
 
     /// The request that the call sent, if it is one that wasn't sent before.
-    fn send(&mut self, shown: &mut Shown, next: &Next<'_>) -> Result<(), RunFault> {
+    fn send(&mut self, shown: &mut Shown, next: &Next<'_>) -> Result<(), SceneFault> {
         let Next::Waiting(call) = next else {
             return Ok(());
         };
@@ -252,7 +251,7 @@ impl Scene<'_> {
         }
         let commands = self.bound.built(self.alloc, self.script, next.state())?;
         if commands.len() != request.commands().len() {
-            return Err(RunFault::Disagree);
+            return Err(SceneFault::Disagree);
         }
         shown.sent = Some(Sent {
             number: request.number(),
@@ -271,13 +270,13 @@ impl Scene<'_> {
     }
 
     /// What an event of the call shows; `next` is the call after it.
-    fn show_event(
+    fn show_of_call(
         &mut self,
         shown: &mut Shown,
         next: &Next<'_>,
         call: CallNo,
         event: CallEvent,
-    ) -> Result<(), RunFault> {
+    ) -> Result<(), SceneFault> {
         match event {
             CallEvent::OnLine { line, event } => self.happen(shown, line, event),
             CallEvent::Execute { number, chosen } => self.execute(shown, next, number, chosen),
@@ -298,27 +297,29 @@ impl Scene<'_> {
         }
     }
 
-    /// What a step shows that came to this; `next` is the call after it. `Disagree` where this gateway went another way.
-    pub(crate) fn show(&mut self, came: &Came, next: &Next<'_>) -> Result<Shown, RunFault> {
-        let mut shown = Shown {
-            executed: None,
-            reply: None,
-            note: None,
-            notes: Vec::new(self.alloc),
-            sent: None,
-            plays: Vec::new(self.alloc),
+    /// The gateway restarts.
+    fn restart(&mut self) -> Result<(), SceneFault> {
+        let Ok(_) = self.gateway.restart() else {
+            return Err(SceneFault::Disagree);
         };
-        match *came {
-            Came::Happened(Event::OfCall { call, event }) => {
-                self.show_event(&mut shown, next, call, event)?;
-            }
-            Came::Idle(_) => {}
-            _ => {
-                let Ok(_) = self.gateway.restart() else {
-                    return Err(RunFault::Disagree);
-                };
-            }
+        Ok(())
+    }
+
+    /// What an event shows that happened, of the call or a restart; `next` is the call after it. `Disagree` where this gateway went another way. This profile's
+    /// own.
+    pub fn show_event(&mut self, event: &Event, next: &Next<'_>) -> Result<Shown, SceneFault> {
+        let mut shown = Shown::nothing(self.alloc);
+        match *event {
+            Event::OfCall { call, event } => self.show_of_call(&mut shown, next, call, event)?,
+            Event::Restart => self.restart()?,
         }
+        shown.plays = self.plays()?;
+        Ok(shown)
+    }
+
+    /// What is shown where nothing happened: what plays. This profile's own.
+    pub fn show_idle(&self) -> Result<Shown, SceneFault> {
+        let mut shown = Shown::nothing(self.alloc);
         shown.plays = self.plays()?;
         Ok(shown)
     }

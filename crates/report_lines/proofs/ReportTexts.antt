@@ -4,7 +4,7 @@ use Rattle.std.proofs.lemmas.Grind.{flat_map-append}
 use Rattle.std.proofs.lemmas.List.{drop_all, map-append, take_more}
 use Rattle.std.specs.List.{flat_map}
 use Rattle.mg_model.specs.Script.{Script}
-use Rattle.planned_calls.specs.declared.lines.Line.{Line}
+use Rattle.run_reports.specs.Line.{Line}
 use Rattle.check_lines.specs.Output.{Text, call_text}
 use Rattle.run_reports.specs.RunAnswers.{call_line, call_lines}
 

@@ -1,11 +1,12 @@
 //! What happened at a step, in a sentence.
+use call_scenes::{Executed, Fate};
 use mg_model::plans::PlanStep;
-use run_steps::{Came, Executed, Fate, ToldStep};
 use script_table::Script;
 use script_words::names::{line_name, state_name};
 use std::alloc::{AllocError, Global};
 use step_words::note_text::NoteTold;
 use step_words::request_text::{ExecutedTold, ReplyTold};
+use step_words::{Came, ToldStep};
 
 /// The messages that reached their ends at a step, in words.
 #[derive(Clone, Copy)]

@@ -1,10 +1,9 @@
 //! A line of a report, as `mgcall run` writes it.
 ghost use Rattle.std.specs.Prelude.{◌≡◌, IfOk, string_bytes};
-ghost use Rattle.mg_model.specs.Tables.{state_of};
 ghost use Rattle.check_lines.specs.Output.{report, written};
 ghost use Rattle.run_reports.specs.RunAnswers.{call_lines};
 
-use runner::Line;
+use run_reports::{Line, state_name};
 use script_table::Script;
 use std::alloc::{AllocError, Global};
 use std::fmt;
@@ -16,16 +15,6 @@ pub struct LineText<'a> {
     pub script: &'a Script,
     /// The line.
     pub line: &'a Line,
-}
-
-/// The name of the state at a place.
-fn state_name(script: &Script, place: u8) -> &str
-    ensures { result.now ≡ (state_of script.now place).name }
-{
-    match script.state(place) {
-        Some(state) => state.name(),
-        None => "",
-    }
 }
 
 /// The number of a call that began within one of the plan, behind a point; nothing of that one itself.
