@@ -1,4 +1,4 @@
--- What words ask for: a program's name, and behind it a form, the number of one call of a plan, or both in either order; or one of two words alone.
+-- What words ask for: a form, the number of one call of a plan, or both in either order; or one of two words alone.
 use Rattle.std.specs.Prelude.{ℕ, List, [], ◌∷◌, Option, Some, None, codes, if◌then◌else◌}
 use Rattle.std.specs.Str.{bytes_eq}
 use Rattle.plans.specs.Texts.{number_in}
@@ -47,14 +47,10 @@ asked_by_three first second third =
     else if bytes_eq second (codes "--call") then of_form (form_of first) (call_number third)
     else None
 
--- the words behind the program's name
+-- the words behind those that name files
 abbrev pub asked_behind : List (List ℕ) → Option Asked
 asked_behind [] = Some (Saying Text None)
 asked_behind (word ∷ []) = asked_by word
 asked_behind (word ∷ number ∷ []) = asked_by_two word number
 asked_behind (first ∷ second ∷ third ∷ []) = asked_by_three first second third
 asked_behind words = None
-
-abbrev pub asked_of : List (List ℕ) → Option Asked
-asked_of [] = None
-asked_of (name ∷ words) = asked_behind words

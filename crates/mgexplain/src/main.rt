@@ -1,21 +1,23 @@
-//! `mgexplain [--json | --dot | --ladder] [--call N] | --help | --version`: reads a script and a certificate from standard input, as `mgcall check` does, and says
-//! in words what that program's line says. The first line is that line, by the same calls, and the exit status is the same. With a plan behind them it
+//! `mgexplain [SCRIPT CERTIFICATE [PLAN]] [--json | --dot | --ladder] [--call N] | --help | --version`: reads a script and a certificate, from files or as
+//! `mgcall check` does from standard input, and says in words what that program's line says. The first line is that line, by the same calls, and the exit status is the same. With a plan behind them it
 //! says what `mgcall run` says, and under each line of the report what its steps came to. `--json` says the same facts as one JSON value; `--dot` writes the
 //! script's state machine as Graphviz text, with what a No names marked; `--ladder` writes the messages of a run as a ladder; `--call` tells one call.
 //!
 //! `check_explanation` says what the check comes to, under its line, and `run_explanation` what a plan comes to, under its report. Here they are asked for what goes
-//! with the input (`outcome`), in the form that the words ask for (`words`, with `call_number`), and bound to the process.
+//! with the input (`outcome`), in the form that the words ask for (`words`, with `call_number`), and bound to the process; `documents` reads files.
 #![tactic(auto)]
 
 mod call_number;
+mod documents;
 mod outcome;
 mod words;
 
+use crate::documents::read_documents;
 use crate::outcome::{Outcome, told_of};
-use crate::words::{Asked, name_json, read_words};
+use crate::words::{Asked, Request, name_json, read_words};
 use check_explanation::form::Form;
 use program_rim::host::Host;
-use program_rim::input::read_all;
+use program_rim::input::{Input, read_all};
 use program_rim::sink::write_all;
 use program_rim::status::Status;
 use std::process::ExitCode;
@@ -24,11 +26,12 @@ use std::thread::Threads;
 use std::{env, io};
 
 /// How the program is called.
-const USAGE: &str = "usage: mgexplain [--json | --dot | --ladder] [--call N]\n";
+const USAGE: &str =
+    "usage: mgexplain [SCRIPT CERTIFICATE [PLAN]] [--json | --dot | --ladder] [--call N]\n";
 
 /// The same as a JSON value.
 const USAGE_AS_JSON: &str =
-    "{\"format\":1,\"line\":\"usage: mgexplain [--json | --dot | --ladder] [--call N]\",\"status\":2}\n";
+    "{\"format\":1,\"line\":\"usage: mgexplain [SCRIPT CERTIFICATE [PLAN]] [--json | --dot | --ladder] [--call N]\",\"status\":2}\n";
 
 /// What it says where there was no memory.
 const NO_MEMORY: &str = "no memory\n";
@@ -37,9 +40,11 @@ const NO_MEMORY: &str = "no memory\n";
 const NO_MEMORY_AS_JSON: &str = "{\"format\":1,\"line\":\"no memory\",\"status\":4}\n";
 
 /// What it says where help is asked for.
-const HELP: &str = "usage: mgexplain [--json | --dot | --ladder] [--call N]
-Reads a script, a line %% and a certificate from standard input, as mgcall check does, and says in words what that program's line says.
-With a line %% and a plan behind them it says what mgcall run says of them, and what each step of the plan came to.
+const HELP: &str =
+    "usage: mgexplain [SCRIPT CERTIFICATE [PLAN]] [--json | --dot | --ladder] [--call N]
+Reads the files of a script and a certificate, and says in words what mgcall check says of them. With the file of a plan it says what
+mgcall run says of the three, and what each step of the plan came to. Where no file is named it reads standard input, as these commands
+do: a script, a line %%, a certificate, and perhaps another line %% and a plan.
   --json     the same as one JSON value
   --dot      the script as a picture for Graphviz, with what a no names in red; not with a plan
   --ladder   the messages of each call of a plan as a ladder, the call on the left and its gateway on the right
@@ -59,13 +64,10 @@ fn arguments(rt: &HostRuntime) -> io::Result<Vec<String>> {
 }
 
 /// What the words ask for; where they ask for nothing that the program does, how it is called, as JSON where a word asks for that.
-fn asked(rt: &HostRuntime) -> Result<Asked, &'static str> {
-    let Ok(words) = arguments(rt) else {
-        return Err(USAGE);
-    };
-    match read_words(words.as_slice()) {
-        Some(asked) => Ok(asked),
-        None if name_json(words.as_slice()) => Err(USAGE_AS_JSON),
+fn request(words: &[String]) -> Result<Request, &'static str> {
+    match read_words(words) {
+        Some(request) => Ok(request),
+        None if name_json(words) => Err(USAGE_AS_JSON),
         None => Err(USAGE),
     }
 }
@@ -86,15 +88,13 @@ fn usage(form: Form) -> &'static str {
     }
 }
 
-/// What comes of standard input.
-fn input_outcome<R: Threads + Wait + Sync>(
-    rt: &HostRuntime,
-    threads: &R,
-    asked: (Form, Option<u32>),
-) -> Outcome {
+/// The input: what these files hold, or standard input where there is none.
+fn input_of(rt: &HostRuntime, files: &[String]) -> Input {
+    if !files.is_empty() {
+        return read_documents(rt, files);
+    }
     let mut source = Host::new(rt.stdin());
-    let input = read_all(rt.alloc(), &mut source);
-    told_of(threads, rt.alloc(), asked, &input)
+    read_all(rt.alloc(), &mut source)
 }
 
 /// Writes a text that goes with a status. A write that fails has a status of its own.
@@ -106,14 +106,15 @@ fn send(rt: &HostRuntime, text: &str, status: Status) -> Status {
     }
 }
 
-/// Says what is to be said of standard input.
+/// Says what is to be said of an input.
 fn say<R: Threads + Wait + Sync>(
     rt: &HostRuntime,
     threads: &R,
     asked: (Form, Option<u32>),
+    input: &Input,
 ) -> Status {
     let form = asked.0;
-    match input_outcome(rt, threads, asked) {
+    match told_of(threads, rt.alloc(), asked, input) {
         Outcome::Told(said) => send(rt, said.text.as_str(), said.status),
         Outcome::Usage => send(rt, usage(form), Status::Usage),
         Outcome::NoMemory => send(rt, no_memory(form), Status::NoMemory),
@@ -121,12 +122,37 @@ fn say<R: Threads + Wait + Sync>(
     }
 }
 
+/// So many words behind the program's name, which name files.
+fn named(words: &[String], files: usize) -> &[String] {
+    let [_, behind @ ..] = words else {
+        return &[];
+    };
+    match behind.get(..files) {
+        Some(named) => named,
+        None => &[],
+    }
+}
+
+/// Does what these words ask for.
+fn answer<R: Threads + Wait + Sync>(rt: &HostRuntime, threads: &R, words: &[String]) -> Status {
+    let Request { asked, files } = match request(words) {
+        Ok(request) => request,
+        Err(usage) => return send(rt, usage, Status::Usage),
+    };
+    match asked {
+        Asked::Saying(form, only) => {
+            let input = input_of(rt, named(words, files));
+            say(rt, threads, (form, only), &input)
+        }
+        Asked::Help => send(rt, HELP, Status::Yes),
+        Asked::Version => send(rt, VERSION, Status::Yes),
+    }
+}
+
 fn run<R: Threads + Wait + Sync>(rt: &HostRuntime, threads: &R) -> Status {
-    match asked(rt) {
-        Ok(Asked::Saying(form, only)) => say(rt, threads, (form, only)),
-        Ok(Asked::Help) => send(rt, HELP, Status::Yes),
-        Ok(Asked::Version) => send(rt, VERSION, Status::Yes),
-        Err(usage) => send(rt, usage, Status::Usage),
+    match arguments(rt) {
+        Ok(words) => answer(rt, threads, words.as_slice()),
+        Err(_) => send(rt, USAGE, Status::Usage),
     }
 }
 

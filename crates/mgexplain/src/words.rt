@@ -1,6 +1,7 @@
-//! The words of the command line.
-ghost use Rattle.std.specs.Prelude.{◌≡◌, map, string_bytes};
-ghost use Rattle.mgexplain.specs.Forms.{asked_behind, asked_by, asked_by_three, asked_by_two, asked_of, call_number, form_of, in_form, of_call, of_form};
+//! The words of the command line: the files that they name, and behind these what they ask for.
+ghost use Rattle.std.specs.Prelude.{◌≡◌, ◌≤◌, length, map, string_bytes};
+ghost use Rattle.mgexplain.specs.Files.{asks, file_count, go_with, request_behind, request_of, request_with};
+ghost use Rattle.mgexplain.specs.Forms.{asked_behind, asked_by, asked_by_three, asked_by_two, call_number, form_of, in_form, of_call, of_form};
 
 use crate::call_number::call_number;
 use check_explanation::form::Form;
@@ -8,12 +9,20 @@ use check_explanation::form::Form;
 /// What the words ask for.
 #[derive(Clone, Copy, Debug, PartialEq, Eq)]
 pub(crate) enum Asked {
-    /// What is said of standard input, in a form, and of a plan of the call with a number alone where there is one.
+    /// What is said of an input, in a form, and of a plan of the call with a number alone where there is one.
     Saying(Form, Option<u32>),
     /// How the program is called.
     Help,
     /// Which version it is.
     Version,
+}
+
+/// What the words ask for, and how many of those before it name files.
+#[derive(Clone, Copy, Debug, PartialEq, Eq)]
+pub(crate) struct Request {
+    pub(crate) asked: Asked,
+    /// None where the input is on standard input; else a script and a certificate, or these and a plan.
+    pub(crate) files: usize,
 }
 
 /// The form that a word asks for.
@@ -104,12 +113,67 @@ fn read_behind(words: &[String]) -> Option<Asked>
     }
 }
 
-/// What the words ask for, the program's name first. `None` where they ask for nothing that the program does.
-pub(crate) fn read_words(words: &[String]) -> Option<Asked>
-    ensures { result ≡ asked_of (map string_bytes words.now) }
+/// Whether a word asks for something, and names no file.
+fn asks(word: &str) -> bool
+    ensures { result ≡ asks word.now }
+{
+    matches!(word.as_bytes(), [b'-', ..])
+}
+
+/// How many words name files: those before the first that asks for something.
+fn file_count(words: &[String]) -> usize
+    ensures count { result ≡ file_count (map string_bytes words.now) }
+    ensures within { result ≤ length words.now }
+{
+    for (count, word) in words.iter().enumerate() {
+        if asks(word.as_str()) {
+            return count;
+        }
+    }
+    words.len()
+}
+
+/// Whether so many files go with what is asked.
+fn go_with(files: usize, asked: Asked) -> bool
+    ensures { result ≡ go_with files asked }
+{
+    match asked {
+        Asked::Saying(_, _) => matches!(files, 0 | 2 | 3),
+        Asked::Help | Asked::Version => files == 0,
+    }
+}
+
+/// What is asked of so many files.
+fn request_with(files: usize, asked: Option<Asked>) -> Option<Request>
+    ensures { result ≡ request_with files asked }
+{
+    match asked {
+        Some(asked) => {
+            if go_with(files, asked) {
+                Some(Request { asked, files })
+            } else {
+                None
+            }
+        }
+        None => None,
+    }
+}
+
+/// What the words behind the program's name ask for, and of how many files.
+fn request_behind(words: &[String]) -> Option<Request>
+    ensures { result ≡ request_behind (map string_bytes words.now) }
+{
+    let files = file_count(words);
+    let (_named, asking) = words.split_at(files);
+    request_with(files, read_behind(asking))
+}
+
+/// What the words ask for, and of how many files, the program's name first. `None` where they ask for nothing that the program does.
+pub(crate) fn read_words(words: &[String]) -> Option<Request>
+    ensures { result ≡ request_of (map string_bytes words.now) }
 {
     match words {
-        [_, behind @ ..] => read_behind(behind),
+        [_, behind @ ..] => request_behind(behind),
         _ => None,
     }
 }

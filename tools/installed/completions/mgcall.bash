@@ -30,7 +30,15 @@ _mgcall() {
         2,run) COMPREPLY=($(compgen -W '--workers' -- "$current")) ;;
         esac
         ;;
-    mgexplain) if ((place == 1)); then COMPREPLY=($(compgen -W '--json --dot --ladder --call --help --version' -- "$current")); fi ;;
+    mgexplain)
+        if ((place == 1)) && [[ $current == -* ]]; then
+            COMPREPLY=($(compgen -W '--json --dot --ladder --call --help --version' -- "$current"))
+        elif ((place > 3)) || [[ $current == -* ]]; then
+            COMPREPLY=($(compgen -W '--json --dot --ladder --call' -- "$current"))
+        else
+            _mgcall_over_files "$current" "$place" toml json toml
+        fi
+        ;;
     mgcall-check) _mgcall_over_files "$current" "$place" toml json ;;
     mgcall-run) _mgcall_over_files "$current" "$place" toml json toml ;;
     mgcall-why)
