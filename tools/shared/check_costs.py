@@ -213,7 +213,7 @@ def hours(seconds_taken):
 
 def slowest():
     """A state of 256 entries with four and with eight wide ones whose request is sent, and from their difference the time of all that the limits allow, a walk
-    being linear in points. Near: the entries of results come first among those of their state; far: they come last, and each step asks all before them."""
+    being linear in points. Near: the entries of results come first among those of their state; far: they come last, and the plain checker asks all before them."""
     with tempfile.TemporaryDirectory() as folder:
         plain = build(folder)
         for lines in slow_checks.SHAPES:
