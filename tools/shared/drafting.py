@@ -24,15 +24,25 @@ def followed(page_of, entries, put, most=None):
     seen = set()
     for count in itertools.count():
         page = page_of(entries)
-        lacking = json.dumps(page.get("uncovered", page.get("step", {}).get("result")))
-        is_again = "entry" in page and lacking in seen
+        wanting = json.dumps(lacking(page))
+        is_again = "entry" in page and wanting in seen
         if "entry" not in page or is_again or count == most:
             return Followed(page, entries, count, is_again, False)
-        seen.add(lacking)
+        seen.add(wanting)
         more = put(entries, page)
         if more is None:
             return Followed(page, entries, count, False, True)
         entries = more
+
+
+def lacking(page):
+    """The configuration of a page that no entry has; nothing where it isn't about one."""
+    return page.get("uncovered", page.get("step", {}).get("result"))
+
+
+def alone(script, configuration):
+    """The entry that has this configuration and no other. A page shows it too, but not where the state has all the entries that it may have."""
+    return certificates.laid_out(script, configuration["state"], {part["component"]: [part["value"]] for part in configuration["parts"]})
 
 
 def exactly(script, is_wide, entries, page):
@@ -41,7 +51,7 @@ def exactly(script, is_wide, entries, page):
     place, wider = page.get("widens"), certificates.normal(script, page["entry"])
     if place is not None and size(script, wider) == size(script, entries[place]) + 1:
         return [*entries[:place], wider, *entries[place + 1 :]]
-    new = certificates.normal(script, page.get("alone", wider))
+    new = alone(script, lacking(page))
     if has_room(entries, new["state"]):
         return [*entries, new]
     fewer = certificates.joined(script, entries) if is_wide else entries
