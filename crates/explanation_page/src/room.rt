@@ -11,7 +11,7 @@ const MOST_ENTRIES: usize = 256;
 
 /// What is said beside the entry.
 pub(crate) const WIDENED: &str =
-    "The state has its 256 entries, so no other fits behind them; the one above is widened in more than one component. It may get configurations that no call comes to. If no call is to come to this one, it is the script that has to change.";
+    "The state has its 256 entries, so no other fits behind them; the one above is one of these, widened in all that it lacks. It may get configurations that no call comes to. If no call is to come to this one, it is the script that has to change.";
 
 /// What is said where there is no such entry.
 pub(crate) const NO_ROOM: &str =
