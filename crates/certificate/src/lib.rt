@@ -15,4 +15,5 @@ mod reader;
 mod varied;
 
 pub use fault::CertFault;
+pub use outline::MOST_ENTRIES;
 pub use reader::read_cert;

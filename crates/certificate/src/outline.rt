@@ -16,8 +16,8 @@ use script_table::Script;
 use std::alloc::Global;
 use typed_values::Missing;
 
-/// How many entries a state may have.
-const ENTRIES: usize = 256;
+/// How many entries a state may have. This profile's own.
+pub const MOST_ENTRIES: usize = 256;
 
 /// What the limits look at of an entry.
 #[derive(Clone, Copy, Debug)]
@@ -93,7 +93,7 @@ fn has_crowd(script: &Script, outlines: &[Outline]) -> bool
     ensures { result ≡ has_crowd_in script.now outlines.now }
 {
     for state in 0..script.states() {
-        if entries_for(outlines, state as u8) > ENTRIES {
+        if entries_for(outlines, state as u8) > MOST_ENTRIES {
             return true;
         }
     }

@@ -1,16 +1,14 @@
 //! Where a certificate has a fault.
 use crate::entry_sets::{EntrySet, Kind, Look, add_sets, key_wrong, not_this};
 use crate::names::{ScriptNames, names_of};
-use certificate::CertFault;
+use certificate::{CertFault, MOST_ENTRIES};
 use found_places::{Found, Place, Wrong, entry_ends, found_wrong, nearest, new_place, spot_from};
 use script_document::{Document, read_document};
 use serde_json::Value;
 use std::alloc::{AllocError, Global};
 use typed_values::Missing;
 
-/// How many entries a state may have, and how many points an entry.
-const MOST_ENTRIES: usize = 256;
-
+/// How many points an entry may have.
 const MOST_POINTS: usize = 65_536;
 
 /// The words that a set of a component may have, whatever the script declares.

@@ -53,6 +53,13 @@ impl Checked {
         &self.script
     }
 
+    /// The certificate: its entries, of which no obligation is broken.
+    pub fn cert(&self) -> &Cert
+        ensures { result.now ≡ self.now.entries }
+    {
+        &self.cert
+    }
+
     /// What was asked of both: they are as their readers accept them, and no obligation is broken.
     pub fn is_checked(&self)
         ensures { IsChecked self.now.table self.now.entries self.now.points }
