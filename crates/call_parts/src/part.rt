@@ -2,9 +2,11 @@
 ghost use Rattle.std.specs.Prelude.{◌≡◌, IfOk, Some, slice_get};
 ghost use Rattle.mg_model.specs.Entries.{Entry as Listed};
 ghost use Rattle.call_parts.specs.Parts.{IsPartOf};
+ghost use Rattle.call_ways.specs.Ways.{AreAll};
 
 use crate::narrowed::narrowed;
 use call_ways::find::find_all;
+use call_ways::reached::Reached;
 use entry_table::{Cert, Entry};
 use script_table::Script;
 use std::alloc::{AllocError, Global};
@@ -20,6 +22,24 @@ pub enum Part {
     Unknown,
 }
 
+/// The part of the entry at a place that calls come to from the opening, through configurations that some entry has: of those that they come to.
+/// The only error is running out of memory.
+pub fn part_of(
+    alloc: Global,
+    script: &Script,
+    cert: &Cert,
+    reached: &Reached,
+    place: usize,
+) -> Result<Part, AllocError>
+    requires all { AreAll script.now cert.now reached.now }
+    ensures { IfOk result (λ part. (entry : Listed) → slice_get cert.now place ≡ Some entry → IsPartOf script.now cert.now entry part) }
+{
+    let Some(entry) = cert.entries().get(place) else {
+        return Ok(Part::Nothing);
+    };
+    narrowed(alloc, script, entry, reached.configs())
+}
+
 /// The part of the entry at a place that calls come to from the opening, through configurations that some entry has. The only error is running
 /// out of memory.
 pub fn find_part(
@@ -30,11 +50,8 @@ pub fn find_part(
 ) -> Result<Part, AllocError>
     ensures { IfOk result (λ part. (entry : Listed) → slice_get cert.now place ≡ Some entry → IsPartOf script.now cert.now entry part) }
 {
-    let Some(entry) = cert.entries().get(place) else {
-        return Ok(Part::Nothing);
-    };
-    let Some(configs) = find_all(alloc, script, cert)? else {
+    let Some(reached) = find_all(alloc, script, cert)? else {
         return Ok(Part::Unknown);
     };
-    narrowed(alloc, script, entry, configs.as_slice())
+    part_of(alloc, script, cert, &reached, place)
 }

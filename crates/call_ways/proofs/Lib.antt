@@ -1,7 +1,9 @@
-pub mod Lists
+pub mod Coming
 pub mod Exploring
 pub mod Growth
 pub mod Keeping
+pub mod Keys
+pub mod Lists
 pub mod Moving
 pub mod Seeking
 pub mod Shown

@@ -1,2 +1,3 @@
 pub mod Ways
 pub mod Search
+pub mod Reached
