@@ -1,0 +1,5 @@
+mod Below
+mod Picked
+mod Reaching
+mod Seeing
+mod Warned

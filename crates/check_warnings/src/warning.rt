@@ -1,0 +1,26 @@
+//! What is warned of.
+use mg_model::transitions::Pair;
+use mg_names::kinds::Kind;
+use mg_names::slots::Slot;
+
+/// Something of a script or of its certificate that no call uses, or a line that no call hears. States and entries go by their places, from 0. This
+/// profile's own.
+#[derive(Clone, Copy, Debug, PartialEq, Eq)]
+pub enum Warning {
+    /// No entry is of this state.
+    StateUnlisted(u8),
+    /// Calls come to this state, in which none ends, and no step leads from it to another one.
+    StateNeverLeft(u8),
+    /// This state says where a note of this line and kind leads. Calls come to it, and none rests in it with a list for that line that raises one.
+    ArrowUnused(u8, Slot, Kind),
+    /// Calls come to this state, and in none are the lines of this pair joined, which it marks as talking.
+    MarkUnneeded(u8, Pair),
+    /// A call rests in this state while this line has a list without events: nothing that its user does is heard.
+    LineDeaf(u8, Slot),
+    /// No call comes to a point of this entry.
+    EntryUnreached(usize),
+    /// Each point of this entry is in another one of its state too.
+    EntryHeld(usize),
+    /// Calls come to some points of this entry, and not to all.
+    PointUnreached(usize),
+}
