@@ -1,9 +1,9 @@
 //! A text with its status, under the line of a reply.
-ghost use Rattle.std.specs.Prelude.{◌≡◌, IfOk};
+ghost use Rattle.std.specs.Prelude.{◌≡◌, IfOk, string_bytes};
 ghost use Rattle.check_lines.specs.Output.{line_status};
 ghost use Rattle.check_lines.specs.Replies.{line_of};
 ghost use Rattle.program_rim.specs.Statuses.{code_of};
-ghost use Rattle.check_explanation.specs.Saying.{IsHeaded};
+ghost use Rattle.check_explanation.specs.Saying.{IsHead};
 
 use check_lines::reply::Reply;
 use program_rim::status::Status;
@@ -19,19 +19,16 @@ pub struct Said {
 }
 
 /// The line of a reply, and a text under it.
-pub(crate) fn headed(alloc: Global, reply: &Reply, rest: &str) -> Result<Said, AllocError>
-    ensures { IfOk result (λ said. IsHeaded (line_of reply.now) said) }
+pub(crate) fn headed(alloc: Global, reply: &Reply, rest: &str) -> Result<String, AllocError>
+    ensures { IfOk result (λ text. IsHead (line_of reply.now) (string_bytes text)) }
 {
-    let text = format!(in alloc; "{reply}\n{rest}")?;
-    Ok(Said {
-        text,
-        status: reply.status(),
-    })
+    format!(in alloc; "{reply}\n{rest}")
 }
 
 /// A text with the status of a reply.
 pub(crate) fn with_status(reply: &Reply, text: String) -> Said
-    ensures { code_of result.status ≡ line_status (line_of reply.now) }
+    ensures text { string_bytes result.text ≡ string_bytes text }
+    ensures status { code_of result.status ≡ line_status (line_of reply.now) }
 {
     let status = reply.status();
     Said { text, status }

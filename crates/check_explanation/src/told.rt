@@ -1,23 +1,23 @@
 //! What is said of an input without a plan: the line of its check, which is made by the same calls as `mgcall check` makes it, and under it what it is about.
-ghost use Rattle.std.specs.Prelude.{IfOk};
-ghost use Rattle.check_lines.specs.VerdictLines.{IsLineOfSections};
+ghost use Rattle.std.specs.Prelude.{IfOk, Some, string_bytes};
 ghost use Rattle.check_lines.specs.Output.{too_long};
 ghost use Rattle.check_lines.specs.Replies.{line_of};
 ghost use Rattle.check_lines.specs.VerdictLines.{Judges, NamesRefusal};
 ghost use Rattle.program_rim.specs.Sections.{pair_of, sections_of};
 ghost use Rattle.check_explanation.specs.declared.form.Form.TheVariants as Form;
-ghost use Rattle.check_explanation.specs.Saying.{IsSaid, IsUnder};
+ghost use Rattle.check_explanation.specs.Saying.{Begins, IsSaid, IsTold, IsUnder};
+ghost use Rattle.check_explanation.specs.Worth.{IsYesStatus};
 
 use crate::form::Form;
 use crate::said::{Said, headed, with_status};
+use crate::worth::{Worth, find_worth, yes_status};
 use check_lines::answer::Answer;
 use check_lines::check::{broken, refused};
 use check_lines::reply::{InputFault, Reply};
 use closure::steps::{opening, reset};
 use composition::{CheckFault, Checked, Refuted, Verdict, check};
 use explanation::locate;
-use explanation_page::explain::{Documents, new_page, no_page};
-use explanation_page::rules::YES_RULE;
+use explanation_page::explain::{Documents, new_page, no_page, yes_page};
 use explanation_page::{FaultText, Page};
 use fault_words::PlaceText;
 use fault_words::dividers::dividers_told;
@@ -25,9 +25,11 @@ use fault_words::places::{certificate_place, script_place};
 use fault_words::rules::{certificate_rule, script_rule};
 use mg_names::obligations::Obligation;
 use program_rim::sections::two_sections;
+use program_rim::status::Status;
 use script_picture::{Marked, draw};
 use script_table::Script;
 use std::alloc::{AllocError, Global};
+use warning_words::{WarnedDocuments, warning_texts};
 
 /// The line of a reply, as the check writes it, without its end.
 fn line(alloc: Global, reply: &Reply) -> Result<String, AllocError> {
@@ -35,17 +37,30 @@ fn line(alloc: Global, reply: &Reply) -> Result<String, AllocError> {
 }
 
 /// A page as one JSON value, or as text under the line of its reply.
-fn page_told(alloc: Global, form: Form, reply: &Reply, page: &Page<'_>) -> Result<Said, AllocError>
-    ensures { IfOk result (IsUnder form (line_of reply.now)) }
+fn page_text(
+    alloc: Global,
+    form: Form,
+    reply: &Reply,
+    page: &Page<'_>,
+) -> Result<String, AllocError>
+    ensures { IfOk result (λ text. Begins form (line_of reply.now) (string_bytes text)) }
 {
     if matches!(form, Form::Json) {
         return match serde_json::to_string(alloc, page) {
-            Ok(text) => Ok(with_status(reply, format!(in alloc; "{text}\n")?)),
+            Ok(text) => format!(in alloc; "{text}\n"),
             Err(_) => Err(AllocError),
         };
     }
     let text = format!(in alloc; "{page}")?;
     headed(alloc, reply, text.as_str())
+}
+
+/// A page as one JSON value, or as text under the line of its reply, with the status of that.
+fn page_told(alloc: Global, form: Form, reply: &Reply, page: &Page<'_>) -> Result<Said, AllocError>
+    ensures { IfOk result (IsUnder form (line_of reply.now)) }
+{
+    let text = page_text(alloc, form, reply, page)?;
+    Ok(with_status(reply, text))
 }
 
 /// A picture, which has the line of its reply for a title.
@@ -112,16 +127,50 @@ pub fn unread(
     page_told(alloc, form, reply, &page)
 }
 
-/// What is said of a yes.
-fn yes_told(alloc: Global, form: Form, reply: &Reply, checked: &Checked) -> Result<Said, AllocError>
-    ensures { IfOk result (IsUnder form (line_of reply.now)) }
+/// The page on a yes.
+fn yes_page_of<'a>(
+    alloc: Global,
+    line: String,
+    status: Status,
+    checked: &'a Checked,
+    certificate: &'a [u8],
+    worth: &'a Option<Worth>,
+) -> Result<Page<'a>, AllocError> {
+    let Some(worth) = worth else {
+        return Ok(yes_page(alloc, line, status, None));
+    };
+    let documents = WarnedDocuments {
+        script: checked.script(),
+        cert: checked.cert(),
+        certificate,
+        reached: &worth.reached,
+    };
+    let texts = warning_texts(alloc, &documents, worth.warnings.as_slice())?;
+    Ok(yes_page(alloc, line, status, Some(texts)))
+}
+
+/// What is said of a yes, where warnings count or don't.
+fn yes_told(
+    alloc: Global,
+    form: Form,
+    is_strict: bool,
+    reply: &Reply,
+    checked: &Checked,
+    certificate: &[u8],
+) -> Result<Said, AllocError>
+    ensures begins { IfOk result (λ said. Begins form (line_of reply.now) (string_bytes said.text)) }
+    ensures status { IfOk result (λ said. IsYesStatus is_strict checked.now.table checked.now.entries said.status) }
 {
-    if matches!(form, Form::Dot) {
-        return picture_told(alloc, reply, Some(checked.script()), None);
-    }
+    let worth = find_worth(alloc, checked.script(), checked.cert())?;
+    let status = yes_status(is_strict, &worth);
     let line = line(alloc, reply)?;
-    let page = new_page(alloc, line, reply.status(), Some(YES_RULE), None, None);
-    page_told(alloc, form, reply, &page)
+    if matches!(form, Form::Dot) {
+        let text = draw(alloc, line.as_str(), Some(checked.script()), None)?;
+        return Ok(Said { text, status });
+    }
+    let page = yes_page_of(alloc, line, status, checked, certificate, &worth)?;
+    let text = page_text(alloc, form, reply, &page)?;
+    Ok(Said { text, status })
 }
 
 /// What a No marks of a picture: the state of its point, or the one that a call opens in, or that after a restart.
@@ -195,14 +244,15 @@ pub fn fault_told(
     unread(alloc, form, &reply, Some(rule), Some(place))
 }
 
-/// What is said of a script and a certificate.
+/// What is said of a script and a certificate, where warnings count or don't.
 fn documents_told(
     alloc: Global,
     form: Form,
+    is_strict: bool,
     script: &[u8],
     certificate: &[u8],
 ) -> Result<Said, AllocError>
-    ensures { IfOk result (IsSaid (Judges script.now certificate.now) form) }
+    ensures { IfOk result (IsTold is_strict (Some (script.now, certificate.now)) form) }
 {
     match check(alloc, script, certificate) {
         Ok(Verdict::Yes(checked)) => {
@@ -211,7 +261,7 @@ fn documents_told(
                 entries: checked.entries(),
                 points: checked.points(),
             });
-            yes_told(alloc, form, &reply, &checked)
+            yes_told(alloc, form, is_strict, &reply, &checked, certificate)
         }
         Ok(Verdict::No(refuted)) => {
             let reply = Reply::Checked(broken(alloc, &refuted));
@@ -221,12 +271,18 @@ fn documents_told(
     }
 }
 
-/// What is said of an input of another number of sections than three. The only error is running out of memory.
-pub fn input_told(alloc: Global, form: Form, input: &[u8]) -> Result<Said, AllocError>
-    ensures { IfOk result (IsSaid (IsLineOfSections (pair_of (sections_of input.now))) form) }
+/// What is said of an input of another number of sections than three. Where warnings count, a yes of which something is warned of has the status of a no. The only
+/// error is running out of memory.
+pub fn input_told(
+    alloc: Global,
+    form: Form,
+    is_strict: bool,
+    input: &[u8],
+) -> Result<Said, AllocError>
+    ensures { IfOk result (IsTold is_strict (pair_of (sections_of input.now)) form) }
 {
     match two_sections(input) {
-        Some((script, certificate)) => documents_told(alloc, form, script, certificate),
+        Some((script, certificate)) => documents_told(alloc, form, is_strict, script, certificate),
         None => {
             let fault = InputFault::Sections;
             let reply = Reply::Input(fault);

@@ -2,7 +2,7 @@
 use crate::listed::listed_text;
 use crate::page::{FORMAT, FaultText, Lack, NearText, Page, PointText};
 use crate::room::{NO_ROOM, WIDENED, is_full, make_room};
-use crate::rules::{advice, obligation_key, obligation_rule};
+use crate::rules::{YES_RULE, YES_RULE_ALONE, advice, obligation_key, obligation_rule};
 use crate::way::{add_way, moves_of};
 use breach_words::facts;
 use call_ways::find::find_way;
@@ -21,6 +21,7 @@ use script_words::config_text::config_text;
 use script_words::entry_text::entry_text;
 use script_words::step_text::step_text;
 use std::alloc::{AllocError, Global};
+use warning_words::WarningText;
 
 /// The two documents, with the text of the second.
 #[derive(Clone, Copy)]
@@ -50,6 +51,7 @@ pub fn new_page<'a>(
         fault,
         rule,
         place,
+        warnings: None,
         point: None,
         way: None,
         part: None,
@@ -60,8 +62,25 @@ pub fn new_page<'a>(
         entry: None,
         widens: None,
         alone: None,
+        room: None,
         advice: None,
     }
+}
+
+/// The page on a yes, with its warnings; without them where calls come to too many configurations to tell.
+pub fn yes_page<'a>(
+    alloc: Global,
+    line: String,
+    status: Status,
+    warnings: Option<Vec<WarningText<'a>>>,
+) -> Page<'a> {
+    let rule = match &warnings {
+        Some(_) => YES_RULE,
+        None => YES_RULE_ALONE,
+    };
+    let mut page = new_page(alloc, line, status, Some(rule), None, None);
+    page.warnings = warnings;
+    page
 }
 
 /// What a component lacks of a configuration.
@@ -126,9 +145,9 @@ fn add_room(
         Some((place, entry)) => {
             page.entry = Some(entry_text(alloc, documents.script, &entry)?);
             page.widens = Some(place);
-            page.advice = Some(WIDENED);
+            page.room = Some(WIDENED);
         }
-        None => page.advice = Some(NO_ROOM),
+        None => page.room = Some(NO_ROOM),
     }
     Ok(())
 }

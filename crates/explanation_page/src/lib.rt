@@ -10,7 +10,7 @@ pub mod explain;
 mod listed;
 mod page;
 mod room;
-pub mod rules;
+mod rules;
 mod way;
 
 pub use page::{FaultText, Page};

@@ -7,6 +7,7 @@ use script_words::entry_text::EntryText;
 use script_words::step_text::StepText;
 use serde::Serialize;
 use std::fmt;
+use warning_words::WarningText;
 use way_words::WayText;
 
 /// A component of an entry that doesn't have a configuration's value.
@@ -75,6 +76,9 @@ pub struct Page<'a> {
     /// Where a document breaks it.
     #[serde(skip_serializing_if = "Option::is_none")]
     pub(crate) place: Option<PlaceText>,
+    /// Of a yes, what of it no call uses, and lines that no call hears; nothing where that isn't known.
+    #[serde(skip_serializing_if = "Option::is_none")]
+    pub(crate) warnings: Option<Vec<WarningText<'a>>>,
     /// The point that a No names.
     #[serde(skip_serializing_if = "Option::is_none")]
     pub(crate) point: Option<PointText<'a>>,
@@ -105,10 +109,20 @@ pub struct Page<'a> {
     /// Where it may take one's place, an entry of one point that would have it too.
     #[serde(skip_serializing_if = "Option::is_none")]
     pub(crate) alone: Option<EntryText>,
+    /// Where the state has no place for another entry, what may be done in its stead.
+    #[serde(skip_serializing_if = "Option::is_none")]
+    pub(crate) room: Option<&'static str>,
     /// What may be done about it.
     #[serde(skip_serializing_if = "Option::is_none")]
     pub(crate) advice: Option<&'static str>,
 }
+
+/// What stands over the warnings of a yes.
+const WARNED: &str = "What of it no call uses, and the lines that no call hears:";
+
+/// What is said of a yes without warnings.
+const UNWARNED: &str =
+    "Calls come to each point and use each transition and mark, and each line is heard wherever a call rests.";
 
 impl fmt::Display for Lack<'_> {
     fn fmt<W: fmt::Write>(&self, f: &mut fmt::Formatter<W>) -> fmt::Result {
@@ -177,6 +191,7 @@ impl fmt::Display for Page<'_> {
     fn fmt<W: fmt::Write>(&self, f: &mut fmt::Formatter<W>) -> fmt::Result {
         sentence(f, &self.rule)?;
         sentence(f, &self.place)?;
+        self.write_warnings(f)?;
         paragraph(f, &self.point)?;
         paragraph(f, &self.way)?;
         self.write_part(f)?;
@@ -187,11 +202,27 @@ impl fmt::Display for Page<'_> {
         paragraph(f, &self.uncovered)?;
         paragraph(f, &self.nearest)?;
         self.write_entry(f)?;
+        sentence(f, &self.room)?;
         sentence(f, &self.advice)
     }
 }
 
 impl Page<'_> {
+    /// Writes the warnings of a yes under a sentence on them, or that there are none.
+    fn write_warnings<W: fmt::Write>(&self, f: &mut fmt::Formatter<W>) -> fmt::Result {
+        let Some(warnings) = &self.warnings else {
+            return Ok(());
+        };
+        if warnings.is_empty() {
+            return writeln!(f, "\n{UNWARNED}");
+        }
+        writeln!(f, "\n{WARNED}")?;
+        for warning in warnings.as_slice() {
+            write!(f, "{warning}")?;
+        }
+        Ok(())
+    }
+
     /// Writes the part of the point's entry that calls come to, under the sentence on it.
     fn write_part<W: fmt::Write>(&self, f: &mut fmt::Formatter<W>) -> fmt::Result {
         match &self.part {

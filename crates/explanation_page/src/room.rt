@@ -1,21 +1,19 @@
 //! An entry that would have a configuration where its state has as many entries as it may.
 use crate::explain::Documents;
+use certificate::MOST_ENTRIES;
 use configuration::config::Config;
 use configuration::well_formed::is_well_formed;
 use entry_table::Entry;
 use explanation::{find_nearest, widen};
 use std::alloc::{AllocError, Global};
 
-/// How many entries a state may have.
-const MOST_ENTRIES: usize = 256;
-
 /// What is said beside the entry.
 pub(crate) const WIDENED: &str =
-    "The state has its 256 entries, so no other fits behind them; the one above is one of these, widened in all that it lacks. It may get configurations that no call comes to. If no call is to come to this one, it is the script that has to change.";
+    "The state has its 256 entries, so no other fits behind them; the one above is one of these, widened in all that it lacks. It may get configurations that no call comes to.";
 
 /// What is said where there is no such entry.
 pub(crate) const NO_ROOM: &str =
-    "The state has its 256 entries, and none of them can be widened to have it within 65,536 points. Put one entry in the place of two that differ in one component alone. If no call is to come there, it is the script that has to change.";
+    "The state has its 256 entries, and none of them can be widened to have it within 65,536 points. Put one entry in the place of two that differ in one component alone.";
 
 /// Whether a configuration's state has as many entries as it may.
 pub(crate) fn is_full(documents: &Documents<'_>, config: &Config) -> bool {

@@ -2,8 +2,12 @@
 use mg_names::obligations::Obligation;
 
 /// What a yes says.
-pub const YES_RULE: &str =
+pub(crate) const YES_RULE: &str =
     "Every obligation holds at each point and for each step from it. The numbers are those of the script's states, of the certificate's entries, and of their points.";
+
+/// What one says where calls come to too many configurations to tell what of it no call uses.
+pub(crate) const YES_RULE_ALONE: &str =
+    "Every obligation holds at each point and for each step from it. The numbers are those of the script's states, of the certificate's entries, and of their points. Calls come to a million configurations or more, so it isn't told what of this no call uses.";
 
 /// The short name of an obligation, as the line of a no has it.
 pub(crate) fn obligation_key(obligation: Obligation) -> &'static str {

@@ -4,7 +4,7 @@ use Rattle.std.specs.Prelude.{ℕ, ◌+◌, ◌==◌, ◌||◌, ◌++◌, Bool, 
 use Rattle.std.specs.List.{flat_map}
 use Rattle.mgexplain.specs.Forms.{asked_behind}
 use Rattle.mgexplain.specs.declared.words.Asked.{Asked}
-use Rattle.mgexplain.specs.declared.words.Asked.TheVariants.{Saying, Help, Version}
+use Rattle.mgexplain.specs.declared.words.Asked.TheVariants.{Saying, Strictly, Help, Version}
 use Rattle.mgexplain.specs.declared.words.Request.{Request}
 
 -- a word that begins with a hyphen asks for something, and names no file
@@ -20,6 +20,7 @@ file_count (word ∷ more) = if asks word then 0 else file_count more + 1
 -- so many files go with what is asked
 abbrev pub go_with : ℕ → Asked → Bool
 go_with files (Saying form only) = files == 0 || (files == 2 || files == 3)
+go_with files (Strictly form) = files == 0 || files == 2
 go_with files Help = files == 0
 go_with files Version = files == 0
 

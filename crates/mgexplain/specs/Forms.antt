@@ -1,11 +1,12 @@
--- What words ask for: a form, the number of one call of a plan, or both in either order; or one of two words alone.
+-- What words ask for: a form, the number of one call of a plan, or both in either order; that warnings count, with or without a form, in either order; or one of
+-- two words alone.
 use Rattle.std.specs.Prelude.{ℕ, List, [], ◌∷◌, Option, Some, None, codes, if◌then◌else◌}
 use Rattle.std.specs.Str.{bytes_eq}
 use Rattle.plans.specs.Texts.{number_in}
 use Rattle.check_explanation.specs.declared.form.Form.{Form}
 use Rattle.check_explanation.specs.declared.form.Form.TheVariants.{Text, Json, Dot, Ladder}
 use Rattle.mgexplain.specs.declared.words.Asked.{Asked}
-use Rattle.mgexplain.specs.declared.words.Asked.TheVariants.{Saying, Help, Version}
+use Rattle.mgexplain.specs.declared.words.Asked.TheVariants.{Saying, Strictly, Help, Version}
 
 -- a form other than that of a text
 abbrev pub form_of : List ℕ → Option Form
@@ -36,10 +37,20 @@ abbrev pub asked_by : List ℕ → Option Asked
 asked_by word =
     if bytes_eq word (codes "--help") then Some Help
     else if bytes_eq word (codes "--version") then Some Version
+    else if bytes_eq word (codes "--strict") then Some (Strictly Text)
     else in_form (form_of word)
 
+-- with warnings counted; only a text and JSON tell them
+abbrev pub strictly : Option Form → Option Asked
+strictly (Some Json) = Some (Strictly Json)
+strictly _ = None
+
 abbrev pub asked_by_two : List ℕ → List ℕ → Option Asked
-asked_by_two word number = if bytes_eq word (codes "--call") then of_call Text (call_number number) else None
+asked_by_two first second =
+    if bytes_eq first (codes "--call") then of_call Text (call_number second)
+    else if bytes_eq first (codes "--strict") then strictly (form_of second)
+    else if bytes_eq second (codes "--strict") then strictly (form_of first)
+    else None
 
 abbrev pub asked_by_three : List ℕ → List ℕ → List ℕ → Option Asked
 asked_by_three first second third =
@@ -51,6 +62,6 @@ asked_by_three first second third =
 abbrev pub asked_behind : List (List ℕ) → Option Asked
 asked_behind [] = Some (Saying Text None)
 asked_behind (word ∷ []) = asked_by word
-asked_behind (word ∷ number ∷ []) = asked_by_two word number
+asked_behind (first ∷ second ∷ []) = asked_by_two first second
 asked_behind (first ∷ second ∷ third ∷ []) = asked_by_three first second third
 asked_behind words = None

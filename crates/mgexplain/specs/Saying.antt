@@ -1,13 +1,12 @@
--- What is said of an input: under the line of the check, with the status of that line; and of one with a plan under what `mgcall run` writes for it on one worker,
--- with the status of that. A reader should check that a plan has no picture, and that where there is none nothing is asked of it. This profile's own.
-use Rattle.std.specs.Prelude.{◌≡◌, ℕ, ◌⊎◌, Option, None, Some, Result, Ok, Err}
+-- What is said of an input: under the line of the check, with the status of that line, or that of a no where warnings count; and of one with a plan under what `mgcall run` writes for it on one worker,
+-- with the status of that. A reader should check that a plan has no picture and no warnings, and that where there is none nothing is asked of it. This profile's own.
+use Rattle.std.specs.Prelude.{◌≡◌, ℕ, ◌⊎◌, Bool, true, Option, None, Some, Result, Ok, Err}
 use Rattle.std.specs.declared.alloc.AllocError.{AllocError}
-use Rattle.check_lines.specs.VerdictLines.{IsLineOfSections}
 use Rattle.check_lines.specs.Output.{Text, too_long}
 use Rattle.program_rim.specs.Sections.{pair_of, sections_of, triple_of}
 use Rattle.program_rim.specs.declared.input.Input.{Input}
 use Rattle.program_rim.specs.declared.input.Input.TheVariants as input
-use Rattle.check_explanation.specs.Saying.{IsSaid, IsUnder}
+use Rattle.check_explanation.specs.Saying.{IsTold, IsUnder}
 use Rattle.check_explanation.specs.declared.form.Form.{Form}
 use Rattle.check_explanation.specs.declared.form.Form.TheVariants as form
 use Rattle.check_explanation.specs.declared.said.Said.{Said}
@@ -16,18 +15,22 @@ use Rattle.mgexplain.specs.declared.outcome.Outcome.{Outcome}
 use Rattle.mgexplain.specs.declared.outcome.Outcome.TheVariants as outcome
 
 -- of three sections as of a run, of any other number as of a check
-abbrev pub IsSaidOf : Option (Text × Text × Text) → Option (Text × Text) → Form → Said → Type 0
-IsSaidOf (Some (script, certificate, plan)) pair form said = IsRunTold script certificate plan form said
-IsSaidOf None pair form said = IsSaid (IsLineOfSections pair) form said
+abbrev pub IsSaidOf : Bool → Option (Text × Text × Text) → Option (Text × Text) → Form → Said → Type 0
+IsSaidOf strict (Some (script, certificate, plan)) pair form said = IsRunTold script certificate plan form said
+IsSaidOf strict None pair form said = IsTold strict pair form said
 
 -- the words ask for a run's ladder or for one call of it
 abbrev pub AskOfRun : Form → Option ℕ → Type 0
 AskOfRun asked only = (asked ≡ form.Ladder) ⊎ ((number : ℕ) × (only ≡ Some number))
 
--- with a plan no picture is drawn, and without one nothing is said of a run
-abbrev pub IsUnanswered : Option (Text × Text × Text) → Form → Option ℕ → Type 0
-IsUnanswered (Some sections) asked only = asked ≡ form.Dot
-IsUnanswered None asked only = AskOfRun asked only
+-- the words ask for a picture, or that warnings count
+abbrev pub AskOfCheck : Bool → Form → Type 0
+AskOfCheck strict asked = (asked ≡ form.Dot) ⊎ (strict ≡ true)
+
+-- with a plan no picture is drawn and no warning counts, and without one nothing is said of a run
+abbrev pub IsUnanswered : Bool → Option (Text × Text × Text) → Form → Option ℕ → Type 0
+IsUnanswered strict (Some sections) asked only = AskOfCheck strict asked
+IsUnanswered strict None asked only = AskOfRun asked only
 
 -- what was said comes of it; else there was no memory. No public clause speaks of this word
 abbrev pub IsOutcomeOf : Result Said AllocError → Outcome → Type 0
@@ -35,16 +38,16 @@ IsOutcomeOf (Ok said) result = result ≡ outcome.Told said
 IsOutcomeOf (Err error) result = result ≡ outcome.NoMemory
 
 -- what comes of sections: the saying, or the usage line where the words don't go with them; memory may run out
-abbrev pub IsOutcomeOn : Form → Option ℕ → Option (Text × Text × Text) → Option (Text × Text) → Outcome → Type 0
-IsOutcomeOn form only triple pair (outcome.Told said) = IsSaidOf triple pair form said
-IsOutcomeOn form only triple pair outcome.Usage = IsUnanswered triple form only
-IsOutcomeOn form only triple pair outcome.NoMemory = Unit {0}
-IsOutcomeOn form only triple pair outcome.ReadFailed = ⊥
+abbrev pub IsOutcomeOn : Bool → Form → Option ℕ → Option (Text × Text × Text) → Option (Text × Text) → Outcome → Type 0
+IsOutcomeOn strict form only triple pair (outcome.Told said) = IsSaidOf strict triple pair form said
+IsOutcomeOn strict form only triple pair outcome.Usage = IsUnanswered strict triple form only
+IsOutcomeOn strict form only triple pair outcome.NoMemory = Unit {0}
+IsOutcomeOn strict form only triple pair outcome.ReadFailed = ⊥
 
 -- what comes of an input; nothing is said where a read failed
-abbrev pub IsOutcome : Form → Option ℕ → Input → Outcome → Type 0
-IsOutcome form only (input.Whole bytes) result = IsOutcomeOn form only (triple_of (sections_of bytes.items)) (pair_of (sections_of bytes.items)) result
-IsOutcome form only input.TooLong (outcome.Told said) = IsUnder form too_long said
-IsOutcome form only input.TooLong result = result ≡ outcome.NoMemory
-IsOutcome form only input.NoMemory result = result ≡ outcome.NoMemory
-IsOutcome form only input.Failed result = result ≡ outcome.ReadFailed
+abbrev pub IsOutcome : Bool → Form → Option ℕ → Input → Outcome → Type 0
+IsOutcome strict form only (input.Whole bytes) result = IsOutcomeOn strict form only (triple_of (sections_of bytes.items)) (pair_of (sections_of bytes.items)) result
+IsOutcome strict form only input.TooLong (outcome.Told said) = IsUnder form too_long said
+IsOutcome strict form only input.TooLong result = result ≡ outcome.NoMemory
+IsOutcome strict form only input.NoMemory result = result ≡ outcome.NoMemory
+IsOutcome strict form only input.Failed result = result ≡ outcome.ReadFailed

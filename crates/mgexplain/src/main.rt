@@ -1,4 +1,4 @@
-//! `mgexplain [SCRIPT CERTIFICATE [PLAN]] [--json | --dot | --ladder] [--call N] | --help | --version`: reads a script and a certificate, from files or as
+//! `mgexplain [SCRIPT CERTIFICATE [PLAN]] [--json | --dot | --ladder] [--call N] [--strict] | --help | --version`: reads a script and a certificate, from files or as
 //! `mgcall check` does from standard input, and says in words what that program's line says. The first line is that line, by the same calls, and the exit status is the same. With a plan behind them it
 //! says what `mgcall run` says, and under each line of the report what its steps came to. `--json` says the same facts as one JSON value; `--dot` writes the
 //! script's state machine as Graphviz text, with what a No names marked; `--ladder` writes the messages of a run as a ladder; `--call` tells one call.
@@ -27,11 +27,11 @@ use std::{env, io};
 
 /// How the program is called.
 const USAGE: &str =
-    "usage: mgexplain [SCRIPT CERTIFICATE [PLAN]] [--json | --dot | --ladder] [--call N]\n";
+    "usage: mgexplain [SCRIPT CERTIFICATE [PLAN]] [--json | --dot | --ladder] [--call N] [--strict]\n";
 
 /// The same as a JSON value.
 const USAGE_AS_JSON: &str =
-    "{\"format\":1,\"line\":\"usage: mgexplain [SCRIPT CERTIFICATE [PLAN]] [--json | --dot | --ladder] [--call N]\",\"status\":2}\n";
+    "{\"format\":1,\"line\":\"usage: mgexplain [SCRIPT CERTIFICATE [PLAN]] [--json | --dot | --ladder] [--call N] [--strict]\",\"status\":2}\n";
 
 /// What it says where there was no memory.
 const NO_MEMORY: &str = "no memory\n";
@@ -41,7 +41,7 @@ const NO_MEMORY_AS_JSON: &str = "{\"format\":1,\"line\":\"no memory\",\"status\"
 
 /// What it says where help is asked for.
 const HELP: &str =
-    "usage: mgexplain [SCRIPT CERTIFICATE [PLAN]] [--json | --dot | --ladder] [--call N]
+    "usage: mgexplain [SCRIPT CERTIFICATE [PLAN]] [--json | --dot | --ladder] [--call N] [--strict]
 Reads the files of a script and a certificate, and says in words what mgcall check says of them. With the file of a plan it says what
 mgcall run says of the three, and what each step of the plan came to. Where no file is named it reads standard input, as these commands
 do: a script, a line %%, a certificate, and perhaps another line %% and a plan.
@@ -49,6 +49,7 @@ do: a script, a line %%, a certificate, and perhaps another line %% and a plan.
   --dot      the script as a picture for Graphviz, with what a no names in red; not with a plan
   --ladder   the messages of each call of a plan as a ladder, the call on the left and its gateway on the right
   --call N   the steps of one call of a plan alone
+  --strict   status 1 for a yes under which something is warned of, alone or with --json; not with a plan
   --help     this
   --version  which version it is
 The status is that of mgcall check, with a plan that of mgcall run.
@@ -106,15 +107,9 @@ fn send(rt: &HostRuntime, text: &str, status: Status) -> Status {
     }
 }
 
-/// Says what is to be said of an input.
-fn say<R: Threads + Wait + Sync>(
-    rt: &HostRuntime,
-    threads: &R,
-    asked: (Form, Option<u32>),
-    input: &Input,
-) -> Status {
-    let form = asked.0;
-    match told_of(threads, rt.alloc(), asked, input) {
+/// Says what came of an input.
+fn say(rt: &HostRuntime, form: Form, outcome: Outcome) -> Status {
+    match outcome {
         Outcome::Told(said) => send(rt, said.text.as_str(), said.status),
         Outcome::Usage => send(rt, usage(form), Status::Usage),
         Outcome::NoMemory => send(rt, no_memory(form), Status::NoMemory),
@@ -142,7 +137,13 @@ fn answer<R: Threads + Wait + Sync>(rt: &HostRuntime, threads: &R, words: &[Stri
     match asked {
         Asked::Saying(form, only) => {
             let input = input_of(rt, named(words, files));
-            say(rt, threads, (form, only), &input)
+            let outcome = told_of(threads, rt.alloc(), (form, only), false, &input);
+            say(rt, form, outcome)
+        }
+        Asked::Strictly(form) => {
+            let input = input_of(rt, named(words, files));
+            let outcome = told_of(threads, rt.alloc(), (form, None), true, &input);
+            say(rt, form, outcome)
         }
         Asked::Help => send(rt, HELP, Status::Yes),
         Asked::Version => send(rt, VERSION, Status::Yes),

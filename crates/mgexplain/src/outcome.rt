@@ -1,7 +1,7 @@
 //! What comes of an input: what is said of a check, or with a plan of a run, where the words that the program was called with go with it.
 ghost use Rattle.std.specs.Prelude.{◌≡◌, true};
 ghost use Rattle.program_rim.specs.Sections.{pair_of, sections_of, triple_of};
-ghost use Rattle.mgexplain.specs.Saying.{AskOfRun, IsOutcome, IsOutcomeOf, IsOutcomeOn};
+ghost use Rattle.mgexplain.specs.Saying.{AskOfCheck, AskOfRun, IsOutcome, IsOutcomeOf, IsOutcomeOn};
 
 use check_explanation::form::Form;
 use check_explanation::said::Said;
@@ -46,19 +46,30 @@ fn ask_of_run(form: Form, only: Option<u32>) -> bool
     only.is_some()
 }
 
+/// Whether the words ask for what only a check has.
+fn ask_of_check(form: Form, is_strict: bool) -> bool
+    ensures { result ≡ true → AskOfCheck is_strict form }
+{
+    if form == Form::Dot {
+        return true;
+    }
+    is_strict
+}
+
 /// What comes of an input that was read to its end.
 fn outcome_on<R: Threads + Wait + Sync>(
     rt: &R,
     alloc: Global,
     asked: (Form, Option<u32>),
+    is_strict: bool,
     input: &[u8],
 ) -> Outcome
-    ensures { IsOutcomeOn asked.0 asked.1 (triple_of (sections_of input.now)) (pair_of (sections_of input.now)) result }
+    ensures { IsOutcomeOn is_strict asked.0 asked.1 (triple_of (sections_of input.now)) (pair_of (sections_of input.now)) result }
 {
     let (form, only) = asked;
     match three_sections(input) {
         Some(sections) => {
-            if form == Form::Dot {
+            if ask_of_check(form, is_strict) {
                 return Outcome::Usage;
             }
             outcome_of(run_told(rt, alloc, asked, sections))
@@ -67,22 +78,23 @@ fn outcome_on<R: Threads + Wait + Sync>(
             if ask_of_run(form, only) {
                 return Outcome::Usage;
             }
-            outcome_of(input_told(alloc, form, input))
+            outcome_of(input_told(alloc, form, is_strict, input))
         }
     }
 }
 
-/// What comes of an input.
+/// What comes of an input: of a form and of the call of a plan that alone is told, where warnings count or don't.
 pub(crate) fn told_of<R: Threads + Wait + Sync>(
     rt: &R,
     alloc: Global,
     asked: (Form, Option<u32>),
+    is_strict: bool,
     input: &Input,
 ) -> Outcome
-    ensures { IsOutcome asked.0 asked.1 input.now result }
+    ensures { IsOutcome is_strict asked.0 asked.1 input.now result }
 {
     match input {
-        Input::Whole(bytes) => outcome_on(rt, alloc, asked, bytes.as_slice()),
+        Input::Whole(bytes) => outcome_on(rt, alloc, asked, is_strict, bytes.as_slice()),
         Input::TooLong => outcome_of(too_long_told(alloc, asked.0)),
         Input::NoMemory => Outcome::NoMemory,
         Input::Failed => Outcome::ReadFailed,

@@ -1,7 +1,7 @@
 //! The words of the command line: the files that they name, and behind these what they ask for.
 ghost use Rattle.std.specs.Prelude.{◌≡◌, ◌≤◌, length, map, string_bytes};
 ghost use Rattle.mgexplain.specs.Files.{asks, file_count, go_with, request_behind, request_of, request_with};
-ghost use Rattle.mgexplain.specs.Forms.{asked_behind, asked_by, asked_by_three, asked_by_two, call_number, form_of, in_form, of_call, of_form};
+ghost use Rattle.mgexplain.specs.Forms.{asked_behind, asked_by, asked_by_three, asked_by_two, call_number, form_of, in_form, of_call, of_form, strictly};
 
 use crate::call_number::call_number;
 use check_explanation::form::Form;
@@ -11,6 +11,8 @@ use check_explanation::form::Form;
 pub(crate) enum Asked {
     /// What is said of an input, in a form, and of a plan of the call with a number alone where there is one.
     Saying(Form, Option<u32>),
+    /// What is said of a script and a certificate, in a form, with a status that counts warnings.
+    Strictly(Form),
     /// How the program is called.
     Help,
     /// Which version it is.
@@ -51,6 +53,9 @@ fn asked_by(word: &str) -> Option<Asked>
     if word == "--version" {
         return Some(Asked::Version);
     }
+    if word == "--strict" {
+        return Some(Asked::Strictly(Form::Text));
+    }
     match form_of(word) {
         Some(form) => Some(Asked::Saying(form, None)),
         None => None,
@@ -77,12 +82,28 @@ fn of_form(form: &str, number: &str) -> Option<Asked>
     }
 }
 
-/// What two words ask for.
-fn asked_by_two(word: &str, number: &str) -> Option<Asked>
-    ensures { result ≡ asked_by_two word.now number.now }
+/// What is said in a form with a status that counts warnings; only a text and JSON tell them.
+fn strictly(form: Option<Form>) -> Option<Asked>
+    ensures { result ≡ strictly form }
 {
-    if word == "--call" {
-        return of_call(Form::Text, number);
+    match form {
+        Some(Form::Json) => Some(Asked::Strictly(Form::Json)),
+        _ => None,
+    }
+}
+
+/// What two words ask for.
+fn asked_by_two(first: &str, second: &str) -> Option<Asked>
+    ensures { result ≡ asked_by_two first.now second.now }
+{
+    if first == "--call" {
+        return of_call(Form::Text, second);
+    }
+    if first == "--strict" {
+        return strictly(form_of(second));
+    }
+    if second == "--strict" {
+        return strictly(form_of(first));
     }
     None
 }
@@ -107,7 +128,7 @@ fn read_behind(words: &[String]) -> Option<Asked>
     match words {
         [] => Some(Asked::Saying(Form::Text, None)),
         [word] => asked_by(word.as_str()),
-        [word, number] => asked_by_two(word.as_str(), number.as_str()),
+        [first, second] => asked_by_two(first.as_str(), second.as_str()),
         [first, second, third] => asked_by_three(first.as_str(), second.as_str(), third.as_str()),
         _ => None,
     }
@@ -139,6 +160,7 @@ fn go_with(files: usize, asked: Asked) -> bool
 {
     match asked {
         Asked::Saying(_, _) => matches!(files, 0 | 2 | 3),
+        Asked::Strictly(_) => matches!(files, 0 | 2),
         Asked::Help | Asked::Version => files == 0,
     }
 }

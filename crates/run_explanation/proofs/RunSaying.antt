@@ -24,8 +24,8 @@ use Rattle.run_explanation.specs.Saying.{IsPlanTold, IsRunOfPlanTold, IsRunTold,
 under_output : (f : Form) (l : Line) (said : Said) → IsUnder f l said → IsUnderOutput f (line l) said
 under_output form.Text l said ((rest, is), status) = ((rest, is ∙ sym (append_assoc (text_of l) (10 ∷ []) rest)), status)
 under_output form.Ladder l said ((rest, is), status) = ((rest, is ∙ sym (append_assoc (text_of l) (10 ∷ []) rest)), status)
-under_output form.Json l said status = status
-under_output form.Dot l said status = status
+under_output form.Json l said (any, status) = status
+under_output form.Dot l said (any, status) = status
 
 pub told_line : (Is : Output → Type 0) (f : Form) (l : Line) → Is (line l) → (result : Result Said AllocError) → IfOk result (IsUnder f l) → IfOk result (IsTold Is f)
 told_line Is f l is (Ok said) under = (line l, is, under_output f l said under)
