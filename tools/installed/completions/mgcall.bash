@@ -32,9 +32,9 @@ _mgcall() {
         ;;
     mgexplain)
         if ((place == 1)) && [[ $current == -* ]]; then
-            COMPREPLY=($(compgen -W '--json --dot --ladder --call --help --version' -- "$current"))
+            COMPREPLY=($(compgen -W '--json --dot --ladder --call --strict --help --version' -- "$current"))
         elif ((place > 3)) || [[ $current == -* ]]; then
-            COMPREPLY=($(compgen -W '--json --dot --ladder --call' -- "$current"))
+            COMPREPLY=($(compgen -W '--json --dot --ladder --call --strict' -- "$current"))
         else
             _mgcall_over_files "$current" "$place" toml json toml
         fi
@@ -43,7 +43,7 @@ _mgcall() {
     mgcall-run) _mgcall_over_files "$current" "$place" toml json toml ;;
     mgcall-why)
         if ((place > 3)) || [[ $place == 3 && $current == -* ]]; then
-            COMPREPLY=($(compgen -W '--json --dot --ladder --call' -- "$current"))
+            COMPREPLY=($(compgen -W '--json --dot --ladder --call --strict' -- "$current"))
         else
             _mgcall_over_files "$current" "$place" toml json toml
         fi
