@@ -175,23 +175,28 @@ fn with_details<'a>(checked: &WarnedDocuments<'_>, warning: &'a Warning) -> Abou
     }
 }
 
-/// What is said of a warning.
+/// Of so many warnings at most the line of the entry is told, since each is sought from the beginning of the text.
+const MOST_LINES: usize = 100;
+
+/// The line that the entry of a warning begins on, from 1; nothing where it is about a state.
+fn line_at(checked: &WarnedDocuments<'_>, warning: &Warning) -> Option<usize> {
+    entry_line(checked.certificate, entry_of(warning)?)
+}
+
+/// What is said of a warning, where its entry begins on a line that is told.
 fn warning_text<'a>(
     alloc: Global,
     checked: &WarnedDocuments<'a>,
     warning: &Warning,
+    at_line: Option<usize>,
 ) -> Result<WarningText<'a>, AllocError> {
     let about = with_details(checked, warning);
-    let entry_place = entry_of(warning);
     Ok(WarningText {
         warning: word(warning),
         says: says(alloc, checked.script, &about)?,
         state: state_of(warning).map(|state| state_name(checked.script, state)),
-        entry_place,
-        at_line: match entry_place {
-            Some(place) => entry_line(checked.certificate, place),
-            None => None,
-        },
+        entry_place: entry_of(warning),
+        at_line,
         point_number: about.point_number,
         held_by: about.held_by,
     })
@@ -204,8 +209,13 @@ pub fn warning_texts<'a>(
     warnings: &[Warning],
 ) -> Result<Vec<WarningText<'a>>, AllocError> {
     let mut texts = Vec::new(alloc);
-    for warning in warnings {
-        texts.push(warning_text(alloc, checked, warning)?)?;
+    for (number, warning) in warnings.iter().enumerate() {
+        let at_line = if number < MOST_LINES {
+            line_at(checked, warning)
+        } else {
+            None
+        };
+        texts.push(warning_text(alloc, checked, warning, at_line)?)?;
     }
     Ok(texts)
 }
