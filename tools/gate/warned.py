@@ -2,16 +2,13 @@
 that is made by doing what is said, that story's own certificate with one entry more, and scripts of gallery/patterns. What has to be warned of is reasoned by
 hand. With `--strict` a yes with a warning has status 1, and all else has the status that it has without."""
 import json
-import subprocess
 import tomllib
-from pathlib import Path
 
+from gate.told_runs import DIVIDER, TOP, asked
 from shared import drafting
 
-TOP = Path(__file__).resolve().parents[2]
 STORY = TOP / "gallery" / "hotline"
-SECONDS, MOST = 600, 200
-DIVIDER = b"%%\n"
+MOST = 200
 # Two telephones, of which one, when it is lifted, leads to the state that stands in the middle.
 SMALL = """lines = ["a", "b"]
 start = "idle"
@@ -66,12 +63,6 @@ ENTRIES = (
 )
 # Patterns of gallery/patterns: what is warned of in states where they aren't followed; where they are, nothing is.
 PATTERNS = {"end_marked": {"state_never_left"}, "armed_for": {"arrow_unused", "state_unlisted"}, "no_dead_line": {"arrow_unused", "line_deaf"}}
-
-
-def asked(program, data, *words):
-    """Status and output of the program."""
-    result = subprocess.run([program, *words], input=data, stdout=subprocess.PIPE, timeout=SECONDS, check=False)
-    return result.returncode, result.stdout.decode()
 
 
 def joined(script, entries):
