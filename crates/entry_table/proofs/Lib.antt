@@ -4,3 +4,4 @@ pub mod TurnedLemmas
 pub mod RegionLemmas
 pub mod PlaceLemmas
 pub mod SievedLemmas
+pub mod ListsAt

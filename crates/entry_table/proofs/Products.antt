@@ -1,6 +1,6 @@
 -- Choices by their places, and products.
 use Rattle.std.proofs.Common.{◌≡◌, ◌∙◌, ◌-◌, ◌*◌, ◌/◌, ◌^◌, ◌<◌, ◌≤◌, ℕ, zero, suc, List, [], ◌∷◌, length, map, refl, sym, ap, arith, min}
-use Rattle.std.proofs.Common.{◌+◌, inl, inr, mul-zero, zero-mul}
+use Rattle.std.proofs.Common.{inl, inr, mul-zero, zero-mul}
 use Rattle.std.proofs.lemmas.Bool.{cases_lt}
 use Rattle.std.proofs.Math.Nat.{mul-div_cancel_left, mul-le-mul_left, mul_assoc}
 use Rattle.std.specs.List.{slice_index_or}

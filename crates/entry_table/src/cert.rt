@@ -1,6 +1,6 @@
 //! Certificates.
-ghost use Rattle.std.specs.Prelude.{◌≡◌, ◌<◌, ◌↔◌, ℕ, IsTrue, IfOk, IfSome, IfNone, Some, length, map};
-ghost use Rattle.std.specs.List.{slice_get};
+ghost use Rattle.std.specs.Prelude.{◌≡◌, ◌<◌, ◌↔◌, ◌∷◌, ◌++◌, [], ℕ, IsTrue, IfOk, IfSome, IfNone, List, OnOk, Some, length, map};
+ghost use Rattle.std.specs.List.{slice_get, slice_index_or};
 ghost use Rattle.mg_model.specs.Configuration.{IsWellFormed};
 ghost use Rattle.mg_model.specs.Entries.{IsCovered};
 ghost use Rattle.configuration.specs.Config.{configuration_of};
@@ -134,26 +134,40 @@ impl Cert {
     }
 }
 
-/// The places of a state's entries.
-fn places_for(alloc: Global, entries: &[Entry], state: u8) -> Result<Vec<usize>, AllocError>
-    ensures { IfOk result (λ v. v.items ≡ places_of state entries.now) }
+/// No places yet, for each state.
+fn no_places(alloc: Global) -> Result<Vec<Vec<usize>>, AllocError>
+    ensures count { IfOk result (λ v. length (map (λ places. places.items) v.items) ≡ 256) }
+    ensures none { IfOk result (λ v. (state : ℕ) (none : List ℕ) → state < 256
+        → slice_index_or (map (λ places. places.items) v.items) state none ≡ []) }
 {
     let mut found = Vec::new(alloc);
-    for (place, entry) in entries.iter().enumerate() {
-        if entry.state() == state {
-            found.push(place)?;
-        }
+    for _state in 0..256u16 {
+        found.push(Vec::new(alloc))?;
     }
     Ok(found)
 }
 
-/// The places of the entries of each state.
+/// Adds a place to those of a state. The only error is running out of memory.
+fn add_place(places: &mut Vec<Vec<usize>>, state: u8, place: usize) -> Result<(), AllocError>
+    requires { length (map (λ list. list.items) places.old.items) ≡ 256 }
+    ensures count { length (map (λ list. list.items) places.new.items) ≡ 256 }
+    ensures here { OnOk result ((none : List ℕ) → slice_index_or (map (λ list. list.items) places.new.items) state none
+        ≡ slice_index_or (map (λ list. list.items) places.old.items) state none ++ place ∷ []) }
+    ensures others { (other : ℕ) (none : List ℕ) → (other ≡ state → ⊥)
+        → slice_index_or (map (λ list. list.items) places.new.items) other none ≡ slice_index_or (map (λ list. list.items) places.old.items) other none }
+{
+    let list = &mut places[state as usize];
+    list.push(place)?;
+    Ok(())
+}
+
+/// The places of the entries of each state, found in one walk over the entries.
 fn all_places(alloc: Global, entries: &[Entry]) -> Result<Vec<Vec<usize>>, AllocError>
     ensures { IfOk result (λ v. IsIndex (map (λ places. places.items) v.items) entries.now) }
 {
-    let mut found = Vec::new(alloc);
-    for state in 0..256u16 {
-        found.push(places_for(alloc, entries, state as u8)?)?;
+    let mut found = no_places(alloc)?;
+    for (place, entry) in entries.iter().enumerate() {
+        add_place(&mut found, entry.state(), place)?;
     }
     Ok(found)
 }

@@ -1,5 +1,5 @@
 -- The sets so far narrow it.
-use Rattle.std.proofs.Common.{◌≡◌, ◌++◌, take}
+use Rattle.std.proofs.Common.{take}
 use Rattle.entry_table.specs.Regions.{IsRegion}
 use Rattle.entry_table.specs.Shown.{shown_all}
 use Rattle.entry_table.proofs.regions.region_of.Given as goal

@@ -1,5 +1,5 @@
 -- One component more was parted; at the end, all.
-use Rattle.std.proofs.Common.{◌≡◌, ◌∙◌, ◌++◌, ◌∷◌, [], ◌+◌, List, ap, subst, drop}
+use Rattle.std.proofs.Common.{◌≡◌, ◌∷◌, ◌+◌, List, ap, subst, drop}
 use Rattle.mg_model.specs.Entries.{Component as Listed}
 use Rattle.configuration.specs.Config.{configuration_of}
 use Rattle.configuration.proofs.NumberLemmas.{at}

@@ -1,10 +1,9 @@
 -- One component was given its value, or is kept.
-use Rattle.std.proofs.Common.{◌≡◌, ◌∙◌, ◌+◌, ◌<◌, ◌≤◌, ◌++◌, ◌∷◌, [], ℕ, List, true, ap, sym, subst, arith, max}
+use Rattle.std.proofs.Common.{◌≡◌, ◌∙◌, ◌++◌, ◌∷◌, [], List, true, ap, sym, subst, arith}
 use Rattle.std.proofs.lemmas.List.{map-append}
 use Rattle.mg_model.specs.Configuration.{Configuration}
 use Rattle.mg_model.specs.Entries.{Component as Listed}
 use Rattle.configuration.specs.Config.{configuration_of}
-use Rattle.entry_table.specs.Numbers.{number_of}
 use Rattle.entry_table.specs.Shown.{shown, shown_all}
 use Rattle.entry_table.specs.Turned.{IsTurned, are_below}
 use Rattle.entry_table.proofs.TurnedLemmas.{one_given, one_kept}

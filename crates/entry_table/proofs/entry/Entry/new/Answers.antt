@@ -1,5 +1,5 @@
 -- The size is counted, and what is kept beside the components is made of them.
-use Rattle.std.proofs.Common.{◌≡◌, ◌<◌, List, ap, sym, subst}
+use Rattle.std.proofs.Common.{◌≡◌, List, subst}
 use Rattle.mg_model.specs.Configuration.{Configuration}
 use Rattle.configuration.specs.Config.{configuration_of}
 use Rattle.entry_table.specs.declared.component.Component as declared
