@@ -147,18 +147,11 @@ module _ (script : Script) (entry : written.Entry) where
       let same_found : flat_map varied cs ≡ found = ap (λ o. unwrap_or o found) f in
       rw (← same_state, ← same_found, same_empty cs, same_size cs) refl
 
-  pub outlined : (state : ℕ) (found : List Component) → only_if (are_known script entry) (state_named entry.state script.states) ≡ Some state
+  pub outlined : (state : ℕ) (found : List Component) → are_known script entry ≡ true → state_named entry.state script.states ≡ Some state
       → varied_at (keys_of script) ≡ Some found → outline_meant script entry ≡ Some (outlined_as state found)
-  outlined state found e f =
-      both (are_known script entry) (state_named entry.state script.states) (each (component_meant script entry) (keys_of script)) state found e f
-
-  no_state : (known : Bool) (first : Option ℕ) (components : Option (List Component)) → only_if known first ≡ None → of_parts known first components ≡ None
-  no_state false first components e = refl
-  no_state true None components e = refl
-  no_state true (Some s) components e = absurd (true≢false (ap is_some e))
-
-  pub unknown_state : only_if (are_known script entry) (state_named entry.state script.states) ≡ None → outline_meant script entry ≡ None
-  unknown_state e = no_state (are_known script entry) (state_named entry.state script.states) (each (component_meant script entry) (keys_of script)) e
+  outlined state found known named f =
+      both (are_known script entry) (state_named entry.state script.states) (each (component_meant script entry) (keys_of script)) state found
+      (ap (λ b. only_if b (state_named entry.state script.states)) known ∙ named) f
 
   no_components : (known : Bool) (first : Option ℕ) (components : Option (List Component)) → option_map (flat_map varied) components ≡ None
       → of_parts known first components ≡ None

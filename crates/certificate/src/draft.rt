@@ -1,17 +1,15 @@
 //! Entries whose names were looked up, before the limits are checked.
-ghost use Rattle.std.specs.Prelude.{◌≡◌, ◌==◌, is_some, length, nat_lt, false, IfOk};
-ghost use Rattle.std.specs.List.{list_all, list_any};
-ghost use Rattle.script_table.specs.Table.{place_of, state_named};
-ghost use Rattle.certificate.specs.Certificate.{are_known, has_empty, is_large, listed_meant};
+ghost use Rattle.std.specs.Prelude.{◌≡◌, ◌==◌, length, nat_lt, false, IfOk};
+ghost use Rattle.std.specs.List.{list_any};
+ghost use Rattle.script_table.specs.Table.{state_named};
+ghost use Rattle.certificate.specs.Certificate.{has_empty, is_large, listed_meant};
 ghost use Rattle.certificate_components.specs.Components.{component_meant, keys_of};
 ghost use Rattle.entry_table.specs.Listed.{choices_of, size_of};
-ghost use Rattle.certificate_components.specs.Naming.{pair_named};
-ghost use Rattle.typed_values.specs.Shape.{Gives, each, only_if};
+ghost use Rattle.certificate_components.specs.NamedRows.{IsNamed};
+ghost use Rattle.typed_values.specs.Shape.{Gives, each};
 ghost use Rattle.entry_table.specs.Shown.{shown_all};
 
-use certificate_components::{
-    ContextNames, EphemeralNames, Key, LineNames, are_cuts, are_named, read_component,
-};
+use certificate_components::{Key, NamedRows, named_rows, read_component};
 use certificate_document::WrittenEntry;
 use entry_table::{Component, Entry, product_of};
 use script_table::Script;
@@ -43,53 +41,10 @@ impl Model for Draft {
     ghost invariant = { λ d. d.lines ≤ 4 };
 }
 
-fn lines_known(script: &Script, entry: &WrittenEntry) -> bool
-    ensures { result ≡ list_all (λ row. is_some (place_of row.0 script.now.lines)) entry.now.lines }
-{
-    are_named(&LineNames(script), entry.lines.as_slice())
-}
-
-fn contexts_known(script: &Script, entry: &WrittenEntry) -> bool
-    ensures { result ≡ list_all (λ row. is_some (place_of row.0 script.now.contexts)) entry.now.contexts }
-{
-    are_named(&ContextNames(script), entry.contexts.as_slice())
-}
-
-fn ephemerals_known(script: &Script, entry: &WrittenEntry) -> bool
-    ensures { result ≡ list_all (λ row. is_some (place_of row.0 script.now.ephemerals)) entry.now.ephemerals }
-{
-    are_named(&EphemeralNames(script), entry.ephemerals.as_slice())
-}
-
-fn cuts_known(script: &Script, entry: &WrittenEntry) -> bool
-    ensures { result ≡ list_all (λ row. is_some (pair_named script.now row.0)) entry.now.cuts }
-{
-    are_cuts(script, entry.cuts.as_slice())
-}
-
-/// Whether each key that is a name stands for what its place asks for.
-fn are_known(script: &Script, entry: &WrittenEntry) -> bool
-    ensures { result ≡ are_known script.now entry.now }
-{
-    if !lines_known(script, entry) {
-        return false;
-    }
-    if !contexts_known(script, entry) {
-        return false;
-    }
-    if !ephemerals_known(script, entry) {
-        return false;
-    }
-    cuts_known(script, entry)
-}
-
-/// The state of an entry, where each key that is a name stands for what its place asks for.
+/// The state of an entry.
 pub(crate) fn state_of(script: &Script, entry: &WrittenEntry) -> Option<u8>
-    ensures { result ≡ only_if (are_known script.now entry.now) (state_named entry.now.state script.now.states) }
+    ensures { result ≡ state_named entry.now.state script.now.states }
 {
-    if !are_known(script, entry) {
-        return None;
-    }
     script.state_named(entry.state.as_str())
 }
 
@@ -98,13 +53,15 @@ fn components(
     alloc: Global,
     script: &Script,
     entry: &WrittenEntry,
+    rows: &NamedRows<'_>,
     keys: &[Key],
 ) -> Result<Vec<Component>, Missing>
+    requires { IsNamed script.now entry.now rows.now }
     ensures { Gives (λ v. shown_all v.items) result (each (component_meant script.now entry.now) keys.now) }
 {
     let mut found = Vec::new(alloc);
     for key in keys {
-        found.push(read_component(alloc, script, entry, key)?)?;
+        found.push(read_component(alloc, script, entry, rows, key)?)?;
     }
     Ok(found)
 }
@@ -119,10 +76,11 @@ pub(crate) fn read_draft(
     requires { keys.now ≡ keys_of script.now }
     ensures { Gives (λ d. d) result (listed_meant script.now entry.now) }
 {
+    let rows = named_rows(alloc, script, entry)?;
     let Some(state) = state_of(script, entry) else {
         return Err(Missing::Nothing);
     };
-    let components = components(alloc, script, entry, keys)?;
+    let components = components(alloc, script, entry, &rows, keys)?;
     let lines = script.lines();
     Ok(Draft {
         state,

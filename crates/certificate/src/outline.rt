@@ -10,7 +10,7 @@ ghost use Rattle.typed_values.specs.Shape.{Gives, each};
 use crate::draft::{self, are_large, state_of};
 use crate::fault::CertFault;
 use crate::varied::varied;
-use certificate_components::Key;
+use certificate_components::{Key, named_rows};
 use certificate_document::WrittenEntry;
 use script_table::Script;
 use std::alloc::Global;
@@ -28,7 +28,7 @@ pub(crate) struct Outline {
 }
 
 /// The outline of an entry. The keys are those of the script.
-#[tactic(auto, using(crate::proofs::VariedLemmas::outlined, crate::proofs::VariedLemmas::unknown_state, crate::proofs::VariedLemmas::unknown_word))]
+#[tactic(auto, using(crate::proofs::VariedLemmas::unknown_word))]
 fn read_outline(
     alloc: Global,
     script: &Script,
@@ -38,10 +38,11 @@ fn read_outline(
     requires { keys.now ≡ keys_of script.now }
     ensures { Gives (λ o. o) result (outline_meant script.now entry.now) }
 {
+    let rows = named_rows(alloc, script, entry)?;
     let Some(state) = state_of(script, entry) else {
         return Err(Missing::Nothing);
     };
-    let varied = varied(alloc, script, entry, keys)?;
+    let varied = varied(alloc, script, entry, &rows, keys)?;
     Ok(Outline {
         state,
         is_empty: draft::any_empty(varied.as_slice()),

@@ -2,12 +2,14 @@
 //! value empties no entry and makes none larger. For most keys of an entry nothing is written, and then nothing is made for them.
 ghost use Rattle.std.specs.Prelude.{◌≡◌, ◌==◌, ◌++◌, length, map, option_map, OnOk};
 ghost use Rattle.std.specs.List.{flat_map};
-ghost use Rattle.certificate_components.specs.Components.{component_meant, cut_at};
+ghost use Rattle.certificate_components.specs.Components.{component_meant};
+ghost use Rattle.certificate_components.specs.FoundRows.{at_pair};
+ghost use Rattle.certificate_components.specs.NamedRows.{IsNamed};
 ghost use Rattle.certificate.specs.Outlines.{cuts_meant, has_none_like, is_left_out, varied};
 ghost use Rattle.entry_table.specs.Shown.{shown, shown_all};
 ghost use Rattle.typed_values.specs.Shape.{Gives, each};
 
-use certificate_components::{Cuts, Key, cut, read_component, read_set};
+use certificate_components::{Cuts, Key, NamedRows, read_component, read_set};
 use certificate_document::{Row, WrittenEntry};
 use entry_table::Component;
 use mg_model::commands::Termination;
@@ -81,20 +83,19 @@ fn keep(component: Component, found: &mut Vec<Component>) -> Result<(), AllocErr
     Ok(())
 }
 
-/// Keeps the cuts that an entry gives a pair of terminations, unless they have one value. Nothing is made where nothing is written.
+/// Keeps the cuts that the rows give a pair of terminations, unless they have one value. Nothing is made where nothing is written.
 fn keep_cuts(
     alloc: Global,
-    script: &Script,
-    entry: &WrittenEntry,
+    rows: &NamedRows<'_>,
     source: &Termination,
     sink: &Termination,
     found: &mut Vec<Component>,
 ) -> Result<(), Missing>
     ensures { Gives (λ _. shown_all found.new.items) result
         (option_map (λ component. shown_all found.old.items ++ varied component)
-        (cuts_meant source.now sink.now (cut_at script.now source.now sink.now entry.now.cuts))) }
+        (cuts_meant source.now sink.now (at_pair rows.now.cuts.items source.now sink.now))) }
 {
-    let Some(words) = cut(script, entry, source, sink) else {
+    let Some(words) = rows.cut(source, sink) else {
         return Ok(());
     };
     let values = read_set(alloc, &Cuts, words.as_slice())?;
@@ -102,15 +103,17 @@ fn keep_cuts(
     Ok(())
 }
 
-/// Keeps the component that an entry gives for a key, unless it has one value.
+/// Keeps the component that an entry gives for a key, unless it has one value. The rows are those of the entry.
 #[tactic(auto, using(crate::proofs::VariedLemmas::left_out))]
 fn keep_at(
     alloc: Global,
     script: &Script,
     entry: &WrittenEntry,
+    rows: &NamedRows<'_>,
     key: &Key,
     found: &mut Vec<Component>,
 ) -> Result<(), Missing>
+    requires { IsNamed script.now entry.now rows.now }
     ensures { Gives (λ _. shown_all found.new.items) result
         (option_map (λ component. shown_all found.old.items ++ varied component) (component_meant script.now entry.now key.now)) }
 {
@@ -118,26 +121,28 @@ fn keep_at(
         return Ok(());
     }
     if let Key::Cut(source, sink) = key {
-        return keep_cuts(alloc, script, entry, source, sink, found);
+        return keep_cuts(alloc, rows, source, sink, found);
     }
-    let component = read_component(alloc, script, entry, key)?;
+    let component = read_component(alloc, script, entry, rows, key)?;
     keep(component, found)?;
     Ok(())
 }
 
-/// The components of an entry that have another number of values than one, for their keys in order.
+/// The components of an entry that have another number of values than one, for their keys in order. The rows are those of the entry.
 pub(crate) fn varied(
     alloc: Global,
     script: &Script,
     entry: &WrittenEntry,
+    rows: &NamedRows<'_>,
     keys: &[Key],
 ) -> Result<Vec<Component>, Missing>
+    requires { IsNamed script.now entry.now rows.now }
     ensures { Gives (λ v. shown_all v.items) result
         (option_map (flat_map varied) (each (component_meant script.now entry.now) keys.now)) }
 {
     let mut found = Vec::new(alloc);
     for key in keys {
-        keep_at(alloc, script, entry, key, &mut found)?;
+        keep_at(alloc, script, entry, rows, key, &mut found)?;
     }
     Ok(found)
 }

@@ -1,2 +1,3 @@
+pub mod PairLemmas
 pub mod Parts
-pub mod Sources
+pub mod SlotLemmas

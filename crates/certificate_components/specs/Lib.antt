@@ -1,3 +1,5 @@
 pub mod Components
+pub mod FoundRows
+pub mod NamedRows
 pub mod Naming
 pub mod Ranks

@@ -1,15 +1,17 @@
 //! The values that a written entry gives each component of a configuration.
-ghost use Rattle.std.specs.Prelude.{◌≡◌, false, option_map};
+ghost use Rattle.std.specs.Prelude.{◌≡◌, false, option_and_then, option_map};
 ghost use Rattle.mg_names.specs.Words.{context_value_named, link_named, mode_named};
 ghost use Rattle.certificate_components.specs.Ranks.{context_rank, events_rank, link_rank, mode_rank, remote_rank, spot_rank, switch_rank};
-ghost use Rattle.certificate_components.specs.Components.{component_meant, cut_at, ephemeral_words, line_words, row_at, set_of, set_or};
+ghost use Rattle.certificate_components.specs.Components.{component_meant, set_of, set_or};
+ghost use Rattle.certificate_components.specs.NamedRows.{IsNamed};
 ghost use Rattle.certificate_components.specs.Naming.{cut_named, ephemeral_spot_named, line_spot_named, plays_named, remote_named};
+ghost use Rattle.mg_model.specs.Entries.{contexts, cuts, events, links, modes, plays, remotes, spots};
 ghost use Rattle.entry_table.specs.Shown.{shown};
 ghost use Rattle.typed_values.specs.Shape.{Gives};
 ghost use Rattle.script_table.specs.Table.{list_named};
 
+use crate::entry_rows::NamedRows;
 use crate::key::Key;
-use crate::names::{cut_at, row_at};
 use crate::ranked::Ranked;
 use crate::vocabulary::{
     ContextNames, ContextValues, Cuts, EphemeralNames, EphemeralSpots, LineNames, LineSpots, Links,
@@ -45,270 +47,177 @@ fn set_or<T: Ranked + Drop, V: Vocabulary<T>>(
     read_set(alloc, vocabulary, words.as_slice())
 }
 
-/// What is written for a line.
-fn line<'a>(script: &Script, entry: &'a WrittenEntry, line: Slot) -> Option<&'a WrittenLine>
-    ensures { option_map (λ l. l.now) result ≡ row_at script.now.lines line entry.now.lines }
-{
-    row_at(&LineNames(script), entry.lines.as_slice(), line)
-}
-
-/// What is written for an ephemeral.
-fn ephemeral<'a>(
-    script: &Script,
-    entry: &'a WrittenEntry,
-    ephemeral: Slot,
-) -> Option<&'a WrittenEphemeral>
-    ensures { option_map (λ e. e.now) result ≡ row_at script.now.ephemerals ephemeral entry.now.ephemerals }
-{
-    row_at(
-        &EphemeralNames(script),
-        entry.ephemerals.as_slice(),
-        ephemeral,
-    )
-}
-
-/// What is written for a context.
-fn context<'a>(script: &Script, entry: &'a WrittenEntry, context: Slot) -> Option<&'a Words>
-    ensures { option_map (λ w. w.now) result ≡ row_at script.now.contexts context entry.now.contexts }
-{
-    row_at(&ContextNames(script), entry.contexts.as_slice(), context)
-}
-
-/// What is written for a pair of terminations.
-pub fn cut<'a>(
-    script: &Script,
-    entry: &'a WrittenEntry,
-    source: &Termination,
-    sink: &Termination,
-) -> Option<&'a Words>
-    ensures { option_map (λ w. w.now) result ≡ cut_at script.now source.now sink.now entry.now.cuts }
-{
-    cut_at(script, entry.cuts.as_slice(), source, sink)
-}
-
 /// The links of an entry.
-fn links(alloc: Global, entry: &WrittenEntry) -> Result<Vec<LinkPhase>, Missing>
-    ensures { Gives (λ set. set.items) result (set_of link_rank link_named entry.now.link) }
+fn links(alloc: Global, entry: &WrittenEntry) -> Result<Component, Missing>
+    ensures { Gives shown result (option_map links (set_of link_rank link_named entry.now.link)) }
 {
-    read_set(alloc, &Links, entry.link.as_slice())
+    let values = read_set(alloc, &Links, entry.link.as_slice())?;
+    Ok(Component::Links(values))
 }
 
 /// Where a line may stand.
 fn line_spots(
     alloc: Global,
     script: &Script,
-    entry: &WrittenEntry,
     slot: Slot,
-) -> Result<Vec<Spot>, Missing>
-    ensures { Gives (λ set. set.items) result (set_or spot_rank (line_spot_named script.now) Spot.Null
-        (line_words script.now entry.now slot (λ line. line.at))) }
+    line: Option<&WrittenLine>,
+) -> Result<Component, Missing>
+    ensures { Gives shown result (option_map (spots (Termination.Line slot)) (set_or spot_rank (line_spot_named script.now) Spot.Null
+        (option_and_then (λ line. line.at) (option_map (λ x. x.now) line.entry)))) }
 {
-    let words = match line(script, entry, slot) {
+    let words = match line {
         Some(line) => line.at.as_ref(),
         None => None,
     };
-    set_or(alloc, &LineSpots(script), Spot::Null, words)
+    let values = set_or(alloc, &LineSpots(script), Spot::Null, words)?;
+    Ok(Component::Spots(Termination::Line(slot), values))
 }
 
 /// Where an ephemeral may stand.
 fn ephemeral_spots(
     alloc: Global,
     script: &Script,
-    entry: &WrittenEntry,
     slot: Slot,
-) -> Result<Vec<Spot>, Missing>
-    ensures { Gives (λ set. set.items) result (set_or spot_rank (ephemeral_spot_named script.now) Spot.Absent
-        (ephemeral_words script.now entry.now slot (λ ephemeral. ephemeral.at))) }
+    ephemeral: Option<&WrittenEphemeral>,
+) -> Result<Component, Missing>
+    ensures { Gives shown result (option_map (spots (Termination.Ephemeral slot)) (set_or spot_rank (ephemeral_spot_named script.now) Spot.Absent
+        (option_and_then (λ ephemeral. ephemeral.at) (option_map (λ x. x.now) ephemeral.entry)))) }
 {
-    let words = match ephemeral(script, entry, slot) {
+    let words = match ephemeral {
         Some(ephemeral) => ephemeral.at.as_ref(),
         None => None,
     };
-    set_or(alloc, &EphemeralSpots(script), Spot::Absent, words)
+    let values = set_or(alloc, &EphemeralSpots(script), Spot::Absent, words)?;
+    Ok(Component::Spots(Termination::Ephemeral(slot), values))
 }
 
 /// The modes of a line.
-fn line_modes(
-    alloc: Global,
-    script: &Script,
-    entry: &WrittenEntry,
-    slot: Slot,
-) -> Result<Vec<Mode>, Missing>
-    ensures { Gives (λ set. set.items) result (set_or mode_rank mode_named Mode.Inactive
-        (line_words script.now entry.now slot (λ line. line.mode))) }
+fn line_modes(alloc: Global, slot: Slot, line: Option<&WrittenLine>) -> Result<Component, Missing>
+    ensures { Gives shown result (option_map (modes (Termination.Line slot)) (set_or mode_rank mode_named Mode.Inactive
+        (option_and_then (λ line. line.mode) (option_map (λ x. x.now) line.entry)))) }
 {
-    let words = match line(script, entry, slot) {
+    let words = match line {
         Some(line) => line.mode.as_ref(),
         None => None,
     };
-    set_or(alloc, &Modes, Mode::Inactive, words)
+    let values = set_or(alloc, &Modes, Mode::Inactive, words)?;
+    Ok(Component::Modes(Termination::Line(slot), values))
 }
 
 /// The modes of an ephemeral.
 fn ephemeral_modes(
     alloc: Global,
-    script: &Script,
-    entry: &WrittenEntry,
     slot: Slot,
-) -> Result<Vec<Mode>, Missing>
-    ensures { Gives (λ set. set.items) result (set_or mode_rank mode_named Mode.Inactive
-        (ephemeral_words script.now entry.now slot (λ ephemeral. ephemeral.mode))) }
+    ephemeral: Option<&WrittenEphemeral>,
+) -> Result<Component, Missing>
+    ensures { Gives shown result (option_map (modes (Termination.Ephemeral slot)) (set_or mode_rank mode_named Mode.Inactive
+        (option_and_then (λ ephemeral. ephemeral.mode) (option_map (λ x. x.now) ephemeral.entry)))) }
 {
-    let words = match ephemeral(script, entry, slot) {
+    let words = match ephemeral {
         Some(ephemeral) => ephemeral.mode.as_ref(),
         None => None,
     };
-    set_or(alloc, &Modes, Mode::Inactive, words)
+    let values = set_or(alloc, &Modes, Mode::Inactive, words)?;
+    Ok(Component::Modes(Termination::Ephemeral(slot), values))
 }
 
 /// The events lists of a line.
 fn events(
     alloc: Global,
     script: &Script,
-    entry: &WrittenEntry,
     slot: Slot,
-) -> Result<Vec<EventsName>, Missing>
-    ensures { Gives (λ set. set.items) result (set_or events_rank (λ word. list_named word script.now.lists) EventsName.Armed
-        (line_words script.now entry.now slot (λ line. line.events))) }
+    line: Option<&WrittenLine>,
+) -> Result<Component, Missing>
+    ensures { Gives shown result (option_map (events slot) (set_or events_rank (λ word. list_named word script.now.lists) EventsName.Armed
+        (option_and_then (λ line. line.events) (option_map (λ x. x.now) line.entry)))) }
 {
-    let words = match line(script, entry, slot) {
+    let words = match line {
         Some(line) => line.events.as_ref(),
         None => None,
     };
-    set_or(alloc, &Lists(script), EventsName::Armed, words)
+    let values = set_or(alloc, &Lists(script), EventsName::Armed, words)?;
+    Ok(Component::Events(slot, values))
 }
 
 /// Whether a line may play a signal.
-fn plays(
-    alloc: Global,
-    script: &Script,
-    entry: &WrittenEntry,
-    slot: Slot,
-) -> Result<Vec<bool>, Missing>
-    ensures { Gives (λ set. set.items) result (set_or switch_rank plays_named false
-        (line_words script.now entry.now slot (λ line. line.plays))) }
+fn plays(alloc: Global, slot: Slot, line: Option<&WrittenLine>) -> Result<Component, Missing>
+    ensures { Gives shown result (option_map (plays slot) (set_or switch_rank plays_named false
+        (option_and_then (λ line. line.plays) (option_map (λ x. x.now) line.entry)))) }
 {
-    let words = match line(script, entry, slot) {
+    let words = match line {
         Some(line) => line.plays.as_ref(),
         None => None,
     };
-    set_or(alloc, &Plays, false, words)
-}
-
-/// What a context name stands for.
-fn contexts(
-    alloc: Global,
-    script: &Script,
-    entry: &WrittenEntry,
-    slot: Slot,
-) -> Result<Vec<ContextValue>, Missing>
-    ensures { Gives (λ set. set.items) result (set_or context_rank context_value_named ContextValue.Free
-        (row_at script.now.contexts slot entry.now.contexts)) }
-{
-    let words = context(script, entry, slot);
-    set_or(alloc, &ContextValues, ContextValue::Free, words)
+    let values = set_or(alloc, &Plays, false, words)?;
+    Ok(Component::Plays(slot, values))
 }
 
 /// The Remotes of an ephemeral.
 fn remotes(
     alloc: Global,
     script: &Script,
-    entry: &WrittenEntry,
     slot: Slot,
-) -> Result<Vec<Remote>, Missing>
-    ensures { Gives (λ set. set.items) result (set_or remote_rank (remote_named script.now) Remote.Unset
-        (ephemeral_words script.now entry.now slot (λ ephemeral. ephemeral.remote))) }
+    ephemeral: Option<&WrittenEphemeral>,
+) -> Result<Component, Missing>
+    ensures { Gives shown result (option_map (remotes slot) (set_or remote_rank (remote_named script.now) Remote.Unset
+        (option_and_then (λ ephemeral. ephemeral.remote) (option_map (λ x. x.now) ephemeral.entry)))) }
 {
-    let words = match ephemeral(script, entry, slot) {
+    let words = match ephemeral {
         Some(ephemeral) => ephemeral.remote.as_ref(),
         None => None,
     };
-    set_or(alloc, &Remotes(script), Remote::Unset, words)
+    let values = set_or(alloc, &Remotes(script), Remote::Unset, words)?;
+    Ok(Component::Remotes(slot, values))
+}
+
+/// What a context name stands for.
+fn contexts(alloc: Global, slot: Slot, words: Option<&Words>) -> Result<Component, Missing>
+    ensures { Gives shown result (option_map (contexts slot) (set_or context_rank context_value_named ContextValue.Free
+        (option_map (λ w. w.now) words.entry))) }
+{
+    let values = set_or(alloc, &ContextValues, ContextValue::Free, words)?;
+    Ok(Component::Contexts(slot, values))
 }
 
 /// Whether media from one termination to another is cut.
 fn cuts(
     alloc: Global,
-    script: &Script,
-    entry: &WrittenEntry,
     source: &Termination,
     sink: &Termination,
-) -> Result<Vec<bool>, Missing>
-    ensures { Gives (λ set. set.items) result (set_or switch_rank cut_named false
-        (cut_at script.now source.now sink.now entry.now.cuts)) }
-{
-    let words = cut(script, entry, source, sink);
-    set_or(alloc, &Cuts, false, words)
-}
-
-/// Where a termination may stand.
-fn spots(
-    alloc: Global,
-    script: &Script,
-    entry: &WrittenEntry,
-    termination: &Termination,
+    words: Option<&Words>,
 ) -> Result<Component, Missing>
-    ensures { Gives shown result (component_meant script.now entry.now (Key.Spot termination.now)) }
+    ensures { Gives shown result (option_map (cuts source.now sink.now) (set_or switch_rank cut_named false
+        (option_map (λ w. w.now) words.entry))) }
 {
-    match *termination {
-        Termination::Line(slot) => {
-            let values = line_spots(alloc, script, entry, slot)?;
-            Ok(Component::Spots(Termination::Line(slot), values))
-        }
-        Termination::Ephemeral(slot) => {
-            let values = ephemeral_spots(alloc, script, entry, slot)?;
-            Ok(Component::Spots(Termination::Ephemeral(slot), values))
-        }
-    }
+    let values = set_or(alloc, &Cuts, false, words)?;
+    Ok(Component::Cuts(*source, *sink, values))
 }
 
-/// The modes of a termination.
-fn modes(
-    alloc: Global,
-    script: &Script,
-    entry: &WrittenEntry,
-    termination: &Termination,
-) -> Result<Component, Missing>
-    ensures { Gives shown result (component_meant script.now entry.now (Key.Mode termination.now)) }
-{
-    match *termination {
-        Termination::Line(slot) => {
-            let values = line_modes(alloc, script, entry, slot)?;
-            Ok(Component::Modes(Termination::Line(slot), values))
-        }
-        Termination::Ephemeral(slot) => {
-            let values = ephemeral_modes(alloc, script, entry, slot)?;
-            Ok(Component::Modes(Termination::Ephemeral(slot), values))
-        }
-    }
-}
-
-/// The component that an entry gives for a key.
+/// The component that an entry gives for a key. The rows are those of the entry, by what their names stand for in the script.
 pub fn read_component(
     alloc: Global,
     script: &Script,
     entry: &WrittenEntry,
+    rows: &NamedRows<'_>,
     key: &Key,
 ) -> Result<Component, Missing>
+    requires { IsNamed script.now entry.now rows.now }
     ensures { Gives shown result (component_meant script.now entry.now key.now) }
 {
-    match key {
-        Key::Link => Ok(Component::Links(links(alloc, entry)?)),
-        Key::Spot(termination) => spots(alloc, script, entry, termination),
-        Key::Mode(termination) => modes(alloc, script, entry, termination),
-        Key::Events(line) => Ok(Component::Events(*line, events(alloc, script, entry, *line)?)),
-        Key::Plays(line) => Ok(Component::Plays(*line, plays(alloc, script, entry, *line)?)),
-        Key::Context(name) => {
-            let values = contexts(alloc, script, entry, *name)?;
-            Ok(Component::Contexts(*name, values))
+    match *key {
+        Key::Link => links(alloc, entry),
+        Key::Spot(Termination::Line(slot)) => line_spots(alloc, script, slot, rows.line(slot)),
+        Key::Spot(Termination::Ephemeral(slot)) => {
+            ephemeral_spots(alloc, script, slot, rows.ephemeral(slot))
         }
-        Key::Remote(name) => {
-            let values = remotes(alloc, script, entry, *name)?;
-            Ok(Component::Remotes(*name, values))
+        Key::Mode(Termination::Line(slot)) => line_modes(alloc, slot, rows.line(slot)),
+        Key::Mode(Termination::Ephemeral(slot)) => {
+            ephemeral_modes(alloc, slot, rows.ephemeral(slot))
         }
-        Key::Cut(source, sink) => {
-            let values = cuts(alloc, script, entry, source, sink)?;
-            Ok(Component::Cuts(*source, *sink, values))
-        }
+        Key::Events(slot) => events(alloc, script, slot, rows.line(slot)),
+        Key::Plays(slot) => plays(alloc, slot, rows.line(slot)),
+        Key::Context(slot) => contexts(alloc, slot, rows.context(slot)),
+        Key::Remote(slot) => remotes(alloc, script, slot, rows.ephemeral(slot)),
+        Key::Cut(source, sink) => cuts(alloc, &source, &sink, rows.cut(&source, &sink)),
     }
 }
