@@ -1,5 +1,5 @@
 -- A configuration that the entry at some place has is covered.
-use Rattle.std.proofs.Common.{◌≡◌, ◌↔◌, ℕ, IsTrue, List, Option, Some, None, refl}
+use Rattle.std.proofs.Common.{◌↔◌, ℕ, IsTrue, List, Option, Some, None, refl}
 use Rattle.std.specs.Option.{IfSome, IfNone, is_some}
 use Rattle.std.proofs.lemmas.Option.{slice_get_within, get_or_from_slice_get}
 use Rattle.mg_model.specs.Configuration.{Configuration}

@@ -14,3 +14,14 @@ pub mod SubtractLemmas
 pub mod VisitLemmas
 pub mod CoveringLemmas
 pub mod WalkLemmas
+pub mod EffectSettings
+pub mod SettingLemmas
+pub mod ClassFormed
+pub mod ClassPaths
+pub mod ClassHeld
+pub mod ClassLemmas
+pub mod ClassMembers
+pub mod ClassWalk
+pub mod ClassLists
+pub mod ClassOpened
+pub mod ClassPairs

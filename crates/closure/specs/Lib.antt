@@ -7,3 +7,5 @@ pub mod Tests
 pub mod Elementwise
 pub mod Visits
 pub mod Walk
+pub mod Settings
+pub mod Classes

@@ -54,6 +54,13 @@ impl<'c> Covering<'c> {
 }
 
 impl Covering<'_> {
+    /// The certificate.
+    pub(crate) fn cert(&self) -> &Cert
+        ensures { result.now ≡ self.now.cert.now }
+    {
+        self.cert
+    }
+
     /// Whether a configuration is well formed.
     pub(crate) fn is_formed(&mut self, config: &Config) -> bool
         ensures formed { IsTrue result ↔ IsWellFormed (configuration_of config.now) }
@@ -64,10 +71,14 @@ impl Covering<'_> {
 }
 
 impl Visitor for Covering<'_> {
+    ghost use Rattle.std.specs.Prelude.{List};
+    ghost use Rattle.mg_model.specs.Entries.{Entry};
     ghost use Rattle.std.specs.Prelude.{◌≡◌};
     ghost use Rattle.closure.specs.Findings.{AreCovered, IsFirstUncovered};
 
     type Stop = StepName;
+
+    ghost By = { List Entry };
 
     ghost told = { λ c entries steps. (c.cert.now ≡ entries) × AreCovered entries steps };
 

@@ -1,4 +1,4 @@
-//! The first broken obligation of a certificate, or how many points it has: found in one walk.
+//! The first broken obligation of a certificate, or how many points it has: entry by entry.
 ghost use Rattle.std.specs.Prelude.{◌≡◌};
 ghost use Rattle.closure.specs.Answer.{IsAnswer, IsFinding, IsWholeAnswer};
 ghost use Rattle.closure.specs.Findings.{fault_at, whole_fault};
@@ -88,7 +88,7 @@ pub fn check_run(script: &Script, cert: &Cert, first: usize, last: usize) -> Fin
 
 /// The first obligation that a certificate breaks, in the order of the obligations: the opening, the restart, then by
 /// entry and point, and in a point joined lines, ended calls, created names, then its steps; or the number of its points where
-/// none is broken. Each point is looked at once. This profile's own.
+/// none is broken. This profile's own.
 pub fn check(script: &Script, cert: &Cert) -> Finding
     ensures { IsFinding script.now cert.now result }
 {

@@ -1,6 +1,5 @@
 //! Who is told of the steps of a configuration, one after the other, and may stop.
 ghost use Rattle.std.specs.Prelude.{◌∷◌, [], List};
-ghost use Rattle.mg_model.specs.Entries.{Entry};
 ghost use Rattle.mg_model.specs.Steps.{Step as ModelStep};
 ghost use Rattle.configuration.specs.Config.{configuration_of};
 ghost use Rattle.closure.specs.Visits.{Tells};
@@ -13,11 +12,14 @@ pub(crate) trait Visitor {
     /// Why it stops.
     type Stop: Drop;
 
-    /// Going by these entries it was told of these steps, and goes on.
-    ghost told: { Self → List Entry → List ModelStep → Type 0 };
+    /// What it goes by.
+    ghost By: { Type 0 };
 
-    /// Going by these entries it stopped at one of these steps.
-    ghost stopped: { List Entry → Self.Stop → List ModelStep → Type 0 };
+    /// Going by this it was told of these steps, and goes on.
+    ghost told: { Self → By → List ModelStep → Type 0 };
+
+    /// Going by this it stopped at one of these steps.
+    ghost stopped: { By → Self.Stop → List ModelStep → Type 0 };
 
     /// A step, with the configuration that it leads to.
     fn visit(&mut self, name: StepName, leads_to: &Config) -> Result<(), Self::Stop>

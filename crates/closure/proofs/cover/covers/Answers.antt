@@ -1,5 +1,5 @@
 -- What isn't well formed is in no entry; of the rest it is told where a place is found.
-use Rattle.std.proofs.Common.{◌≡◌, ◌∙◌, ◌↔◌, Bool, IsTrue, sym, subst}
+use Rattle.std.proofs.Common.{◌∙◌, ◌↔◌, Bool, IsTrue, sym, subst}
 use Rattle.mg_model.specs.Entries.{IsCovered}
 use Rattle.configuration.specs.Config.{configuration_of}
 use Rattle.closure.proofs.CoverLemmas.{found_covers}

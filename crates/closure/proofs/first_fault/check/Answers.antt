@@ -1,7 +1,6 @@
 -- What is found of the opening and the restart, and then of the run of all entries, is the finding.
-use Rattle.std.proofs.Common.{List, length, subst}
+use Rattle.std.proofs.Common.{List}
 use Rattle.mg_model.specs.Entries.{Entry}
-use Rattle.closure.specs.Runs.{IsOfRun}
 use Rattle.closure.proofs.RunLemmas.{run_answer}
 use Rattle.closure.proofs.first_fault.check.Goals as goal
 
