@@ -179,10 +179,10 @@ def check_by_time():
 def size_pairs():
     """What is doubled: its name, and the half and the whole as script and certificate."""
 
-    def wide(count):
-        return slow_checks.script(3, False, 1), slow_checks.certificate(3, False, 1, count, True)
+    def placed(count):
+        return slow_checks.placed_script(1), slow_checks.placed_certificate(1, count)
 
-    yield "points whose request is sent, 8 and 16 entries of 65,536", wide(8), wide(16)
+    yield "points that differ in places, 8 and 16 entries of 40,824 beside 8 for results", placed(8), placed(16)
     yield "entries, 64 states of 128 and of 256", *((checks.script(64, 2), checks.certificate(64, count)) for count in (128, 256))
     yield "states, 32 and 64 of 16 commands", *((checks.script(count, 16), checks.certificate(count, 1)) for count in (32, 64))
     yield "states, 16 and 32 with ephemerals and cuts", *((checks.rooms_script(count), checks.rooms_certificate(count)) for count in (16, 32))
@@ -200,33 +200,55 @@ def check_by_size():
         print(f"{name}: {taken[0]:.3f} s and {taken[1]:.3f} s, ratio {taken[1] / taken[0]:.2f}")
 
 
-def slow_seconds(plain, folder, *shape):
-    """The bytes of a slow input, the processor time of its check, and that of the plain checker's walk, or 0."""
-    script, certificate = slow_checks.script(*shape[:3]), slow_checks.certificate(*shape)
+def slow_seconds(plain, folder, script, certificate):
+    """The processor time of a slow input's check, and that of the plain checker's walk, or 0."""
     each = Input(folder, "", script, certificate)
-    return each.bytes, measuring.used(each.whole, checks.PROGRAM, "check")[0], plain_seconds(plain, each) if plain else 0
+    return measuring.used(each.whole, checks.PROGRAM, "check")[0], plain_seconds(plain, each) if plain else 0
 
 
-def hours(seconds_taken):
-    return f"{seconds_taken / 60:.0f} minutes" if seconds_taken < 7200 else f"{seconds_taken / 3600:.1f} hours"
+def spelt(seconds_taken):
+    return f"{seconds_taken:.0f} seconds" if seconds_taken < 120 else f"{seconds_taken / 60:.0f} minutes"
+
+
+def settings_shapes():
+    """Slow inputs whose points differ in settings: the name, what they are made of, and how many points one wide entry has. Near: the entries of results come
+    first among those of their state; far: they come last, and the plain checker asks all before them."""
+    for lines in slow_checks.SHAPES:
+        for has_contexts in (False, True):
+            for is_far in (False, True):
+                name = f"{lines} lines {'with' if has_contexts else 'without'} contexts, {'far' if is_far else 'near'}"
+                yield name, (lines, has_contexts), is_far, slow_checks.points_of(lines)
+
+
+def whole_seconds(shape, is_far):
+    """The processor time of the check of all that the limits allow of such an input, reading included."""
+    wide = slow_checks.most() // slow_checks.STATES
+    with tempfile.NamedTemporaryFile("w") as text:
+        text.write(slow_checks.script(*shape, slow_checks.STATES) + "%%\n" + slow_checks.certificate(*shape, slow_checks.STATES, wide, is_far))
+        text.flush()
+        return measuring.used(text.name, checks.PROGRAM, "check")[0]
+
+
+def scaled(plain, folder, script, certificates, more):
+    """The time of all entries that the limits allow, from the difference of two inputs of a state: own, and the plain checker's."""
+    few, many = (slow_seconds(plain, folder, script, certificate) for certificate in certificates)
+    return [(there - here) / more * slow_checks.most() for here, there in zip(few, many)]
 
 
 def slowest():
-    """A state of 256 entries with four and with eight wide ones whose request is sent, and from their difference the time of all that the limits allow, a walk
-    being linear in points. Near: the entries of results come first among those of their state; far: they come last, and the plain checker asks all before them."""
+    """The slowest inputs within the limits. Those whose points differ in settings are checked whole; those that differ in places, and the plain checker's, are
+    scaled from two inputs of a state, since a walk is linear in entries that are alike."""
     with tempfile.TemporaryDirectory() as folder:
         plain = build(folder)
-        for lines in slow_checks.SHAPES:
-            for has_contexts in (False, True):
-                for is_far in (False, True):
-                    few, many = (slow_seconds(plain, folder, lines, has_contexts, 1, wide, is_far) for wide in (4, 8))
-                    own, beside = ((many[place] - few[place]) / 4 for place in (1, 2))
-                    points, entries = slow_checks.points_of(lines), slow_checks.most(lines)
-                    print(
-                        f"{lines} lines {'with' if has_contexts else 'without'} contexts, {'far' if is_far else 'near'}: {few[1]:.2f} s and {many[1]:.2f} s, "
-                        f"{own / points * 1e6:.2f} microseconds a point, C++ {beside / points * 1e6:.2f}, {ratio(own, beside)}; "
-                        f"all {entries * points:,} points {hours(own * entries)}"
-                    )
+        for name, shape, is_far, points in settings_shapes():
+            certificates = [slow_checks.certificate(*shape, 1, wide, is_far) for wide in (8, 16)]
+            beside = scaled(plain, folder, slow_checks.script(*shape, 1), certificates, 8)[1]
+            own = whole_seconds(shape, is_far)
+            print(f"{name}: {slow_checks.most() * points:,} points whose request is sent, {own:.2f} s, whole; C++ {spelt(beside)}, scaled")
+        certificates = [slow_checks.placed_certificate(1, wide) for wide in (4, 8)]
+        own, beside = scaled(plain, folder, slow_checks.placed_script(1), certificates, 4)
+        points = slow_checks.most() * slow_checks.PLACED_POINTS
+        print(f"in any of four contexts: {points:,} points whose request is sent, {spelt(own)}, C++ {spelt(beside)}, both scaled")
 
 
 PARTS = (check_agreement, check_by_instructions, check_by_time, check_by_size, slowest)

@@ -8,6 +8,8 @@ import tempfile
 import time
 from pathlib import Path
 
+from shared import slow_checks
+
 PROGRAM = Path(__file__).resolve().parents[2] / "crates/mgcall/out/mgcall"
 LINES = "abgh"
 MODES = ["Inactive", "SendOnly", "ReceiveOnly", "SendReceive"]
@@ -101,7 +103,7 @@ def without_opening(certificate):
     """The certificate in which the configuration that a call opens in is in no entry."""
     document = json.loads(certificate)
     for entry in document["entries"]:
-        if entry["state"] == "s0":
+        if entry["state"] in ("s0", "idle"):
             entry["link"] = [link for link in entry["link"] if link != "rest"] or ["fault"]
     return json.dumps(document) + "\n"
 
@@ -161,14 +163,9 @@ def in_pieces(name, quarter, whole):
 
 def pieces():
     in_pieces(
-        "four lines, four ephemerals and cuts, 60 states",
-        (rooms_script(15), rooms_certificate(15)),
-        (rooms_script(60), rooms_certificate(60)),
-    )
-    in_pieces(
-        "wide entries with few steps, 64 states",
-        (script(16, 2, 8), certificate(16, 1, 8, ("no", "may"))),
-        (script(64, 2, 8), certificate(64, 1, 8, ("no", "may"))),
+        "points that differ in places, 4 states",
+        (slow_checks.placed_script(1), slow_checks.placed_certificate(1, 4)),
+        (slow_checks.placed_script(4), slow_checks.placed_certificate(4, 4)),
     )
 
 

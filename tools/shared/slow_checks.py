@@ -1,4 +1,6 @@
-"""Inputs of `mgcall check` that are answered `yes` and take it long: few bytes that hold many points, each with as many steps as a state can have."""
+"""Inputs of `mgcall check` that are answered `yes` and hold many points in few bytes, each with as many steps as a state can have: those of `script` and
+`certificate` differ in what no command asks for, and are decided in classes; those of `placed_script` and `placed_certificate` differ in places, and are
+looked at one by one."""
 import itertools
 import json
 
@@ -81,6 +83,42 @@ def points_of(lines):
     return found
 
 
-def most(lines):
+def most():
     """How many wide entries for what is sent the limits allow in all states, beside those for results."""
     return STATES * (ENTRIES - 2 * len(MODES))
+
+
+# ---- points that differ in places
+
+CONTEXTS, OTHERS, EPHEMERALS = "cdef", "bgh", "wxyz"
+# How many points an entry has in which those seven stand in four contexts, each of which exists: three of them have somebody but for the first line, and a
+# Remote is one of four.
+PLACED_POINTS = (4**7 - 3 * 3**7 + 3 * 2**7 - 1) * 4
+
+
+def placed_script(states):
+    """States of sixteen commands each, every one of which gives the first line another mode, in its own context."""
+    text = [f"lines = {json.dumps(['a', *OTHERS])}", f"contexts = {json.dumps([*CONTEXTS])}", f"ephemerals = {json.dumps([*EPHEMERALS])}"]
+    text += ['start = "idle"', 'restart = "idle"', "[[state]]", 'name = "idle"']
+    commands = json.dumps([f"modify c a mode={MODES[n % 4]}" for n in range(COMMANDS)])
+    for state in range(states):
+        following = f"s{(state + 1) % states}"
+        text += ["[[state]]", f'name = "s{state}"', f"do = {commands}", f'ok = "{following}"', f'fault = "{following}"']
+    return "\n".join(text) + "\n"
+
+
+def placed_entry(state, link, mode):
+    """An entry of a state at this link: the first line in its context with this mode, all others in any context."""
+    spots = {"at": [*CONTEXTS]}
+    ephemerals = {name: {**spots, **({"remote": ["none", "x", "y", "z"]} if name == "w" else {})} for name in EPHEMERALS}
+    lines = {"a": {"at": ["c"], "mode": [mode]}, **{name: spots for name in OTHERS}}
+    return {"state": state, "link": [link], "lines": lines, "contexts": {name: ["live"] for name in CONTEXTS}, "ephemerals": ephemerals}
+
+
+def placed_certificate(states, wide):
+    """A certificate for such a script, with so many entries for what is sent in each state, behind those for results."""
+    entries = [{"state": "idle", "link": ["ok", "rest"], "lines": {name: {"events": ["none", "armed"]} for name in ("a", *OTHERS)}}]
+    for state in range(states):
+        entries += [placed_entry(f"s{state}", link, mode) for link in ("ok", "fault") for mode in MODES]
+        entries += [placed_entry(f"s{state}", "sent", MODES[n % 4]) for n in range(max(wide, 4))]
+    return json.dumps({"version": 2, "entries": entries}, separators=(",", ":")) + "\n"
