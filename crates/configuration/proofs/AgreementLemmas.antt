@@ -84,6 +84,10 @@ agree x b m h = ap (λ n. n == 0) (same_bits (bit_and (bit_xor x b) m) 0 none)
     none : (p : ℕ) → has (bit_and (bit_xor x b) m) p ≡ has 0 p
     none p = has_and (bit_xor x b) m p ∙ by_mask p (has m p) refl ∙ sym (has_none p)
 
+pub agrees_by : (x b m : ℕ) → bit_and (bit_xor x b) m ≡ 0 → agrees x b m ≡ true
+unfolding agrees
+agrees_by x b m none = ap (λ n. n == 0) none
+
 pub everything : (x : ℕ) → agrees x 0 0 ≡ true
 everything x = agree x 0 0 (λ p h. let bad : true ≡ false = sym h ∙ has_none p in absurd (cc))
 
@@ -123,6 +127,11 @@ same_field x y at bits h = same_bits _ _ (λ q. has_field x at bits q ∙ by_tes
 
 has_ones : (bits q : ℕ) → q < bits → has (2 ^ bits - 1) q ≡ true
 has_ones bits q h = has_bit (2 ^ bits - 1) q ∙ ap flag_at (bit_at_ones bits q h)
+
+-- words that agree in the bits of a mask have the same in a field that the mask has whole
+pub same_whole : (x b m at bits : ℕ) → agrees x b m ≡ true → field_of m at bits ≡ 2 ^ bits - 1 → field_of x at bits ≡ field_of b at bits
+same_whole x b m at bits e whole =
+    same_field x b at bits (λ q h. agreed x b m (at + q) e (inside m at bits q h ∙ ap (λ v. has v q) whole ∙ has_ones bits q h))
 
 module _ (x b m b' m' at bits n : ℕ) (base : IsPut b' b at bits n) (mask : IsPut m' m at bits (2 ^ bits - 1))
     (free : field_of m at bits ≡ 0) where

@@ -1,5 +1,5 @@
 -- Words of the tests that make up the test for well formed configurations. No public clause speaks of them.
-use Rattle.std.specs.Prelude.{◌≡◌, ℕ, ◌+◌, ◌-◌, ◌*◌, ◌/◌, ◌%◌, ◌==◌, nat_lt, Bool, true, false, ◌&&◌, ◌||◌, if◌then◌else◌, IsTrue}
+use Rattle.std.specs.Prelude.{◌≡◌, ℕ, ◌+◌, ◌-◌, ◌*◌, ◌/◌, ◌%◌, ◌<◌, ◌==◌, nat_lt, Bool, true, false, ◌&&◌, ◌||◌, if◌then◌else◌, IsTrue}
 use Rattle.mg_names.specs.declared.modes.Mode.{Mode}
 use Rattle.mg_names.specs.declared.modes.Mode.TheVariants.{Inactive, SendOnly, ReceiveOnly, SendReceive}
 use Rattle.mg_model.specs.declared.commands.Termination.{Termination}
@@ -53,10 +53,7 @@ sink_of place =
 abbrev pub is_bit_right : Configuration → ℕ → Bool
 is_bit_right c place = is_shared (c.spot (termination_at (source_of place))) (c.spot (termination_at (sink_of place)))
 
--- by two words of the lines, a line stands in the same place
-abbrev pub spot_is_like : ℕ → ℕ → ℕ → Bool
-spot_is_like one other i = field_of one (8 + 11 * i) 3 == field_of other (8 + 11 * i) 3
-
--- by two words of the lines, a context name stands for the same
-abbrev pub context_is_like : ℕ → ℕ → ℕ → Bool
-context_is_like one other j = field_of one (52 + 2 * j) 2 == field_of other (52 + 2 * j) 2
+-- by two words of the lines, these stand in the same places, and context names stand for the same
+pub record ArePlacedAlike (one other : ℕ) : Type 0 where
+  pub spots : (i : ℕ) → i < 4 → field_of one (8 + 11 * i) 3 ≡ field_of other (8 + 11 * i) 3
+  pub contexts : (j : ℕ) → j < 4 → field_of one (52 + 2 * j) 2 ≡ field_of other (52 + 2 * j) 2

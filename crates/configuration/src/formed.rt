@@ -1,17 +1,13 @@
 //! A configuration that is well formed, and those that are so because they differ from it in nothing that matters.
-ghost use Rattle.std.specs.Prelude.{◌≡◌, ◌↔◌, ◌∷◌, [], IsTrue};
-ghost use Rattle.std.specs.List.{list_all};
+ghost use Rattle.std.specs.Prelude.{◌≡◌, ◌↔◌, IsTrue};
 ghost use Rattle.mg_model.specs.Configuration.{IsWellFormed};
-ghost use Rattle.configuration.specs.Tests.{spot_is_like, context_is_like};
+ghost use Rattle.configuration.specs.Tests.{ArePlacedAlike};
 ghost use Rattle.configuration.specs.Config.{configuration_of};
 
 use crate::config::Config;
-use crate::fields::field;
-use crate::places::{context_place, line_place};
 use crate::well_formed::is_well_formed;
 use mg_model::commands::EventsName;
 use mg_names::phases::LinkPhase;
-use mg_names::slots::Slot;
 use std::marker::Model;
 
 /// A configuration that is well formed.
@@ -32,44 +28,11 @@ impl Model for Formed {
     ghost invariant = { λ f. IsWellFormed (configuration_of f.config) };
 }
 
-/// Whether a line stands in the same place by two words.
-fn spot_is_like(one: u64, other: u64, line: Slot) -> bool
-    ensures { result ≡ spot_is_like one other line }
+/// Whether lines stand in the same places, and context names stand for the same, by two words.
+fn are_placed_alike(one: u64, other: u64) -> bool
+    ensures { IsTrue result → ArePlacedAlike one other }
 {
-    let place = line_place(line);
-    field(one, place, 3) == field(other, place, 3)
-}
-
-/// Whether all four do.
-fn spots_are_like(one: u64, other: u64) -> bool
-    ensures { result ≡ list_all (spot_is_like one other) (0 ∷ 1 ∷ 2 ∷ 3 ∷ []) }
-{
-    let slots = Slot::all();
-    let first = spot_is_like(one, other, slots[0]);
-    let second = spot_is_like(one, other, slots[1]);
-    let third = spot_is_like(one, other, slots[2]);
-    let fourth = spot_is_like(one, other, slots[3]);
-    first && second && third && fourth
-}
-
-/// Whether a context name stands for the same by two words.
-fn context_is_like(one: u64, other: u64, context: Slot) -> bool
-    ensures { result ≡ context_is_like one other context }
-{
-    let place = context_place(context);
-    field(one, place, 2) == field(other, place, 2)
-}
-
-/// Whether all four do.
-fn contexts_are_like(one: u64, other: u64) -> bool
-    ensures { result ≡ list_all (context_is_like one other) (0 ∷ 1 ∷ 2 ∷ 3 ∷ []) }
-{
-    let slots = Slot::all();
-    let first = context_is_like(one, other, slots[0]);
-    let second = context_is_like(one, other, slots[1]);
-    let third = context_is_like(one, other, slots[2]);
-    let fourth = context_is_like(one, other, slots[3]);
-    first && second && third && fourth
+    (one ^ other) & 0x0FF0_0E01_C038_0700 == 0
 }
 
 /// Whether two words are one.
@@ -85,10 +48,7 @@ fn is_like(one: &Config, other: &Config) -> bool
 {
     let was = one.lines_word();
     let lines = other.lines_word();
-    if !spots_are_like(was, lines) {
-        return false;
-    }
-    if !contexts_are_like(was, lines) {
+    if !are_placed_alike(was, lines) {
         return false;
     }
     if !is_same(one.ephemerals_word(), other.ephemerals_word()) {
