@@ -7,9 +7,9 @@ ghost use Rattle.closure.specs.Classes.{AreAmong, is_free};
 ghost use Rattle.closure.specs.Walk.{BlockIsPassed, ClassIsPassed};
 
 use crate::class::pass_class;
-use crate::freedom::{Freedom, Pin, is_free};
+use crate::freedom::{Freedom, MANY, Pin, is_free};
 use configuration::config::Config;
-use entry_table::{Cert, Component};
+use entry_table::{Cert, Component, product_of};
 use script_table::Script;
 
 /// Passes the classes that the rest of an entry's components make of a configuration, and counts their points; `None` where an obligation of
@@ -73,6 +73,9 @@ pub(crate) fn decide(
     requires small { size_of (shown_all components.now) < 2 ^ 32 }
     ensures { IfSome result (λ points. BlockIsPassed script.now cert.now (shown_all components.now) (configuration_of config.now) points) }
 {
+    if product_of(components) < MANY {
+        return None;
+    }
     for pin in Pin::all() {
         let found = decide_with(script, cert, components, config, pin);
         if found.is_some() {

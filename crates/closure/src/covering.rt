@@ -9,35 +9,43 @@ use configuration::config::Config;
 use configuration::formed::Formed;
 use entry_table::Cert;
 use mg_model::steps::StepName;
-use mg_names::phases::LinkPhase;
+use mg_names::kinds::Kind;
 
 /// Looks at the results of steps, up to the first that is in no entry.
 #[derive(Drop)]
 pub(crate) struct Covering<'c> {
     cert: &'c Cert,
-    /// For each state and link the place of the entry that had one of their configurations last.
-    kept: [usize; 1024],
+    /// For each number of a step the place of the entry that had its last result. Points that are looked at one after the other differ in little, so
+    /// mostly it has the next one too.
+    kept: [usize; 64],
     /// The last configuration that was well formed.
     formed: Formed,
 }
 
-/// The number of a link.
-fn link_number(link: LinkPhase) -> usize
-    ensures { result < 4 }
+/// The number of a kind of notes.
+fn kind_number(kind: Kind) -> usize
+    ensures { result < 5 }
 {
-    match link {
-        LinkPhase::Sent => 0,
-        LinkPhase::Answered => 1,
-        LinkPhase::Failed => 2,
-        LinkPhase::Resting => 3,
+    match kind {
+        Kind::On => 0,
+        Kind::Of => 1,
+        Kind::Fl => 2,
+        Kind::Full => 3,
+        Kind::Part => 4,
     }
 }
 
-/// The place of what is kept for a configuration.
-fn place_of(config: &Config) -> usize
-    ensures { result < 1024 }
+/// The number of a step among all that a configuration may have.
+fn number_of(name: &StepName) -> usize
+    ensures { result < 64 }
 {
-    4 * config.state() as usize + link_number(config.link())
+    match *name {
+        StepName::Refuse(place) => place % 32,
+        StepName::Execute => 32,
+        StepName::Reply => 33,
+        StepName::Timer => 34,
+        StepName::Observe { line, kind } => 40 + 5 * line.index() + kind_number(kind),
+    }
 }
 
 impl<'c> Covering<'c> {
@@ -47,7 +55,7 @@ impl<'c> Covering<'c> {
     {
         Covering {
             cert,
-            kept: [0; 1024],
+            kept: [0; 64],
             formed: Formed::first(),
         }
     }
@@ -88,10 +96,10 @@ impl Visitor for Covering<'_> {
         if !self.formed.take_up(leads_to) {
             return Err(name);
         }
-        let place = place_of(leads_to);
-        let mut kept = self.kept[place];
+        let number = number_of(&name);
+        let mut kept = self.kept[number];
         let covered = covers_first(self.cert, leads_to, &mut kept);
-        self.kept[place] = kept;
+        self.kept[number] = kept;
         if covered { Ok(()) } else { Err(name) }
     }
 }

@@ -14,9 +14,8 @@ use mg_model::components::Spot;
 use mg_names::phases::LinkPhase;
 use mg_names::slots::Slot;
 
-/// Classes of fewer configurations aren't tried. So all tries together, were each to fail at its last class, cost about half of a look at each
-/// configuration.
-const MANY: u64 = 256;
+/// Classes of fewer configurations aren't tried: for each the configurations that stand for it are stepped, in as many tries as there are.
+pub(crate) const MANY: u64 = 256;
 
 /// The components of an entry that give its points their values, and a configuration that tells which of them are free.
 #[derive(Drop)]
