@@ -6,10 +6,11 @@ use Rattle.std.specs.Result.{is_ok, result_unwrap_or}
 use Rattle.mg_model.specs.Accepted.{IsScript, IsEntryOf, HasOne}
 use Rattle.mg_model.specs.Script.{Script}
 use Rattle.script_table.specs.Table.{state_named}
-use Rattle.certificate.specs.Certificate.{are_known, listed_meant, checked_or, resolved_or, unless_old, has_empty, has_crowd, is_large}
+use Rattle.certificate.specs.Certificate.{listed_meant, checked_or, resolved_or, unless_old, has_empty, has_crowd, is_large}
 use Rattle.mg_model.specs.Entries.{Component}
 use Rattle.mg_model.proofs.Cases.{none_is_some, the_some}
 use Rattle.certificate_components.specs.Components.{component_meant, keys_of}
+use Rattle.certificate_components.specs.NamedRows.{are_all_named}
 use Rattle.certificate_document.specs.Document.{document_meant}
 use Rattle.certificate.specs.Laws.{AcceptedCertificates}
 use Rattle.entry_table.specs.Listed.{Listed}
@@ -70,7 +71,7 @@ module _ (script : Script) (accepted : IsScript script) (written_entry : written
 module _ (script : Script) (accepted : IsScript script) where
   entry_of : (written_entry : written.Entry) (entry : Listed) → listed_meant script written_entry ≡ Some entry → IsEntryOf script entry
   entry_of written_entry entry e =
-      let m = made script (are_known script written_entry) (state_named written_entry.state script.states)
+      let m = made script (are_all_named script written_entry) (state_named written_entry.state script.states)
       (each (component_meant script written_entry) (keys_of script)) entry e in
       subst (IsEntryOf script) m.is (has_all script accepted written_entry m.state m.components m.given)
 

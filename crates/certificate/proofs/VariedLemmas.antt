@@ -11,8 +11,8 @@ use Rattle.mg_model.specs.Script.{Script}
 use Rattle.entry_table.specs.Listed.{choices_of, size_of}
 use Rattle.typed_values.specs.Shape.{each, only_if, ◌>>=◌}
 use Rattle.script_table.specs.Table.{state_named}
-use Rattle.certificate.specs.Certificate.{are_known}
 use Rattle.certificate_components.specs.Components.{component_meant, keys_of}
+use Rattle.certificate_components.specs.NamedRows.{are_all_named}
 use Rattle.certificate.specs.Outlines.{is_left_out, outline_of, outline_meant, varied}
 use Rattle.certificate_document.specs.Written as written
 use Rattle.certificate_components.specs.declared.key.Key.{Key}
@@ -147,10 +147,10 @@ module _ (script : Script) (entry : written.Entry) where
       let same_found : flat_map varied cs ≡ found = ap (λ o. unwrap_or o found) f in
       rw (← same_state, ← same_found, same_empty cs, same_size cs) refl
 
-  pub outlined : (state : ℕ) (found : List Component) → are_known script entry ≡ true → state_named entry.state script.states ≡ Some state
+  pub outlined : (state : ℕ) (found : List Component) → are_all_named script entry ≡ true → state_named entry.state script.states ≡ Some state
       → varied_at (keys_of script) ≡ Some found → outline_meant script entry ≡ Some (outlined_as state found)
   outlined state found known named f =
-      both (are_known script entry) (state_named entry.state script.states) (each (component_meant script entry) (keys_of script)) state found
+      both (are_all_named script entry) (state_named entry.state script.states) (each (component_meant script entry) (keys_of script)) state found
       (ap (λ b. only_if b (state_named entry.state script.states)) known ∙ named) f
 
   no_components : (known : Bool) (first : Option ℕ) (components : Option (List Component)) → option_map (flat_map varied) components ≡ None
@@ -162,4 +162,4 @@ module _ (script : Script) (entry : written.Entry) where
 
   pub unknown_word : varied_at (keys_of script) ≡ None → outline_meant script entry ≡ None
   unknown_word f =
-      no_components (are_known script entry) (state_named entry.state script.states) (each (component_meant script entry) (keys_of script)) f
+      no_components (are_all_named script entry) (state_named entry.state script.states) (each (component_meant script entry) (keys_of script)) f

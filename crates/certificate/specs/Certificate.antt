@@ -1,14 +1,14 @@
 -- A certificate: what a document's entries are, given a script, and its faults in the order of their numbers. A reader
 -- should check the limits, and that each fault is looked for in the whole document before the next.
-use Rattle.std.specs.Prelude.{◌≡◌, ℕ, zero, suc, ◌==◌, ◌||◌, ◌&&◌, Bool, true, false, List, length, count_by, nat_lt, if◌then◌else◌, Option, Some, None, is_some, Result, Ok, Err}
-use Rattle.std.specs.List.{list_all, list_any}
+use Rattle.std.specs.Prelude.{◌≡◌, ℕ, zero, suc, ◌==◌, ◌||◌, ◌&&◌, Bool, true, false, List, length, count_by, nat_lt, if◌then◌else◌, Option, Some, None, Result, Ok, Err}
+use Rattle.std.specs.List.{list_any}
 use Rattle.std.specs.Str.{IsUtf8}
 use Rattle.serde_json.specs.Data.{Data}
 use Rattle.serde_json.specs.Read.{read as read_text}
 use Rattle.mg_model.specs.Script.{Script}
-use Rattle.script_table.specs.Table.{place_of, state_named}
+use Rattle.script_table.specs.Table.{state_named}
 use Rattle.typed_values.specs.Shape.{◌>>=◌, each, only_if}
-use Rattle.certificate_components.specs.Naming.{pair_named}
+use Rattle.certificate_components.specs.NamedRows.{are_all_named}
 use Rattle.certificate_components.specs.Components.{component_meant, keys_of}
 use Rattle.certificate_document.specs.Document.{document_meant}
 use Rattle.entry_table.specs.Listed.{Listed, choices_of, size_of}
@@ -20,18 +20,10 @@ use Rattle.typed_values.specs.declared.unread.Unread.TheVariants.{Fault, NoMemor
 use Rattle.certificate.specs.declared.fault.CertFault.{CertFault}
 use Rattle.certificate.specs.declared.fault.CertFault.TheVariants.{NotJson, BadKey, Unknown, EmptySet, TooManyEntries, TooManyPoints, OldVersion}
 
--- whether each key that is a name stands for what its place asks for
-abbrev pub are_known : Script → written.Entry → Bool
-are_known script entry =
-    list_all (λ row. is_some (place_of row.0 script.lines)) entry.lines
-    && (list_all (λ row. is_some (place_of row.0 script.contexts)) entry.contexts
-    && (list_all (λ row. is_some (place_of row.0 script.ephemerals)) entry.ephemerals
-    && list_all (λ row. is_some (pair_named script row.0)) entry.cuts))
-
 -- the entry that is meant, or nothing where a name or a word is unknown
 abbrev pub listed_meant : Script → written.Entry → Option Listed
 listed_meant script entry =
-    only_if (are_known script entry) (state_named entry.state script.states >>= λ state.
+    only_if (are_all_named script entry) (state_named entry.state script.states >>= λ state.
     each (component_meant script entry) (keys_of script) >>= λ components.
     Some (record { state = state; lines = length script.lines; components = components }))
 

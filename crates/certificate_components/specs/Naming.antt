@@ -66,11 +66,3 @@ parts_of text =
 -- a cut's key: two different terminations with `>` between them
 abbrev pub pair_named : Script → Text → Option (Termination × Termination)
 pair_named script key = option_and_then (λ (parts : Text × Text). pair_of script parts.0 parts.1) (parts_of key)
-
--- the termination that the first part of a cut's key names
-abbrev pub source_named : Script → Text → Option Termination
-source_named script key = option_and_then (λ (parts : Text × Text). termination_named script parts.0) (parts_of key)
-
-abbrev pub is_termination : Option Termination → Termination → Bool
-is_termination None other = false
-is_termination (Some t) other = is_same t other
