@@ -229,26 +229,34 @@ def whole_seconds(shape, is_far):
         return measuring.used(text.name, checks.PROGRAM, "check")[0]
 
 
-def scaled(plain, folder, script, certificates, more):
-    """The time of all entries that the limits allow, from the difference of two inputs of a state: own, and the plain checker's."""
+def scaled(plain, folder, script, certificates, more, most):
+    """The time of the most entries that the limits allow, from the difference of two inputs of a state: own, and the plain checker's."""
     few, many = (slow_seconds(plain, folder, script, certificate) for certificate in certificates)
-    return [(there - here) / more * slow_checks.most() for here, there in zip(few, many)]
+    return [(there - here) / more * most for here, there in zip(few, many)]
+
+
+def walked_inputs():
+    """Slow inputs that are looked at point by point: the name, the script, two certificates, how many entries more the second one has, how many the limits
+    allow, and how many points one has."""
+    parted = [slow_checks.certificate(3, False, 1, wide, False, True) for wide in (4, 8)]
+    yield "3 lines without contexts, results in parts", slow_checks.script(3, False, 1), parted, 4, slow_checks.most(True), slow_checks.points_of(3)
+    placed = [slow_checks.placed_certificate(1, wide) for wide in (4, 8)]
+    yield "in any of four contexts", slow_checks.placed_script(1), placed, 4, slow_checks.most(), slow_checks.PLACED_POINTS
 
 
 def slowest():
-    """The slowest inputs within the limits. Those whose points differ in settings are checked whole; those that differ in places, and the plain checker's, are
-    scaled from two inputs of a state, since a walk is linear in entries that are alike."""
+    """The slowest inputs within the limits. Those whose points are decided in classes are checked whole; the others, and the plain checker's, are scaled from
+    two inputs of a state, since a walk is linear in entries that are alike."""
     with tempfile.TemporaryDirectory() as folder:
         plain = build(folder)
         for name, shape, is_far, points in settings_shapes():
             certificates = [slow_checks.certificate(*shape, 1, wide, is_far) for wide in (8, 16)]
-            beside = scaled(plain, folder, slow_checks.script(*shape, 1), certificates, 8)[1]
+            beside = scaled(plain, folder, slow_checks.script(*shape, 1), certificates, 8, slow_checks.most())[1]
             own = whole_seconds(shape, is_far)
             print(f"{name}: {slow_checks.most() * points:,} points whose request is sent, {own:.2f} s, whole; C++ {spelt(beside)}, scaled")
-        certificates = [slow_checks.placed_certificate(1, wide) for wide in (4, 8)]
-        own, beside = scaled(plain, folder, slow_checks.placed_script(1), certificates, 4)
-        points = slow_checks.most() * slow_checks.PLACED_POINTS
-        print(f"in any of four contexts: {points:,} points whose request is sent, {spelt(own)}, C++ {spelt(beside)}, both scaled")
+        for name, script, certificates, more, most, points in walked_inputs():
+            own, beside = scaled(plain, folder, script, certificates, more, most)
+            print(f"{name}: {most * points:,} points whose request is sent, {spelt(own)}, C++ {spelt(beside)}, both scaled")
 
 
 PARTS = (check_agreement, check_by_instructions, check_by_time, check_by_size, slowest)

@@ -1,6 +1,6 @@
 """Inputs of `mgcall check` that are answered `yes` and hold many points in few bytes, each with as many steps as a state can have: those of `script` and
-`certificate` differ in what no command asks for, and are decided in classes; those of `placed_script` and `placed_certificate` differ in places, and are
-looked at one by one."""
+`certificate` differ in what no command asks for, and are decided in classes, unless their entries for results are parted; those of `placed_script` and
+`placed_certificate` differ in places. What isn't decided in classes is looked at point by point."""
 import itertools
 import json
 
@@ -56,22 +56,34 @@ def entry(lines, has_contexts, state, link, modes, is_wide=True):
     return found
 
 
-def of_state(lines, has_contexts, state, wide, is_far):
-    """The 256 entries of a state. The wide ones for results stand one for each mode of the first line, so that each command leads to another one than that
-    before it; so many wide ones for what is sent, and one narrow one again and again. Far: those for results come last."""
-    results = [entry(lines, has_contexts, state, link, [mode]) for link in ("ok", "fault") for mode in MODES]
+def in_parts(whole):
+    """A wide entry in four that have its points between them: by halves of the second line's modes, and by its signals. So none has all results of a class."""
+    for modes, plays in itertools.product((MODES[:2], MODES[2:]), ("no", "may")):
+        yield {**whole, "lines": {**whole["lines"], "b": {**whole["lines"]["b"], "mode": modes, "plays": [plays]}}}
+
+
+def results_of(lines, has_contexts, state, is_parted):
+    """The wide entries of a state for results, one for each mode of the first line, so that each command leads to another one than that before it."""
+    found = [entry(lines, has_contexts, state, link, [mode]) for link in ("ok", "fault") for mode in MODES]
+    return [part for whole in found for part in in_parts(whole)] if is_parted else found
+
+
+def of_state(lines, has_contexts, state, wide, is_far, is_parted=False):
+    """The 256 entries of a state: those for results, so many wide ones for what is sent, and one narrow one again and again. Far: those for results come
+    last. Parted: each of them is in four parts."""
+    results = results_of(lines, has_contexts, state, is_parted)
     modes = [[mode] for mode in MODES] if SHAPES[lines][1] else [MODES]
     sent = [entry(lines, has_contexts, state, "sent", modes[n % len(modes)]) for n in range(max(wide, len(modes)))]
     narrow = [entry(lines, has_contexts, state, "sent", MODES[:1], False)] * (ENTRIES - len(results) - len(sent))
     return [*narrow, *sent, *results] if is_far else [*results, *sent, *narrow]
 
 
-def certificate(lines, has_contexts, states, wide, is_far):
+def certificate(lines, has_contexts, states, wide, is_far, is_parted=False):
     """A certificate for such a script, with so many wide entries for what is sent in each state."""
     armed = {name: {"events": ["none", "armed"]} for name in "abgh"[:lines]}
     entries = [{"state": "idle", "link": ["ok", "rest"], "lines": armed}]
     for state in range(states):
-        entries += of_state(lines, has_contexts, f"s{state}", wide, is_far)
+        entries += of_state(lines, has_contexts, f"s{state}", wide, is_far, is_parted)
     return json.dumps({"version": 2, "entries": entries}, separators=(",", ":")) + "\n"
 
 
@@ -83,9 +95,9 @@ def points_of(lines):
     return found
 
 
-def most():
+def most(is_parted=False):
     """How many wide entries for what is sent the limits allow in all states, beside those for results."""
-    return STATES * (ENTRIES - 2 * len(MODES))
+    return STATES * (ENTRIES - 2 * len(MODES) * (4 if is_parted else 1))
 
 
 # ---- points that differ in places
