@@ -17,7 +17,7 @@ use Rattle.closure.specs.Findings.{AreCovered, IsKept}
 use Rattle.closure.specs.Settings.{Settings, Move, settings_of, with_settings, step_with, moves_of}
 use Rattle.closure.specs.Classes.{IsOfClass, AreApart, IsOpen, IsHeld}
 use Rattle.closure.proofs.ClassFormed.{formed_by_low}
-use Rattle.closure.proofs.ClassHeld.{result_covered}
+use Rattle.closure.proofs.ClassHeld.{result_between}
 use Rattle.closure.proofs.ClassPaths.{class_marked}
 use Rattle.closure.proofs.SettingLemmas.{steps_with_settings}
 
@@ -96,7 +96,7 @@ module _ (free : Component → Bool) (all : List Component) (low high c : Config
   pub class_held : (entries : List Entry) (move : Move)
       → IsHeld free all entries (step_with (settings_of low) move).1 (step_with (settings_of high) move).1
       → IsCovered entries (step_with (settings_of c) move).1
-  class_held entries move held = result_covered free all low high c are of_class entries move held
+  class_held entries move held = held (step_with (settings_of c) move).1 (result_between free all low high c are of_class move)
 
   covered_too : (script : Script) (entries : List Entry)
       → ((s : ℕ) (one other : Step) → slice_get (steps_of script low) s ≡ Some one → slice_get (steps_of script high) s ≡ Some other

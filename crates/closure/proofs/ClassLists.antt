@@ -1,6 +1,7 @@
 -- Components of a list that were looked at so far, and all of them.
 use Rattle.std.proofs.Common.{◌≡◌, ◌∙◌, ◌⊎◌, inl, inr, ℕ, zero, suc, ◌+◌, ◌<◌, ◌≤◌, ◌∷◌, [], List, length, take, refl, sym, ap, subst, arith, add-one, Contains}
 use Rattle.std.specs.List.{slice_index_or}
+use Rattle.mg_model.specs.Entries.{Component}
 use Rattle.entry_table.specs.declared.component.Component as declared
 use Rattle.entry_table.specs.Shown.{shown, shown_all}
 
@@ -16,6 +17,12 @@ member_of_more (x ∷ xs) (suc i) y (suc k, lt, is) = elim (member_of_more xs i 
   | inr h ↦ inr (omega (arith, h.0), h.1)
 ]
 
+-- what a list has at a place
+pub same_at : {X : Type 0} (xs : List X) (k : ℕ) (a b : X) → k < length xs → slice_index_or xs k a ≡ a → slice_index_or xs k b ≡ b → a ≡ b
+same_at [] k a b lt one other = absurd (omega (arith, lt))
+same_at (z ∷ xs) zero a b lt one other = sym one ∙ other
+same_at (z ∷ xs) (suc k) a b lt one other = same_at xs k a b (omega (arith, lt)) one other
+
 -- what holds of each member of the first few, and of one more
 pub few_and_one : {X : Type 0} (P : X → Type 0) (xs : List X) (i : ℕ) (x : X) → slice_index_or xs i x ≡ x → i < length xs
     → ((y : X) → Contains (take i xs) y → P y) → P x → (y : X) → Contains (take (i + 1) xs) y → P y
@@ -24,11 +31,6 @@ few_and_one P xs i x is within few one y has =
       | inl h ↦ few y h
       | inr h ↦ subst P (same_at xs i x y within is h.1) one
     ]
-  where
-    same_at : {Y : Type 0} (ys : List Y) (k : ℕ) (a b : Y) → k < length ys → slice_index_or ys k a ≡ a → slice_index_or ys k b ≡ b → a ≡ b
-    same_at [] k a b lt one other = absurd (omega (arith, lt))
-    same_at (z ∷ ys) zero a b lt one other = sym one ∙ other
-    same_at (z ∷ ys) (suc k) a b lt one other = same_at ys k a b (omega (arith, lt)) one other
 
 pub none_of_few : {X : Type 0} (P : X → Type 0) (xs : List X) (y : X) → Contains (take 0 xs) y → P y
 none_of_few P [] y has = absurd (omega (arith, has.1))
@@ -55,3 +57,12 @@ as_many (x ∷ items) = ap suc (as_many items)
 pub shown_among : (items : List declared.Component) (i : ℕ) (x : declared.Component) → i < length items → slice_index_or items i x ≡ x
     → Contains (shown_all items) (shown x)
 shown_among items i x lt is = (i, omega (arith, lt, as_many items), shown_at items i x lt is)
+
+-- what a component at a place is shown by
+pub code_at : (items : List declared.Component) (n : ℕ) (x : Component) → n < length (shown_all items) → slice_index_or (shown_all items) n x ≡ x
+    → (y : declared.Component) × ((n < length items) × ((slice_index_or items n y ≡ y) × (shown y ≡ x)))
+code_at [] n x lt is = absurd (omega (arith, lt))
+code_at (y ∷ items) zero x lt is = (y, (omega arith, (refl, is)))
+code_at (y ∷ items) (suc n) x lt is =
+    let there = code_at items n x (omega (arith, lt)) is in
+    (there.0, (omega (arith, there.1.0), there.1.1))

@@ -54,16 +54,16 @@ given_here : {A : Type 0} (Q : A → Type 0) (here : Bool) (v w x y : A) → (he
 given_here Q true v w x y free was = inr (free refl)
 given_here Q false v w x y free was = was
 
-same_termination : (t u : Termination) → is_same t u ≡ true → t ≡ u
+pub same_termination : (t u : Termination) → is_same t u ≡ true → t ≡ u
 same_termination (Line i) (Line j) same = ap (λ (n : ℕ). Line n) (grind (arith, same))
 same_termination (Line i) (Ephemeral j) same = absurd (cc (same))
 same_termination (Ephemeral i) (Line j) same = absurd (cc (same))
 same_termination (Ephemeral i) (Ephemeral j) same = ap (λ (n : ℕ). Ephemeral n) (grind (arith, same))
 
-same_number : (m n : ℕ) → (m == n) ≡ true → m ≡ n
+pub same_number : (m n : ℕ) → (m == n) ≡ true → m ≡ n
 same_number m n same = grind (arith, same)
 
-both_true : (a b : Bool) → (a && b) ≡ true → (a ≡ true) × (b ≡ true)
+pub both_true : (a b : Bool) → (a && b) ≡ true → (a ≡ true) × (b ≡ true)
 both_true true true both = (refl, refl)
 both_true true false both = absurd (cc (both))
 both_true false b both = absurd (cc (both))

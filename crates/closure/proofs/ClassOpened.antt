@@ -1,17 +1,17 @@
 -- Components that are opened, or given their last value, one after another.
-use Rattle.std.proofs.Common.{◌≡◌, ◌∙◌, ◌⊎◌, inr, ℕ, ◌+◌, ◌-◌, ◌<◌, ◌&&◌, Bool, true, false, if◌then◌else◌, List, length, take, refl, sym, ap, subst, Contains}
-use Rattle.std.specs.List.{slice_index_or}
+use Rattle.std.proofs.Common.{◌≡◌, ◌∙◌, ◌⊎◌, inr, ℕ, zero, suc, ◌+◌, ◌-◌, ◌<◌, ◌&&◌, ◌||◌, ◌∷◌, [], Bool, true, false, if◌then◌else◌, List, length, take, refl, sym, ap, subst, arith, Contains}
+use Rattle.std.specs.List.{fold, slice_index_or}
 use Rattle.std.proofs.lemmas.Bool.{eq-eqb}
 use Rattle.mg_names.specs.declared.modes.Mode.{Mode}
-use Rattle.mg_names.specs.declared.modes.Mode.TheVariants.{SendReceive}
 use Rattle.mg_model.specs.declared.commands.Termination.{Termination}
 use Rattle.mg_model.specs.declared.commands.Termination.TheVariants.{Line, Ephemeral}
 use Rattle.mg_model.specs.Configuration.{Configuration, is_same}
 use Rattle.mg_model.specs.Entries.{Component, choices_of, same_choice, links, spots, modes, events, plays, contexts, remotes, cuts}
+use Rattle.mg_model.specs.Paths.{passes_in, passes_out}
 use Rattle.closure.specs.Settings.{settings_of, with_settings}
-use Rattle.closure.specs.Classes.{IsOfClass, IsOpen, freely_opened_by, is_free, opened_by, raised_by}
+use Rattle.closure.specs.Classes.{IsOfClass, IsOpen, PassesToo, freely_opened_by, is_free, mode_of, opened_by, raised_by, wider}
 use Rattle.closure.proofs.ClassLists.{few_and_one}
-use Rattle.closure.proofs.ClassMembers.{class_raised}
+use Rattle.closure.proofs.ClassMembers.{class_raised, same_termination}
 
 -- what holds of both, of the first where a test says so, holds of the one that the test takes
 when_chosen : {X : Type 0} (P : X → Type 0) (test : Bool) (x y : X) → (test ≡ true → P x) → P y → P (if test then x else y)
@@ -38,16 +38,68 @@ given_or : {A : Type 0} (test : Bool) (v w y : A) → (w ≡ y) ⊎ (w ≡ v) �
 given_or true v w y was = inr refl
 given_or false v w y was = was
 
+-- ---- modes by which media passes wherever it passes by others
+
+or_first : (p q : Bool) → p ≡ true → (p || q) ≡ true
+or_first true q is = refl
+or_first false q is = absurd (cc (is))
+
+or_second : (p q : Bool) → q ≡ true → (p || q) ≡ true
+or_second true q is = refl
+or_second false q is = is
+
+in_of : (p q : Bool) → p ≡ true → passes_in (mode_of p q) ≡ true
+in_of true true is = refl
+in_of true false is = refl
+in_of false q is = absurd (cc (is))
+
+out_of : (p q : Bool) → q ≡ true → passes_out (mode_of p q) ≡ true
+out_of true true is = refl
+out_of false true is = refl
+out_of p false is = absurd (cc (is))
+
+wider_first : (one other : Mode) → PassesToo one (wider one other)
+wider_first one other = (
+  λ passes. in_of (passes_in one || passes_in other) (passes_out one || passes_out other) (or_first (passes_in one) (passes_in other) passes),
+  λ passes. out_of (passes_in one || passes_in other) (passes_out one || passes_out other) (or_first (passes_out one) (passes_out other) passes),
+)
+
+wider_second : (one other : Mode) → PassesToo other (wider one other)
+wider_second one other = (
+  λ passes. in_of (passes_in one || passes_in other) (passes_out one || passes_out other) (or_second (passes_in one) (passes_in other) passes),
+  λ passes. out_of (passes_in one || passes_in other) (passes_out one || passes_out other) (or_second (passes_out one) (passes_out other) passes),
+)
+
+passes_through : (one two three : Mode) → PassesToo one two → PassesToo two three → PassesToo one three
+passes_through one two three first second = (λ passes. second.0 (first.0 passes), λ passes. second.1 (first.1 passes))
+
+widest_too : (values : List Mode) (mode : Mode) → PassesToo mode (fold wider mode values)
+widest_too [] mode = (λ passes. passes, λ passes. passes)
+widest_too (v ∷ values) mode =
+    passes_through mode (wider mode v) (fold wider (wider mode v) values) (wider_first mode v) (widest_too values (wider mode v))
+
+widest_of : (values : List Mode) (mode one : Mode) → Contains values one → PassesToo one (fold wider mode values)
+widest_of [] mode one has = absurd (omega (arith, has.1))
+widest_of (v ∷ values) mode one (zero, lt, is) =
+    subst (λ (m : Mode). PassesToo m (fold wider (wider mode v) values)) is
+    (passes_through v (wider mode v) (fold wider (wider mode v) values) (wider_second mode v) (widest_too values (wider mode v)))
+widest_of (v ∷ values) mode one (suc k, lt, is) = widest_of values (wider mode v) one (k, omega (arith, lt), is)
+
+if_wider : (here : Bool) (mode wide : Mode) → (here ≡ true → PassesToo mode wide) → PassesToo mode (if here then wide else mode)
+if_wider true mode wide one = one refl
+if_wider false mode wide one = (λ passes. passes, λ passes. passes)
+
 module _ (c : Configuration) where
-  still_mode : (x : Component) (t : Termination) → c.mode t ≡ SendReceive → (opened_by x c).mode t ≡ SendReceive
-  still_mode (modes u values) t was = ap (λ (m : Mode). if is_same t u then SendReceive else m) was ∙ if_same (is_same t u) SendReceive
-  still_mode (links values) t was = was
-  still_mode (spots u values) t was = was
-  still_mode (events i values) t was = was
-  still_mode (plays i values) t was = was
-  still_mode (contexts j values) t was = was
-  still_mode (remotes k values) t was = was
-  still_mode (cuts u v values) t was = was
+  opened_mode : (x : Component) (t : Termination) → PassesToo (c.mode t) ((opened_by x c).mode t)
+  opened_mode (modes u values) t = if_wider (is_same t u) (c.mode t) (fold wider (c.mode u) values)
+      (λ here. subst (λ (s : Termination). PassesToo (c.mode s) (fold wider (c.mode u) values)) (sym (same_termination t u here)) (widest_too values (c.mode u)))
+  opened_mode (links values) t = (λ passes. passes, λ passes. passes)
+  opened_mode (spots u values) t = (λ passes. passes, λ passes. passes)
+  opened_mode (events i values) t = (λ passes. passes, λ passes. passes)
+  opened_mode (plays i values) t = (λ passes. passes, λ passes. passes)
+  opened_mode (contexts j values) t = (λ passes. passes, λ passes. passes)
+  opened_mode (remotes k values) t = (λ passes. passes, λ passes. passes)
+  opened_mode (cuts u v values) t = (λ passes. passes, λ passes. passes)
 
   still_uncut : (x : Component) (t u : Termination) → c.cut t u ≡ false → (opened_by x c).cut t u ≡ false
   still_uncut (cuts s v values) t u was = ap (λ (b : Bool). if is_same t s && is_same u v then false else b) was ∙ if_same (is_same t s && is_same u v) false
@@ -58,17 +110,6 @@ module _ (c : Configuration) where
   still_uncut (plays i values) t u was = was
   still_uncut (contexts j values) t u was = was
   still_uncut (remotes k values) t u was = was
-
-  mode_or : (low : Configuration) (x : Component) (t : Termination) → (c.mode t ≡ low.mode t) ⊎ (c.mode t ≡ SendReceive)
-      → ((opened_by x c).mode t ≡ low.mode t) ⊎ ((opened_by x c).mode t ≡ SendReceive)
-  mode_or low (modes u values) t was = given_or (is_same t u) SendReceive (c.mode t) (low.mode t) was
-  mode_or low (links values) t was = was
-  mode_or low (spots u values) t was = was
-  mode_or low (events i values) t was = was
-  mode_or low (plays i values) t was = was
-  mode_or low (contexts j values) t was = was
-  mode_or low (remotes k values) t was = was
-  mode_or low (cuts u v values) t was = was
 
   cut_or : (low : Configuration) (x : Component) (t u : Termination) → (c.cut t u ≡ low.cut t u) ⊎ (c.cut t u ≡ false)
       → ((opened_by x c).cut t u ≡ low.cut t u) ⊎ ((opened_by x c).cut t u ≡ false)
@@ -98,18 +139,19 @@ module _ (placed : Configuration) (all : List Component) (i : ℕ) (low c : Conf
   open_one = record {
     alike = when_chosen (λ (d : Configuration). d ≡ with_settings low (settings_of d)) (is_free placed x) (opened_by x c) c
         (λ free. alike_still c low x so_far.alike) so_far.alike;
-    mode = λ t. when_chosen (λ (d : Configuration). (d.mode t ≡ low.mode t) ⊎ (d.mode t ≡ SendReceive)) (is_free placed x) (opened_by x c) c
-        (λ free. mode_or c low x t (so_far.mode t)) (so_far.mode t);
+    mode = λ t. when_chosen (λ (d : Configuration). PassesToo (low.mode t) (d.mode t)) (is_free placed x) (opened_by x c) c
+        (λ free. passes_through (low.mode t) (c.mode t) ((opened_by x c).mode t) (so_far.mode t) (opened_mode c x t)) (so_far.mode t);
     cut = λ t u. when_chosen (λ (d : Configuration). (d.cut t u ≡ low.cut t u) ⊎ (d.cut t u ≡ false)) (is_free placed x) (opened_by x c) c
         (λ free. cut_or c low x t u (so_far.cut t u)) (so_far.cut t u);
-    free_mode = λ t values has free. few_and_one
-        (λ (y : Component). y ≡ modes t values → (freely_opened_by placed x c).mode t ≡ SendReceive) all i x is within
-        (λ y among same. when_chosen (λ (d : Configuration). d.mode t ≡ SendReceive) (is_free placed x) (opened_by x c) c
-        (λ opens. still_mode c x t (so_far.free_mode t values (subst (λ (z : Component). Contains (take i all) z) same among) free))
-        (so_far.free_mode t values (subst (λ (z : Component). Contains (take i all) z) same among) free))
-        (λ same. subst (λ (z : Component). (freely_opened_by placed z c).mode t ≡ SendReceive) (sym same)
-        (subst (λ (b : Bool). (if b then opened_by (modes t values) c else c).mode t ≡ SendReceive) (sym free)
-        (ap (λ (b : Bool). if b then SendReceive else c.mode t) (same_as_itself t))))
+    free_mode = λ t values has free one listed. few_and_one
+        (λ (y : Component). y ≡ modes t values → PassesToo one ((freely_opened_by placed x c).mode t)) all i x is within
+        (λ y among same. let was : PassesToo one (c.mode t) =
+        so_far.free_mode t values (subst (λ (z : Component). Contains (take i all) z) same among) free one listed in
+        when_chosen (λ (d : Configuration). PassesToo one (d.mode t)) (is_free placed x) (opened_by x c) c
+        (λ opens. passes_through one (c.mode t) ((opened_by x c).mode t) was (opened_mode c x t)) was)
+        (λ same. subst (λ (z : Component). PassesToo one ((freely_opened_by placed z c).mode t)) (sym same)
+        (subst (λ (b : Bool). PassesToo one ((if b then opened_by (modes t values) c else c).mode t)) (sym free)
+        (subst (λ (b : Bool). PassesToo one (if b then fold wider (c.mode t) values else c.mode t)) (sym (same_as_itself t)) (widest_of values (c.mode t) one listed))))
         (modes t values) has refl;
     free_cut = λ t u values has free. few_and_one
         (λ (y : Component). y ≡ cuts t u values → (freely_opened_by placed x c).cut t u ≡ false) all i x is within

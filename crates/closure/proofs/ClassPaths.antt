@@ -1,8 +1,6 @@
 -- Where media passes wherever it passes in one of a class, each path of the others is a path.
-use Rattle.std.proofs.Common.{◌≡◌, ◌∙◌, ℕ, Bool, true, not, ◌&&◌, List, [], ◌∷◌, inl, inr, refl, sym, ap, subst}
+use Rattle.std.proofs.Common.{◌≡◌, ◌∙◌, ℕ, Bool, true, not, ◌&&◌, List, [], ◌∷◌, inl, inr, sym, ap, subst}
 use Rattle.std.proofs.lemmas.Bool.{and_from}
-use Rattle.mg_names.specs.declared.modes.Mode.{Mode}
-use Rattle.mg_names.specs.declared.modes.Mode.TheVariants.{SendReceive}
 use Rattle.mg_model.specs.declared.commands.Termination.{Termination}
 use Rattle.mg_model.specs.declared.commands.Termination.TheVariants.{Line, Ephemeral}
 use Rattle.mg_model.specs.Script.{Script}
@@ -56,14 +54,16 @@ module _ (c : Configuration) (s wide : Settings) (wider : IsWider s wide) where
 
 module _ (free : Component → Bool) (all : List Component) (low widest c : Configuration) (opens : IsOpen free all low widest)
     (of_class : IsOfClass free all low c) where
-  -- a test that SendReceive passes
-  mode_too : (test : Mode → Bool) → test SendReceive ≡ true → (t : Termination) → test (c.mode t) ≡ true → test (widest.mode t) ≡ true
-  mode_too test passes t passed = elim (of_class.mode t) [
-    | inr given ↦ ap test (opens.free_mode t given.0 given.1.0 given.1.1.0) ∙ passes
-    | inl same ↦ elim (opens.mode t) [
-      | inl also ↦ ap test (also ∙ sym same) ∙ passed
-      | inr both_ways ↦ ap test both_ways ∙ passes
-    ]
+  into_too : (t : Termination) → passes_in (c.mode t) ≡ true → passes_in (widest.mode t) ≡ true
+  into_too t passes = elim (of_class.mode t) [
+    | inl same ↦ (opens.mode t).0 (ap passes_in (sym same) ∙ passes)
+    | inr given ↦ (opens.free_mode t given.0 given.1.0 given.1.1.0 (c.mode t) given.1.1.1).0 passes
+  ]
+
+  out_too : (t : Termination) → passes_out (c.mode t) ≡ true → passes_out (widest.mode t) ≡ true
+  out_too t passes = elim (of_class.mode t) [
+    | inl same ↦ (opens.mode t).1 (ap passes_out (sym same) ∙ passes)
+    | inr given ↦ (opens.free_mode t given.0 given.1.0 given.1.1.0 (c.mode t) given.1.1.1).1 passes
   ]
 
   cut_too : (t u : Termination) → not (c.cut t u) ≡ true → not (widest.cut t u) ≡ true
@@ -79,5 +79,5 @@ module _ (free : Component → Bool) (all : List Component) (low widest c : Conf
   class_marked script marked =
       subst (JoinedAreMarked script) (sym of_class.alike)
       (marked_too low (settings_of c) (settings_of widest)
-      (record { into = mode_too passes_in refl; out_of = mode_too passes_out refl; between = cut_too }) script
+      (record { into = into_too; out_of = out_too; between = cut_too }) script
       (subst (JoinedAreMarked script) opens.alike marked))

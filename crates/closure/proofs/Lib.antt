@@ -19,6 +19,7 @@ pub mod SettingLemmas
 pub mod ClassFormed
 pub mod ClassPaths
 pub mod ClassHeld
+pub mod ClassParts
 pub mod ClassLemmas
 pub mod ClassMembers
 pub mod ClassWalk

@@ -1,18 +1,18 @@
 -- A class of an entry's configurations: those that differ in settings alone that may be anything that the entry allows. What two of
 -- them come to, one with the lowest of these settings and one with the highest, tells what all come to. No public clause speaks of
 -- these words.
-use Rattle.std.specs.Prelude.{◌≡◌, ◌⊎◌, ℕ, ⊤, Some, ◌-◌, Bool, true, false, not, if◌then◌else◌, IsTrue, List, length, Contains}
-use Rattle.std.specs.List.{All, slice_get, slice_index_or}
+use Rattle.std.specs.Prelude.{◌≡◌, ◌⊎◌, ℕ, ⊤, Some, ◌+◌, ◌*◌, ◌-◌, Bool, true, false, not, ◌||◌, if◌then◌else◌, IsTrue, List, length, Contains}
+use Rattle.std.specs.List.{All, fold, slice_get, slice_index_or}
 use Rattle.mg_names.specs.declared.modes.Mode.{Mode}
-use Rattle.mg_names.specs.declared.modes.Mode.TheVariants.{SendReceive}
+use Rattle.mg_names.specs.declared.modes.Mode.TheVariants.{Inactive, SendOnly, ReceiveOnly, SendReceive}
 use Rattle.mg_names.specs.declared.phases.LinkPhase.{LinkPhase}
 use Rattle.mg_names.specs.declared.phases.LinkPhase.TheVariants.{Sent, Answered, Failed, Resting}
 use Rattle.mg_model.specs.declared.commands.EventsName.{EventsName}
 use Rattle.mg_model.specs.declared.commands.Termination.{Termination}
 use Rattle.mg_model.specs.declared.commands.Termination.TheVariants.{Line, Ephemeral}
 use Rattle.mg_model.specs.Configuration.{Configuration, IsWellFormed, is_in, is_present}
-use Rattle.mg_model.specs.Entries.{Entry, Component, Choice, Allows, choices_of, same_choice, mode_choice, cut_choice, links, spots, modes, events, plays, contexts, remotes, cuts}
-use Rattle.mg_model.specs.Paths.{is_shared}
+use Rattle.mg_model.specs.Entries.{Entry, Component, Choice, Allows, IsCovered, choices_of, same_choice, mode_choice, cut_choice, links, spots, modes, events, plays, contexts, remotes, cuts}
+use Rattle.mg_model.specs.Paths.{is_shared, passes_in, passes_out}
 use Rattle.mg_model.specs.Script.{Script}
 use Rattle.mg_model.specs.Steps.{Step, steps_of}
 use Rattle.closure.specs.Findings.{IsKept}
@@ -89,6 +89,24 @@ is_free c (cuts t u values) = is_shared (c.spot t) (c.spot u)
 abbrev pub IsApart : Configuration → Configuration → Component → Type 0
 IsApart low high component = (Agree low high component → ⊥) × IsIdle low component
 
+-- the number of a termination, and one for what a component gives its values to: components of one setting have one
+abbrev pub termination_number : Termination → ℕ
+termination_number (Line i) = i
+termination_number (Ephemeral k) = 4 + k
+
+abbrev pub setting_number : Component → ℕ
+setting_number (modes t values) = 8 + termination_number t
+setting_number (events i values) = 16 + i
+setting_number (plays i values) = 24 + i
+setting_number (cuts t u values) = 32 + 8 * termination_number t + termination_number u
+setting_number _ = 0
+
+-- a free component that alone gives its values to its setting
+pub record IsSole (free : Component → Bool) (all : List Component) (x : Component) : Type 0 where
+  pub among : Contains all x
+  pub is_free : IsTrue (free x)
+  pub sole : (other : Component) → Contains all other → setting_number other ≡ setting_number x → other ≡ x
+
 -- what the steps of the highest are looked at beside: the entries, what tells which of the entry's components are free, and where the steps
 -- of the lowest lead
 pub record Beside : Type 0 where
@@ -97,9 +115,24 @@ pub record Beside : Type 0 where
   pub all : List Component
   pub lows : List Configuration
 
+-- media passes by a mode wherever it passes by another one
+abbrev pub PassesToo : Mode → Mode → Type 0
+PassesToo mode wide = (passes_in mode ≡ true → passes_in wide ≡ true) × (passes_out mode ≡ true → passes_out wide ≡ true)
+
+-- the mode by which media passes in, and out
+abbrev pub mode_of : Bool → Bool → Mode
+mode_of false false = Inactive
+mode_of false true = SendOnly
+mode_of true false = ReceiveOnly
+mode_of true true = SendReceive
+
+-- that by which it passes wherever it passes by one of two
+abbrev pub wider : Mode → Mode → Mode
+wider one other = mode_of (passes_in one || passes_in other) (passes_out one || passes_out other)
+
 -- media passes for every value of a component
 abbrev pub opened_by : Component → Configuration → Configuration
-opened_by (modes t values) c = mode_choice t SendReceive c
+opened_by (modes t values) c = mode_choice t (fold wider (c.mode t) values) c
 opened_by (cuts t u values) c = cut_choice t u false c
 opened_by _ c = c
 
@@ -126,9 +159,10 @@ module _ (free : Component → Bool) (all : List Component) where
   -- media passes in this one wherever it passes in one of the class
   pub record IsOpen (low opened : Configuration) : Type 0 where
     pub alike : opened ≡ with_settings low (settings_of opened)
-    pub mode : (t : Termination) → (opened.mode t ≡ low.mode t) ⊎ (opened.mode t ≡ SendReceive)
+    pub mode : (t : Termination) → PassesToo (low.mode t) (opened.mode t)
     pub cut : (t u : Termination) → (opened.cut t u ≡ low.cut t u) ⊎ (opened.cut t u ≡ false)
-    pub free_mode : (t : Termination) (values : List Mode) → Contains all (modes t values) → IsTrue (free (modes t values)) → opened.mode t ≡ SendReceive
+    pub free_mode : (t : Termination) (values : List Mode) → Contains all (modes t values) → IsTrue (free (modes t values))
+        → (mode : Mode) → Contains values mode → PassesToo mode (opened.mode t)
     pub free_cut : (t u : Termination) (values : List Bool) → Contains all (cuts t u values) → IsTrue (free (cuts t u values)) → opened.cut t u ≡ false
 
   -- the same of all free components, but where two configurations agree
@@ -136,8 +170,22 @@ module _ (free : Component → Bool) (all : List Component) where
   AreEvery entry low high = (component : Component) → Contains all component → IsTrue (free component)
       → Agree low high component ⊎ IsEvery entry low component
 
-  -- what a step makes of the lowest and of the highest is in one entry, and in each free component that it left as it was, every value is
-  pub record IsHeld (entries : List Entry) (low high : Configuration) : Type 0 where
+  -- a configuration between two that differ in settings alone: each setting is as in the low one, or has what a free component gives it where they
+  -- differ
+  pub record IsBetween (low high c : Configuration) : Type 0 where
+    pub alike : c ≡ with_settings low (settings_of c)
+    pub beside : high ≡ with_settings low (settings_of high)
+    pub mode : (t : Termination) → (c.mode t ≡ low.mode t) ⊎ ((low.mode t ≡ high.mode t → ⊥) × FreeMode free all t (c.mode t))
+    pub events : (i : ℕ) → (c.events i ≡ low.events i) ⊎ ((low.events i ≡ high.events i → ⊥) × FreeEvents free all i (c.events i))
+    pub plays : (i : ℕ) → (c.plays i ≡ low.plays i) ⊎ ((low.plays i ≡ high.plays i → ⊥) × FreePlays free all i (c.plays i))
+    pub cut : (t u : Termination) → (c.cut t u ≡ low.cut t u) ⊎ ((low.cut t u ≡ high.cut t u → ⊥) × FreeCut free all t u (c.cut t u))
+
+  -- entries have all that a step makes of a class: of the lowest and of the highest it makes these
+  abbrev pub IsHeld : List Entry → Configuration → Configuration → Type 0
+  IsHeld entries low high = (c : Configuration) → IsBetween low high c → IsCovered entries c
+
+  -- one entry has the lowest, and every value of each free component in which it isn't the highest
+  pub record IsInOne (entries : List Entry) (low high : Configuration) : Type 0 where
     pub low_formed : IsWellFormed low
     pub high_formed : IsWellFormed high
     pub entry : Entry

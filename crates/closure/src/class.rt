@@ -6,8 +6,10 @@ ghost use Rattle.entry_table.specs.Shown.{shown, shown_all};
 ghost use Rattle.closure.specs.Classes.{AreApart, AreHeld, IsApart, IsClassKept, IsOfClass, IsOpen, freely_opened_by, is_free, opened_by, raised_by};
 ghost use Rattle.closure.specs.Walk.{ClassIsPassed};
 
+use crate::agreement::differ;
 use crate::freedom::{Freedom, is_free};
-use crate::held::{differ, is_held};
+use crate::held::is_held;
+use crate::media::widest;
 use crate::obligations::{
     created_are_unbound, ended_is_cleared, joined_are_marked, names_are_live,
 };
@@ -18,7 +20,6 @@ use configuration::config::Config;
 use configuration::well_formed::is_well_formed;
 use entry_table::{Cert, Component};
 use mg_model::steps::StepName;
-use mg_names::modes::Mode;
 use script_table::Script;
 
 /// Gives a configuration the last value of a component, if it is free.
@@ -41,12 +42,15 @@ fn highest(freedom: &Freedom<'_>, low: &Config) -> Config
     high
 }
 
-/// Lets media pass for every value of a component that is free.
+/// Lets media pass wherever it passes for some value of a component that is free.
 fn open(component: &Component, config: &mut Config)
     ensures { configuration_of config.new ≡ opened_by (shown component.now) (configuration_of config.old) }
 {
     match component {
-        Component::Modes(termination, _) => config.set_mode(*termination, Mode::SendReceive),
+        Component::Modes(termination, values) => {
+            let widest = widest(config.mode(*termination), values.as_slice());
+            config.set_mode(*termination, widest);
+        }
         Component::Cuts(source, sink, _) => config.set_cut(*source, *sink, false),
         _ => {}
     }
@@ -100,6 +104,13 @@ fn are_apart(freedom: &Freedom<'_>, low: &Config, high: &Config) -> bool
     true
 }
 
+/// A look whether one entry has all that a step makes of a class takes no longer than a walk over so many of its configurations. So looks that are all in
+/// vain take no longer than the walk behind them.
+const CONFIGURATIONS_A_LOOK: u64 = 4;
+
+/// No entry has more components of several values, since its numbers fit 32 bits.
+const MOST_CUTS: usize = 32;
+
 /// Looks at where the steps of the highest lead, beside those of the lowest, up to the first that doesn't hold.
 #[derive(Drop)]
 struct Pairs<'c, 'f, 'e, 'l> {
@@ -108,9 +119,11 @@ struct Pairs<'c, 'f, 'e, 'l> {
     lows: &'l Results,
     /// How many were looked at.
     at: usize,
+    /// In how many entries may be looked.
+    looks: u64,
 }
 
-/// What a step makes of the class isn't known to be in one entry.
+/// What a step makes of the class isn't known to be in entries.
 #[derive(Debug, Drop)]
 struct Unheld;
 
@@ -135,7 +148,14 @@ impl Visitor for Pairs<'_, '_, '_, '_> {
         let Some(low) = self.lows.get(self.at) else {
             return Err(Unheld);
         };
-        if !is_held(self.cert, self.freedom, &low, leads_to) {
+        if !is_held(
+            self.cert,
+            self.freedom,
+            &low,
+            leads_to,
+            MOST_CUTS,
+            &mut self.looks,
+        ) {
             return Err(Unheld);
         }
         self.at += 1;
@@ -163,6 +183,7 @@ fn are_held(
         freedom,
         lows: &lows,
         at: 0,
+        looks: freedom.class_size() / CONFIGURATIONS_A_LOOK,
     };
     match tell_steps(script, high, &mut pairs) {
         Ok(()) => true,

@@ -7,10 +7,13 @@ ghost use Rattle.closure.specs.Classes.{AreAmong, is_free};
 ghost use Rattle.closure.specs.Walk.{BlockIsPassed, ClassIsPassed};
 
 use crate::class::pass_class;
-use crate::freedom::{Freedom, MANY, Pin, is_free};
+use crate::freedom::{Freedom, is_free};
 use configuration::config::Config;
 use entry_table::{Cert, Component, product_of};
 use script_table::Script;
+
+/// Classes of fewer configurations aren't tried: for each the configurations that stand for it are stepped, and every value of theirs is looked for.
+const MANY: u64 = 256;
 
 /// Passes the classes that the rest of an entry's components make of a configuration, and counts their points; `None` where an obligation of
 /// one of them isn't known to hold.
@@ -44,26 +47,8 @@ fn pass_classes(
     Some(points)
 }
 
-/// How many points some components make of a configuration, where it is known that each obligation of each of them holds with this taken from what
-/// is free, and where classes are so large that it pays to go by them.
-fn decide_with(
-    script: &Script,
-    cert: &Cert,
-    components: &[Component],
-    config: &Config,
-    pin: Pin,
-) -> Option<u64>
-    requires small { size_of (shown_all components.now) < 2 ^ 32 }
-    ensures { IfSome result (λ points. BlockIsPassed script.now cert.now (shown_all components.now) (configuration_of config.now) points) }
-{
-    let freedom = Freedom::of(config, components, pin);
-    if !freedom.is_worth() {
-        return None;
-    }
-    pass_classes(script, cert, &freedom, components, config)
-}
-
-/// The same with whatever it is known with.
+/// How many points some components make of a configuration, where it is known class by class that no obligation is broken, and where classes are so
+/// large that it pays to go by them.
 pub(crate) fn decide(
     script: &Script,
     cert: &Cert,
@@ -76,11 +61,9 @@ pub(crate) fn decide(
     if product_of(components) < MANY {
         return None;
     }
-    for pin in Pin::all() {
-        let found = decide_with(script, cert, components, config, pin);
-        if found.is_some() {
-            return found;
-        }
+    let freedom = Freedom::of(config, components);
+    if freedom.class_size() < MANY {
+        return None;
     }
-    None
+    pass_classes(script, cert, &freedom, components, config)
 }

@@ -1,21 +1,21 @@
 //! Which components of an entry are free: no step asks for their values, and none of them makes a configuration well formed or not. So one
 //! value of theirs tells of all.
-ghost use Rattle.std.specs.Prelude.{◌≡◌};
+ghost use Rattle.std.specs.Prelude.{◌≡◌, ◌<◌, ℕ, IsTrue, IfSome, length};
+ghost use Rattle.std.specs.List.{slice_index_or};
+ghost use Rattle.mg_model.specs.Entries.{Allows};
 ghost use Rattle.mg_model.specs.Paths.{is_shared};
 ghost use Rattle.configuration.specs.Config.{configuration_of};
-ghost use Rattle.entry_table.specs.Shown.{shown};
-ghost use Rattle.closure.specs.Classes.{is_free, is_resting};
+ghost use Rattle.entry_table.specs.Shown.{shown, shown_all};
+ghost use Rattle.entry_table.specs.declared.component.Component.{Component as Code};
+ghost use Rattle.closure.specs.Classes.{IsSole, is_free, is_resting, setting_number};
 
+use crate::agreement::{agree, setting_number};
 use configuration::config::Config;
 use configuration::spots;
 use entry_table::Component;
 use mg_model::commands::Termination;
 use mg_model::components::Spot;
 use mg_names::phases::LinkPhase;
-use mg_names::slots::Slot;
-
-/// Classes of fewer configurations aren't tried: for each the configurations that stand for it are stepped, in as many tries as there are.
-pub(crate) const MANY: u64 = 256;
 
 /// The components of an entry that give its points their values, and a configuration that tells which of them are free.
 #[derive(Drop)]
@@ -65,46 +65,6 @@ pub(crate) fn is_free(config: &Config, component: &Component) -> bool
     }
 }
 
-/// What is taken from free components where an entry of results holds some values alone: the modes of a line, those of all lines, or events lists
-/// and signals.
-#[derive(Clone, Copy, Debug)]
-pub(crate) enum Pin {
-    Nothing,
-    Line(Slot),
-    Lines,
-    Lists,
-}
-
-impl Pin {
-    /// All of them, in the order in which they are tried.
-    pub(crate) fn all() -> [Pin; 7] {
-        let [first, second, third, fourth] = Slot::all();
-        [
-            Pin::Nothing,
-            Pin::Line(first),
-            Pin::Line(second),
-            Pin::Line(third),
-            Pin::Line(fourth),
-            Pin::Lines,
-            Pin::Lists,
-        ]
-    }
-
-    /// Takes it from what is free.
-    fn put(self, placed: &mut Config) {
-        match self {
-            Pin::Nothing => {}
-            Pin::Line(line) => placed.set_spot(Termination::Line(line), Spot::Absent),
-            Pin::Lines => {
-                for line in Slot::all() {
-                    placed.set_spot(Termination::Line(line), Spot::Absent);
-                }
-            }
-            Pin::Lists => placed.set_link(LinkPhase::Resting),
-        }
-    }
-}
-
 /// Where a termination stands, in the configuration that tells which components are free, if a component turns its place: in no context, and an
 /// ephemeral may not be there at all.
 fn turned_spot(termination: &Termination) -> Spot {
@@ -123,27 +83,69 @@ fn unsettle(component: &Component, placed: &mut Config) {
     }
 }
 
+/// Whether a configuration has the first value of a component that is free.
+fn has_first(component: &Component, config: &Config) -> bool
+    ensures { IsTrue result → Allows (configuration_of config.now) (shown component.now) }
+{
+    if component.count() == 0 {
+        return false;
+    }
+    let mut chosen = *config;
+    component.choose(0, &mut chosen);
+    agree(config, &chosen, component)
+}
+
+/// Whether no component but the one at a place gives its values to the setting with a number.
+fn is_sole(components: &[Component], place: usize, number: usize) -> bool
+    ensures { IsTrue result → (n : ℕ) (other : Code) → n < length components.now → slice_index_or components.now n other ≡ other
+        → setting_number (shown other) ≡ number → n ≡ place }
+{
+    for (n, other) in components.iter().enumerate() {
+        if n != place && setting_number(other) == number {
+            return false;
+        }
+    }
+    true
+}
+
 impl<'e> Freedom<'e> {
     /// That of some components, which give a configuration their values.
-    pub(crate) fn of(config: &Config, components: &'e [Component], pin: Pin) -> Freedom<'e>
+    pub(crate) fn of(config: &Config, components: &'e [Component]) -> Freedom<'e>
         ensures { result.components.now ≡ components.now }
     {
         let mut placed = *config;
         for component in components {
             unsettle(component, &mut placed);
         }
-        pin.put(&mut placed);
         Freedom { placed, components }
     }
 
-    /// Whether classes are so large that it pays to go by them.
-    pub(crate) fn is_worth(&self) -> bool {
+    /// How many configurations a class has, or the last number of 64 bits where that is more.
+    pub(crate) fn class_size(&self) -> u64 {
         let mut size: u64 = 1;
         for component in self.components {
             if is_free(&self.placed, component) {
                 size = size.saturating_mul(component.count() as u64);
             }
         }
-        size >= MANY
+        size
+    }
+
+    /// The component at a place, if it is free and no other gives its values to the same setting, and a configuration has the first of them.
+    pub(crate) fn sole_at(&self, place: usize, low: &Config) -> Option<&'e Component>
+        ensures { IfSome result (λ component. IsSole (is_free (configuration_of self.now.placed)) (shown_all self.now.components.now) (shown component.now)
+            × Allows (configuration_of low.now) (shown component.now)) }
+    {
+        let component = self.components.get(place)?;
+        if !is_free(&self.placed, component) {
+            return None;
+        }
+        if !is_sole(self.components, place, setting_number(component)) {
+            return None;
+        }
+        if !has_first(component, low) {
+            return None;
+        }
+        Some(component)
     }
 }

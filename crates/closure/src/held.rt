@@ -1,57 +1,14 @@
-//! Whether what a step makes of a whole class is in one entry, by what it makes of the lowest and of the highest of the class.
-ghost use Rattle.std.specs.Prelude.{◌≡◌, ◌⊎◌, false, IsTrue};
+//! Whether what a step makes of a whole class is in entries, by what it makes of the lowest and of the highest of the class: all in one, or in parts.
+ghost use Rattle.std.specs.Prelude.{◌⊎◌, IsTrue, IfNone, OnOk};
 ghost use Rattle.configuration.specs.Config.{configuration_of};
 ghost use Rattle.entry_table.specs.Shown.{shown, shown_all};
-ghost use Rattle.closure.specs.Classes.{Agree, AreEvery, IsEvery, IsHeld, is_free};
+ghost use Rattle.closure.specs.Classes.{Agree, AreEvery, IsEvery, IsHeld, IsInOne, is_free};
 
+use crate::agreement::agree;
 use crate::freedom::{Freedom, is_free};
 use configuration::config::Config;
 use configuration::well_formed::is_well_formed;
 use entry_table::{Cert, Component, Entry};
-use mg_model::commands::EventsName;
-use mg_names::modes::Mode;
-
-/// Whether two modes are one.
-fn is_same_mode(one: Mode, other: Mode) -> bool
-    ensures same { IsTrue result → one ≡ other }
-    ensures apart { result ≡ false → one ≡ other → ⊥ }
-{
-    one == other
-}
-
-/// Whether two events lists are one.
-fn is_same_list(one: EventsName, other: EventsName) -> bool
-    ensures same { IsTrue result → one ≡ other }
-    ensures apart { result ≡ false → one ≡ other → ⊥ }
-{
-    one == other
-}
-
-/// Whether two configurations have one value of a component that may be free.
-pub(crate) fn agree(one: &Config, other: &Config, component: &Component) -> bool
-    ensures same { IsTrue result → Agree (configuration_of one.now) (configuration_of other.now) (shown component.now) }
-{
-    match component {
-        Component::Modes(t, _) => is_same_mode(one.mode(*t), other.mode(*t)),
-        Component::Events(line, _) => is_same_list(one.events(*line), other.events(*line)),
-        Component::Plays(line, _) => one.plays(*line) == other.plays(*line),
-        Component::Cuts(t, u, _) => one.cut(*t, *u) == other.cut(*t, *u),
-        _ => false,
-    }
-}
-
-/// Whether two configurations have different values of a component that may be free.
-pub(crate) fn differ(one: &Config, other: &Config, component: &Component) -> bool
-    ensures { IsTrue result → Agree (configuration_of one.now) (configuration_of other.now) (shown component.now) → ⊥ }
-{
-    match component {
-        Component::Modes(t, _) => !is_same_mode(one.mode(*t), other.mode(*t)),
-        Component::Events(line, _) => !is_same_list(one.events(*line), other.events(*line)),
-        Component::Plays(line, _) => one.plays(*line) != other.plays(*line),
-        Component::Cuts(t, u, _) => one.cut(*t, *u) != other.cut(*t, *u),
-        _ => false,
-    }
-}
 
 /// Whether an entry allows a configuration with every value of a component in it.
 fn allows_every(entry: &Entry, component: &Component, config: &Config) -> bool
@@ -87,35 +44,94 @@ fn is_allowed(
     allows_every(entry, component, low)
 }
 
-/// The same of all components.
-fn are_allowed(entry: &Entry, freedom: &Freedom<'_>, low: &Config, high: &Config) -> bool
-    ensures { IsTrue result → AreEvery (is_free (configuration_of freedom.now.placed)) (shown_all freedom.now.components.now) entry.now
+/// The place of the first component of which that doesn't hold.
+fn first_not_allowed(
+    entry: &Entry,
+    freedom: &Freedom<'_>,
+    low: &Config,
+    high: &Config,
+) -> Option<usize>
+    ensures { IfNone result (AreEvery (is_free (configuration_of freedom.now.placed)) (shown_all freedom.now.components.now) entry.now
+        (configuration_of low.now) (configuration_of high.now)) }
+{
+    for (place, component) in freedom.components.iter().enumerate() {
+        if !is_allowed(entry, freedom, component, low, high) {
+            return Some(place);
+        }
+    }
+    None
+}
+
+/// Why it isn't known that one entry has all that a step makes of a class.
+#[derive(Clone, Copy, Debug, Drop)]
+enum Unheld {
+    /// No entry has the lowest of it, or it isn't well formed.
+    Nowhere,
+    /// The entry that has the lowest doesn't have every value of the component at this place.
+    Parted(usize),
+}
+
+/// Looks whether the first entry that has the lowest of what a step makes of a class has all of that.
+fn look_in_one(
+    cert: &Cert,
+    freedom: &Freedom<'_>,
+    low: &Config,
+    high: &Config,
+) -> Result<(), Unheld>
+    ensures { OnOk result (IsInOne (is_free (configuration_of freedom.now.placed)) (shown_all freedom.now.components.now) cert.now
+        (configuration_of low.now) (configuration_of high.now)) }
+{
+    if !is_well_formed(low) {
+        return Err(Unheld::Nowhere);
+    }
+    if !is_well_formed(high) {
+        return Err(Unheld::Nowhere);
+    }
+    let Some(place) = cert.place_of(low) else {
+        return Err(Unheld::Nowhere);
+    };
+    let Some(entry) = cert.entries().get(place) else {
+        return Err(Unheld::Nowhere);
+    };
+    match first_not_allowed(entry, freedom, low, high) {
+        Some(place) => Err(Unheld::Parted(place)),
+        None => Ok(()),
+    }
+}
+
+/// Whether entries have all that a step makes of a class: one has all, or after so many cuts at most, each by the values of a component that the step left
+/// as it was, one has all of each part. It fails too where so many looks weren't enough.
+pub(crate) fn is_held(
+    cert: &Cert,
+    freedom: &Freedom<'_>,
+    low: &Config,
+    high: &Config,
+    cuts: usize,
+    looks: &mut u64,
+) -> bool
+    ensures { IsTrue result → IsHeld (is_free (configuration_of freedom.now.placed)) (shown_all freedom.now.components.now) cert.now
         (configuration_of low.now) (configuration_of high.now) }
 {
-    for component in freedom.components {
-        if !is_allowed(entry, freedom, component, low, high) {
+    if cuts == 0 || *looks == 0 {
+        return false;
+    }
+    *looks -= 1;
+    let place = match look_in_one(cert, freedom, low, high) {
+        Ok(()) => return true,
+        Err(Unheld::Nowhere) => return false,
+        Err(Unheld::Parted(place)) => place,
+    };
+    let Some(component) = freedom.sole_at(place, low) else {
+        return false;
+    };
+    for value in 0..component.count() {
+        let mut part_low = *low;
+        let mut part_high = *high;
+        component.choose(value, &mut part_low);
+        component.choose(value, &mut part_high);
+        if !is_held(cert, freedom, &part_low, &part_high, cuts - 1, looks) {
             return false;
         }
     }
     true
-}
-
-/// Whether the first entry that has the lowest of what a step makes of a class has all of that.
-pub(crate) fn is_held(cert: &Cert, freedom: &Freedom<'_>, low: &Config, high: &Config) -> bool
-    ensures { IsTrue result → IsHeld (is_free (configuration_of freedom.now.placed)) (shown_all freedom.now.components.now) cert.now
-        (configuration_of low.now) (configuration_of high.now) }
-{
-    if !is_well_formed(low) {
-        return false;
-    }
-    if !is_well_formed(high) {
-        return false;
-    }
-    let Some(place) = cert.place_of(low) else {
-        return false;
-    };
-    match cert.entries().get(place) {
-        Some(entry) => are_allowed(entry, freedom, low, high),
-        None => false,
-    }
 }

@@ -6,10 +6,10 @@ use Rattle.mg_model.specs.Entries.{Entry}
 use Rattle.configuration.specs.Config.{configuration_of}
 use Rattle.entry_table.specs.Shown.{shown_all}
 use Rattle.closure.specs.Classes.{AreEvery, is_free}
-use Rattle.closure.proofs.held.is_held.Goals as goal
+use Rattle.closure.proofs.held.look_in_one.Goals as goal
 
-pub returns-in-Some-get : goal.returns-in-Some-get
-returns-in-Some-get c holds =
+pub returns-in-None : goal.returns-in-None
+returns-in-None c =
     let entries : List Entry = c.args.cert.now in
     let place = c.in-Some.place in
     let entry : Entry = c.in-Some.ensures.has.0 in
@@ -26,5 +26,5 @@ returns-in-Some-get c holds =
       state = includes.0;
       allowed = includes.2;
       every = subst (λ (e : Entry). AreEvery (is_free (configuration_of c.args.freedom.now.placed)) (shown_all c.args.freedom.now.components.now) e
-          (configuration_of c.args.low.now) (configuration_of c.args.high.now)) same (c.are_allowed.ensures holds);
+          (configuration_of c.args.low.now) (configuration_of c.args.high.now)) same c.in-None.ensures;
     }

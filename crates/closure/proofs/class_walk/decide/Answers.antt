@@ -2,7 +2,7 @@
 use Rattle.configuration.specs.Config.{configuration_of}
 use Rattle.entry_table.specs.Shown.{shown_all}
 use Rattle.closure.proofs.ClassWalk.{block_passed}
-use Rattle.closure.proofs.class_walk.decide_with.Goals as goal
+use Rattle.closure.proofs.class_walk.decide.Goals as goal
 
 pub returns : goal.returns
 returns c =
