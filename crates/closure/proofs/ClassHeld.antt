@@ -48,25 +48,25 @@ module _ (free : Component → Bool) (all : List Component) where
   -- ---- what a step makes of one of a class is between what it makes of the lowest and of the highest
 
   module _ (low high c : Configuration) (are : AreApart free all low high) (of_class : IsOfClass free all low c) where
-    mode_between : (t : Termination) → (c.mode t ≡ low.mode t) ⊎ ((low.mode t ≡ high.mode t → ⊥) × FreeMode free all t (c.mode t))
+    pub mode_between : (t : Termination) → (c.mode t ≡ low.mode t) ⊎ ((low.mode t ≡ high.mode t → ⊥) × FreeMode free all t (c.mode t))
     mode_between t = elim (of_class.mode t) [
       | inl same ↦ inl same
       | inr given ↦ inr (are.apart (modes t given.0) given.1.0 given.1.1.0, given)
     ]
 
-    events_between : (i : ℕ) → (c.events i ≡ low.events i) ⊎ ((low.events i ≡ high.events i → ⊥) × FreeEvents free all i (c.events i))
+    pub events_between : (i : ℕ) → (c.events i ≡ low.events i) ⊎ ((low.events i ≡ high.events i → ⊥) × FreeEvents free all i (c.events i))
     events_between i = elim (of_class.events i) [
       | inl same ↦ inl same
       | inr given ↦ inr (are.apart (events i given.0) given.1.0 given.1.1.0, given)
     ]
 
-    plays_between : (i : ℕ) → (c.plays i ≡ low.plays i) ⊎ ((low.plays i ≡ high.plays i → ⊥) × FreePlays free all i (c.plays i))
+    pub plays_between : (i : ℕ) → (c.plays i ≡ low.plays i) ⊎ ((low.plays i ≡ high.plays i → ⊥) × FreePlays free all i (c.plays i))
     plays_between i = elim (of_class.plays i) [
       | inl same ↦ inl same
       | inr given ↦ inr (are.apart (plays i given.0) given.1.0 given.1.1.0, given)
     ]
 
-    cut_between : (t u : Termination) → (c.cut t u ≡ low.cut t u) ⊎ ((low.cut t u ≡ high.cut t u → ⊥) × FreeCut free all t u (c.cut t u))
+    pub cut_between : (t u : Termination) → (c.cut t u ≡ low.cut t u) ⊎ ((low.cut t u ≡ high.cut t u → ⊥) × FreeCut free all t u (c.cut t u))
     cut_between t u = elim (of_class.cut t u) [
       | inl same ↦ inl same
       | inr given ↦ inr (are.apart (cuts t u given.0) given.1.0 given.1.1.0, given)

@@ -1,8 +1,9 @@
 -- What the lowest and the highest of a class come to tells what each of the class comes to.
-use Rattle.std.proofs.Common.{◌≡◌, ◌∙◌, ◌↔◌, ℕ, Bool, true, false, List, map, Option, Some, None, option_map, inl, inr, refl, sym, ap, subst}
+use Rattle.std.proofs.Common.{◌≡◌, ◌∙◌, ◌↔◌, ℕ, Bool, true, false, IsTrue, List, map, Option, Some, None, option_map, inl, inr, refl, sym, ap, subst}
 use Rattle.std.specs.List.{slice_get, list_all}
 use Rattle.std.proofs.lemmas.Option.{slice_get-map}
-use Rattle.mg_names.specs.declared.phases.LinkPhase.TheVariants.{Resting}
+use Rattle.mg_names.specs.declared.phases.LinkPhase.{LinkPhase}
+use Rattle.mg_names.specs.declared.phases.LinkPhase.TheVariants.{Sent, Answered, Failed, Resting}
 use Rattle.mg_model.specs.declared.commands.Command.{Command}
 use Rattle.mg_model.specs.declared.commands.Command.TheVariants.{AddLine, AddEphemeral, ModifyLine, ModifyEphemeral, MoveLine, MoveEphemeral, Subtract, SubtractAll, SetTopology}
 use Rattle.mg_model.specs.declared.commands.EventsName.{EventsName}
@@ -15,10 +16,12 @@ use Rattle.mg_model.specs.Steps.{Step, steps_of, creates_unbound, names_unbound}
 use Rattle.mg_model.proofs.Cases.{none_is_some, the_some}
 use Rattle.closure.specs.Findings.{AreCovered, IsKept}
 use Rattle.closure.specs.Settings.{Settings, Move, settings_of, with_settings, step_with, moves_of}
-use Rattle.closure.specs.Classes.{IsOfClass, AreApart, IsOpen, IsHeld}
+use Rattle.closure.specs.Classes.{IsOfClass, AreApart, AreEndsFixed, AreHeld, AreStepsHeld, IsOpen, IsHeld}
 use Rattle.closure.proofs.ClassFormed.{formed_by_low}
 use Rattle.closure.proofs.ClassHeld.{result_between}
 use Rattle.closure.proofs.ClassPaths.{class_marked}
+use Rattle.closure.proofs.ClassRest.{rest_covered}
+use Rattle.closure.proofs.FindingLemmas.{refuted}
 use Rattle.closure.proofs.SettingLemmas.{steps_with_settings}
 
 -- ---- no test of names asks for settings
@@ -57,38 +60,36 @@ step_of_move v moves steps s move are here =
 
 module _ (free : Component → Bool) (all : List Component) (low high c : Configuration) (are : AreApart free all low high)
     (of_class : IsOfClass free all low c) where
-  -- at rest no events list and no signal is free
-  events_at_rest : (one : Configuration) → IsOfClass free all low one → low.link ≡ Resting → one.events ≡ low.events
-  events_at_rest one of_one rest = λ k i. at i k
-    where
-      at : (i : ℕ) → one.events i ≡ low.events i
-      at i = elim (of_one.events i) [
-        | inl same ↦ same
-        | inr given ↦ absurd (are.idle (events i given.0) given.1.0 given.1.1.0 rest)
-      ]
+  -- where the call has ended no events list and no signal is free
+  module _ (script : Script) (fixed : AreEndsFixed free all script low) (rest : low.link ≡ Resting) (is_end : IsTrue (state_of script low.state).is_end) where
+    list_of_end : (i : ℕ) → c.events i ≡ low.events i
+    list_of_end i = elim (of_class.events i) [
+      | inl same ↦ same
+      | inr given ↦ absurd (refuted (free (events i given.0)) (fixed.events rest is_end i given.0) given.1.1.0)
+    ]
 
-  plays_at_rest : low.link ≡ Resting → (i : ℕ) → c.plays i ≡ low.plays i
-  plays_at_rest rest i = elim (of_class.plays i) [
-    | inl same ↦ same
-    | inr given ↦ absurd (are.idle (plays i given.0) given.1.0 given.1.1.0 rest)
-  ]
+    signal_of_end : (i : ℕ) → c.plays i ≡ low.plays i
+    signal_of_end i = elim (of_class.plays i) [
+      | inl same ↦ same
+      | inr given ↦ absurd (refuted (free (plays i given.0)) (fixed.plays rest is_end i given.0) given.1.1.0)
+    ]
 
-  cleared_too : (script : Script) → EndedIsCleared script low → EndedIsCleared script (with_settings low (settings_of c))
-  cleared_too script cleared rest is_end =
+  cleared_too : (script : Script) → AreEndsFixed free all script low → EndedIsCleared script low → EndedIsCleared script (with_settings low (settings_of c))
+  cleared_too script fixed cleared rest is_end =
       let was = cleared rest is_end in
       record {
         in_null = was.in_null;
-        silent = λ i hi. plays_at_rest rest i ∙ was.silent i hi;
-        armed = λ i hi. ap (λ (list : ℕ → EventsName). is_armed_list (items_of script (list i))) (events_at_rest c of_class rest) ∙ was.armed i hi;
+        silent = λ i hi. signal_of_end script fixed rest is_end i ∙ was.silent i hi;
+        armed = λ i hi. ap (λ (list : EventsName). is_armed_list (items_of script list)) (list_of_end script fixed rest is_end i) ∙ was.armed i hi;
         no_ephemeral = was.no_ephemeral;
       }
 
   live_too : NamesAreLive low → NamesAreLive (with_settings low (settings_of c))
   live_too live used = let was = live used in record { contexts = was.contexts; remotes = was.remotes }
 
-  class_steps : (script : Script) (one : Configuration) → IsOfClass free all low one
+  class_steps : (script : Script) (one : Configuration) → (low.link ≡ Resting → ⊥) → IsOfClass free all low one
       → steps_of script one ≡ map (step_with (settings_of one)) (moves_of script low)
-  class_steps script one of_one = ap (steps_of script) of_one.alike ∙ steps_with_settings script low (settings_of one) (events_at_rest one of_one)
+  class_steps script one moves of_one = ap (steps_of script) of_one.alike ∙ steps_with_settings script low (settings_of one) (λ rest. absurd (moves rest))
 
   pub class_formed : IsWellFormed c ↔ IsWellFormed low
   class_formed = formed_by_low free all low high c are of_class
@@ -98,27 +99,29 @@ module _ (free : Component → Bool) (all : List Component) (low high c : Config
       → IsCovered entries (step_with (settings_of c) move).1
   class_held entries move held = held (step_with (settings_of c) move).1 (result_between free all low high c are of_class move)
 
-  covered_too : (script : Script) (entries : List Entry)
-      → ((s : ℕ) (one other : Step) → slice_get (steps_of script low) s ≡ Some one → slice_get (steps_of script high) s ≡ Some other
-      → IsHeld free all entries one.1 other.1)
-      → AreCovered entries (steps_of script c)
-  covered_too script entries held s step here =
-      let moves = moves_of script low in
-      let found = moved (step_with (settings_of c)) moves s step (sym (ap (λ (steps : List Step). slice_get steps s) (class_steps script c of_class)) ∙ here) in
-      let both = held s (step_with (settings_of low) found.0) (step_with (settings_of high) found.0)
-      (step_of_move (step_with (settings_of low)) moves (steps_of script low) s found.0 (steps_with_settings script low (settings_of low) (λ rest. refl)) found.1.0)
-      (step_of_move (step_with (settings_of high)) moves (steps_of script high) s found.0 (class_steps script high are.of_class) found.1.0) in
-      subst (λ (made : Step). IsCovered entries made.1) found.1.1 (class_held entries found.0 both)
+  module _ (script : Script) (entries : List Entry) where
+    moving_covered : (low.link ≡ Resting → ⊥) → AreHeld free all script entries low high → AreCovered entries (steps_of script c)
+    moving_covered moves held s step here =
+        let all_moves = moves_of script low in
+        let found = moved (step_with (settings_of c)) all_moves s step (sym (ap (λ (steps : List Step). slice_get steps s) (class_steps script c moves of_class)) ∙ here) in
+        let both = held s (step_with (settings_of low) found.0) (step_with (settings_of high) found.0)
+        (step_of_move (step_with (settings_of low)) all_moves (steps_of script low) s found.0 (steps_with_settings script low (settings_of low) (λ rest. refl)) found.1.0)
+        (step_of_move (step_with (settings_of high)) all_moves (steps_of script high) s found.0 (class_steps script high moves are.of_class) found.1.0) in
+        subst (λ (made : Step). IsCovered entries made.1) found.1.1 (class_held entries found.0 both)
 
-  pub class_kept : (script : Script) (entries : List Entry) (opened : Configuration) → IsOpen free all low opened → JoinedAreMarked script opened
-      → EndedIsCleared script low → CreatedAreUnbound script low → NamesAreLive low
-      → ((s : ℕ) (one other : Step) → slice_get (steps_of script low) s ≡ Some one → slice_get (steps_of script high) s ≡ Some other
-      → IsHeld free all entries one.1 other.1)
-      → IsKept script entries c
-  class_kept script entries opened opens marked cleared unbound live held = record {
-    marked = class_marked free all low opened c opens of_class script marked;
-    cleared = subst (EndedIsCleared script) (sym of_class.alike) (cleared_too script cleared);
-    unbound = subst (CreatedAreUnbound script) (sym of_class.alike) (λ sent. names_alike script low (settings_of c) ∙ unbound sent);
-    live = subst NamesAreLive (sym of_class.alike) (live_too live);
-    covered = covered_too script entries held;
-  }
+    all_covered : (link : LinkPhase) → low.link ≡ link → AreStepsHeld free all script entries low high link → AreCovered entries (steps_of script c)
+    all_covered Sent is held = moving_covered (λ rest. cc (sym is ∙ rest)) held
+    all_covered Answered is held = moving_covered (λ rest. cc (sym is ∙ rest)) held
+    all_covered Failed is held = moving_covered (λ rest. cc (sym is ∙ rest)) held
+    all_covered Resting is entered = rest_covered free all low high c are of_class script entries is entered
+
+    pub class_kept : (opened : Configuration) → IsOpen free all low opened → JoinedAreMarked script opened → AreEndsFixed free all script low
+        → EndedIsCleared script low → CreatedAreUnbound script low → NamesAreLive low → AreStepsHeld free all script entries low high low.link
+        → IsKept script entries c
+    class_kept opened opens marked fixed cleared unbound live held = record {
+      marked = class_marked free all low opened c opens of_class script marked;
+      cleared = subst (EndedIsCleared script) (sym of_class.alike) (cleared_too script fixed cleared);
+      unbound = subst (CreatedAreUnbound script) (sym of_class.alike) (λ sent. names_alike script low (settings_of c) ∙ unbound sent);
+      live = subst NamesAreLive (sym of_class.alike) (live_too live);
+      covered = all_covered low.link refl held;
+    }

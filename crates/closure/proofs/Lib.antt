@@ -20,6 +20,7 @@ pub mod ClassFormed
 pub mod ClassPaths
 pub mod ClassHeld
 pub mod ClassParts
+pub mod ClassRest
 pub mod ClassLemmas
 pub mod ClassMembers
 pub mod ClassWalk

@@ -1,8 +1,9 @@
 -- A class of an entry's configurations: those that differ in settings alone that may be anything that the entry allows. What two of
 -- them come to, one with the lowest of these settings and one with the highest, tells what all come to. No public clause speaks of
 -- these words.
-use Rattle.std.specs.Prelude.{◌≡◌, ◌⊎◌, ℕ, ⊤, Some, ◌+◌, ◌*◌, ◌-◌, Bool, true, false, not, ◌||◌, if◌then◌else◌, IsTrue, List, length, Contains}
+use Rattle.std.specs.Prelude.{◌≡◌, ◌⊎◌, ℕ, ◌<◌, ⊤, Option, Some, ◌+◌, ◌*◌, ◌-◌, Bool, true, false, not, ◌||◌, if◌then◌else◌, IsTrue, List, length, Contains}
 use Rattle.std.specs.List.{All, fold, slice_get, slice_index_or}
+use Rattle.mg_names.specs.declared.kinds.Kind.{Kind}
 use Rattle.mg_names.specs.declared.modes.Mode.{Mode}
 use Rattle.mg_names.specs.declared.modes.Mode.TheVariants.{Inactive, SendOnly, ReceiveOnly, SendReceive}
 use Rattle.mg_names.specs.declared.phases.LinkPhase.{LinkPhase}
@@ -14,7 +15,9 @@ use Rattle.mg_model.specs.Configuration.{Configuration, IsWellFormed, is_in, is_
 use Rattle.mg_model.specs.Entries.{Entry, Component, Choice, Allows, IsCovered, choices_of, same_choice, mode_choice, cut_choice, links, spots, modes, events, plays, contexts, remotes, cuts}
 use Rattle.mg_model.specs.Paths.{is_shared, passes_in, passes_out}
 use Rattle.mg_model.specs.Script.{Script}
-use Rattle.mg_model.specs.Steps.{Step, steps_of}
+use Rattle.mg_model.specs.Steps.{Step, steps_of, with_state}
+use Rattle.mg_model.specs.Tables.{state_of, items_of, raises, target_in}
+use Rattle.entry_table.specs.Numbers.{termination_number}
 use Rattle.closure.specs.Findings.{IsKept}
 use Rattle.closure.specs.Settings.{settings_of, with_settings}
 
@@ -55,15 +58,15 @@ Agree a b (cuts t u values) = a.cut t u ≡ b.cut t u
 abbrev pub IsEvery : Entry → Configuration → Component → Type 0
 IsEvery entry c component = (choice : Choice) → Contains (choices_of component) choice → All (Allows (choice c)) entry.components
 
--- any value of a free component leaves the configuration well formed or not, and is asked for by nothing but paths: an ephemeral with
--- a free mode is there, terminations with a free cut share a context, and events lists and signals aren't free at rest
+-- any value of a component leaves the configuration well formed, or any leaves it ill formed: an ephemeral with such a mode is there, and
+-- terminations with such a cut share a context
 abbrev pub IsIdle : Configuration → Component → Type 0
 IsIdle c (links values) = ⊥
 IsIdle c (spots t values) = ⊥
 IsIdle c (modes (Line i) values) = ⊤
 IsIdle c (modes (Ephemeral k) values) = IsTrue (is_present (c.spot (Ephemeral k)))
-IsIdle c (events i values) = c.link ≡ Resting → ⊥
-IsIdle c (plays i values) = c.link ≡ Resting → ⊥
+IsIdle c (events i values) = ⊤
+IsIdle c (plays i values) = ⊤
 IsIdle c (contexts j values) = ⊥
 IsIdle c (remotes k values) = ⊥
 IsIdle c (cuts t u values) = (j : ℕ) × (IsTrue (is_in (c.spot t) j) × IsTrue (is_in (c.spot u) j))
@@ -75,6 +78,17 @@ is_resting Failed = false
 is_resting Resting = true
 
 -- the test of that
+abbrev pub is_idle : Configuration → Component → Bool
+is_idle c (links values) = false
+is_idle c (spots t values) = false
+is_idle c (modes t values) = is_present (c.spot t)
+is_idle c (events i values) = true
+is_idle c (plays i values) = true
+is_idle c (contexts j values) = false
+is_idle c (remotes k values) = false
+is_idle c (cuts t u values) = is_shared (c.spot t) (c.spot u)
+
+-- a component may have any value beside a configuration that tells so: one that is idle, but for events lists and signals where it is at rest
 abbrev pub is_free : Configuration → Component → Bool
 is_free c (links values) = false
 is_free c (spots t values) = false
@@ -85,15 +99,11 @@ is_free c (contexts j values) = false
 is_free c (remotes k values) = false
 is_free c (cuts t u values) = is_shared (c.spot t) (c.spot u)
 
--- two configurations have different values of a component, and nothing asks for it in the first
+-- two configurations have different values of a component, and any value of it leaves the first well formed, or none
 abbrev pub IsApart : Configuration → Configuration → Component → Type 0
 IsApart low high component = (Agree low high component → ⊥) × IsIdle low component
 
--- the number of a termination, and one for what a component gives its values to: components of one setting have one
-abbrev pub termination_number : Termination → ℕ
-termination_number (Line i) = i
-termination_number (Ephemeral k) = 4 + k
-
+-- a number for what a component gives its values to: components of one setting have one
 abbrev pub setting_number : Component → ℕ
 setting_number (modes t values) = 8 + termination_number t
 setting_number (events i values) = 16 + i
@@ -204,6 +214,37 @@ module _ (free : Component → Bool) (all : List Component) where
   AreHeld script entries low high =
       (s : ℕ) (one other : Step) → slice_get (steps_of script low) s ≡ Some one → slice_get (steps_of script high) s ≡ Some other
       → IsHeld entries one.1 other.1
+
+  -- a line has this list, or a free component gives it
+  abbrev pub MayHave : Configuration → ℕ → EventsName → Type 0
+  MayHave low i v = (v ≡ low.events i) ⊎ FreeEvents free all i v
+
+  module _ (script : Script) (entries : List Entry) (low high : Configuration) where
+    -- entries have the class as it enters a state, if there is one
+    abbrev pub IsEntered : Option ℕ → Type 0
+    IsEntered target = (state : ℕ) → target ≡ Some state → IsHeld entries (with_state script low state) (with_state script high state)
+
+    -- so it is where a note of this kind of a line leads, if a list that the line may have raises it
+    abbrev pub IsNoteEntered : ℕ → Kind → Type 0
+    IsNoteEntered i kind = (v : EventsName) → MayHave low i v → IsTrue (raises (items_of script v) kind)
+        → IsEntered (target_in (state_of script low.state).on i kind)
+
+    -- so it is of all notes of a call at rest, and of its timer
+    pub record AreEntered : Type 0 where
+      pub notes : (i : ℕ) → i < length script.lines → (kind : Kind) → IsNoteEntered i kind
+      pub timer : IsEntered (state_of script low.state).timer
+
+    -- the steps of a class are held, whose link this is
+    abbrev pub AreStepsHeld : LinkPhase → Type 0
+    AreStepsHeld Sent = AreHeld script entries low high
+    AreStepsHeld Answered = AreHeld script entries low high
+    AreStepsHeld Failed = AreHeld script entries low high
+    AreStepsHeld Resting = AreEntered
+
+  -- no events list and no signal is free where a call has ended
+  pub record AreEndsFixed (script : Script) (low : Configuration) : Type 0 where
+    pub events : low.link ≡ Resting → IsTrue (state_of script low.state).is_end → (i : ℕ) (values : List EventsName) → free (events i values) ≡ false
+    pub plays : low.link ≡ Resting → IsTrue (state_of script low.state).is_end → (i : ℕ) (values : List Bool) → free (plays i values) ≡ false
 
   -- each obligation of each configuration of a class holds
   abbrev pub IsClassKept : Script → List Entry → Configuration → Type 0

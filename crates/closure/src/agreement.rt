@@ -2,7 +2,8 @@
 ghost use Rattle.std.specs.Prelude.{◌≡◌, ◌<◌, false, IsTrue};
 ghost use Rattle.configuration.specs.Config.{configuration_of};
 ghost use Rattle.entry_table.specs.Shown.{shown};
-ghost use Rattle.closure.specs.Classes.{Agree, setting_number, termination_number};
+ghost use Rattle.entry_table.specs.Numbers.{termination_number};
+ghost use Rattle.closure.specs.Classes.{Agree, setting_number};
 
 use configuration::config::Config;
 use entry_table::Component;

@@ -3,21 +3,22 @@
 ghost use Rattle.std.specs.Prelude.{◌≡◌, [], IsTrue, IfSome};
 ghost use Rattle.configuration.specs.Config.{configuration_of};
 ghost use Rattle.entry_table.specs.Shown.{shown, shown_all};
-ghost use Rattle.closure.specs.Classes.{AreApart, AreHeld, IsApart, IsClassKept, IsOfClass, IsOpen, freely_opened_by, is_free, opened_by, raised_by};
+ghost use Rattle.closure.specs.Classes.{AreApart, AreHeld, AreStepsHeld, IsApart, IsClassKept, IsOfClass, IsOpen, freely_opened_by, is_free, opened_by, raised_by};
 ghost use Rattle.closure.specs.Walk.{ClassIsPassed};
 
 use crate::agreement::differ;
-use crate::freedom::{Freedom, is_free};
-use crate::held::is_held;
+use crate::freedom::{Freedom, is_free, is_idle};
+use crate::held::{MOST_CUTS, is_held};
 use crate::media::widest;
 use crate::obligations::{
     created_are_unbound, ended_is_cleared, joined_are_marked, names_are_live,
 };
+use crate::rest::{Span, are_entered};
 use crate::results::Results;
 use crate::steps::tell_steps;
 use crate::visitor::Visitor;
 use configuration::config::Config;
-use configuration::well_formed::is_well_formed;
+use configuration::well_formed::{at_rest, is_well_formed};
 use entry_table::{Cert, Component};
 use mg_model::steps::StepName;
 use script_table::Script;
@@ -76,7 +77,7 @@ fn opened(freedom: &Freedom<'_>, low: &Config) -> Config
     opened
 }
 
-/// Whether two configurations are apart in a component, if it is free, and nothing asks for it in the first.
+/// Whether two configurations are apart in a component, if it is free, and any value of it leaves the first well formed, or none.
 fn is_apart(freedom: &Freedom<'_>, component: &Component, low: &Config, high: &Config) -> bool
     ensures { IsTrue result → IsTrue (is_free (configuration_of freedom.now.placed) (shown component.now))
         → IsApart (configuration_of low.now) (configuration_of high.now) (shown component.now) }
@@ -84,7 +85,7 @@ fn is_apart(freedom: &Freedom<'_>, component: &Component, low: &Config, high: &C
     if !is_free(&freedom.placed, component) {
         return true;
     }
-    if !is_free(low, component) {
+    if !is_idle(low, component) {
         return false;
     }
     differ(low, high, component)
@@ -108,8 +109,10 @@ fn are_apart(freedom: &Freedom<'_>, low: &Config, high: &Config) -> bool
 /// vain take no longer than the walk behind them.
 const CONFIGURATIONS_A_LOOK: u64 = 4;
 
-/// No entry has more components of several values, since its numbers fit 32 bits.
-const MOST_CUTS: usize = 32;
+/// In how many entries may be looked for a class.
+fn looks_of(freedom: &Freedom<'_>) -> u64 {
+    freedom.class_size() / CONFIGURATIONS_A_LOOK
+}
 
 /// Looks at where the steps of the highest lead, beside those of the lowest, up to the first that doesn't hold.
 #[derive(Drop)]
@@ -163,7 +166,7 @@ impl Visitor for Pairs<'_, '_, '_, '_> {
     }
 }
 
-/// Whether each step of a class holds, by those of its lowest and of its highest.
+/// Whether each step of a class that isn't at rest holds, by those of its lowest and of its highest.
 fn are_held(
     script: &Script,
     cert: &Cert,
@@ -183,12 +186,30 @@ fn are_held(
         freedom,
         lows: &lows,
         at: 0,
-        looks: freedom.class_size() / CONFIGURATIONS_A_LOOK,
+        looks: looks_of(freedom),
     };
     match tell_steps(script, high, &mut pairs) {
         Ok(()) => true,
         Err(_) => false,
     }
+}
+
+/// Whether each step of a class holds: of one at rest wherever a note or the timer may lead, since lists that raise notes may be free.
+fn are_steps_held(
+    script: &Script,
+    cert: &Cert,
+    freedom: &Freedom<'_>,
+    low: &Config,
+    high: &Config,
+) -> bool
+    ensures { IsTrue result → AreStepsHeld (is_free (configuration_of freedom.now.placed)) (shown_all freedom.now.components.now) script.now cert.now
+        (configuration_of low.now) (configuration_of high.now) (configuration_of low.now).link }
+{
+    if !at_rest(low) {
+        return are_held(script, cert, freedom, low, high);
+    }
+    let span = Span { freedom, low, high };
+    are_entered(script, cert, &span, &mut looks_of(freedom))
 }
 
 /// Whether each obligation of each configuration of a class is known to hold.
@@ -207,6 +228,9 @@ fn is_class_kept(
     if !joined_are_marked(script, &opened(freedom, low)) {
         return false;
     }
+    if !freedom.fixes_ends(script, low) {
+        return false;
+    }
     if !ended_is_cleared(script, low) {
         return false;
     }
@@ -216,7 +240,7 @@ fn is_class_kept(
     if !names_are_live(low) {
         return false;
     }
-    are_held(script, cert, freedom, low, high)
+    are_steps_held(script, cert, freedom, low, high)
 }
 
 /// Passes a class: it is one number, a point or none; `None` where it isn't known that each obligation of each configuration of it holds.

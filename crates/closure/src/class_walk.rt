@@ -61,7 +61,7 @@ pub(crate) fn decide(
     if product_of(components) < MANY {
         return None;
     }
-    let freedom = Freedom::of(config, components);
+    let freedom = Freedom::of(script, config, components);
     if freedom.class_size() < MANY {
         return None;
     }

@@ -1,5 +1,5 @@
-//! Which components of an entry are free: no step asks for their values, and none of them makes a configuration well formed or not. So one
-//! value of theirs tells of all.
+//! Which components of an entry are free: no value of theirs makes a configuration well formed or not, and no step asks for it, but that notes of a call at
+//! rest hang on events lists (`rest`). So one value of theirs tells of all.
 ghost use Rattle.std.specs.Prelude.{◌≡◌, ◌<◌, ℕ, IsTrue, IfSome, length};
 ghost use Rattle.std.specs.List.{slice_index_or};
 ghost use Rattle.mg_model.specs.Entries.{Allows};
@@ -7,20 +7,22 @@ ghost use Rattle.mg_model.specs.Paths.{is_shared};
 ghost use Rattle.configuration.specs.Config.{configuration_of};
 ghost use Rattle.entry_table.specs.Shown.{shown, shown_all};
 ghost use Rattle.entry_table.specs.declared.component.Component.{Component as Code};
-ghost use Rattle.closure.specs.Classes.{IsSole, is_free, is_resting, setting_number};
+ghost use Rattle.closure.specs.Classes.{AreEndsFixed, IsSole, is_free, is_idle, is_resting, setting_number};
 
 use crate::agreement::{agree, setting_number};
 use configuration::config::Config;
 use configuration::spots;
+use configuration::well_formed::at_rest;
 use entry_table::Component;
 use mg_model::commands::Termination;
 use mg_model::components::Spot;
 use mg_names::phases::LinkPhase;
+use script_table::Script;
 
 /// The components of an entry that give its points their values, and a configuration that tells which of them are free.
 #[derive(Drop)]
 pub(crate) struct Freedom<'e> {
-    /// The configuration: only terminations whose place no component turns stand in a context, and it is at rest where a component turns the link.
+    /// The configuration: only terminations whose place no component turns stand in a context, and it is at rest only where the call may have ended.
     pub(crate) placed: Config,
     /// The components.
     pub(crate) components: &'e [Component],
@@ -49,19 +51,30 @@ fn is_shared(one: Spot, other: Spot) -> bool
     }
 }
 
-/// Whether a component is free where a call stands in a configuration.
-pub(crate) fn is_free(config: &Config, component: &Component) -> bool
-    ensures { result ≡ is_free (configuration_of config.now) (shown component.now) }
+/// Whether any value of a component leaves a configuration well formed, or any leaves it ill formed.
+pub(crate) fn is_idle(config: &Config, component: &Component) -> bool
+    ensures { result ≡ is_idle (configuration_of config.now) (shown component.now) }
 {
     match component {
         Component::Links(_) => false,
         Component::Spots(_, _) => false,
         Component::Modes(termination, _) => spots::is_present(config.spot(*termination)),
-        Component::Events(_, _) => !is_resting(config.link()),
-        Component::Plays(_, _) => !is_resting(config.link()),
+        Component::Events(_, _) => true,
+        Component::Plays(_, _) => true,
         Component::Contexts(_, _) => false,
         Component::Remotes(_, _) => false,
         Component::Cuts(source, sink, _) => is_shared(config.spot(*source), config.spot(*sink)),
+    }
+}
+
+/// Whether a component is free beside a configuration that tells so.
+pub(crate) fn is_free(placed: &Config, component: &Component) -> bool
+    ensures { result ≡ is_free (configuration_of placed.now) (shown component.now) }
+{
+    match component {
+        Component::Events(_, _) => !is_resting(placed.link()),
+        Component::Plays(_, _) => !is_resting(placed.link()),
+        other => is_idle(placed, other),
     }
 }
 
@@ -72,6 +85,11 @@ fn turned_spot(termination: &Termination) -> Spot {
         Termination::Line(_) => Spot::Null,
         Termination::Ephemeral(_) => Spot::Absent,
     }
+}
+
+/// Whether a call rests in an end state.
+fn has_ended(script: &Script, config: &Config) -> bool {
+    at_rest(config) && script.ends_in(config.state())
 }
 
 /// What a component takes from the configuration that tells which are free.
@@ -110,14 +128,31 @@ fn is_sole(components: &[Component], place: usize, number: usize) -> bool
 
 impl<'e> Freedom<'e> {
     /// That of some components, which give a configuration their values.
-    pub(crate) fn of(config: &Config, components: &'e [Component]) -> Freedom<'e>
+    pub(crate) fn of(script: &Script, config: &Config, components: &'e [Component]) -> Freedom<'e>
         ensures { result.components.now ≡ components.now }
     {
         let mut placed = *config;
+        // At rest an end alone asks for events lists and signals.
+        if !has_ended(script, config) {
+            placed.set_link(LinkPhase::Sent);
+        }
         for component in components {
             unsettle(component, &mut placed);
         }
         Freedom { placed, components }
+    }
+
+    /// Whether no events list and no signal is free where a call has ended.
+    pub(crate) fn fixes_ends(&self, script: &Script, low: &Config) -> bool
+        ensures { IsTrue result → AreEndsFixed (is_free (configuration_of self.now.placed)) (shown_all self.now.components.now) script.now (configuration_of low.now) }
+    {
+        if !at_rest(low) {
+            return true;
+        }
+        if !script.ends_in(low.state()) {
+            return true;
+        }
+        is_resting(self.placed.link())
     }
 
     /// How many configurations a class has, or the last number of 64 bits where that is more.

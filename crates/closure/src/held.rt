@@ -99,6 +99,9 @@ fn look_in_one(
     }
 }
 
+/// No entry has more components of several values, since its numbers fit 32 bits.
+pub(crate) const MOST_CUTS: usize = 32;
+
 /// Whether entries have all that a step makes of a class: one has all, or after so many cuts at most, each by the values of a component that the step left
 /// as it was, one has all of each part. It fails too where so many looks weren't enough.
 pub(crate) fn is_held(

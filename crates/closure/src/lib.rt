@@ -3,8 +3,8 @@
 //!
 //! The way of a certificate: its entries are taken one after the other (`first_fault`), each for each of its links by itself (`walk`). What is free of
 //! an entry is told by `freedom`; where all values of that are known to hold, classes of points are counted and not looked at (`class_walk`, over `class`,
-//! `media`, `held` and `agreement`). Else each point is asked for its obligations (`obligations`), and its steps (`steps`, over `requests` and `effects`) are told
-//! to who looks whether an entry has their results (`covering`, over `cover`).
+//! `media`, `held`, `rest` and `agreement`). Else each point is asked for its obligations (`obligations`), and its steps (`steps`, over `requests` and
+//! `effects`) are told to who looks whether an entry has their results (`covering`, over `cover`).
 #![tactic(auto)]
 
 mod agreement;
@@ -22,6 +22,7 @@ mod marks;
 mod media;
 pub mod obligations;
 pub mod requests;
+mod rest;
 mod results;
 pub mod steps;
 mod visitor;

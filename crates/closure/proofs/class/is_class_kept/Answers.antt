@@ -11,7 +11,8 @@ returns c holds d of_class =
     (configuration_of c.args.low.now) (configuration_of c.args.high.now) d c.requires of_class
     c.args.script.now c.args.cert.now (configuration_of c.opened.result) c.opened.ensures
     (c.joined_are_marked.ensures.0 c.if-not-joined_are_marked.false)
+    (c.fixes_ends.ensures c.if-not-fixes_ends.false)
     (c.ended_is_cleared.ensures.0 c.if-not-ended_is_cleared.false)
     (c.created_are_unbound.ensures.0 c.if-not-created_are_unbound.false)
     (c.names_are_live.ensures.0 c.if-not-names_are_live.false)
-    (c.are_held.ensures holds)
+    (c.are_steps_held.ensures holds)
