@@ -59,7 +59,7 @@ fn components(
     requires { IsNamed script.now entry.now rows.now }
     ensures { Gives (λ v. shown_all v.items) result (each (component_meant script.now entry.now) keys.now) }
 {
-    let mut found = Vec::new(alloc);
+    let mut found = Vec::with_capacity(alloc, keys.len())?;
     for key in keys {
         found.push(read_component(alloc, script, entry, rows, key)?)?;
     }

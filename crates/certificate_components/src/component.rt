@@ -18,7 +18,7 @@ use crate::vocabulary::{
     Lists, Modes, Plays, Remotes, Vocabulary, read_set,
 };
 use certificate_document::{WrittenEntry, WrittenEphemeral, WrittenLine};
-use entry_table::Component;
+use entry_table::{Component, Values};
 use mg_model::commands::{EventsName, Termination};
 use mg_model::components::{Remote, Spot};
 use mg_names::context_values::ContextValue;
@@ -35,14 +35,12 @@ fn set_or<T: Ranked + Drop, V: Vocabulary<T>>(
     vocabulary: &V,
     default: T,
     words: Option<&Words>,
-) -> Result<Vec<T>, Missing>
-    ensures { Gives (λ set. set.items) result
+) -> Result<Values<T>, Missing>
+    ensures { Gives (λ set. set) result
         (set_or T.place (V.named vocabulary.now) default (option_map (λ w. w.now) words.entry)) }
 {
     let Some(words) = words else {
-        let mut set = Vec::new(alloc);
-        set.push(default)?;
-        return Ok(set);
+        return Ok(Values::one(default));
     };
     read_set(alloc, vocabulary, words.as_slice())
 }

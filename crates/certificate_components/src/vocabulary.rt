@@ -4,6 +4,7 @@ ghost use Rattle.typed_values.specs.Shape.{Gives};
 ghost use Rattle.certificate_components.specs.Ranks.{set_with};
 
 use crate::ranked::{Ranked, insert};
+use entry_table::Values;
 use mg_model::commands::EventsName;
 use mg_model::components::{Remote, Spot};
 use mg_names::context_values::ContextValue;
@@ -28,8 +29,8 @@ pub fn read_set<T: Ranked + Drop, V: Vocabulary<T>>(
     alloc: Global,
     vocabulary: &V,
     words: &[Word],
-) -> Result<Vec<T>, Missing>
-    ensures { Gives (λ set. set.items) result (set_with T.place (V.named vocabulary.now) [] words.now) }
+) -> Result<Values<T>, Missing>
+    ensures { Gives (λ set. set) result (set_with T.place (V.named vocabulary.now) [] words.now) }
 {
     let mut set = Vec::new(alloc);
     for word in words {
@@ -38,7 +39,7 @@ pub fn read_set<T: Ranked + Drop, V: Vocabulary<T>>(
         };
         insert(&mut set, value)?;
     }
-    Ok(set)
+    Ok(Values::new(set))
 }
 
 /// The links.

@@ -52,7 +52,11 @@ fn gives_raising(script: &Script, component: &Component, line: Slot, kind: Kind)
 {
     match component {
         Component::Events(other, values) => {
-            other.index() == line.index() && values.iter().any(|list| script.raises(*list, kind))
+            other.index() == line.index()
+                && values
+                    .as_slice()
+                    .iter()
+                    .any(|list| script.raises(*list, kind))
         }
         _ => false,
     }

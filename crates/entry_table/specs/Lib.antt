@@ -6,3 +6,4 @@ pub mod Turned
 pub mod Regions
 pub mod Places
 pub mod Sieved
+pub mod Values

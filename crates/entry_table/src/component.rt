@@ -5,6 +5,7 @@ ghost use Rattle.configuration.specs.Config.{configuration_of};
 ghost use Rattle.entry_table.specs.Listed.{choices_of};
 ghost use Rattle.entry_table.specs.Shown.{shown};
 
+use crate::values::Values;
 use configuration::config::Config;
 use mg_model::commands::{EventsName, Termination};
 use mg_model::components::{Remote, Spot};
@@ -17,21 +18,21 @@ use mg_names::slots::Slot;
 #[derive(Drop)]
 pub enum Component {
     /// How far the state's request has come.
-    Links(Vec<LinkPhase>),
+    Links(Values<LinkPhase>),
     /// Where a termination stands.
-    Spots(Termination, Vec<Spot>),
+    Spots(Termination, Values<Spot>),
     /// The mode of a termination.
-    Modes(Termination, Vec<Mode>),
+    Modes(Termination, Values<Mode>),
     /// The events list of a line.
-    Events(Slot, Vec<EventsName>),
+    Events(Slot, Values<EventsName>),
     /// Whether a line may play a signal.
-    Plays(Slot, Vec<bool>),
+    Plays(Slot, Values<bool>),
     /// What a context name stands for.
-    Contexts(Slot, Vec<ContextValue>),
+    Contexts(Slot, Values<ContextValue>),
     /// The Remote of an ephemeral.
-    Remotes(Slot, Vec<Remote>),
+    Remotes(Slot, Values<Remote>),
     /// Whether media from one termination to another is cut.
-    Cuts(Termination, Termination, Vec<bool>),
+    Cuts(Termination, Termination, Values<bool>),
 }
 
 #[tactic(auto, using(crate::proofs::Products::choice_at, crate::proofs::Products::no_choice))]
@@ -45,14 +46,17 @@ impl Component {
             return;
         }
         match self {
-            Component::Links(values) => config.set_link(values[place]),
-            Component::Spots(t, values) => config.set_spot(*t, values[place]),
-            Component::Modes(t, values) => config.set_mode(*t, values[place]),
-            Component::Events(line, values) => config.set_events(*line, values[place]),
-            Component::Plays(line, values) => config.set_plays(*line, values[place]),
-            Component::Contexts(name, values) => config.set_context(*name, values[place]),
-            Component::Remotes(name, values) => config.set_remote(*name, values[place]),
-            Component::Cuts(t, u, values) => config.set_cut(*t, *u, values[place]),
+            Component::Links(values) => config.set_link(values.as_slice()[place]),
+            Component::Spots(t, values) => config.set_spot(*t, values.as_slice()[place]),
+            Component::Modes(t, values) => config.set_mode(*t, values.as_slice()[place]),
+            Component::Events(line, values) => config.set_events(*line, values.as_slice()[place]),
+            Component::Plays(line, values) => config.set_plays(*line, values.as_slice()[place]),
+            Component::Contexts(name, values) => config.set_context(
+                *name,
+                values.as_slice()[place],
+            ),
+            Component::Remotes(name, values) => config.set_remote(*name, values.as_slice()[place]),
+            Component::Cuts(t, u, values) => config.set_cut(*t, *u, values.as_slice()[place]),
         }
     }
 

@@ -11,7 +11,9 @@ mod numbers;
 mod regions;
 mod sieved;
 mod turned;
+mod values;
 
 pub use cert::Cert;
 pub use component::Component;
 pub use entry::{Entry, PointsByComponent, product_of};
+pub use values::Values;

@@ -23,32 +23,19 @@ pub(crate) struct Turned {
     above: usize,
 }
 
-/// The same values once more.
-fn copied<T: Copy>(alloc: Global, values: &[T]) -> Result<Vec<T>, AllocError>
-    ensures { IfOk result (λ v. v.items ≡ values.now) }
-{
-    let mut copy = Vec::new(alloc);
-    copy.extend_from_slice(values)?;
-    Ok(copy)
-}
-
 /// The same component once more.
 fn again(alloc: Global, component: &Component) -> Result<Component, AllocError>
     ensures { IfOk result (λ copy. shown copy ≡ shown component.now) }
 {
     Ok(match component {
-        Component::Links(values) => Component::Links(copied(alloc, values.as_slice())?),
-        Component::Spots(t, values) => Component::Spots(*t, copied(alloc, values.as_slice())?),
-        Component::Modes(t, values) => Component::Modes(*t, copied(alloc, values.as_slice())?),
-        Component::Events(i, values) => Component::Events(*i, copied(alloc, values.as_slice())?),
-        Component::Plays(i, values) => Component::Plays(*i, copied(alloc, values.as_slice())?),
-        Component::Contexts(j, values) => {
-            Component::Contexts(*j, copied(alloc, values.as_slice())?)
-        }
-        Component::Remotes(k, values) => Component::Remotes(*k, copied(alloc, values.as_slice())?),
-        Component::Cuts(t, u, values) => {
-            Component::Cuts(*t, *u, copied(alloc, values.as_slice())?)
-        }
+        Component::Links(values) => Component::Links(values.again(alloc)?),
+        Component::Spots(t, values) => Component::Spots(*t, values.again(alloc)?),
+        Component::Modes(t, values) => Component::Modes(*t, values.again(alloc)?),
+        Component::Events(i, values) => Component::Events(*i, values.again(alloc)?),
+        Component::Plays(i, values) => Component::Plays(*i, values.again(alloc)?),
+        Component::Contexts(j, values) => { Component::Contexts(*j, values.again(alloc)?) }
+        Component::Remotes(k, values) => Component::Remotes(*k, values.again(alloc)?),
+        Component::Cuts(t, u, values) => { Component::Cuts(*t, *u, values.again(alloc)?) }
     })
 }
 

@@ -1,5 +1,5 @@
 -- What is added behind a list, if it is.
-use Rattle.std.proofs.Common.{◌≡◌, ◌∙◌, ◌+◌, ◌++◌, ◌∷◌, [], ℕ, List, Bool, true, false, not, if◌then◌else◌, length, map, refl, sym, ap, rules, arith, length-append, append-nil}
+use Rattle.std.proofs.Common.{◌≡◌, ◌∙◌, ◌+◌, ◌++◌, ◌∷◌, [], List, Bool, true, false, not, if◌then◌else◌, length, map, refl, sym, ap, subst, rules, length-append}
 use Rattle.mg_model.specs.Configuration.{is_null}
 use Rattle.mg_model.specs.declared.components.Spot.{Spot}
 use Rattle.mg_model.specs.declared.components.Spot.TheVariants.{Null}
@@ -27,6 +27,13 @@ pub has_with : {X : Type 0} (xs : List X) (wanted : Bool) (x : X) → (wanted �
     → Contains (xs ++ (if wanted then x ∷ [] else [])) x
 has_with xs true x is = Contains-push xs x
 has_with xs false x is = Contains-append_left xs [] x (is refl)
+
+pub among_all : {X : Type 0} (all xs own : List X) (wanted : Bool) (x v : X) → all ≡ xs ++ (if wanted then x ∷ [] else []) → xs ≡ own → x ≡ v
+    → (wanted ≡ false → Contains own v) → Contains all v
+among_all {X = X} all xs own wanted x v are same is has =
+    subst (λ (ys : List X). Contains ys v) (sym are)
+    (subst (λ (y : X). Contains (xs ++ (if wanted then y ∷ [] else [])) v) (sym is)
+    (subst (λ (ys : List X). Contains (ys ++ (if wanted then v ∷ [] else [])) v) (sym same) (has_with own wanted v has)))
 
 -- what was there is there still
 pub kept_with : {X : Type 0} (xs : List X) (wanted : Bool) (x y : X) → Contains xs y → Contains (xs ++ (if wanted then x ∷ [] else [])) y

@@ -72,7 +72,6 @@ fn add_only(
 
 /// Adds where a termination stands, and its mode.
 fn add_place(
-    alloc: Global,
     components: &mut Vec<Component>,
     termination: &Termination,
     config: &Config,
@@ -81,14 +80,13 @@ fn add_place(
     ensures only { OnOk result (AreOnly (configuration_of config.now) (shown_all components.new.items)) }
     ensures adds { OnOk result (bare_all components.new.items ≡ bare_all components.old.items ++ spots termination.now [] ∷ modes termination.now [] ∷ []) }
 {
-    add_only(components, only_spot(alloc, config, termination)?, config)?;
-    add_only(components, only_mode(alloc, config, termination)?, config)?;
+    add_only(components, only_spot(config, termination), config)?;
+    add_only(components, only_mode(config, termination), config)?;
     Ok(())
 }
 
 /// Adds the components of lines, each with the configuration's value.
 fn add_lines(
-    alloc: Global,
     components: &mut Vec<Component>,
     lines: &[Slot],
     config: &Config,
@@ -98,16 +96,15 @@ fn add_lines(
     ensures adds { OnOk result (bare_all components.new.items ≡ bare_all components.old.items ++ flat_map line_components lines.now) }
 {
     for line in lines {
-        add_place(alloc, components, &Termination::Line(*line), config)?;
-        add_only(components, only_events(alloc, config, *line)?, config)?;
-        add_only(components, only_plays(alloc, config, *line)?, config)?;
+        add_place(components, &Termination::Line(*line), config)?;
+        add_only(components, only_events(config, *line), config)?;
+        add_only(components, only_plays(config, *line), config)?;
     }
     Ok(())
 }
 
 /// Adds the components of contexts.
 fn add_contexts(
-    alloc: Global,
     components: &mut Vec<Component>,
     contexts: &[Slot],
     config: &Config,
@@ -117,14 +114,13 @@ fn add_contexts(
     ensures adds { OnOk result (bare_all components.new.items ≡ bare_all components.old.items ++ map context_component contexts.now) }
 {
     for context in contexts {
-        add_only(components, only_context(alloc, config, *context)?, config)?;
+        add_only(components, only_context(config, *context), config)?;
     }
     Ok(())
 }
 
 /// Adds the components of ephemerals.
 fn add_ephemerals(
-    alloc: Global,
     components: &mut Vec<Component>,
     ephemerals: &[Slot],
     config: &Config,
@@ -134,20 +130,14 @@ fn add_ephemerals(
     ensures adds { OnOk result (bare_all components.new.items ≡ bare_all components.old.items ++ flat_map ephemeral_components ephemerals.now) }
 {
     for ephemeral in ephemerals {
-        add_place(
-            alloc,
-            components,
-            &Termination::Ephemeral(*ephemeral),
-            config,
-        )?;
-        add_only(components, only_remote(alloc, config, *ephemeral)?, config)?;
+        add_place(components, &Termination::Ephemeral(*ephemeral), config)?;
+        add_only(components, only_remote(config, *ephemeral), config)?;
     }
     Ok(())
 }
 
 /// Adds what is cut from a termination to others.
 fn add_cuts_from(
-    alloc: Global,
     components: &mut Vec<Component>,
     source: &Termination,
     terminations: &[Termination],
@@ -159,7 +149,7 @@ fn add_cuts_from(
 {
     for sink in terminations {
         if !is_same(source, sink) {
-            add_only(components, only_cut(alloc, config, source, sink)?, config)?;
+            add_only(components, only_cut(config, source, sink), config)?;
         }
     }
     Ok(())
@@ -167,7 +157,6 @@ fn add_cuts_from(
 
 /// Adds what is cut between terminations.
 fn add_cuts(
-    alloc: Global,
     components: &mut Vec<Component>,
     terminations: &[Termination],
     config: &Config,
@@ -177,7 +166,7 @@ fn add_cuts(
     ensures adds { OnOk result (bare_all components.new.items ≡ bare_all components.old.items ++ flat_map (cut_components terminations.now) terminations.now) }
 {
     for source in terminations {
-        add_cuts_from(alloc, components, source, terminations, config)?;
+        add_cuts_from(components, source, terminations, config)?;
     }
     Ok(())
 }
@@ -192,17 +181,12 @@ pub fn alone(alloc: Global, script: &Script, config: &Config) -> Result<Entry, A
 {
     let slots = Slot::all();
     let mut components = Vec::new(alloc);
-    add_only(&mut components, only_link(alloc, config)?, config)?;
-    add_lines(alloc, &mut components, &slots[..script.lines()], config)?;
-    add_contexts(alloc, &mut components, &slots[..script.contexts()], config)?;
-    add_ephemerals(
-        alloc,
-        &mut components,
-        &slots[..script.ephemerals()],
-        config,
-    )?;
+    add_only(&mut components, only_link(config), config)?;
+    add_lines(&mut components, &slots[..script.lines()], config)?;
+    add_contexts(&mut components, &slots[..script.contexts()], config)?;
+    add_ephemerals(&mut components, &slots[..script.ephemerals()], config)?;
     let terminations = terminations(alloc, script)?;
-    add_cuts(alloc, &mut components, terminations.as_slice(), config)?;
+    add_cuts(&mut components, terminations.as_slice(), config)?;
     Entry::new(alloc, config.state(), script.lines(), components)
 }
 

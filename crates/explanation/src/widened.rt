@@ -9,7 +9,7 @@ ghost use Rattle.explanation.specs.Alone.{HasAllOf, KeepAll, Keeps};
 ghost use Rattle.explanation.specs.Alone.{AreTooWide, AreWidened, IsWidened, bare, bare_all, count_of, most_points};
 
 use configuration::config::Config;
-use entry_table::{Component, Entry, product_of};
+use entry_table::{Component, Entry, Values, product_of};
 use script_table::Script;
 use std::alloc::{AllocError, Global};
 
@@ -22,19 +22,19 @@ pub(crate) fn values_with<T: Copy>(
     values: &[T],
     wanted: bool,
     value: T,
-) -> Result<Vec<T>, AllocError>
-    ensures { IfOk result (λ all. all.items ≡ values.now ++ (if wanted then value ∷ [] else [])) }
+) -> Result<Values<T>, AllocError>
+    ensures { IfOk result (λ all. all ≡ values.now ++ (if wanted then value ∷ [] else [])) }
 {
     let mut all = Vec::new(alloc);
     all.extend_from_slice(values)?;
     if wanted {
         all.push(value)?;
     }
-    Ok(all)
+    Ok(Values::new(all))
 }
 
 /// A component with a configuration's value behind its own, if that is wanted.
-#[tactic(auto, using(crate::proofs::Added::counted_with, crate::proofs::Added::has_with, crate::proofs::Added::kept_with))]
+#[tactic(auto, using(crate::proofs::Added::counted_with, crate::proofs::Added::kept_with))]
 fn component_with(
     alloc: Global,
     component: &Component,

@@ -1,5 +1,5 @@
 -- One component more has the value, and what it had; at the end none is left.
-use Rattle.std.proofs.Common.{◌≡◌, ◌∙◌, ◌+◌, ◌++◌, [], List, drop, append-nil, sym, ap, subst, rules}
+use Rattle.std.proofs.Common.{◌≡◌, ◌∙◌, ◌+◌, ◌++◌, List, drop, append-nil, sym, ap, subst, rules}
 use Rattle.std.specs.List.{All}
 use Rattle.mg_model.specs.Entries.{Allows}
 use Rattle.configuration.specs.Config.{configuration_of}
