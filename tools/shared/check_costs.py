@@ -182,7 +182,7 @@ def size_pairs():
     def placed(count):
         return slow_checks.placed_script(1), slow_checks.placed_certificate(1, count)
 
-    yield "points that differ in places, 8 and 16 entries of 40,824 beside 8 for results", placed(8), placed(16)
+    yield "points that differ in places, 16 and 32 entries of 40,824 whose request is sent", placed(12), placed(28)
     yield "entries, 64 states of 128 and of 256", *((checks.script(64, 2), checks.certificate(64, count)) for count in (128, 256))
     yield "states, 32 and 64 of 16 commands", *((checks.script(count, 16), checks.certificate(count, 1)) for count in (32, 64))
     yield "states, 16 and 32 with ephemerals and cuts", *((checks.rooms_script(count), checks.rooms_certificate(count)) for count in (16, 32))
@@ -210,23 +210,59 @@ def spelt(seconds_taken):
     return f"{seconds_taken:.0f} seconds" if seconds_taken < 120 else f"{seconds_taken / 60:.0f} minutes"
 
 
-def settings_shapes():
-    """Slow inputs whose points differ in settings: the name, what they are made of, and how many points one wide entry has. Near: the entries of results come
-    first among those of their state; far: they come last, and the plain checker asks all before them."""
-    for lines in slow_checks.SHAPES:
-        for has_contexts in (False, True):
-            for is_far in (False, True):
-                name = f"{lines} lines {'with' if has_contexts else 'without'} contexts, {'far' if is_far else 'near'}"
-                yield name, (lines, has_contexts), is_far, slow_checks.points_of(lines)
-
-
-def whole_seconds(shape, is_far):
-    """The processor time of the check of all that the limits allow of such an input, reading included."""
-    wide = slow_checks.most() // slow_checks.STATES
+def seconds_of_whole(script, certificate):
+    """The processor time of the check of an input, reading included."""
     with tempfile.NamedTemporaryFile("w") as text:
-        text.write(slow_checks.script(*shape, slow_checks.STATES) + "%%\n" + slow_checks.certificate(*shape, slow_checks.STATES, wide, is_far))
+        text.write(f"{script}%%\n{certificate}")
         text.flush()
         return measuring.used(text.name, checks.PROGRAM, "check")[0]
+
+
+class Slow:
+    """A slow input whose points differ in settings, and whose requests are sent. Near: the entries of results come first among those of their state; far: they
+    come last, and the plain checker asks all before them. Parted: what a step makes of a class lies in four entries."""
+
+    def __init__(self, lines, has_contexts, is_far, is_parted=False):
+        self.lines, self.has_contexts, self.is_far, self.is_parted = lines, has_contexts, is_far, is_parted
+        self.most = slow_checks.most(is_parted)
+        self.points = self.most * slow_checks.points_of(lines)
+
+    def __str__(self):
+        where = f"{self.lines} lines {'with' if self.has_contexts else 'without'} contexts, {'far' if self.is_far else 'near'}"
+        return f"{where}, results in parts" if self.is_parted else where
+
+    def script(self, states):
+        return slow_checks.script(self.lines, self.has_contexts, states)
+
+    def certificate(self, states, wide):
+        return slow_checks.certificate(self.lines, self.has_contexts, states, wide, self.is_far, self.is_parted)
+
+
+class SlowAtRest:
+    """A slow input whose points differ in settings, and whose calls are at rest."""
+
+    def __init__(self, lines):
+        self.lines, self.most = lines, slow_checks.MOST_RESTING
+        self.points = self.most * slow_checks.resting_points(lines)
+
+    def __str__(self):
+        return f"{self.lines} lines at rest"
+
+    def script(self, states):
+        return slow_checks.resting_script(self.lines, states)
+
+    def certificate(self, states, wide):
+        return slow_checks.resting_certificate(self.lines, states, wide)
+
+
+def slow_inputs():
+    """Those that are decided in classes: of each shape one near and one far, results in parts of each number of lines, and calls at rest."""
+    for lines in slow_checks.SHAPES:
+        for has_contexts in (False, True):
+            yield Slow(lines, has_contexts, False)
+            yield Slow(lines, has_contexts, True)
+        yield Slow(lines, False, False, True)
+        yield SlowAtRest(lines)
 
 
 def scaled(plain, folder, script, certificates, more, most):
@@ -238,10 +274,9 @@ def scaled(plain, folder, script, certificates, more, most):
 def walked_inputs():
     """Slow inputs that are looked at point by point: the name, the script, two certificates, how many entries more the second one has, how many the limits
     allow, and how many points one has."""
-    parted = [slow_checks.certificate(3, False, 1, wide, False, True) for wide in (4, 8)]
-    yield "3 lines without contexts, results in parts", slow_checks.script(3, False, 1), parted, 4, slow_checks.most(True), slow_checks.points_of(3)
-    placed = [slow_checks.placed_certificate(1, wide) for wide in (4, 8)]
-    yield "in any of four contexts", slow_checks.placed_script(1), placed, 4, slow_checks.most(), slow_checks.PLACED_POINTS
+    for link, where in (("sent", "whose request is sent"), ("rest", "at rest")):
+        placed = [slow_checks.placed_certificate(1, wide, link) for wide in (4, 8)]
+        yield f"in any of four contexts, {where}", slow_checks.placed_script(1), placed, 4, slow_checks.MOST_PLACED, slow_checks.PLACED_POINTS
 
 
 def slowest():
@@ -249,14 +284,13 @@ def slowest():
     two inputs of a state, since a walk is linear in entries that are alike."""
     with tempfile.TemporaryDirectory() as folder:
         plain = build(folder)
-        for name, shape, is_far, points in settings_shapes():
-            certificates = [slow_checks.certificate(*shape, 1, wide, is_far) for wide in (8, 16)]
-            beside = scaled(plain, folder, slow_checks.script(*shape, 1), certificates, 8, slow_checks.most())[1]
-            own = whole_seconds(shape, is_far)
-            print(f"{name}: {slow_checks.most() * points:,} points whose request is sent, {own:.2f} s, whole; C++ {spelt(beside)}, scaled")
+        for slow in slow_inputs():
+            beside = scaled(plain, folder, slow.script(1), [slow.certificate(1, wide) for wide in (8, 16)], 8, slow.most)[1]
+            own = seconds_of_whole(slow.script(slow_checks.STATES), slow.certificate(slow_checks.STATES, slow.most // slow_checks.STATES))
+            print(f"{slow}: {slow.points:,} points, {own:.2f} s, whole; C++ {spelt(beside)}, scaled")
         for name, script, certificates, more, most, points in walked_inputs():
             own, beside = scaled(plain, folder, script, certificates, more, most)
-            print(f"{name}: {most * points:,} points whose request is sent, {spelt(own)}, C++ {spelt(beside)}, both scaled")
+            print(f"{name}: {most * points:,} points, {spelt(own)}, C++ {spelt(beside)}, both scaled")
 
 
 PARTS = (check_agreement, check_by_instructions, check_by_time, check_by_size, slowest)

@@ -1,6 +1,6 @@
-"""Inputs of `mgcall check` that are answered `yes` and hold many points in few bytes, each with as many steps as a state can have: those of `script` and
-`certificate` differ in what no command asks for, and are decided in classes, unless their entries for results are parted; those of `placed_script` and
-`placed_certificate` differ in places. What isn't decided in classes is looked at point by point."""
+"""Inputs of `mgcall check` that are answered `yes` and hold many points in few bytes, each with as many steps as a state can have: those of `script`, and of
+`resting_script` at rest, differ in what no command asks for, and are decided in classes; those of `placed_script` differ in places, and are looked at point by
+point."""
 import itertools
 import json
 
@@ -57,7 +57,8 @@ def entry(lines, has_contexts, state, link, modes, is_wide=True):
 
 
 def in_parts(whole):
-    """A wide entry in four that have its points between them: by halves of the second line's modes, and by its signals. So none has all results of a class."""
+    """A wide entry in four that have its points between them: by halves of the second line's modes, and by its signals. So none has all that a step makes of
+    a class."""
     for modes, plays in itertools.product((MODES[:2], MODES[2:]), ("no", "may")):
         yield {**whole, "lines": {**whole["lines"], "b": {**whole["lines"]["b"], "mode": modes, "plays": [plays]}}}
 
@@ -100,6 +101,60 @@ def most(is_parted=False):
     return STATES * (ENTRIES - 2 * len(MODES) * (4 if is_parted else 1))
 
 
+# ---- calls at rest
+
+# Of so many lines: how many events lists, modes and signals a line may have so that an entry has at most its 65,536 points.
+RESTING = {2: (18, 4, 2), 3: (10, 4, 1), 4: (16, 1, 1)}
+KINDS = ("on", "of", "fl", "full", "part")
+# The items of a list that raises each note that there is, and the digit map that it takes.
+EACH_ITEM, NUMBER = json.dumps(["al/on", "al/of", "al/fl", "dd/ce=number"]), ["[[maps]]", 'name = "number"', 'map = "1xx"']
+
+
+def led_on(following, lines):
+    """What leads a call at rest on: each note of each line, and the timer."""
+    return [f'timer = "{following}"', *(f'on.{name}.{kind} = "{following}"' for name in lines for kind in KINDS)]
+
+
+def resting_lists(lines):
+    return ["none", "armed", *(f"l{n}" for n in range(16))][: RESTING[lines][0]]
+
+
+def resting_script(lines, states):
+    """States with one command each, in which each own list of a line raises every note."""
+    names = "abgh"[:lines]
+    text = [f"lines = {json.dumps(list(names))}", 'start = "idle"', 'restart = "idle"', *NUMBER]
+    for name in resting_lists(lines)[2:]:
+        text += ["[[events]]", f'name = "{name}"', f"list = {EACH_ITEM}"]
+    text += ["[[signals]]", 'name = "ring"', 'list = ["al/ri"]', "[[state]]", 'name = "idle"']
+    for state in range(states):
+        following = f"s{(state + 1) % states}"
+        text += ["[[state]]", f'name = "s{state}"', 'do = ["modify - a mode=Inactive"]', f'ok = "{following}"', f'fault = "{following}"']
+        text += led_on(following, names)
+    return "\n".join(text) + "\n"
+
+
+def resting_certificate(lines, states, wide):
+    """A certificate for such a script, with so many entries for calls at rest in each state, behind those for results."""
+    _, modes, plays = RESTING[lines]
+    own = {"mode": MODES[:modes], "events": resting_lists(lines), "plays": ["no", "may"][:plays]}
+    entries = [{"state": "idle", "link": ["ok", "rest"], "lines": {name: {"events": ["none", "armed"]} for name in "abgh"[:lines]}}]
+    for state in range(states):
+        links = ["sent", "ok", "fault", *["rest"] * wide]
+        entries += [{"state": f"s{state}", "link": [link], "lines": {name: own for name in "abgh"[:lines]}} for link in links]
+    return json.dumps({"version": 2, "entries": entries}, separators=(",", ":")) + "\n"
+
+
+def resting_points(lines):
+    """How many points such an entry has."""
+    count, modes, plays = RESTING[lines]
+    found = (count * modes * plays) ** lines
+    assert found <= PRODUCT
+    return found
+
+
+# How many such entries the limits allow in all states, beside those for results.
+MOST_RESTING = STATES * (ENTRIES - 3)
+
 # ---- points that differ in places
 
 CONTEXTS, OTHERS, EPHEMERALS = "cdef", "bgh", "wxyz"
@@ -109,28 +164,33 @@ PLACED_POINTS = (4**7 - 3 * 3**7 + 3 * 2**7 - 1) * 4
 
 
 def placed_script(states):
-    """States of sixteen commands each, every one of which gives the first line another mode, in its own context."""
-    text = [f"lines = {json.dumps(['a', *OTHERS])}", f"contexts = {json.dumps([*CONTEXTS])}", f"ephemerals = {json.dumps([*EPHEMERALS])}"]
-    text += ['start = "idle"', 'restart = "idle"', "[[state]]", 'name = "idle"']
+    """States of sixteen commands each, every one of which gives the first line another mode, in its own context; each note leads on."""
+    names = ["a", *OTHERS]
+    text = [f"lines = {json.dumps(names)}", f"contexts = {json.dumps([*CONTEXTS])}", f"ephemerals = {json.dumps([*EPHEMERALS])}"]
+    text += ['start = "idle"', 'restart = "idle"', *NUMBER, "[[events]]", 'name = "each"', f"list = {EACH_ITEM}", "[[state]]", 'name = "idle"']
     commands = json.dumps([f"modify c a mode={MODES[n % 4]}" for n in range(COMMANDS)])
     for state in range(states):
         following = f"s{(state + 1) % states}"
-        text += ["[[state]]", f'name = "s{state}"', f"do = {commands}", f'ok = "{following}"', f'fault = "{following}"']
+        text += ["[[state]]", f'name = "s{state}"', f"do = {commands}", f'ok = "{following}"', f'fault = "{following}"', *led_on(following, names)]
     return "\n".join(text) + "\n"
 
 
 def placed_entry(state, link, mode):
     """An entry of a state at this link: the first line in its context with this mode, all others in any context."""
-    spots = {"at": [*CONTEXTS]}
+    spots, events = {"at": [*CONTEXTS]}, {"events": ["each"]}
     ephemerals = {name: {**spots, **({"remote": ["none", "x", "y", "z"]} if name == "w" else {})} for name in EPHEMERALS}
-    lines = {"a": {"at": ["c"], "mode": [mode]}, **{name: spots for name in OTHERS}}
+    lines = {"a": {"at": ["c"], "mode": [mode], **events}, **{name: {**spots, **events} for name in OTHERS}}
     return {"state": state, "link": [link], "lines": lines, "contexts": {name: ["live"] for name in CONTEXTS}, "ephemerals": ephemerals}
 
 
-def placed_certificate(states, wide):
-    """A certificate for such a script, with so many entries for what is sent in each state, behind those for results."""
+def placed_certificate(states, wide, link="sent"):
+    """A certificate for such a script, with so many entries at this link in each state, behind those for results."""
     entries = [{"state": "idle", "link": ["ok", "rest"], "lines": {name: {"events": ["none", "armed"]} for name in ("a", *OTHERS)}}]
     for state in range(states):
-        entries += [placed_entry(f"s{state}", link, mode) for link in ("ok", "fault") for mode in MODES]
-        entries += [placed_entry(f"s{state}", "sent", MODES[n % 4]) for n in range(max(wide, 4))]
+        entries += [placed_entry(f"s{state}", result, mode) for result in ("ok", "fault", "sent") for mode in MODES]
+        entries += [placed_entry(f"s{state}", link, MODES[n % 4]) for n in range(wide)]
     return json.dumps({"version": 2, "entries": entries}, separators=(",", ":")) + "\n"
+
+
+# How many such entries the limits allow in all states, beside those for results.
+MOST_PLACED = STATES * (ENTRIES - 3 * len(MODES))
