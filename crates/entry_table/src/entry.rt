@@ -140,11 +140,18 @@ impl Entry {
         self.components.as_slice()
     }
 
+    /// Whether a configuration, well formed or not, is one of the entry's state, and has each component in its set.
+    pub fn allows(&self, config: &Config) -> bool
+        ensures { IsTrue result ↔ (((configuration_of config.now).state ≡ self.now.state) × All (Allows (configuration_of config.now)) self.now.components) }
+    {
+        self.region.has(config)
+    }
+
     /// Whether it has a configuration: it is well formed, one of the entry's state, and has each component in its set.
     pub fn contains(&self, config: &Config) -> bool
         ensures { IsTrue result ↔ Includes self.now (configuration_of config.now) }
     {
-        if !self.region.has(config) {
+        if !self.allows(config) {
             return false;
         }
         is_well_formed(config)
@@ -155,7 +162,7 @@ impl Entry {
         requires { IsWellFormed (configuration_of config.now) }
         ensures { IsTrue result ↔ Includes self.now (configuration_of config.now) }
     {
-        self.region.has(config)
+        self.allows(config)
     }
 
     /// What its points are made of: the configuration with a number is the one in which the components have the choices with this number.
