@@ -49,7 +49,7 @@ one_given Q true v x y free was = inr (free refl)
 one_given Q false v x y free was = was
 
 -- in each its own
-given_here : {A : Type 0} (Q : A → Type 0) (here : Bool) (v w x y : A) → (here ≡ true → Q v) → (x ≡ y) ⊎ Q x
+pub given_here : {A : Type 0} (Q : A → Type 0) (here : Bool) (v w x y : A) → (here ≡ true → Q v) → (x ≡ y) ⊎ Q x
     → ((if here then v else x) ≡ (if here then w else y)) ⊎ Q (if here then v else x)
 given_here Q true v w x y free was = inr (free refl)
 given_here Q false v w x y free was = was

@@ -22,19 +22,19 @@ use Rattle.closure.proofs.ClassHeld.{mode_between, events_between, plays_between
 -- ---- steps one list after the other
 
 module _ (entries : List Entry) where
-  none_covered : AreCovered entries []
+  pub none_covered : AreCovered entries []
   none_covered s step is = absurd (none-some step is)
 
-  both_covered : (first second : List Step) → AreCovered entries first → AreCovered entries second → AreCovered entries (first ++ second)
+  pub both_covered : (first second : List Step) → AreCovered entries first → AreCovered entries second → AreCovered entries (first ++ second)
   both_covered [] second one other s step is = other s step is
   both_covered (x ∷ first) second one other zero step is = one zero step is
   both_covered (x ∷ first) second one other (suc s) step is = both_covered first second (λ n. one (suc n)) other s step is
 
-  each_covered : {X : Type 0} (f : X → List Step) (xs : List X) → ((x : X) → AreCovered entries (f x)) → AreCovered entries (flat_map f xs)
+  pub each_covered : {X : Type 0} (f : X → List Step) (xs : List X) → ((x : X) → AreCovered entries (f x)) → AreCovered entries (flat_map f xs)
   each_covered f [] each = none_covered
   each_covered f (x ∷ xs) each = both_covered (f x) (flat_map f xs) (each x) (each_covered f xs each)
 
-  below_covered : (f : ℕ → List Step) (n : ℕ) (xs : List ℕ) → ((i : ℕ) → i < n → AreCovered entries (f i)) → AreCovered entries (flat_map f (below n xs))
+  pub below_covered : (f : ℕ → List Step) (n : ℕ) (xs : List ℕ) → ((i : ℕ) → i < n → AreCovered entries (f i)) → AreCovered entries (flat_map f (below n xs))
   below_covered f n [] each = none_covered
   below_covered f n (i ∷ xs) each = by_test (nat_lt i n) refl (below_covered f n xs each)
     where

@@ -27,3 +27,9 @@ pub mod ClassWalk
 pub mod ClassLists
 pub mod ClassOpened
 pub mod ClassPairs
+pub mod MixtureLemmas
+pub mod MixtureEffects
+pub mod BlockMixtures
+pub mod MixtureSteps
+pub mod MixtureDuties
+pub mod NamedMixtures

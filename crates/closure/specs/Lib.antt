@@ -9,3 +9,6 @@ pub mod Visits
 pub mod Walk
 pub mod Settings
 pub mod Classes
+pub mod Mixtures
+pub mod Ways
+pub mod Naming

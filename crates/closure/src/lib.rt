@@ -1,13 +1,17 @@
 //! The steps of a configuration, each with its result; and the first broken obligation of a certificate, or that none is
 //! broken and how many points it has.
 //!
-//! The way of a certificate: its entries are taken one after the other (`first_fault`), each for each of its links by itself (`walk`). What is free of
-//! an entry is told by `freedom`; where all values of that are known to hold, classes of points are counted and not looked at (`class_walk`, over `class`,
-//! `media`, `held`, `rest` and `agreement`). Else each point is asked for its obligations (`obligations`), and its steps (`steps`, over `requests` and
-//! `effects`) are told to who looks whether an entry has their results (`covering`, over `cover`).
+//! The way of a certificate: its entries are taken one after the other (`first_fault`), each for each of its links by itself (`walk`), as `way` says. What is
+//! free of an entry is told by `freedom`; where all values of that are known to hold, classes of points are counted and not looked at (`class_walk`, over
+//! `class`, `media`, `held`, `rest` and `agreement`). Else it is asked of many points at once whether all obligations but that of joined lines hold
+//! (`kept_block`): the points are mixed from a few configurations (`mixture`, `block_mixture`), taken apart by the names that are bound (`named_mixture`), and
+//! where these are led all are (`mixed_steps`, over `mixed_entries`). Where that isn't known, the points are asked so in parts, and at last one by one: for its
+//! obligations (`obligations`), and its steps (`steps`, over `requests` and `effects`) are told to who looks whether an entry has their results (`covering`,
+//! over `cover`).
 #![tactic(auto)]
 
 mod agreement;
+mod block_mixture;
 mod broken;
 mod class;
 mod class_walk;
@@ -18,8 +22,13 @@ pub mod effects;
 pub mod first_fault;
 mod freedom;
 mod held;
+mod kept_block;
 mod marks;
 mod media;
+mod mixed_entries;
+mod mixed_steps;
+mod mixture;
+mod named_mixture;
 pub mod obligations;
 pub mod requests;
 mod rest;
@@ -27,3 +36,4 @@ mod results;
 pub mod steps;
 mod visitor;
 mod walk;
+mod way;

@@ -1,6 +1,6 @@
 //! What a configuration says of the names of a request: which of them are bound as it is built, and whether those that
 //! it creates are.
-ghost use Rattle.std.specs.Prelude.{◌≡◌, ℕ, ◌≤◌, not};
+ghost use Rattle.std.specs.Prelude.{◌≡◌, ℕ, ◌≤◌, not, IsTrue};
 ghost use Rattle.mg_model.specs.Configuration.{is_free, is_present};
 ghost use Rattle.mg_model.specs.Tables.{is_empty};
 ghost use Rattle.mg_model.specs.Steps.{bound_names, request_in, creates_unbound, names_unbound};
@@ -16,7 +16,7 @@ use mg_names::slots::Slot;
 use script_table::Script;
 
 /// Whether a context name is bound.
-fn is_bound(config: &Config, context: Slot) -> bool
+pub(crate) fn is_bound(config: &Config, context: Slot) -> bool
     ensures value { result ≡ not (is_free ((configuration_of config.now).context context)) }
     ensures slots { (j : ℕ) → 4 ≤ j → (configuration_of config.now).context j ≡ ContextValue.Free }
 {
@@ -24,7 +24,7 @@ fn is_bound(config: &Config, context: Slot) -> bool
 }
 
 /// Whether an ephemeral exists, so that its name is bound.
-fn exists(config: &Config, ephemeral: Slot) -> bool
+pub(crate) fn exists(config: &Config, ephemeral: Slot) -> bool
     ensures { result ≡ is_present ((configuration_of config.now).spot (Termination.Ephemeral ephemeral)) }
 {
     spots::is_present(config.spot(Termination::Ephemeral(ephemeral)))
@@ -49,6 +49,33 @@ pub fn bound_in(config: &Config) -> Names
             exists(config, slots[3]),
         ],
     )
+}
+
+/// Whether a context name is bound in both of two configurations, or in neither, and so an ephemeral's.
+fn is_slot_alike(one: &Config, other: &Config, slot: Slot) -> bool
+    ensures context { IsTrue result → not (is_free ((configuration_of one.now).context slot)) ≡ not (is_free ((configuration_of other.now).context slot)) }
+    ensures ephemeral { IsTrue result
+        → is_present ((configuration_of one.now).spot (Termination.Ephemeral slot)) ≡ is_present ((configuration_of other.now).spot (Termination.Ephemeral slot)) }
+    ensures past { (j : ℕ) → 4 ≤ j → not (is_free ((configuration_of one.now).context j)) ≡ not (is_free ((configuration_of other.now).context j)) }
+{
+    is_bound(one, slot) == is_bound(other, slot) && exists(one, slot) == exists(other, slot)
+}
+
+/// Whether the same names are bound in two configurations.
+pub(crate) fn have_same_names(one: &Config, other: &Config) -> bool
+    ensures { IsTrue result → bound_names (configuration_of one.now) ≡ bound_names (configuration_of other.now) }
+{
+    let [first, second, third, fourth] = Slot::all();
+    if !is_slot_alike(one, other, first) {
+        return false;
+    }
+    if !is_slot_alike(one, other, second) {
+        return false;
+    }
+    if !is_slot_alike(one, other, third) {
+        return false;
+    }
+    is_slot_alike(one, other, fourth)
 }
 
 /// Whether the request that a state builds in a configuration is empty.

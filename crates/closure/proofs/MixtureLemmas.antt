@@ -1,0 +1,212 @@
+-- What is known of each of some configurations is known of all that are mixed from them: what an entry allows, which names are bound, and
+-- what comes of each component by itself.
+use Rattle.std.proofs.Common.{◌≡◌, ◌∙◌, ℕ, zero, suc, ◌<◌, ◌==◌, Bool, true, false, if◌then◌else◌, List, [], ◌∷◌, map, length, take, ◌++◌, ◌+◌, ◌≤◌, add-one, refl, sym, ap, subst, arith, Contains, not}
+use Rattle.std.specs.List.{All, slice_index_or}
+use Rattle.std.proofs.Math.Path.{fun_ext}
+use Rattle.std.proofs.lemmas.List.{map-append}
+use Rattle.std.proofs.lemmas.Bool.{eqb-true}
+use Rattle.std.proofs.lemmas.List.Elements.{All-nil, All-cons, All-head, All-tail, Contains-append_left, Contains-append_right}
+use Rattle.mg_names.specs.declared.context_values.ContextValue.{ContextValue}
+use Rattle.mg_names.specs.declared.phases.LinkPhase.{LinkPhase}
+use Rattle.mg_model.specs.declared.commands.Termination.{Termination}
+use Rattle.mg_model.specs.declared.commands.Termination.TheVariants.{Ephemeral}
+use Rattle.mg_model.specs.Configuration.{Configuration, IsWellFormed, is_free, is_present, is_same, with_of}
+use Rattle.mg_model.specs.Entries.{Component, Entry, Allows, Includes, links, spots, modes, events, plays, contexts, remotes, cuts}
+use Rattle.mg_model.specs.Request.{Names}
+use Rattle.mg_model.specs.Steps.{bound_names}
+use Rattle.mg_model.specs.Updates.{with_at}
+use Rattle.mg_model.proofs.Built.{same_names}
+use Rattle.mg_model.proofs.Terminations.{is_same_is}
+use Rattle.configuration.specs.Config.{configuration_of}
+use Rattle.configuration.specs.Packed.{Words}
+use Rattle.closure.proofs.ClassLists.{all_of_few, few_and_one}
+use Rattle.closure.specs.Mixtures.{HasOne, IsMixed, AreAlike}
+
+pub contains_map : {X Y : Type 0} (f : X → Y) (xs : List X) (x : X) → Contains xs x → Contains (map f xs) (f x)
+contains_map f [] x has = absurd (omega (arith, has.1))
+contains_map f (y ∷ xs) x (zero, lt, is) = (zero, omega arith, ap f is)
+contains_map f (y ∷ xs) x (suc k, lt, is) =
+    let more = contains_map f xs x (k, omega (arith, lt), is) in
+    (suc more.0, omega (arith, more.1), more.2)
+
+-- ---- what is allowed
+
+module _ (some : List Configuration) where
+  value_allowed : {A : Type 0} (of : Configuration → A) (values : List A) (v : A) → HasOne some of v
+      → ((d : Configuration) → Contains some d → Contains values (of d)) → Contains values v
+  value_allowed of values v one each = subst (λ w. Contains values w) one.1.1 (each one.0 one.1.0)
+
+  one_allowed : (c : Configuration) → IsMixed some c → (component : Component)
+      → ((d : Configuration) → Contains some d → Allows d component) → Allows c component
+  one_allowed c mixed (links values) each = value_allowed (λ d. d.link) values c.link mixed.link each
+  one_allowed c mixed (spots t values) each = value_allowed (λ d. d.spot t) values (c.spot t) (mixed.spot t) each
+  one_allowed c mixed (modes t values) each = value_allowed (λ d. d.mode t) values (c.mode t) (mixed.mode t) each
+  one_allowed c mixed (events i values) each = value_allowed (λ d. d.events i) values (c.events i) (mixed.events i) each
+  one_allowed c mixed (plays i values) each = value_allowed (λ d. d.plays i) values (c.plays i) (mixed.plays i) each
+  one_allowed c mixed (contexts j values) each = value_allowed (λ d. d.context j) values (c.context j) (mixed.context j) each
+  one_allowed c mixed (remotes k values) each = value_allowed (λ d. d.remote k) values (c.remote k) (mixed.remote k) each
+  one_allowed c mixed (cuts t u values) each = value_allowed (λ d. d.cut t u) values (c.cut t u) (mixed.cut t u) each
+
+  pub mixed_allowed : (c : Configuration) → IsMixed some c → (components : List Component)
+      → ((d : Configuration) → Contains some d → All (Allows d) components) → All (Allows c) components
+  mixed_allowed c mixed [] each = All-nil (Allows c)
+  mixed_allowed c mixed (component ∷ more) each = All-cons (Allows c) component more
+      (one_allowed c mixed component (λ d has. All-head (Allows d) component more (each d has)))
+      (mixed_allowed c mixed more (λ d has. All-tail (Allows d) component more (each d has)))
+
+  -- ---- what is alike
+
+  module _ (one c : Configuration) (alike : AreAlike some one) (mixed : IsMixed some c) where
+    pub mixed_state : c.state ≡ one.state
+    mixed_state = sym mixed.state.1.1 ∙ alike.state mixed.state.0 mixed.state.1.0
+
+    pub mixed_link : c.link ≡ one.link
+    mixed_link = sym mixed.link.1.1 ∙ alike.link mixed.link.0 mixed.link.1.0
+
+    context_bound : (j : ℕ) → not (is_free (c.context j)) ≡ not (is_free (one.context j))
+    context_bound j = ap (λ (v : ContextValue). not (is_free v)) (sym (mixed.context j).1.1)
+        ∙ ap (λ (names : Names). names.contexts j) (alike.names (mixed.context j).0 (mixed.context j).1.0)
+
+    ephemeral_bound : (k : ℕ) → is_present (c.spot (Ephemeral k)) ≡ is_present (one.spot (Ephemeral k))
+    ephemeral_bound k = ap is_present (sym (mixed.spot (Ephemeral k)).1.1)
+        ∙ ap (λ (names : Names). names.ephemerals k) (alike.names (mixed.spot (Ephemeral k)).0 (mixed.spot (Ephemeral k)).1.0)
+
+    pub mixed_names : bound_names c ≡ bound_names one
+    mixed_names = same_names (bound_names c) (bound_names one) (fun_ext context_bound) (fun_ext ephemeral_bound)
+
+  -- ---- what comes of each component by itself
+
+  -- of a value of one of these it makes a value
+  pub one_made : {A B : Type 0} (f : Configuration → Configuration) (of : Configuration → A) (v : A) (from : Configuration → B) (w : B)
+      → HasOne some of v → ((d : Configuration) → of d ≡ v → from (f d) ≡ w) → HasOne (map f some) from w
+  one_made f of v from w one makes = (f one.0, (contains_map f some one.0 one.1.0, makes one.0 one.1.1))
+
+  -- the same value
+  pub one_kept : {A : Type 0} (f : Configuration → Configuration) (of : Configuration → A) (v : A) → ((d : Configuration) → of (f d) ≡ of d)
+      → HasOne some of v → HasOne (map f some) of v
+  one_kept f of v keeps one = one_made f of v of v one (λ d is. keeps d ∙ is)
+
+-- a link is set
+pub mixed_with_link : (some : List Configuration) (c : Configuration) (link : LinkPhase) → IsMixed some c
+    → IsMixed (map (λ (d : Configuration). record d { link = link }) some) (record c { link = link })
+mixed_with_link some c link mixed =
+    let f : Configuration → Configuration = λ d. record d { link = link } in
+    record {
+      state = one_kept some f (λ d. d.state) c.state (λ d. refl) mixed.state;
+      link = one_made some f (λ d. d.link) c.link (λ d. d.link) link mixed.link (λ d is. refl);
+      spot = λ t. one_kept some f (λ d. d.spot t) (c.spot t) (λ d. refl) (mixed.spot t);
+      mode = λ t. one_kept some f (λ d. d.mode t) (c.mode t) (λ d. refl) (mixed.mode t);
+      events = λ i. one_kept some f (λ d. d.events i) (c.events i) (λ d. refl) (mixed.events i);
+      plays = λ i. one_kept some f (λ d. d.plays i) (c.plays i) (λ d. refl) (mixed.plays i);
+      context = λ j. one_kept some f (λ d. d.context j) (c.context j) (λ d. refl) (mixed.context j);
+      remote = λ k. one_kept some f (λ d. d.remote k) (c.remote k) (λ d. refl) (mixed.remote k);
+      cut = λ t u. one_kept some f (λ d. d.cut t u) (c.cut t u) (λ d. refl) (mixed.cut t u);
+    }
+
+-- a state and a link are set
+pub mixed_with_state : (some : List Configuration) (c : Configuration) (state : ℕ) (link : LinkPhase) → IsMixed some c
+    → IsMixed (map (λ (d : Configuration). record d { state = state; link = link }) some) (record c { state = state; link = link })
+mixed_with_state some c state link mixed =
+    let f : Configuration → Configuration = λ d. record d { state = state; link = link } in
+    record {
+      state = one_made some f (λ d. d.state) c.state (λ d. d.state) state mixed.state (λ d is. refl);
+      link = one_made some f (λ d. d.link) c.link (λ d. d.link) link mixed.link (λ d is. refl);
+      spot = λ t. one_kept some f (λ d. d.spot t) (c.spot t) (λ d. refl) (mixed.spot t);
+      mode = λ t. one_kept some f (λ d. d.mode t) (c.mode t) (λ d. refl) (mixed.mode t);
+      events = λ i. one_kept some f (λ d. d.events i) (c.events i) (λ d. refl) (mixed.events i);
+      plays = λ i. one_kept some f (λ d. d.plays i) (c.plays i) (λ d. refl) (mixed.plays i);
+      context = λ j. one_kept some f (λ d. d.context j) (c.context j) (λ d. refl) (mixed.context j);
+      remote = λ k. one_kept some f (λ d. d.remote k) (c.remote k) (λ d. refl) (mixed.remote k);
+      cut = λ t u. one_kept some f (λ d. d.cut t u) (c.cut t u) (λ d. refl) (mixed.cut t u);
+    }
+
+-- ---- values that are changed at one place, each by itself
+
+pub of_one_number : {A : Type 0} (was : ℕ → A) (g : A → A) (k n : ℕ) → with_at was k (g (was k)) n ≡ (if n == k then g (was n) else was n)
+of_one_number was g k n = by_test (n == k) refl
+  where
+    by_test : (b : Bool) → (n == k) ≡ b → (if b then g (was k) else was n) ≡ (if b then g (was n) else was n)
+    by_test true e = ap (λ (m : ℕ). g (was m)) (sym (eqb-true n k e))
+    by_test false e = refl
+
+pub of_one_termination : {A : Type 0} (was : Termination → A) (g : A → A) (u t : Termination)
+    → with_of was u (g (was u)) t ≡ (if is_same t u then g (was t) else was t)
+of_one_termination was g u t = by_test (is_same t u) refl
+  where
+    by_test : (b : Bool) → is_same t u ≡ b → (if b then g (was u) else was t) ≡ (if b then g (was t) else was t)
+    by_test true e = ap (λ (v : Termination). g (was v)) (sym (is_same_is t u e))
+    by_test false e = refl
+
+-- ---- one configuration more
+
+-- what was there still is, and what was added is there
+pub still_there : {X Y : Type 0} (f : X → Y) (xs ys : List X) (x : X) → ys ≡ xs ++ x ∷ [] → (y : Y) → Contains (map f xs) y → Contains (map f ys) y
+still_there {X} {Y} f xs ys x is y has =
+    subst (λ (zs : List X). Contains (map f zs) y) (sym is)
+    (subst (λ (zs : List Y). Contains zs y) (sym (map-append f xs (x ∷ []))) (Contains-append_left (map f xs) (f x ∷ []) y has))
+
+pub added_there : {X Y : Type 0} (f : X → Y) (xs ys : List X) (x : X) → ys ≡ xs ++ x ∷ [] → Contains (map f ys) (f x)
+added_there {X} {Y} f xs ys x is =
+    subst (λ (zs : List X). Contains (map f zs) (f x)) (sym is)
+    (contains_map f (xs ++ x ∷ []) x (Contains-append_right xs (x ∷ []) x (0, omega arith, refl)))
+
+-- ---- one of some configurations after another
+
+take_more : {X : Type 0} (xs : List X) (i : ℕ) (x : X) → i < length xs → slice_index_or xs i x ≡ x → take (suc i) xs ≡ take i xs ++ x ∷ []
+take_more [] i x lt is = absurd (omega (arith, lt))
+take_more {X} (y ∷ xs) zero x lt is = ap (λ (z : X). z ∷ []) is
+take_more {X} (y ∷ xs) (suc i) x lt is = ap (λ (zs : List X). y ∷ zs) (take_more xs i x (omega (arith, lt)) is)
+
+config_at : (items : List Words) (i : ℕ) (x : Words) → i < length items → slice_index_or items i x ≡ x
+    → slice_index_or (map configuration_of items) i (configuration_of x) ≡ configuration_of x
+config_at [] i x lt is = absurd (omega (arith, lt))
+config_at (y ∷ items) zero x lt is = ap configuration_of is
+config_at (y ∷ items) (suc i) x lt is = config_at items i x (omega (arith, lt)) is
+
+as_many_configs : (items : List Words) → length (map configuration_of items) ≡ length items
+as_many_configs [] = refl
+as_many_configs (x ∷ items) = ap suc (as_many_configs items)
+
+-- what holds of each so far holds of one more, and in the end of all
+pub each_and_one : (P : Configuration → Type 0) (items : List Words) (i : ℕ) (x : Words) → i < length items → x ≡ slice_index_or items i x
+    → ((d : Configuration) → Contains (take i (map configuration_of items)) d → P d) → P (configuration_of x)
+    → (d : Configuration) → Contains (take (i + 1) (map configuration_of items)) d → P d
+each_and_one P items i x lt is = few_and_one P (map configuration_of items) i (configuration_of x) (config_at items i x lt (sym is))
+    (omega (arith, lt, as_many_configs items))
+
+pub each_of_all : (P : Configuration → Type 0) (items mixture : List Words) (i : ℕ) → items ≡ mixture → length items ≤ i
+    → ((d : Configuration) → Contains (take i (map configuration_of items)) d → P d) → (d : Configuration) → Contains (map configuration_of mixture) d → P d
+each_of_all P items mixture i same past so_far =
+    subst (λ (words : List Words). (d : Configuration) → Contains (map configuration_of words) d → P d) same
+    (subst (λ (ds : List Configuration). (d : Configuration) → Contains ds d → P d)
+    (all_of_few (map configuration_of items) i (omega (arith, past, as_many_configs items))) so_far)
+
+-- the same of what is made of each
+pub one_more_made : (f : Configuration → Configuration) (items made new : List Words) (i : ℕ) (x y : Words) → i < length items → x ≡ slice_index_or items i x
+    → new ≡ made ++ y ∷ [] → configuration_of y ≡ f (configuration_of x)
+    → map configuration_of made ≡ map f (take i (map configuration_of items)) → map configuration_of new ≡ map f (take (i + 1) (map configuration_of items))
+one_more_made f items made new i x y lt is added makes so_far =
+    let configs : List Configuration = map configuration_of items in
+    ap (map configuration_of) added ∙ map-append configuration_of made (y ∷ [])
+    ∙ ap (λ (ds : List Configuration). ds ++ configuration_of y ∷ []) so_far
+    ∙ ap (λ (d : Configuration). map f (take i configs) ++ d ∷ []) makes
+    ∙ sym (map-append f (take i configs) (configuration_of x ∷ []))
+    ∙ ap (map f) (sym (take_more configs i (configuration_of x) (omega (arith, lt, as_many_configs items)) (config_at items i x lt (sym is))))
+    ∙ ap (λ (n : ℕ). map f (take n configs)) (sym (add-one i))
+
+pub all_made : (f : Configuration → Configuration) (items mixture made : List Words) (i : ℕ) → items ≡ mixture → length items ≤ i
+    → map configuration_of made ≡ map f (take i (map configuration_of items)) → map configuration_of made ≡ map f (map configuration_of mixture)
+all_made f items mixture made i same past so_far =
+    so_far ∙ ap (map f) (all_of_few (map configuration_of items) i (omega (arith, past, as_many_configs items)))
+    ∙ ap (λ (words : List Words). map f (map configuration_of words)) same
+
+-- ---- an entry that has all
+
+pub mixed_includes : (some : List Configuration) (entry : Entry)
+    → ((d : Configuration) → Contains some d → (d.state ≡ entry.state) × All (Allows d) entry.components)
+    → (c : Configuration) → IsMixed some c → IsWellFormed c → Includes entry c
+mixed_includes some entry each c mixed formed = (
+  sym mixed.state.1.1 ∙ (each mixed.state.0 mixed.state.1.0).0,
+  formed,
+  mixed_allowed some c mixed entry.components (λ d has. (each d has).1),
+)

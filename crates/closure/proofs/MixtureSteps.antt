@@ -1,0 +1,198 @@
+-- Where the steps lead of all that are mixed from some configurations, by where these are led.
+use Rattle.std.proofs.Common.{◌≡◌, ◌∙◌, ◌++◌, ℕ, zero, suc, ◌+◌, ◌≤◌, Bool, true, false, List, [], ◌∷◌, map, length, Option, Some, None, refl, sym, ap, subst, IsTrue, Contains}
+use Rattle.std.specs.Prelude.{if◌then◌else◌}
+use Rattle.std.specs.List.{flat_map}
+use Rattle.std.proofs.lemmas.Option.{none-some, same_Some}
+use Rattle.mg_names.specs.declared.kinds.Kind.{Kind}
+use Rattle.mg_names.specs.declared.kinds.Kind.TheVariants.{On, Of, Fl, Full, Part}
+use Rattle.mg_names.specs.declared.phases.LinkPhase.{LinkPhase}
+use Rattle.mg_names.specs.declared.phases.LinkPhase.TheVariants.{Sent, Answered, Failed, Resting}
+use Rattle.mg_model.specs.declared.commands.Command.{Command}
+use Rattle.mg_model.specs.declared.commands.EventsName.{EventsName}
+use Rattle.mg_model.specs.declared.steps.StepName.{StepName}
+use Rattle.mg_model.specs.declared.steps.StepName.TheVariants.{Refuse, Execute, Reply, Observe, Timer}
+use Rattle.mg_model.specs.Script.{Script}
+use Rattle.mg_model.specs.Tables.{state_of, items_of, raises, target_in, is_empty, line_places}
+use Rattle.mg_model.specs.Configuration.{Configuration, IsWellFormed}
+use Rattle.mg_model.specs.Effects.{effect, is_legal}
+use Rattle.mg_model.specs.Entries.{Entry, IsCovered}
+use Rattle.mg_model.specs.Request.{Names, built}
+use Rattle.mg_model.specs.Steps.{Step, all_kinds, bound_names, entering, executed, execution, names_unbound, observation, observations, refusals, reply_step, request_in, steps_by_link, with_link, with_state}
+use Rattle.closure.specs.Findings.{AreCovered}
+use Rattle.closure.specs.Mixtures.{AreAlike, AreMixedCovered, AreMixedEntered, AreMixedLineCovered, AreMixedLinked, AreMixedNotesCovered, AreMixedRepliesCovered, AreMixedRequestsCovered, AreMixedRestsCovered, AreMixedStepsCovered, IsMixed, leaves_places}
+use Rattle.closure.proofs.ClassRest.{below_covered, both_covered, each_covered, none_covered, of_kinds, of_lines}
+use Rattle.closure.proofs.MixtureEffects.{formed_effect, mixed_effect}
+use Rattle.closure.proofs.MixtureLemmas.{mixed_link, mixed_names, mixed_state, mixed_with_link, mixed_with_state}
+
+-- being well formed asks for no state and no link
+formed_with_state : (c : Configuration) (state : ℕ) (link : LinkPhase) → IsWellFormed c → IsWellFormed (record c { state = state; link = link })
+formed_with_state c state link formed = record {
+  live = formed.live;
+  absent_mode = formed.absent_mode;
+  absent_remote = formed.absent_remote;
+  named = formed.named;
+  cut_within = formed.cut_within;
+}
+
+formed_with_link : (c : Configuration) (link : LinkPhase) → IsWellFormed c → IsWellFormed (with_link c link)
+formed_with_link c link formed = record {
+  live = formed.live;
+  absent_mode = formed.absent_mode;
+  absent_remote = formed.absent_remote;
+  named = formed.named;
+  cut_within = formed.cut_within;
+}
+
+-- one step more is covered
+step_covered : (entries : List Entry) (step : Step) (more : List Step) → IsCovered entries step.1 → AreCovered entries more → AreCovered entries (step ∷ more)
+step_covered entries step more here later zero other is = subst (λ (made : Step). IsCovered entries made.1) (same_Some step other is) here
+step_covered entries step more here later (suc s) other is = later s other is
+
+-- ---- another link
+
+module _ (entries : List Entry) (some : List Configuration) where
+  pub all_linked : (link : LinkPhase) (made : List Configuration) → made ≡ map (λ (d : Configuration). record d { link = link }) some
+      → AreMixedCovered entries made → AreMixedLinked entries some link
+  all_linked link made is covered c mixed formed =
+      covered (with_link c link) (subst (λ (ds : List Configuration). IsMixed ds (with_link c link)) (sym is) (mixed_with_link some c link mixed))
+      (formed_with_link c link formed)
+
+module _ (script : Script) (entries : List Entry) (some : List Configuration) where
+  -- ---- a request
+
+  pub request_ends : AreMixedLinked entries some Answered → AreMixedRequestsCovered script entries some []
+  request_ends answered c mixed formed place =
+      step_covered entries (Execute, with_link c Answered) [] (answered c mixed formed) (none_covered entries)
+
+  pub request_goes_on : (command : Command) (more : List Command) (made : List Configuration)
+      → made ≡ map (λ (d : Configuration). effect script d command) some → AreMixedLinked entries some Failed → IsTrue (leaves_places command)
+      → AreMixedRequestsCovered script entries made more → AreMixedRequestsCovered script entries some (command ∷ more)
+  request_goes_on command more made is failed leaves later c mixed formed place = by_test (is_legal c command) refl
+    where
+      after : Configuration
+      after = effect script c command
+
+      by_test : (b : Bool) → is_legal c command ≡ b
+          → AreCovered entries ((Refuse place, with_link c Failed)
+          ∷ ((if b then refusals script after (place + 1) more else []) ++ execution (if b then executed script after more else None)))
+      by_test true legal = step_covered entries (Refuse place, with_link c Failed) (refusals script after (place + 1) more ++ execution (executed script after more))
+          (failed c mixed formed)
+          (later after (subst (λ (ds : List Configuration). IsMixed ds after) (sym is) (mixed_effect script some c command leaves mixed))
+          (formed_effect script c formed command leaves legal) (place + 1))
+      by_test false illegal = step_covered entries (Refuse place, with_link c Failed) [] (failed c mixed formed) (none_covered entries)
+
+  -- ---- a state is entered
+
+  pub no_target : AreMixedEntered script entries some None
+  no_target state is = absurd (none-some state is)
+
+  entering_covered : (c : Configuration) (name : StepName) (target : Option ℕ) → AreMixedEntered script entries some target → IsMixed some c
+      → IsWellFormed c → AreCovered entries (entering script c name target)
+  entering_covered c name None entered mixed formed = none_covered entries
+  entering_covered c name (Some state) entered mixed formed =
+      step_covered entries (name, with_state script c state) [] (entered state refl c mixed formed) (none_covered entries)
+
+  module _ (one : Configuration) (alike : AreAlike some one) where
+    pub all_entered : (state : ℕ) (link : LinkPhase) → link ≡ (with_state script one state).link → (made : List Configuration)
+        → made ≡ map (λ (d : Configuration). record d { state = state; link = link }) some → AreMixedCovered entries made
+        → AreMixedEntered script entries some (Some state)
+    all_entered state link linked made is covered other same c mixed formed =
+        subst (λ (n : ℕ). IsCovered entries (with_state script c n)) (same_Some state other same)
+        (subst (λ (l : LinkPhase). IsCovered entries (record c { state = state; link = l })) (linked ∙ as_one)
+        (covered (record c { state = state; link = link })
+        (subst (λ (ds : List Configuration). IsMixed ds (record c { state = state; link = link })) (sym is) (mixed_with_state some c state link mixed))
+        (formed_with_state c state link formed)))
+      where
+        as_one : (with_state script one state).link ≡ (with_state script c state).link
+        as_one = ap (λ (names : Names). if is_empty (built names (state_of script state).commands) then Answered else Sent)
+            (sym (mixed_names some one c alike mixed))
+
+    -- ---- notes
+
+    pub no_notes : (i : ℕ) (kind : Kind)
+        → ((d : Configuration) → Contains some d → raises (items_of script (d.events i)) kind ≡ false) → AreMixedNotesCovered script entries some i kind
+    no_notes i kind none c mixed formed =
+        let list = mixed.events i in
+        let never : raises (items_of script (c.events i)) kind ≡ false =
+        subst (λ (v : EventsName). raises (items_of script v) kind ≡ false) list.1.1 (none list.0 list.1.0) in
+        subst (λ (b : Bool). AreCovered entries (if b then entering script c (Observe i kind) (target_in (state_of script c.state).on i kind) else []))
+        (sym never) (none_covered entries)
+
+    pub notes_enter : (i : ℕ) (kind : Kind) (target : Option ℕ) → target ≡ target_in (state_of script one.state).on i kind
+        → AreMixedEntered script entries some target → AreMixedNotesCovered script entries some i kind
+    notes_enter i kind target is entered c mixed formed = by_test (raises (items_of script (c.events i)) kind)
+      where
+        there : target ≡ target_in (state_of script c.state).on i kind
+        there = is ∙ ap (λ (state : ℕ). target_in (state_of script state).on i kind) (sym (mixed_state some one c alike mixed))
+
+        by_test : (b : Bool) → AreCovered entries (if b then entering script c (Observe i kind) (target_in (state_of script c.state).on i kind) else [])
+        by_test true = entering_covered c (Observe i kind) (target_in (state_of script c.state).on i kind)
+            (subst (λ (found : Option ℕ). AreMixedEntered script entries some found) there entered) mixed formed
+        by_test false = none_covered entries
+
+    pub line_covered : (i : ℕ) → AreMixedNotesCovered script entries some i On → AreMixedNotesCovered script entries some i Of
+        → AreMixedNotesCovered script entries some i Fl → AreMixedNotesCovered script entries some i Full → AreMixedNotesCovered script entries some i Part
+        → AreMixedLineCovered script entries some i
+    line_covered i on off flash full part c mixed formed = each_covered entries (observation script c i) all_kinds
+        (λ kind. of_kinds (λ (k : Kind). AreMixedNotesCovered script entries some i k) on off flash full part kind c mixed formed)
+
+    pub rest_covered : length script.lines ≤ 4 → AreMixedLineCovered script entries some 0 → AreMixedLineCovered script entries some 1
+        → AreMixedLineCovered script entries some 2 → AreMixedLineCovered script entries some 3 → (timer : Option ℕ)
+        → timer ≡ (state_of script one.state).timer → AreMixedEntered script entries some timer → AreMixedRestsCovered script entries some
+    rest_covered few first second third fourth timer is entered c mixed formed =
+        both_covered entries (flat_map (observations script c) (line_places script)) (entering script c Timer (state_of script c.state).timer)
+        (below_covered entries (observations script c) (length script.lines) (0 ∷ 1 ∷ 2 ∷ 3 ∷ [])
+        (λ i lt. of_lines (λ (n : ℕ). AreMixedLineCovered script entries some n) (length script.lines) few first second third fourth i lt c mixed formed))
+        (entering_covered c Timer (state_of script c.state).timer
+        (subst (λ (found : Option ℕ). AreMixedEntered script entries some found)
+        (is ∙ ap (λ (state : ℕ). (state_of script state).timer) (sym (mixed_state some one c alike mixed))) entered) mixed formed)
+
+    -- ---- replies
+
+    pub reply_rests : None ≡ (state_of script one.state).ok → AreMixedLinked entries some Resting → AreMixedRepliesCovered script entries some
+    reply_rests is rests c mixed formed =
+        subst (λ (found : Option ℕ). AreCovered entries (reply_step script c found))
+        (is ∙ ap (λ (state : ℕ). (state_of script state).ok) (sym (mixed_state some one c alike mixed)))
+        (step_covered entries (Reply, with_link c Resting) [] (rests c mixed formed) (none_covered entries))
+
+    pub reply_enters : (state : ℕ) → Some state ≡ (state_of script one.state).ok → AreMixedEntered script entries some (Some state)
+        → AreMixedRepliesCovered script entries some
+    reply_enters state is entered c mixed formed =
+        subst (λ (found : Option ℕ). AreCovered entries (reply_step script c found))
+        (is ∙ ap (λ (n : ℕ). (state_of script n).ok) (sym (mixed_state some one c alike mixed)))
+        (step_covered entries (Reply, with_state script c state) [] (entered state refl c mixed formed) (none_covered entries))
+
+    -- ---- all steps
+
+    by_link : (link : LinkPhase) → one.link ≡ link
+        → ((c : Configuration) → IsMixed some c → IsWellFormed c → AreCovered entries (steps_by_link script c link)) → AreMixedStepsCovered script entries some
+    by_link link is covered c mixed formed =
+        subst (λ (l : LinkPhase). AreCovered entries (steps_by_link script c l)) (sym (mixed_link some one c alike mixed ∙ is)) (covered c mixed formed)
+
+    pub sent_steps_covered : one.link ≡ Sent → (request : List Command) → request ≡ built (bound_names one) (state_of script one.state).commands
+        → AreMixedRequestsCovered script entries some request → AreMixedStepsCovered script entries some
+    sent_steps_covered is request whole covered = by_link Sent is (λ c mixed formed. by_test c mixed formed (names_unbound script c))
+      where
+        requested : (c : Configuration) → IsMixed some c → request ≡ request_in script c c.state
+        requested c mixed = whole ∙ ap (λ (names : Names). built names (state_of script one.state).commands) (sym (mixed_names some one c alike mixed))
+            ∙ ap (λ (state : ℕ). built (bound_names c) (state_of script state).commands) (sym (mixed_state some one c alike mixed))
+
+        by_test : (c : Configuration) → IsMixed some c → IsWellFormed c → (b : Bool)
+            → AreCovered entries (if b then refusals script c 0 (request_in script c c.state) ++ execution (executed script c (request_in script c c.state)) else [])
+        by_test c mixed formed true =
+            subst (λ (commands : List Command). AreCovered entries (refusals script c 0 commands ++ execution (executed script c commands)))
+            (requested c mixed) (covered c mixed formed 0)
+        by_test c mixed formed false = none_covered entries
+
+    pub answered_steps_covered : one.link ≡ Answered → AreMixedRepliesCovered script entries some → AreMixedStepsCovered script entries some
+    answered_steps_covered = by_link Answered
+
+    pub failed_steps_covered : one.link ≡ Failed → (target : Option ℕ) → target ≡ (state_of script one.state).fault
+        → AreMixedEntered script entries some target → AreMixedStepsCovered script entries some
+    failed_steps_covered is target whole entered = by_link Failed is (λ c mixed formed.
+        entering_covered c Reply (state_of script c.state).fault
+        (subst (λ (found : Option ℕ). AreMixedEntered script entries some found)
+        (whole ∙ ap (λ (state : ℕ). (state_of script state).fault) (sym (mixed_state some one c alike mixed))) entered) mixed formed)
+
+    pub rest_steps_covered : one.link ≡ Resting → AreMixedRestsCovered script entries some → AreMixedStepsCovered script entries some
+    rest_steps_covered = by_link Resting

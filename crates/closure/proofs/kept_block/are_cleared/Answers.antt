@@ -1,0 +1,17 @@
+-- So it is of one configuration more; then of all.
+use Rattle.mg_model.specs.Configuration.{Configuration}
+use Rattle.mg_model.specs.Obligations.{EndedIsCleared}
+use Rattle.closure.proofs.MixtureLemmas.{each_and_one, each_of_all}
+use Rattle.closure.proofs.kept_block.are_cleared.Goals as goal
+
+pub loop-config-preserved : goal.loop-config-preserved
+loop-config-preserved c =
+    each_and_one (λ (d : Configuration). EndedIsCleared c.args.script.now d)
+    c.as_slice-config-items.result.now c.loop-config.config-index c.config-item.result c.loop-config-test.true c.config-item.is c.loop-config.invariant
+    (c.ended_is_cleared.ensures.0 c.if-not-ended_is_cleared.false)
+
+pub returns : goal.returns
+returns c holds =
+    each_of_all (λ (d : Configuration). EndedIsCleared c.args.script.now d)
+    c.as_slice-config-items.result.now c.args.mixture.now c.loop-config.config-index c.as_slice-config-items.ensures c.loop-config-test.false
+    c.loop-config.invariant

@@ -1,0 +1,143 @@
+//! Whether all obligations but that of joined lines hold of all points at once that some components make of a configuration. Points that differ in places,
+//! contexts and Remotes are told of so, too.
+ghost use Rattle.std.specs.Prelude.{◌≡◌, IsTrue, Contains, map};
+ghost use Rattle.mg_model.specs.Configuration.{Configuration};
+ghost use Rattle.mg_model.specs.Obligations.{EndedIsCleared, NamesAreLive};
+ghost use Rattle.mg_model.specs.Steps.{bound_names};
+ghost use Rattle.configuration.specs.Config.{configuration_of};
+ghost use Rattle.entry_table.specs.Shown.{shown_all};
+ghost use Rattle.closure.specs.Mixtures.{AreAlike, IsBlockKept};
+ghost use Rattle.closure.specs.Naming.{AreNamedKept};
+
+use crate::block_mixture::mixture_of;
+use crate::mixed_steps::are_steps_covered;
+use crate::mixture::Mixture;
+use crate::named_mixture::{named_each, named_unlike, with_name_of};
+use crate::obligations::{created_are_unbound, ended_is_cleared, names_are_live};
+use crate::requests::have_same_names;
+use configuration::config::Config;
+use entry_table::{Cert, Component, product_of};
+use mg_names::phases::LinkPhase;
+use script_table::Script;
+
+/// Whether two links are one.
+fn is_same_link(one: LinkPhase, other: LinkPhase) -> bool
+    ensures { IsTrue result → one ≡ other }
+{
+    one == other
+}
+
+/// Whether some configurations are of one state, have one link and the same names bound.
+fn are_alike(mixture: &Mixture, one: &Config) -> bool
+    ensures { IsTrue result → AreAlike (map configuration_of mixture.now) (configuration_of one.now) }
+{
+    for config in mixture.as_slice() {
+        if config.state() != one.state() {
+            return false;
+        }
+        if !is_same_link(config.link(), one.link()) {
+            return false;
+        }
+        if !have_same_names(config, one) {
+            return false;
+        }
+    }
+    true
+}
+
+/// Whether each of some configurations is cleared where it has ended.
+fn are_cleared(script: &Script, mixture: &Mixture) -> bool
+    ensures { IsTrue result → (d : Configuration) → Contains (map configuration_of mixture.now) d → EndedIsCleared script.now d }
+{
+    for config in mixture.as_slice() {
+        if !ended_is_cleared(script, config) {
+            return false;
+        }
+    }
+    true
+}
+
+/// Whether the names of each of some configurations stand for what exists, where they have to.
+fn are_live(mixture: &Mixture) -> bool
+    ensures { IsTrue result → (d : Configuration) → Contains (map configuration_of mixture.now) d → NamesAreLive d }
+{
+    for config in mixture.as_slice() {
+        if !names_are_live(config) {
+            return false;
+        }
+    }
+    true
+}
+
+/// Whether all obligations but that of joined lines hold of all that are mixed from some configurations and have the names bound that one has.
+fn is_mixture_kept(script: &Script, cert: &Cert, mixture: &Mixture, one: &Config) -> bool
+    ensures { IsTrue result → AreNamedKept script.now cert.now (map configuration_of mixture.now) 8 (configuration_of one.now) }
+{
+    let Ok(named) = named_each(mixture, one) else {
+        return false;
+    };
+    if !are_alike(&named, one) {
+        return false;
+    }
+    if !are_cleared(script, &named) {
+        return false;
+    }
+    if !created_are_unbound(script, one) {
+        return false;
+    }
+    if !are_live(&named) {
+        return false;
+    }
+    are_steps_covered(script, cert, &named, one)
+}
+
+/// To ask whether the obligations of a mixture hold takes no longer than a walk over so many numbers, though at worst each step is looked for in all entries
+/// of a state.
+pub(crate) const NUMBERS_A_MIXTURE: u64 = 1024;
+
+/// The same of all that have the first few of the eight names bound that one has, whatever the others are. It fails too where so many mixtures aren't enough.
+fn are_named_kept(
+    script: &Script,
+    cert: &Cert,
+    mixture: &Mixture,
+    number: usize,
+    one: &Config,
+    left: &mut u64,
+) -> bool
+    ensures { IsTrue result → AreNamedKept script.now cert.now (map configuration_of mixture.now) number (configuration_of one.now) }
+{
+    if number >= 8 {
+        if *left == 0 {
+            return false;
+        }
+        *left -= 1;
+        return is_mixture_kept(script, cert, mixture, one);
+    }
+    if !are_named_kept(script, cert, mixture, number + 1, one, left) {
+        return false;
+    }
+    let Some(unlike) = named_unlike(mixture, number, one) else {
+        return true;
+    };
+    let other = with_name_of(one, number, &unlike);
+    are_named_kept(script, cert, mixture, number + 1, &other, left)
+}
+
+/// Whether it is known that all obligations but that of joined lines hold of all points that some components make of a configuration.
+pub(crate) fn is_block_kept(
+    script: &Script,
+    cert: &Cert,
+    components: &[Component],
+    config: &Config,
+) -> bool
+    ensures { IsTrue result → IsBlockKept script.now cert.now (shown_all components.now) (configuration_of config.now) }
+{
+    let mut left = product_of(components) / NUMBERS_A_MIXTURE;
+    let Ok(mixture) = mixture_of(components, config) else {
+        return false;
+    };
+    let Some(one) = mixture.as_slice().first() else {
+        return false;
+    };
+    are_named_kept(script, cert, &mixture, 0, one, &mut left)
+}

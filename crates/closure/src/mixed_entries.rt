@@ -1,0 +1,89 @@
+//! Whether entries have all that are mixed from a few configurations: where one allows each of these, it allows all.
+ghost use Rattle.std.specs.Prelude.{◌≡◌, IsTrue, IfOk, Contains, map};
+ghost use Rattle.std.specs.List.{All};
+ghost use Rattle.mg_model.specs.Configuration.{Configuration};
+ghost use Rattle.mg_model.specs.Effects.{effect};
+ghost use Rattle.mg_model.specs.Entries.{Allows};
+ghost use Rattle.configuration.specs.Config.{configuration_of};
+ghost use Rattle.closure.specs.Mixtures.{AreMixedCovered};
+
+use crate::effects::effect;
+use crate::mixture::{Mixture, TooMany};
+use configuration::config::Config;
+use entry_table::{Cert, Entry};
+use mg_model::commands::Command;
+use mg_names::phases::LinkPhase;
+use script_table::Script;
+
+/// Some configurations with a link.
+pub(crate) fn with_link_each(mixture: &Mixture, link: LinkPhase) -> Result<Mixture, TooMany>
+    ensures { IfOk result (λ m. map configuration_of m ≡ map (λ (d : Configuration). record d { link = link }) (map configuration_of mixture.now)) }
+{
+    let mut made = Mixture::new();
+    for config in mixture.as_slice() {
+        let mut with = *config;
+        with.set_link(link);
+        made.push(&with)?;
+    }
+    Ok(made)
+}
+
+/// Some configurations with a state and a link.
+pub(crate) fn with_state_each(
+    mixture: &Mixture,
+    state: u8,
+    link: LinkPhase,
+) -> Result<Mixture, TooMany>
+    ensures { IfOk result (λ m. map configuration_of m ≡ map (λ (d : Configuration). record d { state = state; link = link }) (map configuration_of mixture.now)) }
+{
+    let mut made = Mixture::new();
+    for config in mixture.as_slice() {
+        let mut with = *config;
+        with.set_state(state);
+        with.set_link(link);
+        made.push(&with)?;
+    }
+    Ok(made)
+}
+
+/// What a command makes of some configurations, legal in them or not.
+pub(crate) fn effect_each(
+    script: &Script,
+    mixture: &Mixture,
+    command: &Command,
+) -> Result<Mixture, TooMany>
+    ensures { IfOk result (λ m. map configuration_of m ≡ map (λ (d : Configuration). effect script.now d command.now) (map configuration_of mixture.now)) }
+{
+    let mut made = Mixture::new();
+    for config in mixture.as_slice() {
+        made.push(&effect(script, config, command))?;
+    }
+    Ok(made)
+}
+
+/// Whether an entry allows each of some configurations.
+fn allows_each(entry: &Entry, mixture: &Mixture) -> bool
+    ensures { IsTrue result → (d : Configuration) → Contains (map configuration_of mixture.now) d
+        → (d.state ≡ entry.now.state) × All (Allows d) entry.now.components }
+{
+    for config in mixture.as_slice() {
+        if !entry.allows(config) {
+            return false;
+        }
+    }
+    true
+}
+
+/// Whether one entry of a state has all that are mixed from some configurations, and well formed.
+pub(crate) fn are_in_one(cert: &Cert, mixture: &Mixture, state: u8) -> bool
+    ensures { IsTrue result → AreMixedCovered cert.now (map configuration_of mixture.now) }
+{
+    for place in cert.of_state(state) {
+        if let Some(entry) = cert.entries().get(*place) {
+            if allows_each(entry, mixture) {
+                return true;
+            }
+        }
+    }
+    false
+}

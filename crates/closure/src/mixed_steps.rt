@@ -1,0 +1,202 @@
+//! Whether entries have all where steps lead, of all at once that are mixed from a few configurations. It can be told where these are of one state, have one
+//! link and the same names bound, and where no command adds, moves or subtracts: then each component goes its way by itself.
+ghost use Rattle.std.specs.Prelude.{◌≡◌, false, IsTrue, Contains, map};
+ghost use Rattle.mg_model.specs.Configuration.{Configuration};
+ghost use Rattle.mg_model.specs.Tables.{items_of, raises};
+ghost use Rattle.configuration.specs.Config.{configuration_of};
+ghost use Rattle.closure.specs.Mixtures.{AreAlike, AreMixedEntered, AreMixedLineCovered, AreMixedLinked, AreMixedNotesCovered, AreMixedRepliesCovered, AreMixedRequestsCovered, AreMixedRestsCovered, AreMixedStepsCovered, leaves_places};
+
+use crate::mixed_entries::{are_in_one, effect_each, with_link_each, with_state_each};
+use crate::mixture::Mixture;
+use crate::requests::bound_in;
+use crate::steps::with_state;
+use built_request::Request;
+use configuration::config::Config;
+use entry_table::Cert;
+use mg_model::commands::Command;
+use mg_names::kinds::Kind;
+use mg_names::phases::LinkPhase;
+use mg_names::slots::Slot;
+use script_table::Script;
+
+/// Whether entries have all that are mixed from some configurations as they enter a state, if there is one.
+fn is_entered(
+    script: &Script,
+    cert: &Cert,
+    mixture: &Mixture,
+    one: &Config,
+    target: Option<u8>,
+) -> bool
+    requires { AreAlike (map configuration_of mixture.now) (configuration_of one.now) }
+    ensures { IsTrue result → AreMixedEntered script.now cert.now (map configuration_of mixture.now) target }
+{
+    let Some(state) = target else {
+        return true;
+    };
+    let link = with_state(script, one, state).link();
+    let Ok(entered) = with_state_each(mixture, state, link) else {
+        return false;
+    };
+    are_in_one(cert, &entered, state)
+}
+
+/// Whether a line of one of some configurations has a list that raises notes of a kind.
+fn may_raise(script: &Script, mixture: &Mixture, line: Slot, kind: Kind) -> bool
+    ensures { result ≡ false → (d : Configuration) → Contains (map configuration_of mixture.now) d → raises (items_of script.now (d.events line)) kind ≡ false }
+{
+    for config in mixture.as_slice() {
+        if script.raises(config.events(line), kind) {
+            return true;
+        }
+    }
+    false
+}
+
+/// Whether entries have all where notes of a line and kind lead.
+fn are_notes_covered(
+    script: &Script,
+    cert: &Cert,
+    mixture: &Mixture,
+    one: &Config,
+    line: Slot,
+    kind: Kind,
+) -> bool
+    requires { AreAlike (map configuration_of mixture.now) (configuration_of one.now) }
+    ensures { IsTrue result → AreMixedNotesCovered script.now cert.now (map configuration_of mixture.now) line kind }
+{
+    if !may_raise(script, mixture, line, kind) {
+        return true;
+    }
+    let target = script.target_of(one.state(), line, kind);
+    is_entered(script, cert, mixture, one, target)
+}
+
+/// The same of all notes of a line.
+fn is_line_covered(
+    script: &Script,
+    cert: &Cert,
+    mixture: &Mixture,
+    one: &Config,
+    line: Slot,
+) -> bool
+    requires { AreAlike (map configuration_of mixture.now) (configuration_of one.now) }
+    ensures { IsTrue result → AreMixedLineCovered script.now cert.now (map configuration_of mixture.now) line }
+{
+    if !are_notes_covered(script, cert, mixture, one, line, Kind::On) {
+        return false;
+    }
+    if !are_notes_covered(script, cert, mixture, one, line, Kind::Of) {
+        return false;
+    }
+    if !are_notes_covered(script, cert, mixture, one, line, Kind::Fl) {
+        return false;
+    }
+    if !are_notes_covered(script, cert, mixture, one, line, Kind::Full) {
+        return false;
+    }
+    are_notes_covered(script, cert, mixture, one, line, Kind::Part)
+}
+
+/// The same of all notes of a call at rest, and of its timer.
+fn is_rest_covered(script: &Script, cert: &Cert, mixture: &Mixture, one: &Config) -> bool
+    requires { AreAlike (map configuration_of mixture.now) (configuration_of one.now) }
+    ensures { IsTrue result → AreMixedRestsCovered script.now cert.now (map configuration_of mixture.now) }
+{
+    // Its contract says that there are four lines at most.
+    let _lines = script.lines();
+    let [first, second, third, fourth] = Slot::all();
+    if !is_line_covered(script, cert, mixture, one, first) {
+        return false;
+    }
+    if !is_line_covered(script, cert, mixture, one, second) {
+        return false;
+    }
+    if !is_line_covered(script, cert, mixture, one, third) {
+        return false;
+    }
+    if !is_line_covered(script, cert, mixture, one, fourth) {
+        return false;
+    }
+    let timer = script.timer_of(one.state());
+    is_entered(script, cert, mixture, one, timer)
+}
+
+/// Whether a command leaves terminations in their places.
+fn leaves_places(command: &Command) -> bool
+    ensures { result ≡ leaves_places command.now }
+{
+    matches!(
+        command,
+        Command::ModifyLine { .. } | Command::ModifyEphemeral { .. } | Command::SetTopology { .. }
+    )
+}
+
+/// Whether entries have all that some configurations are with another link.
+fn is_linked(cert: &Cert, mixture: &Mixture, state: u8, link: LinkPhase) -> bool
+    ensures { IsTrue result → AreMixedLinked cert.now (map configuration_of mixture.now) link }
+{
+    let Ok(linked) = with_link_each(mixture, link) else {
+        return false;
+    };
+    are_in_one(cert, &linked, state)
+}
+
+/// Whether entries have all that refusals and the execution of a request make, of which the first commands are done.
+fn is_request_covered(
+    script: &Script,
+    cert: &Cert,
+    mixture: &Mixture,
+    state: u8,
+    request: &mut Request<'_>,
+) -> bool
+    ensures { IsTrue result → AreMixedRequestsCovered script.now cert.now (map configuration_of mixture.now) request.old }
+{
+    let Some(command) = request.take_first() else {
+        return is_linked(cert, mixture, state, LinkPhase::Answered);
+    };
+    if !is_linked(cert, mixture, state, LinkPhase::Failed) {
+        return false;
+    }
+    if !leaves_places(&command) {
+        return false;
+    }
+    let Ok(after) = effect_each(script, mixture, &command) else {
+        return false;
+    };
+    is_request_covered(script, cert, &after, state, request)
+}
+
+/// Whether entries have all where a reply without a failure leads.
+fn is_reply_covered(script: &Script, cert: &Cert, mixture: &Mixture, one: &Config) -> bool
+    requires { AreAlike (map configuration_of mixture.now) (configuration_of one.now) }
+    ensures { IsTrue result → AreMixedRepliesCovered script.now cert.now (map configuration_of mixture.now) }
+{
+    match script.ok_of(one.state()) {
+        None => is_linked(cert, mixture, one.state(), LinkPhase::Resting),
+        Some(state) => is_entered(script, cert, mixture, one, Some(state)),
+    }
+}
+
+/// Whether entries have all where steps lead.
+pub(crate) fn are_steps_covered(
+    script: &Script,
+    cert: &Cert,
+    mixture: &Mixture,
+    one: &Config,
+) -> bool
+    requires { AreAlike (map configuration_of mixture.now) (configuration_of one.now) }
+    ensures { IsTrue result → AreMixedStepsCovered script.now cert.now (map configuration_of mixture.now) }
+{
+    match one.link() {
+        LinkPhase::Sent => {
+            let mut request = Request::new(script, bound_in(one), one.state());
+            is_request_covered(script, cert, mixture, one.state(), &mut request)
+        }
+        LinkPhase::Answered => is_reply_covered(script, cert, mixture, one),
+        LinkPhase::Failed => {
+            let target = script.fault_of(one.state());
+            is_entered(script, cert, mixture, one, target)
+        }
+        LinkPhase::Resting => is_rest_covered(script, cert, mixture, one),
+    }
+}

@@ -1,0 +1,52 @@
+//! How the points that some components make of a configuration are passed: counted class by class, looked at one after the other, or taken in parts.
+ghost use Rattle.std.specs.Prelude.{◌<◌, ◌^◌, IsTrue};
+ghost use Rattle.mg_model.specs.Entries.{size_of};
+ghost use Rattle.configuration.specs.Config.{configuration_of};
+ghost use Rattle.entry_table.specs.Shown.{shown_all};
+ghost use Rattle.closure.specs.Mixtures.{IsBlockKept};
+ghost use Rattle.closure.specs.Ways.{IsWay};
+
+use crate::class_walk::decide;
+use crate::kept_block::{NUMBERS_A_MIXTURE, is_block_kept};
+use configuration::config::Config;
+use entry_table::{Cert, Component, product_of};
+use script_table::Script;
+
+/// How points are passed.
+#[derive(Clone, Copy, Debug)]
+pub(crate) enum Way {
+    /// No obligation is broken, and there are so many points.
+    Counted(u64),
+    /// One after the other. Whether all obligations but that of joined lines are known to hold.
+    Walked(bool),
+    /// For each value of the first component by itself.
+    Split,
+}
+
+/// Whether the first component gives the link. At rest other components are free than else, so each link is taken by itself.
+fn is_of_links(components: &[Component]) -> bool {
+    match components.first() {
+        Some(Component::Links(_)) => true,
+        _ => false,
+    }
+}
+
+/// How the points are passed that some components make of a configuration.
+pub(crate) fn way_of(script: &Script, cert: &Cert, components: &[Component], config: &Config) -> Way
+    requires small { size_of (shown_all components.now) < 2 ^ 32 }
+    ensures { IsWay script.now cert.now (shown_all components.now) (configuration_of config.now) result }
+{
+    if is_of_links(components) {
+        return Way::Split;
+    }
+    if let Some(points) = decide(script, cert, components, config) {
+        return Way::Counted(points);
+    }
+    if product_of(components) < NUMBERS_A_MIXTURE {
+        return Way::Walked(false);
+    }
+    if is_block_kept(script, cert, components, config) {
+        return Way::Walked(true);
+    }
+    Way::Split
+}
