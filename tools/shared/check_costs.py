@@ -178,11 +178,9 @@ def check_by_time():
 
 def size_pairs():
     """What is doubled: its name, and the half and the whole as script and certificate."""
-
-    def placed(count):
-        return slow_checks.placed_script(1), slow_checks.placed_certificate(1, count)
-
-    yield "points that differ in places, 16 and 32 entries of 40,824 whose request is sent", placed(12), placed(28)
+    placed, moved = slow_checks.Placed(), slow_checks.Moved()
+    yield "points that differ in places, 128 and 256 entries", *((placed.script(1), placed.certificate(1, wide)) for wide in (116, 244))
+    yield "points that are looked at one by one, 32 and 64 entries", *((moved.script(1), moved.certificate(1, wide)) for wide in (26, 58))
     yield "entries, 64 states of 128 and of 256", *((checks.script(64, 2), checks.certificate(64, count)) for count in (128, 256))
     yield "states, 32 and 64 of 16 commands", *((checks.script(count, 16), checks.certificate(count, 1)) for count in (32, 64))
     yield "states, 16 and 32 with ephemerals and cuts", *((checks.rooms_script(count), checks.rooms_certificate(count)) for count in (16, 32))
@@ -271,26 +269,27 @@ def scaled(plain, folder, script, certificates, more, most):
     return [(there - here) / more * most for here, there in zip(few, many)]
 
 
-def walked_inputs():
-    """Slow inputs that are looked at point by point: the name, the script, two certificates, how many entries more the second one has, how many the limits
-    allow, and how many points one has."""
-    for link, where in (("sent", "whose request is sent"), ("rest", "at rest")):
-        placed = [slow_checks.placed_certificate(1, wide, link) for wide in (4, 8)]
-        yield f"in any of four contexts, {where}", slow_checks.placed_script(1), placed, 4, slow_checks.MOST_PLACED, slow_checks.PLACED_POINTS
+def placed_inputs():
+    """Slow inputs whose points differ in places: the kind, the link, and what is said of both."""
+    yield slow_checks.Placed(), "sent", "request sent"
+    yield slow_checks.Placed(), "rest", "at rest"
+    for kind in (slow_checks.Absent(), slow_checks.Crossed(), slow_checks.Moved()):
+        yield kind, "sent", "request sent"
 
 
 def slowest():
-    """The slowest inputs within the limits. Those whose points are decided in classes are checked whole; the others, and the plain checker's, are scaled from
-    two inputs of a state, since a walk is linear in entries that are alike."""
+    """The slowest inputs within the limits. Those whose points are decided in classes are checked whole; those whose points differ in places, and the plain
+    checker's, are scaled from two inputs of a state, since a walk is linear in entries that are alike."""
     with tempfile.TemporaryDirectory() as folder:
         plain = build(folder)
         for slow in slow_inputs():
             beside = scaled(plain, folder, slow.script(1), [slow.certificate(1, wide) for wide in (8, 16)], 8, slow.most)[1]
             own = seconds_of_whole(slow.script(slow_checks.STATES), slow.certificate(slow_checks.STATES, slow.most // slow_checks.STATES))
             print(f"{slow}: {slow.points:,} points, {own:.2f} s, whole; C++ {spelt(beside)}, scaled")
-        for name, script, certificates, more, most, points in walked_inputs():
-            own, beside = scaled(plain, folder, script, certificates, more, most)
-            print(f"{name}: {most * points:,} points, {spelt(own)}, C++ {spelt(beside)}, both scaled")
+        for kind, link, said in placed_inputs():
+            certificates = [kind.certificate(1, wide, link) for wide in (4, 36)]
+            own, beside = scaled(plain, folder, kind.script(1), certificates, 32, kind.most())
+            print(f"{kind.name}, {said}: {kind.most() * kind.points():,} points, {spelt(own)}, C++ {spelt(beside)}, both scaled")
 
 
 PARTS = (check_agreement, check_by_instructions, check_by_time, check_by_size, slowest)

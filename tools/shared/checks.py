@@ -162,11 +162,8 @@ def in_pieces(name, quarter, whole):
 
 
 def pieces():
-    in_pieces(
-        "points that differ in places, 4 states",
-        (slow_checks.placed_script(1), slow_checks.placed_certificate(1, 4)),
-        (slow_checks.placed_script(4), slow_checks.placed_certificate(4, 4)),
-    )
+    moved = slow_checks.Moved()
+    in_pieces("points that are looked at one by one, 4 states", *((moved.script(states), moved.certificate(states, 4)) for states in (1, 4)))
 
 
 def checks():

@@ -1,6 +1,5 @@
 """Inputs of `mgcall check` that are answered `yes` and hold many points in few bytes, each with as many steps as a state can have: those of `script`, and of
-`resting_script` at rest, differ in what no command asks for, and are decided in classes; those of `placed_script` differ in places, and are looked at point by
-point."""
+`resting_script` at rest, differ in what no command asks for, and are decided in classes; those of `Placed` differ in places."""
 import itertools
 import json
 
@@ -158,39 +157,129 @@ MOST_RESTING = STATES * (ENTRIES - 3)
 # ---- points that differ in places
 
 CONTEXTS, OTHERS, EPHEMERALS = "cdef", "bgh", "wxyz"
-# How many points an entry has in which those seven stand in four contexts, each of which exists: three of them have somebody but for the first line, and a
-# Remote is one of four.
-PLACED_POINTS = (4**7 - 3 * 3**7 + 3 * 2**7 - 1) * 4
+ALWAYS = ["Inactive"]
 
 
-def placed_script(states):
-    """States of sixteen commands each, every one of which gives the first line another mode, in its own context; each note leads on."""
-    names = ["a", *OTHERS]
-    text = [f"lines = {json.dumps(names)}", f"contexts = {json.dumps([*CONTEXTS])}", f"ephemerals = {json.dumps([*EPHEMERALS])}"]
-    text += ['start = "idle"', 'restart = "idle"', *NUMBER, "[[events]]", 'name = "each"', f"list = {EACH_ITEM}", "[[state]]", 'name = "idle"']
-    commands = json.dumps([f"modify c a mode={MODES[n % 4]}" for n in range(COMMANDS)])
-    for state in range(states):
-        following = f"s{(state + 1) % states}"
-        text += ["[[state]]", f'name = "s{state}"', f"do = {commands}", f'ok = "{following}"', f'fault = "{following}"', *led_on(following, names)]
-    return "\n".join(text) + "\n"
+def occupied(choices):
+    """In how many ways terminations stand so that each of the last three contexts has somebody: of each termination how many choices it has, in four contexts or
+    outside of them."""
+    found = 0
+    for empty in range(4):
+        ways = 1
+        for count in choices:
+            ways *= count - empty
+        found += (-1) ** empty * (1, 3, 3, 1)[empty] * ways
+    return found
 
 
-def placed_entry(state, link, mode):
-    """An entry of a state at this link: the first line in its context with this mode, all others in any context."""
-    spots, events = {"at": [*CONTEXTS]}, {"events": ["each"]}
-    ephemerals = {name: {**spots, **({"remote": ["none", "x", "y", "z"]} if name == "w" else {})} for name in EPHEMERALS}
-    lines = {"a": {"at": ["c"], "mode": [mode], **events}, **{name: {**spots, **events} for name in OTHERS}}
-    return {"state": state, "link": [link], "lines": lines, "contexts": {name: ["live"] for name in CONTEXTS}, "ephemerals": ephemerals}
+class Placed:
+    """A kind of inputs whose points differ in places: four lines and four ephemerals in four contexts, each of which exists. The first line stands in its own
+    context, and its mode tells the entries of results apart; all others stand in any context."""
+
+    name = "places"
+    talk = []
+    # Where an ephemeral may stand, and which of them may have a Remote.
+    spots, with_remotes = [*CONTEXTS], "w"
+
+    def commands(self):
+        """The sixteen commands of each state."""
+        return [f"modify c a mode={MODES[n % 4]}" for n in range(COMMANDS)]
+
+    def results(self):
+        """What tells the entries of results of one link apart."""
+        return MODES
+
+    def line(self, name, apart):
+        """A line in an entry, by what tells that apart."""
+        return {"at": ["c"], "mode": [apart]} if name == "a" else {"at": [*CONTEXTS]}
+
+    def ephemeral(self, name):
+        """An ephemeral in an entry."""
+        remotes = {"remote": ["none", *(other for other in EPHEMERALS if other != name)]} if name in self.with_remotes else {}
+        return {"at": self.spots, **remotes}
+
+    def points(self):
+        """How many points an entry has."""
+        return occupied([4] * len(OTHERS) + [len(self.spots)] * len(EPHEMERALS)) * 4 ** len(self.with_remotes)
+
+    def script(self, states):
+        """States of sixteen commands each; each note leads on."""
+        names = ["a", *OTHERS]
+        text = [f"lines = {json.dumps(names)}", f"contexts = {json.dumps([*CONTEXTS])}", f"ephemerals = {json.dumps([*EPHEMERALS])}"]
+        text += ['start = "idle"', 'restart = "idle"', *NUMBER, "[[events]]", 'name = "each"', f"list = {EACH_ITEM}", "[[state]]", 'name = "idle"']
+        for state in range(states):
+            following = f"s{(state + 1) % states}"
+            text += ["[[state]]", f'name = "s{state}"', f"do = {json.dumps(self.commands())}", f'ok = "{following}"', f'fault = "{following}"']
+            text += [*led_on(following, names), *([f"talk = {json.dumps(self.talk)}"] if self.talk else [])]
+        return "\n".join(text) + "\n"
+
+    def entry(self, state, link, apart):
+        """An entry of a state at this link."""
+        lines = {name: {**self.line(name, apart), "events": ["each"]} for name in ("a", *OTHERS)}
+        contexts = {name: ["live"] for name in CONTEXTS}
+        return {"state": state, "link": [link], "lines": lines, "contexts": contexts, "ephemerals": {name: self.ephemeral(name) for name in EPHEMERALS}}
+
+    def certificate(self, states, wide, link="sent"):
+        """A certificate for such a script, with so many entries at this link in each state, behind those for results."""
+        entries = [{"state": "idle", "link": ["ok", "rest"], "lines": {name: {"events": ["none", "armed"]} for name in ("a", *OTHERS)}}]
+        apart = self.results()
+        for state in range(states):
+            entries += [self.entry(f"s{state}", result, each) for result in ("ok", "fault", "sent") for each in apart]
+            entries += [self.entry(f"s{state}", link, apart[n % len(apart)]) for n in range(wide)]
+        return json.dumps({"version": 2, "entries": entries}, separators=(",", ":")) + "\n"
+
+    def most(self):
+        """How many such entries the limits allow in all states, beside those for results."""
+        return STATES * (ENTRIES - 3 * len(self.results()))
 
 
-def placed_certificate(states, wide, link="sent"):
-    """A certificate for such a script, with so many entries at this link in each state, behind those for results."""
-    entries = [{"state": "idle", "link": ["ok", "rest"], "lines": {name: {"events": ["none", "armed"]} for name in ("a", *OTHERS)}}]
-    for state in range(states):
-        entries += [placed_entry(f"s{state}", result, mode) for result in ("ok", "fault", "sent") for mode in MODES]
-        entries += [placed_entry(f"s{state}", link, MODES[n % 4]) for n in range(wide)]
-    return json.dumps({"version": 2, "entries": entries}, separators=(",", ":")) + "\n"
+class Absent(Placed):
+    """The same, where an ephemeral may be absent, so that points differ in which names are bound."""
+
+    name = "places, with ephemerals absent or there"
+    spots, with_remotes = ["absent", *CONTEXTS], ""
 
 
-# How many such entries the limits allow in all states, beside those for results.
-MOST_PLACED = STATES * (ENTRIES - 3 * len(MODES))
+class Crossed(Placed):
+    """Ephemerals that name each other in any way, in the contexts of four lines that talk: who is joined is asked of each point. The last line is inactive, and
+    isn't marked."""
+
+    name = "places and Remotes, with media"
+    talk = ["a-b", "a-g", "b-g"]
+    with_remotes = EPHEMERALS
+
+    def line(self, name, apart):
+        own = dict(zip(("a", *OTHERS), CONTEXTS))[name]
+        return {"at": [own], "mode": [apart] if name == "a" else ALWAYS if name == "h" else ["SendReceive"]}
+
+    def ephemeral(self, name):
+        return {**super().ephemeral(name), "mode": ["SendReceive"]}
+
+    def points(self):
+        return 4 ** len(EPHEMERALS) * 4 ** len(EPHEMERALS)
+
+
+class Moved(Placed):
+    """The first line is moved to and fro, from the context of the second: what a command makes hangs on where all stand."""
+
+    name = "places, with a line that is moved"
+    with_remotes = "wx"
+
+    def commands(self):
+        return [f"move {'dc'[n % 2]} a" for n in range(COMMANDS)]
+
+    def results(self):
+        return ["c", "d"]
+
+    def line(self, name, apart):
+        return {"at": [apart] if name == "a" else ["c"] if name == "b" else [*CONTEXTS]}
+
+    def points(self):
+        """How many points an entry has in which the first line stands beside the second."""
+        return occupied([4] * 6) * 4 ** len(self.with_remotes)
+
+    def certificate(self, states, wide, link="sent"):
+        document = json.loads(super().certificate(states, 0, link))
+        for state in range(states):
+            document["entries"] += [self.entry(f"s{state}", link, "c") for _ in range(wide)]
+        return json.dumps(document, separators=(",", ":")) + "\n"
