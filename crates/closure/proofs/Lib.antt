@@ -28,7 +28,11 @@ pub mod ClassLists
 pub mod ClassOpened
 pub mod ClassPairs
 pub mod MixtureLemmas
+pub mod ByComponent
+pub mod FormedPlaces
+pub mod FormedEffects
 pub mod MixtureEffects
+pub mod MixturePlaces
 pub mod BlockMixtures
 pub mod MixtureSteps
 pub mod MixtureDuties

@@ -86,40 +86,6 @@ module _ (some : List Configuration) where
       → HasOne some of v → HasOne (map f some) of v
   one_kept f of v keeps one = one_made f of v of v one (λ d is. keeps d ∙ is)
 
--- a link is set
-pub mixed_with_link : (some : List Configuration) (c : Configuration) (link : LinkPhase) → IsMixed some c
-    → IsMixed (map (λ (d : Configuration). record d { link = link }) some) (record c { link = link })
-mixed_with_link some c link mixed =
-    let f : Configuration → Configuration = λ d. record d { link = link } in
-    record {
-      state = one_kept some f (λ d. d.state) c.state (λ d. refl) mixed.state;
-      link = one_made some f (λ d. d.link) c.link (λ d. d.link) link mixed.link (λ d is. refl);
-      spot = λ t. one_kept some f (λ d. d.spot t) (c.spot t) (λ d. refl) (mixed.spot t);
-      mode = λ t. one_kept some f (λ d. d.mode t) (c.mode t) (λ d. refl) (mixed.mode t);
-      events = λ i. one_kept some f (λ d. d.events i) (c.events i) (λ d. refl) (mixed.events i);
-      plays = λ i. one_kept some f (λ d. d.plays i) (c.plays i) (λ d. refl) (mixed.plays i);
-      context = λ j. one_kept some f (λ d. d.context j) (c.context j) (λ d. refl) (mixed.context j);
-      remote = λ k. one_kept some f (λ d. d.remote k) (c.remote k) (λ d. refl) (mixed.remote k);
-      cut = λ t u. one_kept some f (λ d. d.cut t u) (c.cut t u) (λ d. refl) (mixed.cut t u);
-    }
-
--- a state and a link are set
-pub mixed_with_state : (some : List Configuration) (c : Configuration) (state : ℕ) (link : LinkPhase) → IsMixed some c
-    → IsMixed (map (λ (d : Configuration). record d { state = state; link = link }) some) (record c { state = state; link = link })
-mixed_with_state some c state link mixed =
-    let f : Configuration → Configuration = λ d. record d { state = state; link = link } in
-    record {
-      state = one_made some f (λ d. d.state) c.state (λ d. d.state) state mixed.state (λ d is. refl);
-      link = one_made some f (λ d. d.link) c.link (λ d. d.link) link mixed.link (λ d is. refl);
-      spot = λ t. one_kept some f (λ d. d.spot t) (c.spot t) (λ d. refl) (mixed.spot t);
-      mode = λ t. one_kept some f (λ d. d.mode t) (c.mode t) (λ d. refl) (mixed.mode t);
-      events = λ i. one_kept some f (λ d. d.events i) (c.events i) (λ d. refl) (mixed.events i);
-      plays = λ i. one_kept some f (λ d. d.plays i) (c.plays i) (λ d. refl) (mixed.plays i);
-      context = λ j. one_kept some f (λ d. d.context j) (c.context j) (λ d. refl) (mixed.context j);
-      remote = λ k. one_kept some f (λ d. d.remote k) (c.remote k) (λ d. refl) (mixed.remote k);
-      cut = λ t u. one_kept some f (λ d. d.cut t u) (c.cut t u) (λ d. refl) (mixed.cut t u);
-    }
-
 -- ---- values that are changed at one place, each by itself
 
 pub of_one_number : {A : Type 0} (was : ℕ → A) (g : A → A) (k n : ℕ) → with_at was k (g (was k)) n ≡ (if n == k then g (was n) else was n)

@@ -19,10 +19,12 @@ use Rattle.mg_model.specs.Entries.{Entry, IsCovered}
 use Rattle.mg_model.specs.Request.{Names, built}
 use Rattle.mg_model.specs.Steps.{Step, all_kinds, bound_names, entering, executed, execution, names_unbound, observation, observations, refusals, reply_step, request_in, steps_by_link, with_link, with_state}
 use Rattle.closure.specs.Findings.{AreCovered}
-use Rattle.closure.specs.Mixtures.{AreAlike, AreMixedCovered, AreMixedEntered, AreMixedLineCovered, AreMixedLinked, AreMixedNotesCovered, AreMixedRepliesCovered, AreMixedRequestsCovered, AreMixedRestsCovered, AreMixedStepsCovered, IsMixed, leaves_places}
+use Rattle.closure.specs.Mixtures.{AreAlike, AreMixedCovered, AreMixedEntered, AreMixedLineCovered, AreMixedLinked, AreMixedNotesCovered, AreMixedRepliesCovered, AreMixedRequestsCovered, AreMixedRestsCovered, AreMixedStepsCovered, IsMixed}
 use Rattle.closure.proofs.ClassRest.{below_covered, both_covered, each_covered, none_covered, of_kinds, of_lines}
-use Rattle.closure.proofs.MixtureEffects.{formed_effect, mixed_effect}
-use Rattle.closure.proofs.MixtureLemmas.{mixed_link, mixed_names, mixed_state, mixed_with_link, mixed_with_state}
+use Rattle.closure.specs.Placing.{AreLed}
+use Rattle.closure.proofs.ByComponent.{entered_by, linked_by, mixed_by}
+use Rattle.closure.proofs.FormedEffects.{formed_effect}
+use Rattle.closure.proofs.MixtureLemmas.{mixed_link, mixed_names, mixed_state}
 
 -- being well formed asks for no state and no link
 formed_with_state : (c : Configuration) (state : ℕ) (link : LinkPhase) → IsWellFormed c → IsWellFormed (record c { state = state; link = link })
@@ -54,7 +56,8 @@ module _ (entries : List Entry) (some : List Configuration) where
   pub all_linked : (link : LinkPhase) (made : List Configuration) → made ≡ map (λ (d : Configuration). record d { link = link }) some
       → AreMixedCovered entries made → AreMixedLinked entries some link
   all_linked link made is covered c mixed formed =
-      covered (with_link c link) (subst (λ (ds : List Configuration). IsMixed ds (with_link c link)) (sym is) (mixed_with_link some c link mixed))
+      covered (with_link c link) (subst (λ (ds : List Configuration). IsMixed ds (with_link c link)) (sym is)
+      (mixed_by some (λ d. record d { link = link }) c (linked_by link) mixed))
       (formed_with_link c link formed)
 
 module _ (script : Script) (entries : List Entry) (some : List Configuration) where
@@ -64,10 +67,9 @@ module _ (script : Script) (entries : List Entry) (some : List Configuration) wh
   request_ends answered c mixed formed place =
       step_covered entries (Execute, with_link c Answered) [] (answered c mixed formed) (none_covered entries)
 
-  pub request_goes_on : (command : Command) (more : List Command) (made : List Configuration)
-      → made ≡ map (λ (d : Configuration). effect script d command) some → AreMixedLinked entries some Failed → IsTrue (leaves_places command)
-      → AreMixedRequestsCovered script entries made more → AreMixedRequestsCovered script entries some (command ∷ more)
-  request_goes_on command more made is failed leaves later c mixed formed place = by_test (is_legal c command) refl
+  pub request_goes_on : (command : Command) (more : List Command) (made : List Configuration) → AreMixedLinked entries some Failed
+      → AreLed script some command made → AreMixedRequestsCovered script entries made more → AreMixedRequestsCovered script entries some (command ∷ more)
+  request_goes_on command more made failed led later c mixed formed place = by_test (is_legal c command) refl
     where
       after : Configuration
       after = effect script c command
@@ -75,10 +77,9 @@ module _ (script : Script) (entries : List Entry) (some : List Configuration) wh
       by_test : (b : Bool) → is_legal c command ≡ b
           → AreCovered entries ((Refuse place, with_link c Failed)
           ∷ ((if b then refusals script after (place + 1) more else []) ++ execution (if b then executed script after more else None)))
-      by_test true legal = step_covered entries (Refuse place, with_link c Failed) (refusals script after (place + 1) more ++ execution (executed script after more))
-          (failed c mixed formed)
-          (later after (subst (λ (ds : List Configuration). IsMixed ds after) (sym is) (mixed_effect script some c command leaves mixed))
-          (formed_effect script c formed command leaves legal) (place + 1))
+      by_test true legal = let here = led c mixed formed legal in
+          step_covered entries (Refuse place, with_link c Failed) (refusals script after (place + 1) more ++ execution (executed script after more))
+          (failed c mixed formed) (later after here.1 (formed_effect script c formed command legal here.0) (place + 1))
       by_test false illegal = step_covered entries (Refuse place, with_link c Failed) [] (failed c mixed formed) (none_covered entries)
 
   -- ---- a state is entered
@@ -100,7 +101,8 @@ module _ (script : Script) (entries : List Entry) (some : List Configuration) wh
         subst (λ (n : ℕ). IsCovered entries (with_state script c n)) (same_Some state other same)
         (subst (λ (l : LinkPhase). IsCovered entries (record c { state = state; link = l })) (linked ∙ as_one)
         (covered (record c { state = state; link = link })
-        (subst (λ (ds : List Configuration). IsMixed ds (record c { state = state; link = link })) (sym is) (mixed_with_state some c state link mixed))
+        (subst (λ (ds : List Configuration). IsMixed ds (record c { state = state; link = link })) (sym is)
+        (mixed_by some (λ d. record d { state = state; link = link }) c (entered_by state link) mixed))
         (formed_with_state c state link formed)))
       where
         as_one : (with_state script one state).link ≡ (with_state script c state).link

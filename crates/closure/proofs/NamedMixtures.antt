@@ -30,7 +30,7 @@ absent_either_way : (v w : Spot) → v ≡ Absent → w ≡ Absent → v ≡ as_
 absent_either_way v w one other = rw (one, other) refl
 
 -- what is set at four slots is as it was past them
-stays_past : {A : Type 0} (j : ℕ) (v₀ v₁ v₂ v₃ was : A)
+pub stays_past : {A : Type 0} (j : ℕ) (v₀ v₁ v₂ v₃ was : A)
     → (if suc (suc (suc (suc j))) == 3 then v₃ else (if suc (suc (suc (suc j))) == 2 then v₂ else (if suc (suc (suc (suc j))) == 1 then v₁ else (if suc (suc (suc (suc j))) == 0 then v₀ else was)))) ≡ was
 stays_past j v₀ v₁ v₂ v₃ was =
     at_another 3 (suc (suc (suc (suc j)))) v₃ (if suc (suc (suc (suc j))) == 2 then v₂ else (if suc (suc (suc (suc j))) == 1 then v₁ else (if suc (suc (suc (suc j))) == 0 then v₀ else was))) (λ e. omega (arith, e))
@@ -122,7 +122,7 @@ mixed_named some one c mixed contexts ephemerals =
 
 -- ---- the first few names, and all
 
-each_config : (P : Configuration → Type 0) → ((w : Words) → P (configuration_of w)) → (words : List Words) (d : Configuration)
+pub each_config : (P : Configuration → Type 0) → ((w : Words) → P (configuration_of w)) → (words : List Words) (d : Configuration)
     → Contains (map configuration_of words) d → P d
 each_config P each [] d has = absurd (omega (arith, has.1))
 each_config P each (w ∷ words) d (zero, lt, is) = subst P is (each w)

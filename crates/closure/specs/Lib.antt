@@ -12,3 +12,4 @@ pub mod Classes
 pub mod Mixtures
 pub mod Ways
 pub mod Naming
+pub mod Placing

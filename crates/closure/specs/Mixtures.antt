@@ -1,6 +1,6 @@
 -- Configurations that are mixed from some: each component has a value that one of these has. What a list of values has of a component of
 -- each of these it has of that of all that are mixed from them, and there may be many more. No public clause speaks of these words.
-use Rattle.std.specs.Prelude.{◌≡◌, ◌⊎◌, ℕ, ◌<◌, Bool, true, false, List, [], ◌∷◌, ◌++◌, map, length, Option, Some, Contains}
+use Rattle.std.specs.Prelude.{◌≡◌, ◌⊎◌, ℕ, ◌<◌, Bool, List, [], ◌∷◌, ◌++◌, map, length, Option, Some, Contains}
 use Rattle.std.specs.List.{slice_index_or}
 use Rattle.mg_names.specs.declared.context_values.ContextValue.{ContextValue}
 use Rattle.mg_names.specs.declared.modes.Mode.{Mode}
@@ -8,7 +8,6 @@ use Rattle.mg_names.specs.declared.kinds.Kind.{Kind}
 use Rattle.mg_names.specs.declared.phases.LinkPhase.{LinkPhase}
 use Rattle.mg_names.specs.declared.phases.LinkPhase.TheVariants.{Answered, Resting}
 use Rattle.mg_model.specs.declared.commands.Command.{Command}
-use Rattle.mg_model.specs.declared.commands.Command.TheVariants.{ModifyLine, ModifyEphemeral, SetTopology}
 use Rattle.mg_model.specs.declared.commands.EventsName.{EventsName}
 use Rattle.mg_model.specs.declared.commands.Termination.{Termination}
 use Rattle.mg_model.specs.declared.components.Spot.{Spot}
@@ -114,13 +113,6 @@ abbrev pub AreMixedRequestsCovered : Script → List Entry → List Configuratio
 AreMixedRequestsCovered script entries some request =
     (c : Configuration) → IsMixed some c → IsWellFormed c → (place : ℕ)
     → AreCovered entries (refusals script c place request ++ execution (executed script c request))
-
--- a command that leaves terminations in their places: what it makes of a component hangs on that component alone
-abbrev pub leaves_places : Command → Bool
-leaves_places (ModifyLine place i options) = true
-leaves_places (ModifyEphemeral place k options) = true
-leaves_places (SetTopology j t u topology) = true
-leaves_places _ = false
 
 -- the obligations but that of joined lines
 pub record AreOthersKept (script : Script) (entries : List Entry) (c : Configuration) : Type 0 where

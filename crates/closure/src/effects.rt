@@ -16,6 +16,7 @@ mod topology;
 use configuration::config::Config;
 use mg_model::commands::Command;
 use script_table::Script;
+pub(crate) use settling::value_of;
 
 /// Whether the gateway executes a command where the call stands in this configuration. A refusal by 500 or 510 is no
 /// matter of legality. H.248.1 section 7.2.

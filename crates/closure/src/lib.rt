@@ -25,6 +25,8 @@ mod held;
 mod kept_block;
 mod marks;
 mod media;
+mod mixed_commands;
+mod mixed_contexts;
 mod mixed_entries;
 mod mixed_steps;
 mod mixture;

@@ -2,18 +2,14 @@
 ghost use Rattle.std.specs.Prelude.{◌≡◌, IsTrue, IfOk, Contains, map};
 ghost use Rattle.std.specs.List.{All};
 ghost use Rattle.mg_model.specs.Configuration.{Configuration};
-ghost use Rattle.mg_model.specs.Effects.{effect};
 ghost use Rattle.mg_model.specs.Entries.{Allows};
 ghost use Rattle.configuration.specs.Config.{configuration_of};
 ghost use Rattle.closure.specs.Mixtures.{AreMixedCovered};
 
-use crate::effects::effect;
 use crate::mixture::{Mixture, TooMany};
 use configuration::config::Config;
 use entry_table::{Cert, Entry};
-use mg_model::commands::Command;
 use mg_names::phases::LinkPhase;
-use script_table::Script;
 
 /// Some configurations with a link.
 pub(crate) fn with_link_each(mixture: &Mixture, link: LinkPhase) -> Result<Mixture, TooMany>
@@ -42,21 +38,6 @@ pub(crate) fn with_state_each(
         with.set_state(state);
         with.set_link(link);
         made.push(&with)?;
-    }
-    Ok(made)
-}
-
-/// What a command makes of some configurations, legal in them or not.
-pub(crate) fn effect_each(
-    script: &Script,
-    mixture: &Mixture,
-    command: &Command,
-) -> Result<Mixture, TooMany>
-    ensures { IfOk result (λ m. map configuration_of m ≡ map (λ (d : Configuration). effect script.now d command.now) (map configuration_of mixture.now)) }
-{
-    let mut made = Mixture::new();
-    for config in mixture.as_slice() {
-        made.push(&effect(script, config, command))?;
     }
     Ok(made)
 }

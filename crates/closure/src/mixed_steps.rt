@@ -1,19 +1,19 @@
 //! Whether entries have all where steps lead, of all at once that are mixed from a few configurations. It can be told where these are of one state, have one
-//! link and the same names bound, and where no command adds, moves or subtracts: then each component goes its way by itself.
+//! link and the same names bound.
 ghost use Rattle.std.specs.Prelude.{◌≡◌, false, IsTrue, Contains, map};
 ghost use Rattle.mg_model.specs.Configuration.{Configuration};
 ghost use Rattle.mg_model.specs.Tables.{items_of, raises};
 ghost use Rattle.configuration.specs.Config.{configuration_of};
-ghost use Rattle.closure.specs.Mixtures.{AreAlike, AreMixedEntered, AreMixedLineCovered, AreMixedLinked, AreMixedNotesCovered, AreMixedRepliesCovered, AreMixedRequestsCovered, AreMixedRestsCovered, AreMixedStepsCovered, leaves_places};
+ghost use Rattle.closure.specs.Mixtures.{AreAlike, AreMixedEntered, AreMixedLineCovered, AreMixedLinked, AreMixedNotesCovered, AreMixedRepliesCovered, AreMixedRequestsCovered, AreMixedRestsCovered, AreMixedStepsCovered};
 
-use crate::mixed_entries::{are_in_one, effect_each, with_link_each, with_state_each};
+use crate::mixed_commands::led_by;
+use crate::mixed_entries::{are_in_one, with_link_each, with_state_each};
 use crate::mixture::Mixture;
 use crate::requests::bound_in;
 use crate::steps::with_state;
 use built_request::Request;
 use configuration::config::Config;
 use entry_table::Cert;
-use mg_model::commands::Command;
 use mg_names::kinds::Kind;
 use mg_names::phases::LinkPhase;
 use mg_names::slots::Slot;
@@ -121,16 +121,6 @@ fn is_rest_covered(script: &Script, cert: &Cert, mixture: &Mixture, one: &Config
     is_entered(script, cert, mixture, one, timer)
 }
 
-/// Whether a command leaves terminations in their places.
-fn leaves_places(command: &Command) -> bool
-    ensures { result ≡ leaves_places command.now }
-{
-    matches!(
-        command,
-        Command::ModifyLine { .. } | Command::ModifyEphemeral { .. } | Command::SetTopology { .. }
-    )
-}
-
 /// Whether entries have all that some configurations are with another link.
 fn is_linked(cert: &Cert, mixture: &Mixture, state: u8, link: LinkPhase) -> bool
     ensures { IsTrue result → AreMixedLinked cert.now (map configuration_of mixture.now) link }
@@ -157,10 +147,7 @@ fn is_request_covered(
     if !is_linked(cert, mixture, state, LinkPhase::Failed) {
         return false;
     }
-    if !leaves_places(&command) {
-        return false;
-    }
-    let Ok(after) = effect_each(script, mixture, &command) else {
+    let Some(after) = led_by(script, mixture, &command) else {
         return false;
     };
     is_request_covered(script, cert, &after, state, request)

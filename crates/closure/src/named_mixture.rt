@@ -109,7 +109,7 @@ pub(crate) fn named_unlike(mixture: &Mixture, number: usize, one: &Config) -> Op
 }
 
 /// A configuration with what another one has for a context name.
-fn with_context_of(one: &Config, slot: Slot, other: &Config) -> Config
+pub(crate) fn with_context_of(one: &Config, slot: Slot, other: &Config) -> Config
     ensures { configuration_of result
         ≡ record (configuration_of one.now) { context = with_at (configuration_of one.now).context slot ((configuration_of other.now).context slot) } }
 {

@@ -14,7 +14,7 @@ use mg_names::context_values::ContextValue;
 use mg_names::slots::Slot;
 
 /// What a bound context name stands for, given whether its context exists.
-fn value_of(value: ContextValue, exists: bool) -> ContextValue
+pub(crate) fn value_of(value: ContextValue, exists: bool) -> ContextValue
     ensures { result ≡ value_of value exists }
 {
     match value {

@@ -1,5 +1,5 @@
 -- The request has come to its end, or one command more is done.
-use Rattle.std.proofs.Common.{◌∙◌, List, map, sym, subst}
+use Rattle.std.proofs.Common.{List, map, sym, subst}
 use Rattle.mg_model.specs.declared.commands.Command.{Command}
 use Rattle.configuration.specs.Config.{configuration_of}
 use Rattle.closure.specs.Mixtures.{AreMixedRequestsCovered}
@@ -11,5 +11,5 @@ returns t c holds =
     subst (λ (request : List Command). AreMixedRequestsCovered c.args.script.now c.args.cert.now (map configuration_of c.args.mixture.now) request)
     (sym c.in-Some.ensures.some)
     (request_goes_on c.args.script.now c.args.cert.now (map configuration_of c.args.mixture.now) c.in-Some.command c.take_first.new.self
-    (map configuration_of c.in-Ok.after) c.in-Ok.ensures (c.is_linked-2.ensures c.if-not-is_linked.false)
-    (sym c.leaves_places.ensures ∙ c.if-not-leaves_places.false) (c.is_request_covered.ensures holds))
+    (map configuration_of c.in-Some-led_by.after) (c.is_linked-2.ensures c.if-not-is_linked.false) c.in-Some-led_by.ensures
+    (c.is_request_covered.ensures holds))

@@ -1,0 +1,22 @@
+-- It exists in all, in none, or in some; or its name is bound in none.
+use Rattle.std.proofs.Common.{◌≡◌, Bool, true, false, List, map, sym, subst}
+use Rattle.mg_model.specs.Configuration.{Configuration, stands_in}
+use Rattle.configuration.specs.Config.{configuration_of}
+use Rattle.closure.specs.Elementwise.{settled_at}
+use Rattle.closure.specs.Mixtures.{IsMixed}
+use Rattle.closure.specs.Placing.{valued_at}
+use Rattle.closure.proofs.MixturePlaces.{all_valued, free_stays, none_stands}
+use Rattle.closure.proofs.mixed_contexts.settled_each.Goals as goal
+
+pub returns-then-does_one_stand : goal.returns-then-does_one_stand
+returns-then-does_one_stand c =
+    all_valued (map configuration_of c.args.mixture) c.args.context true (c.does_one_stand.ensures c.if-does_one_stand.true) c.valued_each.result c.valued_each.ensures
+
+pub returns-then-does_none_stand : goal.returns-then-does_none_stand
+returns-then-does_none_stand c =
+    all_valued (map configuration_of c.args.mixture) c.args.context false
+    (λ d mixed. none_stands (map configuration_of c.args.mixture) c.args.context d mixed (c.does_none_stand.ensures c.if-does_none_stand.true))
+    c.valued_each-then-does_none_stand.result c.valued_each-then-does_none_stand.ensures
+
+pub returns-in_default : goal.returns-in_default
+returns-in_default c d mixed = free_stays (map configuration_of c.args.mixture) c.args.context d mixed c.in_default.ensures
