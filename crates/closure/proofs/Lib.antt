@@ -37,3 +37,5 @@ pub mod BlockMixtures
 pub mod MixtureSteps
 pub mod MixtureDuties
 pub mod NamedMixtures
+pub mod MixtureMedia
+pub mod CountedBlocks

@@ -24,7 +24,7 @@ below : (i n : ℕ) → i < n → nat_lt i n ≡ true
 below i n lt = grind (arith, common_steps)
 
 -- two different lines that pass the test are marked
-marked_pair : (talk : List Pair) (lines i j : ℕ) → i < lines → j < lines → (i ≡ j → ⊥) → marks_pair talk lines i j ≡ true
+pub marked_pair : (talk : List Pair) (lines i j : ℕ) → i < lines → j < lines → (i ≡ j → ⊥) → marks_pair talk lines i j ≡ true
     → is_marked talk i j ≡ true
 marked_pair talk lines i j hi hj apart test = rw (different i j apart, below i lines hi, below j lines hj) at test
 
@@ -38,7 +38,7 @@ all_may_talk script state lines talk many few is all i j hi hj apart =
     (marked_pair talk lines i j li lj apart (at_slot (marks_pair talk lines i) row j (omega (arith, lj, few))))
 
 -- joined lines are two
-apart_of : (c : Configuration) (i j : ℕ) → AreJoined c i j → i ≡ j → ⊥
+pub apart_of : (c : Configuration) (i j : ℕ) → AreJoined c i j → i ≡ j → ⊥
 apart_of c i j (inl path) same = path.another same
 apart_of c i j (inr path) same = path.another (sym same)
 

@@ -1,6 +1,6 @@
 -- Configurations that are mixed from some: each component has a value that one of these has. What a list of values has of a component of
 -- each of these it has of that of all that are mixed from them, and there may be many more. No public clause speaks of these words.
-use Rattle.std.specs.Prelude.{◌≡◌, ◌⊎◌, ℕ, ◌<◌, Bool, List, [], ◌∷◌, ◌++◌, map, length, Option, Some, Contains}
+use Rattle.std.specs.Prelude.{◌≡◌, ◌⊎◌, ℕ, ◌<◌, Bool, List, [], ◌∷◌, ◌++◌, map, length, Option, Some, IsTrue, Contains}
 use Rattle.std.specs.List.{slice_index_or}
 use Rattle.mg_names.specs.declared.context_values.ContextValue.{ContextValue}
 use Rattle.mg_names.specs.declared.modes.Mode.{Mode}
@@ -14,7 +14,10 @@ use Rattle.mg_model.specs.declared.components.Spot.{Spot}
 use Rattle.mg_model.specs.declared.components.Remote.{Remote}
 use Rattle.mg_model.specs.Configuration.{Configuration, IsWellFormed}
 use Rattle.mg_model.specs.Entries.{Entry, Component, IsCovered, choices_of, chosen, same_choice, size_of, links, spots, modes, events, plays, contexts, remotes, cuts}
-use Rattle.mg_model.specs.Obligations.{EndedIsCleared, CreatedAreUnbound, NamesAreLive}
+use Rattle.mg_model.specs.declared.transitions.Pair.{Pair}
+use Rattle.mg_model.specs.Obligations.{CreatedAreUnbound, EndedIsCleared, JoinedAreMarked, NamesAreLive}
+use Rattle.mg_model.specs.Paths.{AreJoined}
+use Rattle.mg_model.specs.Tables.{is_marked}
 use Rattle.mg_model.specs.Script.{Script}
 use Rattle.mg_model.specs.Steps.{bound_names, steps_of, steps_by_link, observation, observations, refusals, executed, execution, with_link, with_state}
 use Rattle.closure.specs.Findings.{AreCovered}
@@ -114,6 +117,19 @@ AreMixedRequestsCovered script entries some request =
     (c : Configuration) → IsMixed some c → IsWellFormed c → (place : ℕ)
     → AreCovered entries (refusals script c place request ++ execution (executed script c request))
 
+-- lines of these pairs, if they are among so many, are marked where one is joined with another in what is mixed from these
+abbrev pub AreLinesMixedMarked : List Pair → ℕ → List Configuration → ℕ → Type 0
+AreLinesMixedMarked talk lines some i =
+    (j : ℕ) → j < lines → (c : Configuration) → IsMixed some c → i < lines → AreJoined c i j → IsTrue (is_marked talk i j)
+
+-- joined lines of all that are mixed from these are marked
+abbrev pub AreMixedMarked : Script → List Configuration → Type 0
+AreMixedMarked script some = (c : Configuration) → IsMixed some c → JoinedAreMarked script c
+
+-- these are of one state
+abbrev pub AreOfState : List Configuration → ℕ → Type 0
+AreOfState some state = (d : Configuration) → Contains some d → d.state ≡ state
+
 -- the obligations but that of joined lines
 pub record AreOthersKept (script : Script) (entries : List Entry) (c : Configuration) : Type 0 where
   pub cleared : EndedIsCleared script c
@@ -126,3 +142,7 @@ abbrev pub IsBlockKept : Script → List Entry → List Component → Configurat
 IsBlockKept script entries components c =
     (k : ℕ) → k < size_of components → IsWellFormed (chosen (map choices_of components) k c)
     → AreOthersKept script entries (chosen (map choices_of components) k c)
+
+-- joined lines are marked in all that some components make of a configuration
+abbrev pub IsBlockMarked : Script → List Component → Configuration → Type 0
+IsBlockMarked script components c = (k : ℕ) → k < size_of components → JoinedAreMarked script (chosen (map choices_of components) k c)

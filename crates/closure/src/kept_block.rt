@@ -1,15 +1,16 @@
-//! Whether all obligations but that of joined lines hold of all points at once that some components make of a configuration. Points that differ in places,
-//! contexts and Remotes are told of so, too.
+//! Whether all obligations but that of joined lines hold of all points at once that some components make of a configuration; and whether joined lines are
+//! marked in all of them. Points that differ in places, contexts and Remotes are told of so, too.
 ghost use Rattle.std.specs.Prelude.{◌≡◌, IsTrue, Contains, map};
 ghost use Rattle.mg_model.specs.Configuration.{Configuration};
 ghost use Rattle.mg_model.specs.Obligations.{EndedIsCleared, NamesAreLive};
 ghost use Rattle.mg_model.specs.Steps.{bound_names};
 ghost use Rattle.configuration.specs.Config.{configuration_of};
 ghost use Rattle.entry_table.specs.Shown.{shown_all};
-ghost use Rattle.closure.specs.Mixtures.{AreAlike, IsBlockKept};
+ghost use Rattle.closure.specs.Mixtures.{AreAlike, AreOfState, IsBlockKept, IsBlockMarked};
 ghost use Rattle.closure.specs.Naming.{AreNamedKept};
 
 use crate::block_mixture::mixture_of;
+use crate::mixed_media::are_joined_marked;
 use crate::mixed_steps::are_steps_covered;
 use crate::mixture::Mixture;
 use crate::named_mixture::{named_each, named_unlike, with_name_of};
@@ -140,4 +141,33 @@ pub(crate) fn is_block_kept(
         return false;
     };
     are_named_kept(script, cert, &mixture, 0, one, &mut left)
+}
+
+/// Whether some configurations are of one state.
+fn are_of_state(mixture: &Mixture, one: &Config) -> bool
+    ensures { IsTrue result → AreOfState (map configuration_of mixture.now) (configuration_of one.now).state }
+{
+    let state = one.state();
+    for config in mixture.as_slice() {
+        if config.state() != state {
+            return false;
+        }
+    }
+    true
+}
+
+/// Whether it is known that joined lines are marked in all that some components make of a configuration.
+pub(crate) fn is_block_marked(script: &Script, components: &[Component], config: &Config) -> bool
+    ensures { IsTrue result → IsBlockMarked script.now (shown_all components.now) (configuration_of config.now) }
+{
+    let Ok(mixture) = mixture_of(components, config) else {
+        return false;
+    };
+    let Some(one) = mixture.as_slice().first() else {
+        return false;
+    };
+    if !are_of_state(&mixture, one) {
+        return false;
+    }
+    are_joined_marked(script, &mixture, one)
 }

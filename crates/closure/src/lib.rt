@@ -5,9 +5,11 @@
 //! free of an entry is told by `freedom`; where all values of that are known to hold, classes of points are counted and not looked at (`class_walk`, over
 //! `class`, `media`, `held`, `rest` and `agreement`). Else it is asked of many points at once whether all obligations but that of joined lines hold
 //! (`kept_block`): the points are mixed from a few configurations (`mixture`, `block_mixture`), taken apart by the names that are bound (`named_mixture`), and
-//! where these are led all are (`mixed_steps`, over `mixed_entries`). Where that isn't known, the points are asked so in parts, and at last one by one: for its
-//! obligations (`obligations`), and its steps (`steps`, over `requests` and `effects`) are told to who looks whether an entry has their results (`covering`,
-//! over `cover`).
+//! where these are led all are (`mixed_steps`, over `mixed_entries`, and `mixed_commands` with `mixed_contexts` for what a command makes of them). Where joined
+//! lines are known to be marked in all of them too, by the modes of lines
+//! (`mixed_media`), those that are well formed are counted and asked for nothing else (`formed_count`). Where the others aren't known to hold, the points are
+//! asked so in parts, and at last one by one: for its obligations (`obligations`), and its steps (`steps`, over `requests` and `effects`) are told to who looks
+//! whether an entry has their results (`covering`, over `cover`).
 #![tactic(auto)]
 
 mod agreement;
@@ -20,6 +22,7 @@ pub mod cover;
 mod covering;
 pub mod effects;
 pub mod first_fault;
+mod formed_count;
 mod freedom;
 mod held;
 mod kept_block;
@@ -28,6 +31,7 @@ mod media;
 mod mixed_commands;
 mod mixed_contexts;
 mod mixed_entries;
+mod mixed_media;
 mod mixed_steps;
 mod mixture;
 mod named_mixture;

@@ -11,7 +11,7 @@ use mg_names::slots::Slot;
 use script_table::Script;
 
 /// Whether two lines are marked, if they are two among so many.
-fn marks_pair(talk: &[Pair], lines: usize, one: Slot, other: Slot) -> bool
+pub(crate) fn marks_pair(talk: &[Pair], lines: usize, one: Slot, other: Slot) -> bool
     ensures { result ≡ marks_pair talk.now lines one other }
 {
     if one.index() == other.index() {

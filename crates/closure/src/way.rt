@@ -1,4 +1,5 @@
-//! How the points that some components make of a configuration are passed: counted class by class, looked at one after the other, or taken in parts.
+//! How the points that some components make of a configuration are passed: counted, class by class or where all obligations are known to hold of all of them;
+//! looked at one after the other; or taken in parts.
 ghost use Rattle.std.specs.Prelude.{◌<◌, ◌^◌, IsTrue};
 ghost use Rattle.mg_model.specs.Entries.{size_of};
 ghost use Rattle.configuration.specs.Config.{configuration_of};
@@ -7,7 +8,8 @@ ghost use Rattle.closure.specs.Mixtures.{IsBlockKept};
 ghost use Rattle.closure.specs.Ways.{IsWay};
 
 use crate::class_walk::decide;
-use crate::kept_block::{NUMBERS_A_MIXTURE, is_block_kept};
+use crate::formed_count::count_formed;
+use crate::kept_block::{NUMBERS_A_MIXTURE, is_block_kept, is_block_marked};
 use configuration::config::Config;
 use entry_table::{Cert, Component, product_of};
 use script_table::Script;
@@ -45,8 +47,11 @@ pub(crate) fn way_of(script: &Script, cert: &Cert, components: &[Component], con
     if product_of(components) < NUMBERS_A_MIXTURE {
         return Way::Walked(false);
     }
-    if is_block_kept(script, cert, components, config) {
+    if !is_block_kept(script, cert, components, config) {
+        return Way::Split;
+    }
+    if !is_block_marked(script, components, config) {
         return Way::Walked(true);
     }
-    Way::Split
+    Way::Counted(count_formed(components, config))
 }
