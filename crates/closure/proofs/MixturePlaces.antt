@@ -155,7 +155,7 @@ free_stays some n c mixed free =
 
 -- it may stand for what exists and for what doesn't
 module _ (some made : List Configuration) (keeps : (d : Configuration) → Contains some d → Contains made d) where
-  one_more : {A : Type 0} (of : Configuration → A) (v : A) → HasOne some of v → HasOne made of v
+  pub one_more : {A : Type 0} (of : Configuration → A) (v : A) → HasOne some of v → HasOne made of v
   one_more of v one = (one.0, (keeps one.0 one.1.0, one.1.1))
 
   more_mixed : (c : Configuration) → IsMixed some c → IsMixed made c

@@ -1,12 +1,12 @@
 //! Whether a context exists in all at once that are mixed from a few configurations, and what that makes of its name. Where it is so in some and not in others
 //! the name is taken to stand for either.
-ghost use Rattle.std.specs.Prelude.{◌≡◌, false, not, IsTrue, IfOk, IfSome, IfNone, Contains, map};
+ghost use Rattle.std.specs.Prelude.{◌≡◌, false, IsTrue, IfOk, IfNone, OnOk, Contains, map};
 ghost use Rattle.mg_names.specs.declared.context_values.ContextValue.TheVariants.{Free};
-ghost use Rattle.mg_model.specs.Configuration.{Configuration, is_in, stands_in, with_of};
+ghost use Rattle.mg_model.specs.Configuration.{Configuration, is_in, stands_in};
 ghost use Rattle.mg_model.specs.Updates.{with_at};
 ghost use Rattle.configuration.specs.Config.{configuration_of};
 ghost use Rattle.closure.specs.Elementwise.{settled_at};
-ghost use Rattle.closure.specs.Mixtures.{IsMixed};
+ghost use Rattle.closure.specs.Mixtures.{HasOne, IsMixed};
 ghost use Rattle.closure.specs.Placing.{valued_at};
 
 use crate::effects::value_of;
@@ -97,13 +97,49 @@ fn with_context(config: &Config, context: Slot, value: ContextValue) -> Config
     with
 }
 
-/// Some configurations, and one of them in which a context name stands for what exists, and for what doesn't.
+/// Whether two values of a context name are one.
+fn is_same_value(one: ContextValue, other: ContextValue) -> bool
+    ensures { IsTrue result → one ≡ other }
+{
+    one == other
+}
+
+/// Whether a context name stands for a value in one of some configurations.
+fn has_context(mixture: &Mixture, context: Slot, value: ContextValue) -> bool
+    ensures { IsTrue result → HasOne (map configuration_of mixture.now) (λ d. d.context context) value }
+{
+    for config in mixture.as_slice() {
+        if is_same_value(config.context(context), value) {
+            return true;
+        }
+    }
+    false
+}
+
+/// Adds a configuration in which a context name stands for a value, unless it does in one that is there.
+fn add_context(
+    mixture: &mut Mixture,
+    context: Slot,
+    value: ContextValue,
+    one: &Config,
+) -> Result<(), TooMany>
+    ensures kept { OnOk result ((d : Configuration) → Contains (map configuration_of mixture.old) d → Contains (map configuration_of mixture.new) d) }
+    ensures there { OnOk result (HasOne (map configuration_of mixture.new) (λ d. d.context context) value) }
+{
+    if has_context(mixture, context, value) {
+        return Ok(());
+    }
+    mixture.push(&with_context(one, context, value))?;
+    Ok(())
+}
+
+/// Some configurations, and such in which a context name stands for what exists, and for what doesn't.
 fn either_way(mixture: Mixture, context: Slot, one: &Config) -> Result<Mixture, TooMany>
     ensures { IfOk result (λ m. (c : Configuration) → IsMixed (map configuration_of mixture) c → IsMixed (map configuration_of m) (settled_at c context)) }
 {
     let mut made = mixture;
-    made.push(&with_context(one, context, ContextValue::Live))?;
-    made.push(&with_context(one, context, ContextValue::Stale))?;
+    add_context(&mut made, context, ContextValue::Live, one)?;
+    add_context(&mut made, context, ContextValue::Stale, one)?;
     Ok(made)
 }
 
