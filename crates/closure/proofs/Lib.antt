@@ -38,4 +38,5 @@ pub mod MixtureSteps
 pub mod MixtureDuties
 pub mod NamedMixtures
 pub mod MixtureMedia
+pub mod MixtureParts
 pub mod CountedBlocks

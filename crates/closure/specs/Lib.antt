@@ -13,3 +13,4 @@ pub mod Mixtures
 pub mod Ways
 pub mod Naming
 pub mod Placing
+pub mod Parts

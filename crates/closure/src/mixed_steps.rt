@@ -7,7 +7,8 @@ ghost use Rattle.configuration.specs.Config.{configuration_of};
 ghost use Rattle.closure.specs.Mixtures.{AreAlike, AreMixedEntered, AreMixedLineCovered, AreMixedLinked, AreMixedNotesCovered, AreMixedRepliesCovered, AreMixedRequestsCovered, AreMixedRestsCovered, AreMixedStepsCovered};
 
 use crate::mixed_commands::led_by;
-use crate::mixed_entries::{are_in_one, with_link_each, with_state_each};
+use crate::mixed_entries::{with_link_each, with_state_each};
+use crate::mixed_parts::are_in_entries;
 use crate::mixture::Mixture;
 use crate::requests::bound_in;
 use crate::steps::with_state;
@@ -37,7 +38,7 @@ fn is_entered(
     let Ok(entered) = with_state_each(mixture, state, link) else {
         return false;
     };
-    are_in_one(cert, &entered, state)
+    are_in_entries(cert, &entered, state)
 }
 
 /// Whether a line of one of some configurations has a list that raises notes of a kind.
@@ -128,7 +129,7 @@ fn is_linked(cert: &Cert, mixture: &Mixture, state: u8, link: LinkPhase) -> bool
     let Ok(linked) = with_link_each(mixture, link) else {
         return false;
     };
-    are_in_one(cert, &linked, state)
+    are_in_entries(cert, &linked, state)
 }
 
 /// Whether entries have all that refusals and the execution of a request make, of which the first commands are done.

@@ -1,4 +1,4 @@
--- There is no state to enter, or one entry has all that enter it.
+-- There is no state to enter, or entries have all that enter it.
 use Rattle.std.proofs.Common.{◌∙◌, ℕ, Option, map, sym, subst, ap}
 use Rattle.mg_model.specs.Configuration.{Configuration}
 use Rattle.configuration.specs.Config.{configuration_of}
@@ -11,4 +11,4 @@ returns c covered =
     subst (λ (target : Option ℕ). AreMixedEntered c.args.script.now c.args.cert.now (map configuration_of c.args.mixture.now) target) (sym c.in-Some.is)
     (all_entered c.args.script.now c.args.cert.now (map configuration_of c.args.mixture.now) (configuration_of c.args.one.now) c.requires c.in-Some.state
     c.link-link.result (c.link-link.ensures ∙ ap (λ (d : Configuration). d.link) c.with_state.ensures) (map configuration_of c.in-Ok.entered) c.in-Ok.ensures
-    (c.are_in_one.ensures covered))
+    (c.are_in_entries.ensures covered))

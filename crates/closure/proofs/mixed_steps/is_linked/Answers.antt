@@ -1,4 +1,4 @@
--- One entry has all of these.
+-- Entries have all of these.
 use Rattle.std.proofs.Common.{map}
 use Rattle.configuration.specs.Config.{configuration_of}
 use Rattle.closure.proofs.MixtureSteps.{all_linked}
@@ -7,4 +7,4 @@ use Rattle.closure.proofs.mixed_steps.is_linked.Goals as goal
 pub returns : goal.returns
 returns c holds =
     all_linked c.args.cert.now (map configuration_of c.args.mixture.now) c.args.link (map configuration_of c.in-Ok.linked) c.in-Ok.ensures
-    (c.are_in_one.ensures holds)
+    (c.are_in_entries.ensures holds)

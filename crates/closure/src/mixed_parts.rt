@@ -1,0 +1,169 @@
+//! Whether entries have all that are mixed from a few configurations, where no one entry has all: what is mixed is parted by a component that an entry gives
+//! other values, and each part is asked by itself.
+ghost use Rattle.std.specs.Prelude.{◌≡◌, IsTrue, IfOk, IfSome, Contains, map};
+ghost use Rattle.std.specs.List.{All};
+ghost use Rattle.mg_model.specs.Entries.{Allows};
+ghost use Rattle.configuration.specs.Config.{configuration_of};
+ghost use Rattle.entry_table.specs.Shown.{shown};
+ghost use Rattle.closure.specs.Mixtures.{AreMixedCovered};
+ghost use Rattle.closure.specs.Parts.{HasPart, IsPart, with_component_of};
+
+use crate::mixed_entries::are_in_one;
+use crate::mixture::{Mixture, TooMany};
+use configuration::config::Config;
+use entry_table::{Cert, Component, Entry};
+
+/// How many mixtures are asked at most, before it counts as not known whether entries have all.
+const PARTS: u32 = 64;
+
+/// How deep parts are parted at most. Each of two parts is asked, so that no more can be had of those that may be asked.
+const DEEPEST: u32 = PARTS / 2;
+
+/// By what a mixture is parted: a component with a configuration that it allows, and one that it doesn't.
+#[derive(Drop)]
+struct Parting<'c> {
+    component: &'c Component,
+    within: Config,
+    without: Config,
+}
+
+/// Gives a configuration another one's value of a component.
+fn take_component(config: &mut Config, component: &Component, like: &Config)
+    ensures { configuration_of config.new ≡ with_component_of (shown component.now) (configuration_of like.now) (configuration_of config.old) }
+{
+    match component {
+        Component::Links(_) => config.set_link(like.link()),
+        Component::Spots(t, _) => config.set_spot(*t, like.spot(*t)),
+        Component::Modes(t, _) => config.set_mode(*t, like.mode(*t)),
+        Component::Events(line, _) => config.set_events(*line, like.events(*line)),
+        Component::Plays(line, _) => config.set_plays(*line, like.plays(*line)),
+        Component::Contexts(name, _) => config.set_context(*name, like.context(*name)),
+        Component::Remotes(name, _) => config.set_remote(*name, like.remote(*name)),
+        Component::Cuts(t, u, _) => config.set_cut(*t, *u, like.cut(*t, *u)),
+    }
+}
+
+/// A configuration, if a component allows it as it is to, or else with another one's value of that component.
+fn part_of(config: &Config, component: &Component, allowed: bool, like: &Config) -> Config
+    ensures { IsPart (shown component.now) allowed (configuration_of like.now) (configuration_of config.now) (configuration_of result) }
+{
+    let mut part = *config;
+    match (component.allows(config), allowed) {
+        (true, true) => {}
+        (true, false) => take_component(&mut part, component, like),
+        (false, true) => take_component(&mut part, component, like),
+        (false, false) => {}
+    }
+    part
+}
+
+/// The same of some configurations.
+fn part_each(
+    mixture: &Mixture,
+    component: &Component,
+    allowed: bool,
+    like: &Config,
+) -> Result<Mixture, TooMany>
+    ensures { IfOk result (λ m. HasPart (shown component.now) allowed (configuration_of like.now) (map configuration_of mixture.now) (map configuration_of m)) }
+{
+    let mut made = Mixture::new();
+    for config in mixture.as_slice() {
+        made.push(&part_of(config, component, allowed, like))?;
+    }
+    Ok(made)
+}
+
+/// The first entry of a state that allows a configuration.
+fn entry_with<'c>(cert: &'c Cert, config: &Config, state: u8) -> Option<&'c Entry>
+    ensures has { IfSome result (λ entry. Contains cert.now entry.now) }
+    ensures allows { IfSome result (λ entry. ((configuration_of config.now).state ≡ entry.now.state)
+        × All (Allows (configuration_of config.now)) entry.now.components) }
+{
+    for place in cert.of_state(state) {
+        if let Some(entry) = cert.entries().get(*place) {
+            if entry.allows(config) {
+                return Some(entry);
+            }
+        }
+    }
+    None
+}
+
+/// The first component of an entry that doesn't allow a configuration.
+fn component_without<'e>(entry: &'e Entry, config: &Config) -> Option<&'e Component>
+    ensures { IfSome result (λ component. Contains entry.now.components (shown component.now)
+        × (Allows (configuration_of config.now) (shown component.now) → ⊥)) }
+{
+    for component in entry.components() {
+        if !component.allows(config) {
+            return Some(component);
+        }
+    }
+    None
+}
+
+/// What parts a mixture: of an entry that allows one, the first component that doesn't allow the first that one of them doesn't.
+fn parting_by<'e>(entry: &'e Entry, mixture: &Mixture, one: &Config) -> Option<Parting<'e>>
+    requires { All (Allows (configuration_of one.now)) entry.now.components }
+    ensures parts { IfSome result (λ parting. Allows (configuration_of parting.within) (shown parting.component.now)
+        × (Allows (configuration_of parting.without) (shown parting.component.now) → ⊥)) }
+    ensures one { IfSome result (λ parting. parting.within ≡ one.now) }
+    ensures other { IfSome result (λ parting. Contains mixture.now parting.without) }
+{
+    for other in mixture.as_slice() {
+        if let Some(component) = component_without(entry, other) {
+            return Some(Parting {
+                component,
+                within: *one,
+                without: *other,
+            });
+        }
+    }
+    None
+}
+
+/// What parts a mixture by the first entry of a state that allows the first of it; nothing where none allows that, or the entry's components allow each.
+fn parting_of<'c>(cert: &'c Cert, mixture: &Mixture, state: u8) -> Option<Parting<'c>>
+    ensures parts { IfSome result (λ parting. Allows (configuration_of parting.within) (shown parting.component.now)
+        × (Allows (configuration_of parting.without) (shown parting.component.now) → ⊥)) }
+    ensures of_these { IfSome result (λ parting. Contains mixture.now parting.within × Contains mixture.now parting.without) }
+{
+    let one = mixture.as_slice().first()?;
+    let entry = entry_with(cert, one, state)?;
+    parting_by(entry, mixture, one)
+}
+
+/// Whether entries of a state have all that are mixed from some configurations, and well formed: one has all, or entries have all of either of two parts. It
+/// fails too where so many mixtures, or so deep a parting, aren't enough.
+fn are_in_parts(cert: &Cert, mixture: &Mixture, state: u8, depth: u32, left: &mut u32) -> bool
+    ensures { IsTrue result → AreMixedCovered cert.now (map configuration_of mixture.now) }
+{
+    if depth == 0 || *left == 0 {
+        return false;
+    }
+    *left -= 1;
+    if are_in_one(cert, mixture, state) {
+        return true;
+    }
+    let Some(parting) = parting_of(cert, mixture, state) else {
+        return false;
+    };
+    let Ok(within) = part_each(mixture, parting.component, true, &parting.within) else {
+        return false;
+    };
+    if !are_in_parts(cert, &within, state, depth - 1, left) {
+        return false;
+    }
+    let Ok(without) = part_each(mixture, parting.component, false, &parting.without) else {
+        return false;
+    };
+    are_in_parts(cert, &without, state, depth - 1, left)
+}
+
+/// Whether entries of a state have all that are mixed from some configurations, and well formed.
+pub(crate) fn are_in_entries(cert: &Cert, mixture: &Mixture, state: u8) -> bool
+    ensures { IsTrue result → AreMixedCovered cert.now (map configuration_of mixture.now) }
+{
+    let mut left = PARTS;
+    are_in_parts(cert, mixture, state, DEEPEST, &mut left)
+}
