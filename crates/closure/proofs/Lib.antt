@@ -37,6 +37,7 @@ pub mod BlockMixtures
 pub mod MixtureSteps
 pub mod MixtureDuties
 pub mod NamedMixtures
+pub mod MixtureHops
 pub mod MixtureMedia
 pub mod MixtureParts
 pub mod CountedBlocks

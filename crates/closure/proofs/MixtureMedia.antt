@@ -1,55 +1,14 @@
--- Media goes from one line to another only where it comes in by the one and goes out by the other.
-use Rattle.std.proofs.Common.{◌≡◌, ◌∙◌, ℕ, ◌<◌, ◌≤◌, ◌&&◌, true, false, not, List, [], ◌∷◌, length, inl, inr, sym, ap, subst, arith, IsTrue, Contains}
-use Rattle.mg_model.specs.declared.commands.Termination.{Termination}
-use Rattle.mg_model.specs.declared.commands.Termination.TheVariants.{Line, Ephemeral}
+-- Joined lines of what is mixed from some configurations, where those that aren't marked have no path.
+use Rattle.std.proofs.Common.{◌≡◌, ◌∙◌, ℕ, ◌<◌, ◌≤◌, true, List, length, inl, inr, sym, ap, subst, arith, IsTrue}
 use Rattle.mg_model.specs.declared.transitions.Pair.{Pair}
 use Rattle.mg_model.specs.Script.{Script}
 use Rattle.mg_model.specs.Tables.{is_marked, state_of}
-use Rattle.mg_model.specs.Configuration.{Configuration, is_same}
-use Rattle.mg_model.specs.Paths.{AreJoined, HasPath, crosses, goes_over, hops, is_shared, passes_in, passes_out}
-use Rattle.mg_model.proofs.Cases.{and_first, and_second, not_both}
-use Rattle.closure.specs.Mixtures.{AreLinesMixedMarked, AreMixedMarked, AreOfState, IsMixed}
+use Rattle.mg_model.specs.Configuration.{Configuration}
+use Rattle.mg_model.specs.Paths.{AreJoined, HasPath}
+use Rattle.closure.specs.Mixtures.{AreLinesMixedMarked, AreMixedMarked, AreOfState}
 use Rattle.closure.specs.Tests.{marks_pair}
 use Rattle.closure.proofs.ClassRest.{of_lines}
 use Rattle.closure.proofs.MarkLemmas.{apart_of, marked_pair}
-
-hop_in : (c : Configuration) (t u : Termination) → hops c t u ≡ true → passes_in (c.mode t) ≡ true
-hop_in c t u hop =
-    let apart = not (is_same t u) && is_shared (c.spot t) (c.spot u) in
-    let both = and_first (apart && passes_in (c.mode t) && passes_out (c.mode u)) (not (c.cut t u)) hop in
-    and_second apart (passes_in (c.mode t)) (and_first (apart && passes_in (c.mode t)) (passes_out (c.mode u)) both)
-
-hop_out : (c : Configuration) (t u : Termination) → hops c t u ≡ true → passes_out (c.mode u) ≡ true
-hop_out c t u hop =
-    let apart = not (is_same t u) && is_shared (c.spot t) (c.spot u) in
-    and_second (apart && passes_in (c.mode t)) (passes_out (c.mode u))
-    (and_first (apart && passes_in (c.mode t) && passes_out (c.mode u)) (not (c.cut t u)) hop)
-
-goes_in : (c : Configuration) (from : Termination) (crossings : List (ℕ × ℕ)) (to : Termination) → goes_over c from crossings to ≡ true
-    → passes_in (c.mode from) ≡ true
-goes_in c from [] to goes = hop_in c from to goes
-goes_in c from (crossing ∷ more) to goes =
-    let hop = hops c from (Ephemeral crossing.0) in
-    let crossed = crosses c crossing.0 crossing.1 in
-    hop_in c from (Ephemeral crossing.0) (and_first hop crossed (and_first (hop && crossed) (goes_over c (Ephemeral crossing.1) more to) goes))
-
-goes_out : (c : Configuration) (from : Termination) (crossings : List (ℕ × ℕ)) (to : Termination) → goes_over c from crossings to ≡ true
-    → passes_out (c.mode to) ≡ true
-goes_out c from [] to goes = hop_out c from to goes
-goes_out c from (crossing ∷ more) to goes =
-    goes_out c (Ephemeral crossing.1) more to
-    (and_second (hops c from (Ephemeral crossing.0) && crosses c crossing.0 crossing.1) (goes_over c (Ephemeral crossing.1) more to) goes)
-
-module _ (some : List Configuration) (c : Configuration) (mixed : IsMixed some c) (i j : ℕ) where
-  pub none_comes_in : ((d : Configuration) → Contains some d → passes_in (d.mode (Line i)) ≡ false) → HasPath c i j → ⊥
-  none_comes_in never path =
-      let at = mixed.mode (Line i) in
-      not_both (goes_in c (Line i) path.crossings (Line j) path.goes) (ap passes_in (sym at.1.1) ∙ never at.0 at.1.0)
-
-  pub none_goes_out : ((d : Configuration) → Contains some d → passes_out (d.mode (Line j)) ≡ false) → HasPath c i j → ⊥
-  none_goes_out never path =
-      let at = mixed.mode (Line j) in
-      not_both (goes_out c (Line i) path.crossings (Line j) path.goes) (ap passes_out (sym at.1.1) ∙ never at.0 at.1.0)
 
 -- two lines that the test of marks takes for marked are so where they are joined
 pub marked_if_joined : (talk : List Pair) (lines i j : ℕ) (c : Configuration) → marks_pair talk lines i j ≡ true → i < lines → j < lines

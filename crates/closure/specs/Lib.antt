@@ -14,3 +14,4 @@ pub mod Ways
 pub mod Naming
 pub mod Placing
 pub mod Parts
+pub mod Hops

@@ -1,16 +1,21 @@
 -- Those of each line are.
-use Rattle.std.proofs.Common.{◌∙◌, ℕ, map, ap}
+use Rattle.std.proofs.Common.{◌∙◌, ℕ, List, map, ap, subst}
 use Rattle.mg_model.specs.Tables.{state_of}
 use Rattle.configuration.specs.Config.{configuration_of}
+use Rattle.configuration.specs.Packed.{Words}
+use Rattle.closure.specs.Mixtures.{AreLinesMixedMarked}
 use Rattle.closure.proofs.MixtureMedia.{all_mixed_marked}
 use Rattle.closure.proofs.mixed_media.are_joined_marked.Goals as goal
 
 pub returns : goal.returns
 returns c holds =
+    let of_all : (i : ℕ) → AreLinesMixedMarked c.talk_of-talk.result.now c.lines-lines.result (map configuration_of c.of-hops.result) i
+    → AreLinesMixedMarked c.talk_of-talk.result.now c.lines-lines.result (map configuration_of c.args.mixture.now) i =
+    λ i. subst (λ (words : List Words). AreLinesMixedMarked c.talk_of-talk.result.now c.lines-lines.result (map configuration_of words) i) c.of-hops.ensures in
     all_mixed_marked c.args.script.now (map configuration_of c.args.mixture.now) (configuration_of c.args.one.now) c.requires c.talk_of-talk.result.now
     c.lines-lines.result c.lines-lines.ensures.value c.lines-lines.ensures.few
     (c.talk_of-talk.ensures ∙ ap (λ (state : ℕ). (state_of c.args.script.now state).talk) c.state.ensures)
-    (rw c.all.ensures at (c.is_line_marked.ensures c.if-not-is_line_marked.false))
-    (rw c.all.ensures at (c.is_line_marked-2.ensures c.if-not-is_line_marked-2.false))
-    (rw c.all.ensures at (c.is_line_marked-3.ensures c.if-not-is_line_marked-3.false))
-    (rw c.all.ensures at (c.is_line_marked-4.ensures holds))
+    (of_all 0 (rw c.all.ensures at (c.is_line_marked.ensures c.if-not-is_line_marked.false)))
+    (of_all 1 (rw c.all.ensures at (c.is_line_marked-2.ensures c.if-not-is_line_marked-2.false)))
+    (of_all 2 (rw c.all.ensures at (c.is_line_marked-3.ensures c.if-not-is_line_marked-3.false)))
+    (of_all 3 (rw c.all.ensures at (c.is_line_marked-4.ensures holds)))

@@ -10,7 +10,7 @@ use Rattle.closure.proofs.mixed_media.is_line_marked.Goals as goal
 
 pub returns : goal.returns
 returns c holds j hj d mixed hi joined =
-    of_lines (λ (n : ℕ). (e : Configuration) → IsMixed (map configuration_of c.args.mixture.now) e → c.args.one < c.args.lines → n < c.args.lines
+    of_lines (λ (n : ℕ). (e : Configuration) → IsMixed (map configuration_of c.args.hops.now) e → c.args.one < c.args.lines → n < c.args.lines
     → AreJoined e c.args.one n → IsTrue (is_marked c.args.talk.now c.args.one n)) c.args.lines (omega (arith, c.requires))
     (rw c.all.ensures at (c.is_pair_marked.ensures c.if-not-is_pair_marked.false))
     (rw c.all.ensures at (c.is_pair_marked-2.ensures c.if-not-is_pair_marked-2.false))
