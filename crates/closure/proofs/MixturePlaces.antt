@@ -43,7 +43,7 @@ or_second true b e = refl
 or_second false b e = e
 
 -- where one passes a test, some do
-one_passes : {X : Type 0} (test : X → Bool) (xs : List X) (x : X) → Contains xs x → test x ≡ true → list_any test xs ≡ true
+pub one_passes : {X : Type 0} (test : X → Bool) (xs : List X) (x : X) → Contains xs x → test x ≡ true → list_any test xs ≡ true
 one_passes test [] x has passes = absurd (omega (arith, has.1))
 one_passes test (y ∷ xs) x (zero, lt, is) passes = or_first (test y) (list_any test xs) (ap test is ∙ passes)
 one_passes test (y ∷ xs) x (suc k, lt, is) passes =
@@ -255,9 +255,9 @@ module _ (some : List Configuration) (c : Configuration) (mixed : IsMixed some c
           (left_elsewhere (λ u. is_in (c.spot u) j) (λ u here. in_one (c.spot u) j here there)) refl
   left_alone script (SetTopology j t u topology) legal absent apart = settles_itself c formed n
 
-pub alone_settled : (script : Script) (some made : List Configuration) (command : Command) (n : ℕ) → LeavesAlone some command n
-    → IsSettledAt script some command n made made
-alone_settled script some made command n alone c x mixed formed legal absent spots names before =
+pub alone_settled : (script : Script) (some made : List Configuration) (command : Command) (held : List Bool) (n : ℕ) → LeavesAlone some command n
+    → IsSettledAt script some command held n made made
+alone_settled script some made command held n alone c x mixed formed legal stayers absent spots names before =
     name_stays made n x before
     (ap (λ (v : ContextValue). value_of v (stands_in x.spot n)) names
     ∙ ap (λ (spot : Termination → Spot). value_of ((unsettled script command c).context n) (stands_in spot n)) spots
@@ -265,7 +265,7 @@ alone_settled script some made command n alone c x mixed formed legal absent spo
 
 -- ---- what was made, if there was room
 
-where_ok : {A E : Type 0} (P Q : A → Type 0) → ((a : A) → P a → Q a) → (made : Result A E) → IfOk made P → IfOk made Q
+pub where_ok : {A E : Type 0} (P Q : A → Type 0) → ((a : A) → P a → Q a) → (made : Result A E) → IfOk made P → IfOk made Q
 where_ok P Q each (Ok a) holds = each a holds
 where_ok P Q each (Err e) holds = holds
 
@@ -277,13 +277,13 @@ all_valued some n exists stands =
     (λ m. (c : Configuration) → IsMixed some c → IsMixed (map configuration_of m) (settled_at c n))
     (λ m is c mixed. subst (λ (ds : List Configuration). IsMixed ds (settled_at c n)) (sym is) (valued_mixed some n exists c mixed (stands c mixed)))
 
-pub all_settled : {E : Type 0} (some before : List Configuration) (command : Command) (n : ℕ) (made : Result (List Words) E)
+pub all_settled : {E : Type 0} (some before : List Configuration) (command : Command) (held : List Bool) (n : ℕ) (made : Result (List Words) E)
     → IfOk made (λ m. (x : Configuration) → IsMixed before x → IsMixed (map configuration_of m) (settled_at x n))
-    → IfOk made (λ m. (script : Script) → IsSettledAt script some command n before (map configuration_of m))
-all_settled some before command n =
+    → IfOk made (λ m. (script : Script) → IsSettledAt script some command held n before (map configuration_of m))
+all_settled some before command held n =
     where_ok (λ m. (x : Configuration) → IsMixed before x → IsMixed (map configuration_of m) (settled_at x n))
-    (λ m. (script : Script) → IsSettledAt script some command n before (map configuration_of m))
-    (λ m settles script c x mixed formed legal absent spots names before_x. settles x before_x)
+    (λ m. (script : Script) → IsSettledAt script some command held n before (map configuration_of m))
+    (λ m settles script c x mixed formed legal stayers absent spots names before_x. settles x before_x)
 
 -- ---- the context names of another configuration
 
@@ -332,19 +332,19 @@ adds_absent some c mixed (Subtract j t) uniform = uniform
 adds_absent some c mixed (SubtractAll j) uniform = tt
 adds_absent some c mixed (SetTopology j t u topology) uniform = uniform
 
-pub all_led : (script : Script) (some : List Configuration) (command : Command) → IsUniform some command → (words : List Words)
+pub all_led : (script : Script) (some : List Configuration) (command : Command) (held : List Bool) → IsUniform some command → (words : List Words)
     → map configuration_of words ≡ map (unsettled script command) some → (one two three four : List Configuration)
-    → IsSettledAt script some command 0 (map configuration_of words) one → IsSettledAt script some command 1 one two
-    → IsSettledAt script some command 2 two three → IsSettledAt script some command 3 three four → AreLed script some command four
-all_led script some command uniform words is one two three four first second third fourth c mixed formed legal =
+    → IsSettledAt script some command held 0 (map configuration_of words) one → IsSettledAt script some command held 1 one two
+    → IsSettledAt script some command held 2 two three → IsSettledAt script some command held 3 three four → AreLed script some command held four
+all_led script some command held uniform words is one two three four first second third fourth c mixed formed legal stayers =
     let absent = adds_absent some c mixed command uniform in
     let x : Configuration = unsettled script command c in
     let at_first : IsMixed (map configuration_of words) x =
     subst (λ (ds : List Configuration). IsMixed ds x) (sym is) (mixed_unsettled script some c command uniform mixed) in
-    let at_second = first c x mixed formed legal absent refl refl at_first in
-    let at_third = second c (settled_at x 0) mixed formed legal absent refl refl at_second in
-    let at_fourth = third c (settled_at (settled_at x 0) 1) mixed formed legal absent refl refl at_third in
-    let at_last = fourth c (settled_at (settled_at (settled_at x 0) 1) 2) mixed formed legal absent refl refl at_fourth in (
+    let at_second = first c x mixed formed legal stayers absent refl refl at_first in
+    let at_third = second c (settled_at x 0) mixed formed legal stayers absent refl refl at_second in
+    let at_fourth = third c (settled_at (settled_at x 0) 1) mixed formed legal stayers absent refl refl at_third in
+    let at_last = fourth c (settled_at (settled_at (settled_at x 0) 1) 2) mixed formed legal stayers absent refl refl at_fourth in (
       absent,
       subst (λ (d : Configuration). IsMixed four d) (settled_all x (free_past at_first) ∙ settled_effect script c formed command) at_last,
     )

@@ -19,11 +19,13 @@ use Rattle.mg_model.specs.Entries.{Entry, IsCovered}
 use Rattle.mg_model.specs.Request.{Names, built}
 use Rattle.mg_model.specs.Steps.{Step, all_kinds, bound_names, entering, executed, execution, names_unbound, observation, observations, refusals, reply_step, request_in, steps_by_link, with_link, with_state}
 use Rattle.closure.specs.Findings.{AreCovered}
-use Rattle.closure.specs.Mixtures.{AreAlike, AreMixedCovered, AreMixedEntered, AreMixedLineCovered, AreMixedLinked, AreMixedNotesCovered, AreMixedRepliesCovered, AreMixedRequestsCovered, AreMixedRestsCovered, AreMixedStepsCovered, IsMixed}
+use Rattle.closure.specs.Mixtures.{AreAlike, AreMixedCovered, AreMixedEntered, AreMixedLineCovered, AreMixedLinked, AreMixedNotesCovered, AreMixedRepliesCovered, AreMixedRestsCovered, AreMixedStepsCovered, IsMixed}
 use Rattle.closure.proofs.ClassRest.{below_covered, both_covered, each_covered, none_covered, of_kinds, of_lines}
-use Rattle.closure.specs.Placing.{AreLed}
+use Rattle.closure.specs.Placing.{AreLed, AreMixedRequestsCovered}
+use Rattle.closure.specs.Stayers.{AreHeldIn, HaveStayers}
 use Rattle.closure.proofs.ByComponent.{entered_by, linked_by, mixed_by}
 use Rattle.closure.proofs.FormedEffects.{formed_effect}
+use Rattle.closure.proofs.MixtureStayers.{stayers_after, stayers_of_built, stayers_of_one}
 use Rattle.closure.proofs.MixtureLemmas.{mixed_link, mixed_names, mixed_state}
 
 -- being well formed asks for no state and no link
@@ -63,13 +65,14 @@ module _ (entries : List Entry) (some : List Configuration) where
 module _ (script : Script) (entries : List Entry) (some : List Configuration) where
   -- ---- a request
 
-  pub request_ends : AreMixedLinked entries some Answered → AreMixedRequestsCovered script entries some []
-  request_ends answered c mixed formed place =
+  pub request_ends : (held : List Bool) → AreMixedLinked entries some Answered → AreMixedRequestsCovered script entries some held []
+  request_ends held answered c mixed formed stayers place =
       step_covered entries (Execute, with_link c Answered) [] (answered c mixed formed) (none_covered entries)
 
-  pub request_goes_on : (command : Command) (more : List Command) (made : List Configuration) → AreMixedLinked entries some Failed
-      → AreLed script some command made → AreMixedRequestsCovered script entries made more → AreMixedRequestsCovered script entries some (command ∷ more)
-  request_goes_on command more made failed led later c mixed formed place = by_test (is_legal c command) refl
+  pub request_goes_on : (command : Command) (more : List Command) (held : List Bool) (made : List Configuration) → AreMixedLinked entries some Failed
+      → AreLed script some command held made → AreMixedRequestsCovered script entries made held more
+      → AreMixedRequestsCovered script entries some held (command ∷ more)
+  request_goes_on command more held made failed led later c mixed formed stayers place = by_test (is_legal c command) refl
     where
       after : Configuration
       after = effect script c command
@@ -77,9 +80,10 @@ module _ (script : Script) (entries : List Entry) (some : List Configuration) wh
       by_test : (b : Bool) → is_legal c command ≡ b
           → AreCovered entries ((Refuse place, with_link c Failed)
           ∷ ((if b then refusals script after (place + 1) more else []) ++ execution (if b then executed script after more else None)))
-      by_test true legal = let here = led c mixed formed legal in
+      by_test true legal = let here = led c mixed formed legal (stayers_of_one c command more held stayers) in
           step_covered entries (Refuse place, with_link c Failed) (refusals script after (place + 1) more ++ execution (executed script after more))
-          (failed c mixed formed) (later after here.1 (formed_effect script c formed command legal here.0) (place + 1))
+          (failed c mixed formed)
+          (later after here.1 (formed_effect script c formed command legal here.0) (stayers_after script c command more held stayers) (place + 1))
       by_test false illegal = step_covered entries (Refuse place, with_link c Failed) [] (failed c mixed formed) (none_covered entries)
 
   -- ---- a state is entered
@@ -172,18 +176,24 @@ module _ (script : Script) (entries : List Entry) (some : List Configuration) wh
         subst (λ (l : LinkPhase). AreCovered entries (steps_by_link script c l)) (sym (mixed_link some one c alike mixed ∙ is)) (covered c mixed formed)
 
     pub sent_steps_covered : one.link ≡ Sent → (request : List Command) → request ≡ built (bound_names one) (state_of script one.state).commands
-        → AreMixedRequestsCovered script entries some request → AreMixedStepsCovered script entries some
-    sent_steps_covered is request whole covered = by_link Sent is (λ c mixed formed. by_test c mixed formed (names_unbound script c))
+        → (held : List Bool) → AreHeldIn some (state_of script one.state).commands held → AreMixedRequestsCovered script entries some held request
+        → AreMixedStepsCovered script entries some
+    sent_steps_covered is request whole held are_held covered = by_link Sent is (λ c mixed formed. by_test c mixed formed (names_unbound script c))
       where
         requested : (c : Configuration) → IsMixed some c → request ≡ request_in script c c.state
         requested c mixed = whole ∙ ap (λ (names : Names). built names (state_of script one.state).commands) (sym (mixed_names some one c alike mixed))
             ∙ ap (λ (state : ℕ). built (bound_names c) (state_of script state).commands) (sym (mixed_state some one c alike mixed))
 
+        stayers : (c : Configuration) → IsMixed some c → IsWellFormed c → HaveStayers c request held
+        stayers c mixed formed =
+            subst (λ (commands : List Command). HaveStayers c commands held) (sym whole)
+            (stayers_of_built c (bound_names one) (state_of script one.state).commands held (are_held c mixed formed))
+
         by_test : (c : Configuration) → IsMixed some c → IsWellFormed c → (b : Bool)
             → AreCovered entries (if b then refusals script c 0 (request_in script c c.state) ++ execution (executed script c (request_in script c c.state)) else [])
         by_test c mixed formed true =
             subst (λ (commands : List Command). AreCovered entries (refusals script c 0 commands ++ execution (executed script c commands)))
-            (requested c mixed) (covered c mixed formed 0)
+            (requested c mixed) (covered c mixed formed (stayers c mixed formed) 0)
         by_test c mixed formed false = none_covered entries
 
     pub answered_steps_covered : one.link ≡ Answered → AreMixedRepliesCovered script entries some → AreMixedStepsCovered script entries some

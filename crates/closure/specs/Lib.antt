@@ -12,6 +12,7 @@ pub mod Classes
 pub mod Mixtures
 pub mod Ways
 pub mod Naming
+pub mod Stayers
 pub mod Placing
 pub mod Parts
 pub mod Hops

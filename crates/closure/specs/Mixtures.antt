@@ -111,12 +111,6 @@ abbrev pub AreMixedRepliesCovered : Script → List Entry → List Configuration
 AreMixedRepliesCovered script entries some =
     (c : Configuration) → IsMixed some c → IsWellFormed c → AreCovered entries (steps_by_link script c Answered)
 
--- the same of what the rest of a request makes of them
-abbrev pub AreMixedRequestsCovered : Script → List Entry → List Configuration → List Command → Type 0
-AreMixedRequestsCovered script entries some request =
-    (c : Configuration) → IsMixed some c → IsWellFormed c → (place : ℕ)
-    → AreCovered entries (refusals script c place request ++ execution (executed script c request))
-
 -- lines of these pairs, if they are among so many, are marked where one is joined with another in what is mixed from these
 abbrev pub AreLinesMixedMarked : List Pair → ℕ → List Configuration → ℕ → Type 0
 AreLinesMixedMarked talk lines some i =

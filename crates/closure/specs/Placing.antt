@@ -1,6 +1,6 @@
 -- What a command makes of all configurations that are mixed from some, also where it adds, moves or subtracts. Each component goes its way by itself then, but for
 -- context names: whether a context still exists hangs on where all terminations stand. No public clause speaks of these words.
-use Rattle.std.specs.Prelude.{◌≡◌, ⊤, ℕ, ◌==◌, Bool, false, IsTrue, List, Contains}
+use Rattle.std.specs.Prelude.{◌≡◌, ⊤, ℕ, ◌==◌, Bool, false, IsTrue, List, [], ◌∷◌, ◌++◌, Contains}
 use Rattle.mg_names.specs.declared.context_values.ContextValue.{ContextValue}
 use Rattle.mg_names.specs.declared.context_values.ContextValue.TheVariants.{Free, Live}
 use Rattle.mg_model.specs.declared.commands.Command.{Command}
@@ -11,9 +11,13 @@ use Rattle.mg_model.specs.declared.components.Spot.TheVariants.{Absent}
 use Rattle.mg_model.specs.Script.{Script}
 use Rattle.mg_model.specs.Configuration.{Configuration, IsWellFormed, is_in, value_of}
 use Rattle.mg_model.specs.Effects.{effect, is_legal}
+use Rattle.mg_model.specs.Entries.{Entry}
+use Rattle.mg_model.specs.Steps.{executed, execution, refusals}
 use Rattle.mg_model.specs.Updates.{with_at}
+use Rattle.closure.specs.Findings.{AreCovered}
 use Rattle.closure.specs.Elementwise.{settled_at}
 use Rattle.closure.specs.Mixtures.{IsMixed}
+use Rattle.closure.specs.Stayers.{HaveStayers}
 
 -- an ephemeral that a command adds is absent before
 abbrev pub AddsAbsent : Configuration → Command → Type 0
@@ -77,12 +81,19 @@ abbrev pub valued_at : ℕ → Bool → Configuration → Configuration
 valued_at n exists d = record d { context = with_at d.context n (value_of (d.context n) exists) }
 
 -- what a command makes, where it is legal, of all that are mixed from some is mixed from others
-abbrev pub AreLed : Script → List Configuration → Command → List Configuration → Type 0
-AreLed script some command made =
-    (c : Configuration) → IsMixed some c → IsWellFormed c → IsTrue (is_legal c command) → AddsAbsent c command × IsMixed made (effect script c command)
+abbrev pub AreLed : Script → List Configuration → Command → List Bool → List Configuration → Type 0
+AreLed script some command held made =
+    (c : Configuration) → IsMixed some c → IsWellFormed c → IsTrue (is_legal c command) → HaveStayers c (command ∷ []) held
+    → AddsAbsent c command × IsMixed made (effect script c command)
 
 -- of what a command leaves, one context name says whether its context exists
-abbrev pub IsSettledAt : Script → List Configuration → Command → ℕ → List Configuration → List Configuration → Type 0
-IsSettledAt script some command n before after =
-    (c x : Configuration) → IsMixed some c → IsWellFormed c → IsTrue (is_legal c command) → AddsAbsent c command → x.spot ≡ (unsettled script command c).spot
+abbrev pub IsSettledAt : Script → List Configuration → Command → List Bool → ℕ → List Configuration → List Configuration → Type 0
+IsSettledAt script some command held n before after =
+    (c x : Configuration) → IsMixed some c → IsWellFormed c → IsTrue (is_legal c command) → HaveStayers c (command ∷ []) held → AddsAbsent c command → x.spot ≡ (unsettled script command c).spot
     → x.context n ≡ (unsettled script command c).context n → IsMixed before x → IsMixed after (settled_at x n)
+
+-- entries have what the rest of a request makes of all that are mixed from some, where somebody stays in each context that is held
+abbrev pub AreMixedRequestsCovered : Script → List Entry → List Configuration → List Bool → List Command → Type 0
+AreMixedRequestsCovered script entries some held request =
+    (c : Configuration) → IsMixed some c → IsWellFormed c → HaveStayers c request held → (place : ℕ)
+    → AreCovered entries (refusals script c place request ++ execution (executed script c request))

@@ -11,7 +11,7 @@ ghost use Rattle.configuration.specs.Config.{configuration_of};
 ghost use Rattle.closure.specs.Placing.{AreLed, IsNowhere, IsSettledAt, IsUniform, LeavesAlone, contexts_after, unsettled};
 
 use crate::effects::effect;
-use crate::mixed_contexts::settled_each;
+use crate::mixed_contexts::{settled_each, valued_each};
 use crate::mixture::{Mixture, TooMany};
 use crate::named_mixture::with_context_of;
 use configuration::config::Config;
@@ -138,7 +138,7 @@ fn is_uniform(mixture: &Mixture, command: &Command) -> bool
 }
 
 /// Whether a termination stands in a context in none of some configurations.
-fn is_nowhere(mixture: &Mixture, termination: &Termination, context: Slot) -> bool
+pub(crate) fn is_nowhere(mixture: &Mixture, termination: &Termination, context: Slot) -> bool
     ensures { IsTrue result → IsNowhere (map configuration_of mixture.now) termination.now context }
 {
     for config in mixture.as_slice() {
@@ -150,7 +150,7 @@ fn is_nowhere(mixture: &Mixture, termination: &Termination, context: Slot) -> bo
 }
 
 /// Whether two slots are different.
-fn is_another(one: Slot, other: Slot) -> bool
+pub(crate) fn is_another(one: Slot, other: Slot) -> bool
     ensures { IsTrue result → (one == other) ≡ false }
 {
     one.index() != other.index()
@@ -183,24 +183,33 @@ fn leaves_alone(mixture: &Mixture, command: &Command, name: Slot) -> bool
 }
 
 /// Those from which all is mixed that a command leaves, of which these are a part, once a context name says whether its context exists. It is asked only where
-/// the command may have changed that.
+/// the command may have changed that, and exists where somebody stays there.
 fn settled_at(
     made: Mixture,
     mixture: &Mixture,
     command: &Command,
+    held: &[bool; 4],
     name: Slot,
 ) -> Result<Mixture, TooMany>
-    ensures { IfOk result (λ m. (script : Table) → IsSettledAt script (map configuration_of mixture.now) command.now name (map configuration_of made) (map configuration_of m)) }
+    ensures { IfOk result (λ m. (script : Table) → IsSettledAt script (map configuration_of mixture.now) command.now held.now name (map configuration_of made) (map configuration_of m)) }
 {
     if leaves_alone(mixture, command, name) {
         return Ok(made);
     }
+    if held[name.index()] {
+        return valued_each(&made, name, true);
+    }
     settled_each(made, name)
 }
 
-/// Configurations from which all is mixed that a command makes, where it is legal, of what is mixed from some; nothing where it isn't known or there are too many.
-pub(crate) fn led_by(script: &Script, mixture: &Mixture, command: &Command) -> Option<Mixture>
-    ensures { IfSome result (λ m. AreLed script.now (map configuration_of mixture.now) command.now (map configuration_of m)) }
+/// Configurations from which all is mixed that a command makes, where it is legal, of what is mixed from some in which somebody stays in contexts; nothing where it isn't known or there are too many.
+pub(crate) fn led_by(
+    script: &Script,
+    mixture: &Mixture,
+    command: &Command,
+    held: &[bool; 4],
+) -> Option<Mixture>
+    ensures { IfSome result (λ m. AreLed script.now (map configuration_of mixture.now) command.now held.now (map configuration_of m)) }
 {
     if !is_uniform(mixture, command) {
         return None;
@@ -209,16 +218,16 @@ pub(crate) fn led_by(script: &Script, mixture: &Mixture, command: &Command) -> O
     let Ok(made) = unsettled_each(script, mixture, command) else {
         return None;
     };
-    let Ok(one) = settled_at(made, mixture, command, first) else {
+    let Ok(one) = settled_at(made, mixture, command, held, first) else {
         return None;
     };
-    let Ok(two) = settled_at(one, mixture, command, second) else {
+    let Ok(two) = settled_at(one, mixture, command, held, second) else {
         return None;
     };
-    let Ok(three) = settled_at(two, mixture, command, third) else {
+    let Ok(three) = settled_at(two, mixture, command, held, third) else {
         return None;
     };
-    let Ok(four) = settled_at(three, mixture, command, fourth) else {
+    let Ok(four) = settled_at(three, mixture, command, held, fourth) else {
         return None;
     };
     Some(four)

@@ -66,7 +66,11 @@ fn valued_at(config: &Config, context: Slot, exists: bool) -> Config
 }
 
 /// The same of some configurations.
-fn valued_each(mixture: &Mixture, context: Slot, exists: bool) -> Result<Mixture, TooMany>
+pub(crate) fn valued_each(
+    mixture: &Mixture,
+    context: Slot,
+    exists: bool,
+) -> Result<Mixture, TooMany>
     ensures { IfOk result (λ m. map configuration_of m ≡ map (valued_at context exists) (map configuration_of mixture.now)) }
 {
     let mut made = Mixture::new();

@@ -4,11 +4,13 @@ ghost use Rattle.std.specs.Prelude.{◌≡◌, false, IsTrue, Contains, map};
 ghost use Rattle.mg_model.specs.Configuration.{Configuration};
 ghost use Rattle.mg_model.specs.Tables.{items_of, raises};
 ghost use Rattle.configuration.specs.Config.{configuration_of};
-ghost use Rattle.closure.specs.Mixtures.{AreAlike, AreMixedEntered, AreMixedLineCovered, AreMixedLinked, AreMixedNotesCovered, AreMixedRepliesCovered, AreMixedRequestsCovered, AreMixedRestsCovered, AreMixedStepsCovered};
+ghost use Rattle.closure.specs.Placing.{AreMixedRequestsCovered};
+ghost use Rattle.closure.specs.Mixtures.{AreAlike, AreMixedEntered, AreMixedLineCovered, AreMixedLinked, AreMixedNotesCovered, AreMixedRepliesCovered, AreMixedRestsCovered, AreMixedStepsCovered};
 
 use crate::mixed_commands::led_by;
 use crate::mixed_entries::{with_link_each, with_state_each};
 use crate::mixed_parts::are_in_entries;
+use crate::mixed_stayers::held_contexts;
 use crate::mixture::Mixture;
 use crate::requests::bound_in;
 use crate::steps::with_state;
@@ -138,9 +140,10 @@ fn is_request_covered(
     cert: &Cert,
     mixture: &Mixture,
     state: u8,
+    held: &[bool; 4],
     request: &mut Request<'_>,
 ) -> bool
-    ensures { IsTrue result → AreMixedRequestsCovered script.now cert.now (map configuration_of mixture.now) request.old }
+    ensures { IsTrue result → AreMixedRequestsCovered script.now cert.now (map configuration_of mixture.now) held.now request.old }
 {
     let Some(command) = request.take_first() else {
         return is_linked(cert, mixture, state, LinkPhase::Answered);
@@ -148,10 +151,10 @@ fn is_request_covered(
     if !is_linked(cert, mixture, state, LinkPhase::Failed) {
         return false;
     }
-    let Some(after) = led_by(script, mixture, &command) else {
+    let Some(after) = led_by(script, mixture, &command, held) else {
         return false;
     };
-    is_request_covered(script, cert, &after, state, request)
+    is_request_covered(script, cert, &after, state, held, request)
 }
 
 /// Whether entries have all where a reply without a failure leads.
@@ -178,7 +181,8 @@ pub(crate) fn are_steps_covered(
     match one.link() {
         LinkPhase::Sent => {
             let mut request = Request::new(script, bound_in(one), one.state());
-            is_request_covered(script, cert, mixture, one.state(), &mut request)
+            let held = held_contexts(script, mixture, one.state());
+            is_request_covered(script, cert, mixture, one.state(), &held, &mut request)
         }
         LinkPhase::Answered => is_reply_covered(script, cert, mixture, one),
         LinkPhase::Failed => {

@@ -6,7 +6,7 @@ use Rattle.closure.proofs.mixed_commands.led_by.Goals as goal
 
 pub returns : goal.returns
 returns c =
-    all_led c.args.script.now (map configuration_of c.args.mixture.now) c.args.command.now (c.is_uniform.ensures c.if-not-is_uniform.false) c.in-Ok.made
+    all_led c.args.script.now (map configuration_of c.args.mixture.now) c.args.command.now c.args.held.now (c.is_uniform.ensures c.if-not-is_uniform.false) c.in-Ok.made
     c.in-Ok.ensures (map configuration_of c.in-Ok-settled_at.one) (map configuration_of c.in-Ok-settled_at-2.two)
     (map configuration_of c.in-Ok-settled_at-3.three) (map configuration_of c.in-Ok-settled_at-4.four)
     (rw c.all.ensures at (c.in-Ok-settled_at.ensures c.args.script.now))

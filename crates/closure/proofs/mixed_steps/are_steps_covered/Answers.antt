@@ -1,9 +1,10 @@
 -- The steps are those of the link.
-use Rattle.std.proofs.Common.{◌∙◌, ℕ, map, sym, ap}
+use Rattle.std.proofs.Common.{◌∙◌, ℕ, map, sym, ap, subst}
 use Rattle.mg_model.specs.Request.{Names, built}
 use Rattle.mg_model.specs.Steps.{bound_names}
 use Rattle.mg_model.specs.Tables.{state_of}
 use Rattle.configuration.specs.Config.{configuration_of}
+use Rattle.closure.specs.Stayers.{AreHeldIn}
 use Rattle.closure.proofs.MixtureSteps.{answered_steps_covered, failed_steps_covered, rest_steps_covered, sent_steps_covered}
 use Rattle.closure.proofs.mixed_steps.are_steps_covered.Goals as goal
 
@@ -13,7 +14,9 @@ returns-in-Sent c holds =
     (sym c.link.ensures ∙ c.in-Sent.is) c.new-request.result
     (c.new-request.ensures.value ∙ ap (λ (names : Names). built names (state_of c.args.script.now c.state.result).commands) c.bound_in.ensures
     ∙ ap (λ (state : ℕ). built (bound_names (configuration_of c.args.one.now)) (state_of c.args.script.now state).commands) c.state.ensures)
-    (c.is_request_covered.ensures holds)
+    c.held_contexts-held.result
+    (subst (λ (state : ℕ). AreHeldIn (map configuration_of c.args.mixture.now) (state_of c.args.script.now state).commands c.held_contexts-held.result)
+    c.state-in-Sent.ensures c.held_contexts-held.ensures) (c.is_request_covered.ensures holds)
 
 pub returns-in-Answered : goal.returns-in-Answered
 returns-in-Answered c holds =
