@@ -13,8 +13,9 @@ use crate::mixture::{Mixture, TooMany};
 use configuration::config::Config;
 use entry_table::{Cert, Component, Entry};
 
-/// How many mixtures are asked at most, before it counts as not known whether entries have all.
-const PARTS: u32 = 64;
+/// How many mixtures are asked at most, before it counts as not known whether entries have all. A state has 256 entries, of which half are for what is
+/// refused and half for what is executed where both lie in as many; so many parts want twice as many mixtures.
+const PARTS: u32 = 256;
 
 /// How deep parts are parted at most. Each of two parts is asked, so that no more can be had of those that may be asked.
 const DEEPEST: u32 = PARTS / 2;
