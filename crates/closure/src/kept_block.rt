@@ -92,9 +92,9 @@ fn is_mixture_kept(script: &Script, cert: &Cert, mixture: &Mixture, one: &Config
     are_steps_covered(script, cert, &named, one)
 }
 
-/// To ask whether the obligations of a mixture hold takes no longer than a walk over so many numbers, though at worst each step is looked for in all entries
-/// of a state.
-pub(crate) const NUMBERS_A_MIXTURE: u64 = 1024;
+/// Of fewer numbers no mixture is asked: each step is looked for in the entries of a state, of which there may be as many, and one by one a number's step is
+/// looked for in little more than one.
+pub(crate) const NUMBERS_A_MIXTURE: u64 = 256;
 
 /// The same of all that have the first few of the eight names bound that one has, whatever the others are. It fails too where so many mixtures aren't enough.
 fn are_named_kept(
