@@ -178,9 +178,9 @@ def check_by_time():
 
 def size_pairs():
     """What is doubled: its name, and the half and the whole as script and certificate."""
-    placed, moved = slow_checks.Placed(), slow_checks.Moved()
+    placed, few = slow_checks.Placed(), slow_checks.Few()
     yield "points that differ in places, 128 and 256 entries", *((placed.script(1), placed.certificate(1, wide)) for wide in (116, 244))
-    yield "points that are looked at one by one, 32 and 64 entries", *((moved.script(1), moved.certificate(1, wide)) for wide in (26, 58))
+    yield "points that are looked at one by one, 4 states of 128 and of 256 entries", *((few.script(4), few.certificate(4, wide)) for wide in (116, 244))
     yield "entries, 64 states of 128 and of 256", *((checks.script(64, 2), checks.certificate(64, count)) for count in (128, 256))
     yield "states, 32 and 64 of 16 commands", *((checks.script(count, 16), checks.certificate(count, 1)) for count in (32, 64))
     yield "states, 16 and 32 with ephemerals and cuts", *((checks.rooms_script(count), checks.rooms_certificate(count)) for count in (16, 32))
@@ -273,7 +273,9 @@ def placed_inputs():
     """Slow inputs whose points differ in places: the kind, the link, and what is said of both."""
     yield slow_checks.Placed(), "sent", "request sent"
     yield slow_checks.Placed(), "rest", "at rest"
-    for kind in (slow_checks.Absent(), slow_checks.Crossed(), slow_checks.Moved()):
+    of_classes = slow_checks.Absent, slow_checks.Crossed, slow_checks.Unjoined, slow_checks.Parted, slow_checks.Shattered
+    kinds = *of_classes, slow_checks.Moved, slow_checks.Added, slow_checks.Few
+    for kind in (each() for each in kinds):
         yield kind, "sent", "request sent"
 
 

@@ -162,8 +162,8 @@ def in_pieces(name, quarter, whole):
 
 
 def pieces():
-    moved = slow_checks.Moved()
-    in_pieces("points that are looked at one by one, 4 states", *((moved.script(states), moved.certificate(states, 4)) for states in (1, 4)))
+    few = slow_checks.Few()
+    in_pieces("points that are looked at one by one, 8 states", *((few.script(states), few.certificate(states, few.most() // slow_checks.STATES)) for states in (2, 8)))
 
 
 def checks():

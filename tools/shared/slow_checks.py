@@ -259,6 +259,72 @@ class Crossed(Placed):
         return 4 ** len(EPHEMERALS) * 4 ** len(EPHEMERALS)
 
 
+class Unjoined(Crossed):
+    """The same, where media comes and goes by the last line too, which stands where no ephemeral does: that no way leads to it is asked."""
+
+    name = "places and Remotes, with a line that no way leads to"
+    spots = [*CONTEXTS[:3]]
+
+    def line(self, name, apart):
+        return {**super().line(name, apart), **({"mode": ["SendReceive"]} if name == "h" else {})}
+
+    def points(self):
+        return 3 ** len(EPHEMERALS) * 4 ** len(EPHEMERALS)
+
+
+class Parted(Placed):
+    """Places, with results in parts: by the halves of contexts in which the second line and the third stand. So no entry has all that a step makes."""
+
+    name = "places, with results in parts"
+
+    def results(self):
+        return [(mode, one, other) for mode in MODES for one in (CONTEXTS[:2], CONTEXTS[2:]) for other in (CONTEXTS[:2], CONTEXTS[2:])]
+
+    def line(self, name, apart):
+        mode, one, other = apart
+        return super().line(name, mode) if name not in "bg" else {"at": [*(one if name == "b" else other)]}
+
+    def certificate(self, states, wide, link="sent"):
+        document = json.loads(super().certificate(states, 0, link))
+        whole = [(mode, CONTEXTS, CONTEXTS) for mode in MODES]
+        for state in range(states):
+            document["entries"] += [self.entry(f"s{state}", link, whole[n % len(whole)]) for n in range(wide)]
+        return json.dumps(document, separators=(",", ":")) + "\n"
+
+
+class Shattered(Placed):
+    """The same in 32 parts: by where the second line and the third stand, and by the halves of where the fourth does."""
+
+    name = "places, with results in 32 parts"
+
+    def commands(self):
+        return ["modify c a mode=Inactive"] * COMMANDS
+
+    def results(self):
+        return [*itertools.product(CONTEXTS, CONTEXTS, (CONTEXTS[:2], CONTEXTS[2:]))]
+
+    def line(self, name, apart):
+        return super().line(name, ALWAYS[0]) if name == "a" else {"at": [*apart[OTHERS.index(name)]]}
+
+    def certificate(self, states, wide, link="sent"):
+        document = json.loads(super().certificate(states, 0, link))
+        for state in range(states):
+            document["entries"] += [self.entry(f"s{state}", link, (CONTEXTS, CONTEXTS, CONTEXTS)) for _ in range(wide)]
+        return json.dumps(document, separators=(",", ":")) + "\n"
+
+
+class Few(Placed):
+    """Entries of so few points each that they are looked at one by one: the ephemerals stand where they are, and the first has one of three Remotes."""
+
+    name = "places, few in an entry"
+
+    def ephemeral(self, name):
+        return {"at": [dict(zip("zwxy", CONTEXTS))[name]], **({"remote": ["none", "x", "y"]} if name == "w" else {})}
+
+    def points(self):
+        return 4 ** len(OTHERS) * 3
+
+
 class Moved(Placed):
     """The first line is moved to and fro, from the context of the second: what a command makes hangs on where all stand."""
 
@@ -283,3 +349,24 @@ class Moved(Placed):
         for state in range(states):
             document["entries"] += [self.entry(f"s{state}", link, "c") for _ in range(wide)]
         return json.dumps(document, separators=(",", ":")) + "\n"
+
+
+class Added(Moved):
+    """The first line is subtracted from the context of the second, and added to it again."""
+
+    name = "places, with a line that is subtracted and added"
+    with_remotes = "w"
+
+    def commands(self):
+        return [("subtract c a", "add c a")[n % 2] for n in range(COMMANDS)]
+
+    def results(self):
+        return ["c", "-"]
+
+    def entry(self, state, link, apart):
+        found = super().entry(state, link, apart)
+        found["lines"]["a"]["events"] = ["none", "each"]
+        return found
+
+    def points(self):
+        return 2 * super().points()
