@@ -274,7 +274,7 @@ def placed_inputs():
     yield slow_checks.Placed(), "sent", "request sent"
     yield slow_checks.Placed(), "rest", "at rest"
     of_classes = slow_checks.Absent, slow_checks.Crossed, slow_checks.Unjoined, slow_checks.Parted, slow_checks.Shattered
-    kinds = *of_classes, slow_checks.Moved, slow_checks.Added, slow_checks.Few
+    kinds = *of_classes, slow_checks.Moved, slow_checks.Added, slow_checks.Emptied, slow_checks.Few
     for kind in (each() for each in kinds):
         yield kind, "sent", "request sent"
 

@@ -370,3 +370,33 @@ class Added(Moved):
 
     def points(self):
         return 2 * super().points()
+
+
+class Emptied(Placed):
+    """The contexts but the first are left by all at the end of each request, whoever stands there."""
+
+    name = "places, with contexts that all leave"
+
+    def commands(self):
+        return ["modify c a mode=Inactive"] * (COMMANDS - 3) + [f"subtract {name} *" for name in CONTEXTS[1:]]
+
+    def results(self):
+        """How many contexts are left."""
+        return [0, 1, 2, 3]
+
+    def entry(self, state, link, apart):
+        empty = CONTEXTS[1 : 1 + apart]
+        at = [name for name in CONTEXTS if name not in empty]
+        lines = {"a": {"at": ["c"], "events": ["each"]}, **{name: {"at": ["-"] * (apart > 0) + at, "events": ["none"]} for name in OTHERS}}
+        contexts = {name: ["free" if name in empty else "live"] for name in CONTEXTS}
+        ephemerals = {name: {"at": ["absent"] * (apart > 0) + at} for name in EPHEMERALS}
+        return {"state": state, "link": [link], "lines": lines, "contexts": contexts, "ephemerals": ephemerals}
+
+    def points(self):
+        return occupied([4] * (len(OTHERS) + len(EPHEMERALS)))
+
+    def certificate(self, states, wide, link="sent"):
+        document = json.loads(super().certificate(states, 0, link))
+        for state in range(states):
+            document["entries"] += [self.entry(f"s{state}", link, 0) for _ in range(wide)]
+        return json.dumps(document, separators=(",", ":")) + "\n"
