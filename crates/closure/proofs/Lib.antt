@@ -33,6 +33,7 @@ pub mod FormedPlaces
 pub mod FormedEffects
 pub mod MixtureEffects
 pub mod MixturePlaces
+pub mod MixtureEmptying
 pub mod MixtureStayers
 pub mod BlockMixtures
 pub mod MixtureSteps

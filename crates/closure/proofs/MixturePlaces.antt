@@ -1,9 +1,8 @@
 -- Which contexts exist after a command, in all that are mixed from some configurations.
-use Rattle.std.proofs.Common.{◌≡◌, ◌∙◌, ℕ, zero, suc, ◌<◌, ◌≤◌, ◌==◌, ◌||◌, Bool, true, false, if◌then◌else◌, List, [], ◌∷◌, map, refl, sym, ap, subst, arith, IsTrue, Contains, not, Result, Ok, Err}
+use Rattle.std.proofs.Common.{◌≡◌, ◌∙◌, ℕ, zero, suc, ◌≤◌, ◌==◌, ◌||◌, Bool, true, false, if◌then◌else◌, List, [], ◌∷◌, map, refl, sym, ap, subst, arith, IsTrue, Contains, not, Result, Ok, Err}
 use Rattle.std.specs.Prelude.{IfOk}
 use Rattle.std.specs.List.{list_any}
 use Rattle.std.proofs.Math.Path.{fun_ext}
-use Rattle.std.proofs.lemmas.Grind.{common_steps}
 use Rattle.mg_names.specs.declared.context_values.ContextValue.{ContextValue}
 use Rattle.mg_names.specs.declared.context_values.ContextValue.TheVariants.{Free, Live, Stale}
 use Rattle.mg_model.specs.declared.commands.Command.{Command}
@@ -14,21 +13,20 @@ use Rattle.mg_model.specs.declared.components.Spot.{Spot}
 use Rattle.mg_model.specs.declared.components.Spot.TheVariants.{Absent, Null, In}
 use Rattle.mg_model.specs.Script.{Script}
 use Rattle.mg_model.specs.Configuration.{Configuration, IsWellFormed, is_free, is_in, is_live, is_null, is_present, is_same, settled, stands_in, terminations, value_of, with_of}
-use Rattle.mg_model.specs.Effects.{effect, is_elsewhere, is_legal, remote_legal, spot_after}
+use Rattle.mg_model.specs.Effects.{effect, is_legal, spot_after}
 use Rattle.mg_model.specs.Updates.{with_at}
-use Rattle.mg_model.proofs.Cases.{and_first, and_second, at_another, where_false}
+use Rattle.mg_model.proofs.Cases.{and_second, where_false}
 use Rattle.mg_model.proofs.Terminations.{is_in_is, is_same_is}
 use Rattle.configuration.specs.Config.{configuration_of}
 use Rattle.configuration.specs.Packed.{Words}
-use Rattle.configuration.specs.Places.{index_of}
-use Rattle.configuration.proofs.SlotLemmas.{absent_past_eight, free_past_four}
+use Rattle.configuration.proofs.SlotLemmas.{free_past_four}
 use Rattle.closure.specs.Elementwise.{settled_at}
 use Rattle.closure.specs.Mixtures.{HasOne, IsMixed}
+use Rattle.closure.specs.Emptying.{AreMade}
 use Rattle.closure.specs.Placing.{AddsAbsent, AreLed, IsNowhere, IsSettledAt, IsUniform, LeavesAlone, unsettled, valued_at}
 use Rattle.closure.proofs.ByComponent.{mixed_by, valued_by}
 use Rattle.closure.proofs.ClassMembers.{same_number}
 use Rattle.closure.proofs.FormedPlaces.{left_nowhere, null_nowhere, settles_itself, stands_alike}
-use Rattle.closure.proofs.MixtureEffects.{mixed_unsettled}
 use Rattle.closure.proofs.NamedMixtures.{each_config, stays_past}
 use Rattle.closure.proofs.SettleLemmas.{settled_all}
 
@@ -77,28 +75,6 @@ module _ (some : List Configuration) (n : ℕ) (c : Configuration) (mixed : IsMi
   pub none_stands : ((d : Configuration) → Contains some d → stands_in d.spot n ≡ false) → stands_in c.spot n ≡ false
   none_stands each = all_fail (λ (u : Termination). is_in (c.spot u) n) terminations (λ t among. let at = mixed.spot t in
       ap (λ (spot : Spot). is_in spot n) (sym at.1.1) ∙ one_fails (λ (u : Termination). is_in (at.0.spot u) n) terminations t among (each at.0 at.1.0))
-
--- past the eighth place nothing stands anywhere
-both_absent : (one other : Words) (n : ℕ) (t : Termination) → 8 ≤ index_of t
-    → is_in ((configuration_of one).spot t) n ≡ is_in ((configuration_of other).spot t) n
-both_absent one other n t past =
-    ap (λ (spot : Spot). is_in spot n) (absent_past_eight one t past) ∙ ap (λ (spot : Spot). is_in spot n) (sym (absent_past_eight other t past))
-
--- the same stand in a context of two configurations, if they do of the eight
-pub same_everywhere : (one other : Words) (n : ℕ)
-    → ((t : Termination) → Contains terminations t → is_in ((configuration_of one).spot t) n ≡ is_in ((configuration_of other).spot t) n)
-    → (t : Termination) → is_in ((configuration_of one).spot t) n ≡ is_in ((configuration_of other).spot t) n
-same_everywhere one other n each (Line zero) = each (Line 0) (0, omega arith, refl)
-same_everywhere one other n each (Line (suc zero)) = each (Line 1) (1, omega arith, refl)
-same_everywhere one other n each (Line (suc (suc zero))) = each (Line 2) (2, omega arith, refl)
-same_everywhere one other n each (Line (suc (suc (suc zero)))) = each (Line 3) (3, omega arith, refl)
-same_everywhere one other n each (Line (suc (suc (suc (suc i))))) =
-    both_absent one other n (Line (suc (suc (suc (suc i))))) (grind (arith, common_steps))
-same_everywhere one other n each (Ephemeral zero) = each (Ephemeral 0) (4, omega arith, refl)
-same_everywhere one other n each (Ephemeral (suc zero)) = each (Ephemeral 1) (5, omega arith, refl)
-same_everywhere one other n each (Ephemeral (suc (suc zero))) = each (Ephemeral 2) (6, omega arith, refl)
-same_everywhere one other n each (Ephemeral (suc (suc (suc zero)))) = each (Ephemeral 3) (7, omega arith, refl)
-same_everywhere one other n each (Ephemeral (suc (suc (suc (suc k))))) = both_absent one other n (Ephemeral (suc (suc (suc (suc k))))) (omega arith)
 
 -- ---- a context name says whether its context exists
 
@@ -158,7 +134,7 @@ module _ (some made : List Configuration) (keeps : (d : Configuration) → Conta
   pub one_more : {A : Type 0} (of : Configuration → A) (v : A) → HasOne some of v → HasOne made of v
   one_more of v one = (one.0, (keeps one.0 one.1.0, one.1.1))
 
-  more_mixed : (c : Configuration) → IsMixed some c → IsMixed made c
+  pub more_mixed : (c : Configuration) → IsMixed some c → IsMixed made c
   more_mixed c mixed = record {
     state = one_more (λ d. d.state) c.state mixed.state;
     link = one_more (λ d. d.link) c.link mixed.link;
@@ -333,14 +309,13 @@ adds_absent some c mixed (SubtractAll j) uniform = tt
 adds_absent some c mixed (SetTopology j t u topology) uniform = uniform
 
 pub all_led : (script : Script) (some : List Configuration) (command : Command) (held : List Bool) → IsUniform some command → (words : List Words)
-    → map configuration_of words ≡ map (unsettled script command) some → (one two three four : List Configuration)
+    → AreMade script some command (map configuration_of words) → (one two three four : List Configuration)
     → IsSettledAt script some command held 0 (map configuration_of words) one → IsSettledAt script some command held 1 one two
     → IsSettledAt script some command held 2 two three → IsSettledAt script some command held 3 three four → AreLed script some command held four
-all_led script some command held uniform words is one two three four first second third fourth c mixed formed legal stayers =
+all_led script some command held uniform words makes one two three four first second third fourth c mixed formed legal stayers =
     let absent = adds_absent some c mixed command uniform in
     let x : Configuration = unsettled script command c in
-    let at_first : IsMixed (map configuration_of words) x =
-    subst (λ (ds : List Configuration). IsMixed ds x) (sym is) (mixed_unsettled script some c command uniform mixed) in
+    let at_first : IsMixed (map configuration_of words) x = makes c mixed in
     let at_second = first c x mixed formed legal stayers absent refl refl at_first in
     let at_third = second c (settled_at x 0) mixed formed legal stayers absent refl refl at_second in
     let at_fourth = third c (settled_at (settled_at x 0) 1) mixed formed legal stayers absent refl refl at_third in

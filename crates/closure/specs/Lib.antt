@@ -14,5 +14,6 @@ pub mod Ways
 pub mod Naming
 pub mod Stayers
 pub mod Placing
+pub mod Emptying
 pub mod Parts
 pub mod Hops

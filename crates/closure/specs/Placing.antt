@@ -1,5 +1,5 @@
--- What a command makes of all configurations that are mixed from some, also where it adds, moves or subtracts. Each component goes its way by itself then, but for
--- context names: whether a context still exists hangs on where all terminations stand. No public clause speaks of these words.
+-- What a command makes of all configurations that are mixed from some, also where it adds, moves or subtracts. Each component goes its way by itself then, but
+-- where all of a context leave, and but for context names: whether a context still exists hangs on where all terminations stand. No public clause speaks of these words.
 use Rattle.std.specs.Prelude.{◌≡◌, ⊤, ℕ, ◌==◌, Bool, false, IsTrue, List, [], ◌∷◌, ◌++◌, Contains}
 use Rattle.mg_names.specs.declared.context_values.ContextValue.{ContextValue}
 use Rattle.mg_names.specs.declared.context_values.ContextValue.TheVariants.{Free, Live}
@@ -47,7 +47,7 @@ contexts_after (SetTopology j t u topology) was = was
 abbrev pub unsettled : Script → Command → Configuration → Configuration
 unsettled script command d = record (effect script d command) { context = contexts_after command d.context }
 
--- what a command does to a component hangs on that component alone: what it adds is absent in each of these, and what leaves with all others does so in each
+-- an ephemeral that a command adds is absent in each of these
 abbrev pub IsUniform : List Configuration → Command → Type 0
 IsUniform some (AddLine create j i options) = ⊤
 IsUniform some (AddEphemeral create j k options) = (d : Configuration) → Contains some d → d.spot (Ephemeral k) ≡ Absent
@@ -56,8 +56,7 @@ IsUniform some (ModifyEphemeral place k options) = ⊤
 IsUniform some (MoveLine j i options) = ⊤
 IsUniform some (MoveEphemeral j k options) = ⊤
 IsUniform some (Subtract j t) = ⊤
-IsUniform some (SubtractAll j) =
-    (one : Configuration) × ((d : Configuration) → Contains some d → (t : Termination) → is_in (d.spot t) j ≡ is_in (one.spot t) j)
+IsUniform some (SubtractAll j) = ⊤
 IsUniform some (SetTopology j t u topology) = ⊤
 
 -- in none of these a termination stands in a context

@@ -1,22 +1,24 @@
-//! What a command makes of all at once that are mixed from a few configurations. Each component goes its way by itself, but for context names: whether a context
-//! still exists is asked of those that something may have left.
-ghost use Rattle.std.specs.Prelude.{◌≡◌, ◌==◌, false, IsTrue, IfOk, IfSome, Contains, map};
+//! What a command makes of all at once that are mixed from a few configurations. Each component goes its way by itself, but where all of a context leave
+//! (`mixed_emptying`), and but for context names: whether a context still exists is asked of those that something may have left.
+ghost use Rattle.std.specs.Prelude.{◌≡◌, ◌==◌, false, IsTrue, IfOk, IfSome, IfNone, Contains, map};
 ghost use Rattle.mg_names.specs.declared.context_values.ContextValue.TheVariants.{Free, Live};
 ghost use Rattle.mg_model.specs.declared.components.Spot.TheVariants.{Absent};
+ghost use Rattle.mg_model.specs.declared.commands.Command.TheVariants.{SubtractAll};
 ghost use Rattle.mg_model.specs.declared.commands.Termination.{Termination as Named};
-ghost use Rattle.mg_model.specs.Configuration.{Configuration, is_in, terminations};
+ghost use Rattle.mg_model.specs.Configuration.{Configuration};
 ghost use Rattle.mg_model.specs.Script.{Script as Table};
 ghost use Rattle.mg_model.specs.Updates.{with_at};
 ghost use Rattle.configuration.specs.Config.{configuration_of};
+ghost use Rattle.closure.specs.Emptying.{AreMade, GoesByComponent};
 ghost use Rattle.closure.specs.Placing.{AreLed, IsNowhere, IsSettledAt, IsUniform, LeavesAlone, contexts_after, unsettled};
 
 use crate::effects::effect;
 use crate::mixed_contexts::{settled_each, valued_each};
+use crate::mixed_emptying::all_emptied;
 use crate::mixture::{Mixture, TooMany};
 use crate::named_mixture::with_context_of;
 use configuration::config::Config;
 use configuration::spots;
-use configuration::well_formed::all_terminations;
 use mg_model::commands::{Command, Termination};
 use mg_names::context_values::ContextValue;
 use mg_names::slots::Slot;
@@ -51,7 +53,7 @@ fn set_after(config: &mut Config, command: &Command)
 }
 
 /// A configuration after a command, legal in it or not, but for the question which contexts still exist.
-fn unsettled(script: &Script, config: &Config, command: &Command) -> Config
+pub(crate) fn unsettled(script: &Script, config: &Config, command: &Command) -> Config
     ensures { configuration_of result ≡ unsettled script.now command.now (configuration_of config.now) }
 {
     let mut after = with_contexts_of(&effect(script, config, command), config);
@@ -59,8 +61,8 @@ fn unsettled(script: &Script, config: &Config, command: &Command) -> Config
     after
 }
 
-/// The same of some configurations.
-fn unsettled_each(script: &Script, mixture: &Mixture, command: &Command) -> Result<Mixture, TooMany>
+/// The same of some configurations, one by one.
+fn each_unsettled(script: &Script, mixture: &Mixture, command: &Command) -> Result<Mixture, TooMany>
     ensures { IfOk result (λ m. map configuration_of m ≡ map (unsettled script.now command.now) (map configuration_of mixture.now)) }
 {
     let mut made = Mixture::new();
@@ -68,6 +70,34 @@ fn unsettled_each(script: &Script, mixture: &Mixture, command: &Command) -> Resu
         made.push(&unsettled(script, config, command))?;
     }
     Ok(made)
+}
+
+/// The context that a command takes all out of, if it does so.
+fn emptied_by(command: &Command) -> Option<Slot>
+    ensures some { IfSome result (λ j. command.now ≡ SubtractAll j) }
+    ensures none { IfNone result (GoesByComponent command.now) }
+{
+    match *command {
+        Command::SubtractAll { context } => Some(context),
+        Command::AddLine { .. } => None,
+        Command::AddEphemeral { .. } => None,
+        Command::ModifyLine { .. } => None,
+        Command::ModifyEphemeral { .. } => None,
+        Command::MoveLine { .. } => None,
+        Command::MoveEphemeral { .. } => None,
+        Command::Subtract { .. } => None,
+        Command::SetTopology { .. } => None,
+    }
+}
+
+/// Configurations from which all is mixed that a command makes of those that are mixed from some, but for the question which contexts still exist.
+fn unsettled_each(script: &Script, mixture: &Mixture, command: &Command) -> Result<Mixture, TooMany>
+    ensures { IfOk result (λ m. AreMade script.now (map configuration_of mixture.now) command.now (map configuration_of m)) }
+{
+    match emptied_by(command) {
+        Some(context) => all_emptied(script, mixture, context),
+        None => each_unsettled(script, mixture, command),
+    }
 }
 
 /// Whether an ephemeral is absent in each of some configurations.
@@ -82,57 +112,19 @@ fn is_absent(mixture: &Mixture, ephemeral: Slot) -> bool
     true
 }
 
-/// Whether a termination stands in a context in two configurations, or in neither.
-fn stands_as(config: &Config, one: &Config, termination: &Termination, context: Slot) -> bool
-    ensures { IsTrue result
-        → is_in ((configuration_of config.now).spot termination.now) context ≡ is_in ((configuration_of one.now).spot termination.now) context }
-{
-    spots::is_in(config.spot(*termination), context)
-        == spots::is_in(one.spot(*termination), context)
-}
-
-/// Whether the same terminations stand in a context in two configurations.
-fn do_same_stand(config: &Config, one: &Config, context: Slot) -> bool
-    ensures { IsTrue result → (t : Named) → is_in ((configuration_of config.now).spot t) context ≡ is_in ((configuration_of one.now).spot t) context }
-{
-    let all = all_terminations();
-    for termination in &all {
-        if !stands_as(config, one, termination, context) {
-            return false;
-        }
-    }
-    true
-}
-
-/// Whether the same terminations stand in a context in each of some configurations as in one.
-fn do_same_leave(mixture: &Mixture, one: &Config, context: Slot) -> bool
-    ensures { IsTrue result → (d : Configuration) → Contains (map configuration_of mixture.now) d
-        → (t : Named) → is_in (d.spot t) context ≡ is_in ((configuration_of one.now).spot t) context }
-{
-    for config in mixture.as_slice() {
-        if !do_same_stand(config, one, context) {
-            return false;
-        }
-    }
-    true
-}
-
-/// Whether what a command does to a component hangs on that component alone.
+/// Whether what a command adds is absent in each of some configurations.
 fn is_uniform(mixture: &Mixture, command: &Command) -> bool
     ensures { IsTrue result → IsUniform (map configuration_of mixture.now) command.now }
 {
     match *command {
         Command::AddEphemeral { ephemeral, .. } => is_absent(mixture, ephemeral),
-        Command::SubtractAll { context } => match mixture.as_slice().first() {
-            Some(one) => do_same_leave(mixture, one, context),
-            None => false,
-        },
         Command::AddLine { .. } => true,
         Command::ModifyLine { .. } => true,
         Command::ModifyEphemeral { .. } => true,
         Command::MoveLine { .. } => true,
         Command::MoveEphemeral { .. } => true,
         Command::Subtract { .. } => true,
+        Command::SubtractAll { .. } => true,
         Command::SetTopology { .. } => true,
     }
 }

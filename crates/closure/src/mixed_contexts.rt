@@ -20,7 +20,7 @@ use mg_names::context_values::ContextValue;
 use mg_names::slots::Slot;
 
 /// Whether a termination stands in a context in each of some configurations.
-fn does_each_stand(mixture: &Mixture, termination: &Termination, context: Slot) -> bool
+pub(crate) fn does_each_stand(mixture: &Mixture, termination: &Termination, context: Slot) -> bool
     ensures { IsTrue result → (d : Configuration) → Contains (map configuration_of mixture.now) d → IsTrue (is_in (d.spot termination.now) context) }
 {
     for config in mixture.as_slice() {

@@ -1,14 +1,17 @@
--- One configuration more is made; then all are.
-use Rattle.closure.specs.Placing.{unsettled}
-use Rattle.closure.proofs.MixtureLemmas.{all_made, one_more_made}
+-- All leave a context, or each component goes its way by itself.
+use Rattle.std.proofs.Common.{map, sym, subst}
+use Rattle.std.specs.Prelude.{IfOk}
+use Rattle.mg_model.specs.declared.commands.Command.{Command}
+use Rattle.configuration.specs.Config.{configuration_of}
+use Rattle.closure.specs.Emptying.{AreMade}
+use Rattle.closure.proofs.MixtureEffects.{each_made}
 use Rattle.closure.proofs.mixed_commands.unsettled_each.Goals as goal
 
-pub loop-config-preserved : goal.loop-config-preserved
-loop-config-preserved c =
-    one_more_made (unsettled c.args.script.now c.args.command.now) c.as_slice-config-items.result.now c.loop-config.made c.push.new.self c.loop-config.config-index
-    c.config-item.result c.unsettled.result c.loop-config-test.true c.config-item.is c.in_ok-push.ensures c.unsettled.ensures c.loop-config.invariant
+pub returns-in-Some : goal.returns-in-Some
+returns-in-Some c =
+    subst (λ (command : Command). IfOk c.all_emptied.result (λ m. AreMade c.args.script.now (map configuration_of c.args.mixture.now) command (map configuration_of m)))
+    (sym c.in-Some.ensures.some) c.all_emptied.ensures
 
-pub returns : goal.returns
-returns c =
-    all_made (unsettled c.args.script.now c.args.command.now) c.as_slice-config-items.result.now c.args.mixture.now c.loop-config.made c.loop-config.config-index
-    c.as_slice-config-items.ensures c.loop-config-test.false c.loop-config.invariant
+pub returns-in-None : goal.returns-in-None
+returns-in-None c =
+    each_made c.args.script.now (map configuration_of c.args.mixture.now) c.args.command.now c.in-None.ensures.none c.each_unsettled.result c.each_unsettled.ensures

@@ -2,7 +2,7 @@
 use Rattle.std.proofs.Common.{◌≡◌, map, take}
 use Rattle.configuration.specs.Config.{configuration_of}
 use Rattle.closure.specs.Placing.{unsettled}
-use Rattle.closure.proofs.mixed_commands.unsettled_each.Given as goal
+use Rattle.closure.proofs.mixed_commands.each_unsettled.Given as goal
 
 abbrev pub invariant-loop-config : goal.invariant-loop-config
 invariant-loop-config l =
