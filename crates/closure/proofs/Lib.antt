@@ -35,6 +35,7 @@ pub mod MixtureEffects
 pub mod MixturePlaces
 pub mod MixtureEmptying
 pub mod MixtureStayers
+pub mod MixtureRefusals
 pub mod BlockMixtures
 pub mod MixtureSteps
 pub mod MixtureDuties

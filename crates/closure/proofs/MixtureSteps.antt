@@ -22,9 +22,11 @@ use Rattle.closure.specs.Findings.{AreCovered}
 use Rattle.closure.specs.Mixtures.{AreAlike, AreMixedCovered, AreMixedEntered, AreMixedLineCovered, AreMixedLinked, AreMixedNotesCovered, AreMixedRepliesCovered, AreMixedRestsCovered, AreMixedStepsCovered, IsMixed}
 use Rattle.closure.proofs.ClassRest.{below_covered, both_covered, each_covered, none_covered, of_kinds, of_lines}
 use Rattle.closure.specs.Placing.{AreLed, AreMixedRequestsCovered}
+use Rattle.closure.specs.Refusals.{SuitsNone}
 use Rattle.closure.specs.Stayers.{AreHeldIn, HaveStayers}
 use Rattle.closure.proofs.ByComponent.{entered_by, linked_by, mixed_by}
 use Rattle.closure.proofs.FormedEffects.{formed_effect}
+use Rattle.closure.proofs.MixtureRefusals.{never_legal}
 use Rattle.closure.proofs.MixtureStayers.{stayers_after, stayers_of_built, stayers_of_one}
 use Rattle.closure.proofs.MixtureLemmas.{mixed_link, mixed_names, mixed_state}
 
@@ -68,6 +70,19 @@ module _ (script : Script) (entries : List Entry) (some : List Configuration) wh
   pub request_ends : (held : List Bool) → AreMixedLinked entries some Answered → AreMixedRequestsCovered script entries some held []
   request_ends held answered c mixed formed stayers place =
       step_covered entries (Execute, with_link c Answered) [] (answered c mixed formed) (none_covered entries)
+
+  pub request_refused : (command : Command) (more : List Command) (held : List Bool) → AreMixedLinked entries some Failed → SuitsNone some command
+      → AreMixedRequestsCovered script entries some held (command ∷ more)
+  request_refused command more held failed none c mixed formed stayers place = by_test (is_legal c command) refl
+    where
+      after : Configuration
+      after = effect script c command
+
+      by_test : (b : Bool) → is_legal c command ≡ b
+          → AreCovered entries ((Refuse place, with_link c Failed)
+          ∷ ((if b then refusals script after (place + 1) more else []) ++ execution (if b then executed script after more else None)))
+      by_test true legal = absurd (never_legal some c mixed command none legal)
+      by_test false illegal = step_covered entries (Refuse place, with_link c Failed) [] (failed c mixed formed) (none_covered entries)
 
   pub request_goes_on : (command : Command) (more : List Command) (held : List Bool) (made : List Configuration) → AreMixedLinked entries some Failed
       → AreLed script some command held made → AreMixedRequestsCovered script entries made held more

@@ -13,6 +13,7 @@ pub mod Mixtures
 pub mod Ways
 pub mod Naming
 pub mod Stayers
+pub mod Refusals
 pub mod Placing
 pub mod Emptying
 pub mod Parts

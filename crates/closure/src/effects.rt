@@ -15,6 +15,8 @@ mod topology;
 
 use configuration::config::Config;
 use mg_model::commands::Command;
+pub(crate) use modify::stands_at;
+pub(crate) use moves::is_elsewhere;
 use script_table::Script;
 pub(crate) use settling::value_of;
 

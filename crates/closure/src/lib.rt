@@ -5,11 +5,12 @@
 //! free of an entry is told by `freedom`; where all values of that are known to hold, classes of points are counted and not looked at (`class_walk`, over
 //! `class`, `media`, `held`, `rest` and `agreement`). Else it is asked of many points at once whether all obligations but that of joined lines hold
 //! (`kept_block`): the points are mixed from a few configurations (`mixture`, `block_mixture`), taken apart by the names that are bound (`named_mixture`), and
-//! where these are led all are (`mixed_steps`, over `mixed_entries`, over `mixed_parts` where that lies in several entries, and `mixed_commands` with
-//! `mixed_contexts`, `mixed_emptying` and `mixed_stayers` for what a command makes of them). Where joined lines are known to be marked in all of them too, by the ways that media may take
-//! (`mixed_media`, over `mixed_hops` and `mixed_seen`), those that are well formed are counted and asked for nothing else (`formed_count`). Where the others
-//! aren't known to hold, the points are asked so in parts, and at last one by one: for its obligations (`obligations`), and its steps (`steps`, over `requests`
-//! and `effects`) are told to who looks whether an entry has their results (`covering`, over `cover`).
+//! where these are led all are (`mixed_steps`, over `mixed_entries`, and over `mixed_parts` where that lies in several entries). What a command makes of them
+//! is told by `mixed_commands`, over `mixed_refusals`, `mixed_emptying`, `mixed_stayers` and `mixed_contexts`. Where joined lines are known to be marked in
+//! all of them too, by the ways that media may take (`mixed_media`, over `mixed_hops` and `mixed_seen`), those that are well formed are counted and asked for
+//! nothing else (`formed_count`). Where the others aren't known to hold, the points are asked so in parts, and at last one by one: for its obligations
+//! (`obligations`), and its steps (`steps`, over `requests` and `effects`) are told to who looks whether an entry has their results (`covering`, over
+//! `cover`).
 #![tactic(auto)]
 
 mod agreement;
@@ -35,6 +36,7 @@ mod mixed_entries;
 mod mixed_hops;
 mod mixed_media;
 mod mixed_parts;
+mod mixed_refusals;
 mod mixed_seen;
 mod mixed_stayers;
 mod mixed_steps;

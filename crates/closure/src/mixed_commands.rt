@@ -194,7 +194,8 @@ fn settled_at(
     settled_each(made, name)
 }
 
-/// Configurations from which all is mixed that a command makes, where it is legal, of what is mixed from some in which somebody stays in contexts; nothing where it isn't known or there are too many.
+/// Configurations from which all is mixed that a command makes, where it is legal, of what is mixed from some and has somebody who stays in each context that
+/// is held; nothing where it isn't known, or there are too many.
 pub(crate) fn led_by(
     script: &Script,
     mixture: &Mixture,

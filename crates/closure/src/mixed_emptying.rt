@@ -215,7 +215,8 @@ fn add(mixture: &mut Mixture, config: &Config) -> Result<(), TooMany>
     Ok(())
 }
 
-/// Configurations from which all is mixed that is left of those that are mixed from some once all of a context are subtracted, but for the question which contexts still exist.
+/// Configurations from which all is mixed that is left of what is mixed from some once all of a context are subtracted, but for the question which contexts
+/// still exist.
 pub(crate) fn all_emptied(
     script: &Script,
     mixture: &Mixture,

@@ -10,6 +10,7 @@ ghost use Rattle.closure.specs.Mixtures.{AreAlike, AreMixedEntered, AreMixedLine
 use crate::mixed_commands::led_by;
 use crate::mixed_entries::{with_link_each, with_state_each};
 use crate::mixed_parts::are_in_entries;
+use crate::mixed_refusals::is_refused;
 use crate::mixed_stayers::held_contexts;
 use crate::mixture::Mixture;
 use crate::requests::bound_in;
@@ -150,6 +151,9 @@ fn is_request_covered(
     };
     if !is_linked(cert, mixture, state, LinkPhase::Failed) {
         return false;
+    }
+    if is_refused(mixture, &command) {
+        return true;
     }
     let Some(after) = led_by(script, mixture, &command, held) else {
         return false;

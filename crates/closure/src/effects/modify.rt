@@ -23,7 +23,7 @@ fn place_exists(config: &Config, place: &Place) -> bool
 }
 
 /// Whether a termination stands at a place.
-fn stands_at(spot: Spot, place: &Place) -> bool
+pub(crate) fn stands_at(spot: Spot, place: &Place) -> bool
     ensures { result ≡ stands_at spot place.now }
 {
     match *place {

@@ -17,7 +17,7 @@ use mg_names::slots::Slot;
 use script_table::Script;
 
 /// Whether a termination stands in a context that is neither the null context nor the given one.
-fn is_elsewhere(spot: Spot, context: Slot) -> bool
+pub(crate) fn is_elsewhere(spot: Spot, context: Slot) -> bool
     ensures { result ≡ is_elsewhere spot context }
 {
     match spot {

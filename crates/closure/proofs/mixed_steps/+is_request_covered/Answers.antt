@@ -1,10 +1,17 @@
--- The request has come to its end, or one command more is done.
+-- The request has come to its end, or one command more is refused or done.
 use Rattle.std.proofs.Common.{List, map, sym, subst}
 use Rattle.mg_model.specs.declared.commands.Command.{Command}
 use Rattle.configuration.specs.Config.{configuration_of}
 use Rattle.closure.specs.Placing.{AreMixedRequestsCovered}
-use Rattle.closure.proofs.MixtureSteps.{request_goes_on}
+use Rattle.closure.proofs.MixtureSteps.{request_goes_on, request_refused}
 use Rattle.closure.proofs.mixed_steps.+is_request_covered.Goals as goal
+
+pub returns-then-is_refused : goal.returns-then-is_refused
+returns-then-is_refused t c holds =
+    subst (λ (request : List Command). AreMixedRequestsCovered c.args.script.now c.args.cert.now (map configuration_of c.args.mixture.now) c.args.held.now request)
+    (sym c.in-Some.ensures.some)
+    (request_refused c.args.script.now c.args.cert.now (map configuration_of c.args.mixture.now) c.in-Some.command c.take_first.new.self c.args.held.now
+    (c.is_linked-2.ensures c.if-not-is_linked.false) (c.is_refused.ensures c.if-is_refused.true))
 
 pub returns : goal.returns
 returns t c holds =
