@@ -271,11 +271,8 @@ def scaled(plain, folder, script, certificates, more, most):
 
 def placed_inputs():
     """Slow inputs whose points differ in places: the kind, the link, and what is said of both."""
-    yield slow_checks.Placed(), "sent", "request sent"
     yield slow_checks.Placed(), "rest", "at rest"
-    of_classes = slow_checks.Absent, slow_checks.Crossed, slow_checks.Unjoined, slow_checks.Parted, slow_checks.Shattered
-    kinds = *of_classes, slow_checks.Moved, slow_checks.Added, slow_checks.Emptied, slow_checks.Few
-    for kind in (each() for each in kinds):
+    for kind in (each() for each in slow_checks.SENT):
         yield kind, "sent", "request sent"
 
 

@@ -400,3 +400,7 @@ class Emptied(Placed):
         for state in range(states):
             document["entries"] += [self.entry(f"s{state}", link, 0) for _ in range(wide)]
         return json.dumps(document, separators=(",", ":")) + "\n"
+
+
+# The kinds whose points differ in places. Those of the first are also asked for at rest.
+SENT = (Placed, Absent, Crossed, Unjoined, Parted, Shattered, Moved, Added, Emptied, Few)
