@@ -1,5 +1,5 @@
 -- Changes of configurations by which each component goes its way by itself: what they make of a mixture is mixed from what they make of each that it has.
-use Rattle.std.proofs.Common.{◌≡◌, ◌∙◌, ◌||◌, ℕ, ◌==◌, ◌&&◌, Bool, true, false, if◌then◌else◌, List, [], ◌∷◌, map, refl, sym, ap, subst, Contains}
+use Rattle.std.proofs.Common.{◌≡◌, ◌∙◌, ◌||◌, ℕ, ◌==◌, ◌&&◌, Bool, false, if◌then◌else◌, List, map, refl, sym, ap}
 use Rattle.std.specs.Prelude.{unwrap_or}
 use Rattle.mg_names.specs.declared.context_values.ContextValue.{ContextValue}
 use Rattle.mg_names.specs.declared.modes.Mode.{Mode}

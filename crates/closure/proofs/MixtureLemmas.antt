@@ -7,7 +7,6 @@ use Rattle.std.proofs.lemmas.List.{map-append}
 use Rattle.std.proofs.lemmas.Bool.{eqb-true}
 use Rattle.std.proofs.lemmas.List.Elements.{All-nil, All-cons, All-head, All-tail, Contains-append_left, Contains-append_right}
 use Rattle.mg_names.specs.declared.context_values.ContextValue.{ContextValue}
-use Rattle.mg_names.specs.declared.phases.LinkPhase.{LinkPhase}
 use Rattle.mg_model.specs.declared.commands.Termination.{Termination}
 use Rattle.mg_model.specs.declared.commands.Termination.TheVariants.{Ephemeral}
 use Rattle.mg_model.specs.Configuration.{Configuration, IsWellFormed, is_free, is_present, is_same, with_of}

@@ -1,5 +1,5 @@
 -- Who stays in a context as a request is executed, so that the context exists to its end.
-use Rattle.std.proofs.Common.{◌≡◌, ◌∙◌, ℕ, zero, suc, ◌<◌, ◌==◌, ◌||◌, Bool, true, false, not, if◌then◌else◌, List, [], ◌∷◌, map, refl, sym, ap, subst, arith, IsTrue, Contains, Result, slice_index_or}
+use Rattle.std.proofs.Common.{◌≡◌, ◌∙◌, ℕ, zero, suc, ◌==◌, ◌||◌, Bool, true, false, not, if◌then◌else◌, List, [], ◌∷◌, map, refl, sym, ap, subst, arith, IsTrue, Contains, Result, slice_index_or}
 use Rattle.std.specs.Prelude.{IfOk}
 use Rattle.std.specs.List.{All, list_any}
 use Rattle.std.proofs.lemmas.List.Elements.{All-nil, All-cons, All-head, All-tail}
@@ -15,7 +15,7 @@ use Rattle.mg_model.specs.Script.{Script}
 use Rattle.mg_model.specs.Configuration.{Configuration, IsWellFormed, is_in, is_live, is_same, stands_in, terminations}
 use Rattle.mg_model.specs.Effects.{effect, spot_after}
 use Rattle.mg_model.specs.Request.{Names, built, names_after, uses_known}
-use Rattle.mg_model.proofs.Cases.{denied, not_both}
+use Rattle.mg_model.proofs.Cases.{not_both}
 use Rattle.mg_model.proofs.Terminations.{is_in_is, is_same_is, is_same_turned}
 use Rattle.configuration.specs.Config.{configuration_of}
 use Rattle.configuration.specs.Packed.{Words}

@@ -1,13 +1,12 @@
 -- Configurations that are mixed from some: each component has a value that one of these has. What a list of values has of a component of
 -- each of these it has of that of all that are mixed from them, and there may be many more. No public clause speaks of these words.
-use Rattle.std.specs.Prelude.{◌≡◌, ◌⊎◌, ℕ, ◌<◌, Bool, List, [], ◌∷◌, ◌++◌, map, length, Option, Some, IsTrue, Contains}
+use Rattle.std.specs.Prelude.{◌≡◌, ◌⊎◌, ℕ, ◌<◌, Bool, List, [], ◌∷◌, map, length, Option, Some, IsTrue, Contains}
 use Rattle.std.specs.List.{slice_index_or}
 use Rattle.mg_names.specs.declared.context_values.ContextValue.{ContextValue}
 use Rattle.mg_names.specs.declared.modes.Mode.{Mode}
 use Rattle.mg_names.specs.declared.kinds.Kind.{Kind}
 use Rattle.mg_names.specs.declared.phases.LinkPhase.{LinkPhase}
 use Rattle.mg_names.specs.declared.phases.LinkPhase.TheVariants.{Answered, Resting}
-use Rattle.mg_model.specs.declared.commands.Command.{Command}
 use Rattle.mg_model.specs.declared.commands.EventsName.{EventsName}
 use Rattle.mg_model.specs.declared.commands.Termination.{Termination}
 use Rattle.mg_model.specs.declared.components.Spot.{Spot}
@@ -19,7 +18,7 @@ use Rattle.mg_model.specs.Obligations.{CreatedAreUnbound, EndedIsCleared, Joined
 use Rattle.mg_model.specs.Paths.{AreJoined}
 use Rattle.mg_model.specs.Tables.{is_marked}
 use Rattle.mg_model.specs.Script.{Script}
-use Rattle.mg_model.specs.Steps.{bound_names, steps_of, steps_by_link, observation, observations, refusals, executed, execution, with_link, with_state}
+use Rattle.mg_model.specs.Steps.{bound_names, steps_of, steps_by_link, observation, observations, with_link, with_state}
 use Rattle.closure.specs.Findings.{AreCovered}
 
 -- one of some configurations has this value

@@ -1,6 +1,5 @@
 -- It is absent in one configuration more; then in all.
-use Rattle.std.proofs.Common.{◌≡◌, ◌∙◌, false, sym, ap}
-use Rattle.mg_model.specs.declared.components.Spot.{Spot}
+use Rattle.std.proofs.Common.{◌≡◌, ◌∙◌, sym, ap}
 use Rattle.mg_model.specs.declared.components.Spot.TheVariants.{Absent}
 use Rattle.mg_model.specs.declared.commands.Termination.TheVariants.{Ephemeral}
 use Rattle.mg_model.specs.Configuration.{Configuration, is_present}

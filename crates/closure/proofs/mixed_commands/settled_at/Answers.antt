@@ -1,7 +1,5 @@
 -- The name is as it was, or stands for what exists, or is settled in each.
 use Rattle.std.proofs.Common.{◌≡◌, ℕ, true, false, map, subst, slice_index_or}
-use Rattle.mg_model.specs.Configuration.{Configuration}
-use Rattle.mg_model.specs.Script.{Script}
 use Rattle.configuration.specs.Config.{configuration_of}
 use Rattle.closure.proofs.MixturePlaces.{all_settled, alone_settled}
 use Rattle.closure.proofs.MixtureStayers.{held_settled}

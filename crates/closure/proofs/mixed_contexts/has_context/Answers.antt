@@ -1,5 +1,5 @@
 -- It stands for it in this one.
-use Rattle.std.proofs.Common.{◌≡◌, ◌∙◌, List, map, sym, subst, Contains}
+use Rattle.std.proofs.Common.{◌∙◌, List, map, sym, subst, Contains}
 use Rattle.configuration.specs.Config.{configuration_of}
 use Rattle.configuration.specs.Packed.{Words}
 use Rattle.closure.proofs.MixtureLemmas.{contains_map}

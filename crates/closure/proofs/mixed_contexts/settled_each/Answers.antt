@@ -1,10 +1,6 @@
 -- It exists in all, in none, or in some; or its name is bound in none.
-use Rattle.std.proofs.Common.{◌≡◌, Bool, true, false, List, map, sym, subst}
-use Rattle.mg_model.specs.Configuration.{Configuration, stands_in}
+use Rattle.std.proofs.Common.{true, false, map}
 use Rattle.configuration.specs.Config.{configuration_of}
-use Rattle.closure.specs.Elementwise.{settled_at}
-use Rattle.closure.specs.Mixtures.{IsMixed}
-use Rattle.closure.specs.Placing.{valued_at}
 use Rattle.closure.proofs.MixturePlaces.{all_valued, free_stays, none_stands}
 use Rattle.closure.proofs.mixed_contexts.settled_each.Goals as goal
 

@@ -1,7 +1,6 @@
 -- The four slots are all.
-use Rattle.std.proofs.Common.{List, [], ◌∷◌, map, subst}
+use Rattle.std.proofs.Common.{List, [], ◌∷◌, subst}
 use Rattle.mg_model.specs.declared.commands.Command.{Command}
-use Rattle.configuration.specs.Config.{configuration_of}
 use Rattle.closure.specs.Stayers.{HaveStayers}
 use Rattle.closure.proofs.MixtureStayers.{four_held}
 use Rattle.closure.proofs.mixed_stayers.held_contexts.Goals as goal
