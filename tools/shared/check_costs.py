@@ -91,6 +91,8 @@ def inputs(size):
     yield "256 short entries a state", checks.script(2 * size, 2), checks.certificate(2 * size, 256)
     yield "256 entries a state that name each line", checks.script(2 * size, 2), named_certificate(2 * size, 256)
     yield "wide entries with few steps", checks.script(size, 2, 8), checks.certificate(size, 1, 8, ("no", "may"))
+    few = slow_checks.Few()
+    yield "entries looked at one by one, with many steps", few.script(size // 4), few.certificate(size // 4, 60)
     folder = max(TOP.glob("gallery/*/certificate.json"), key=lambda path: path.stat().st_size).parent
     yield str(folder.relative_to(TOP)), (folder / "script.toml").read_text(), (folder / "certificate.json").read_text()
 
