@@ -402,5 +402,26 @@ class Emptied(Placed):
         return json.dumps(document, separators=(",", ":")) + "\n"
 
 
+class Sought(Placed):
+    """The last ephemeral, in any context and any mode, is modified in the first context: so a request is executed where it is found there alone."""
+
+    name = "places, with an ephemeral that is sought in one"
+    with_remotes = ""
+
+    def commands(self):
+        return [f"modify c z mode={MODES[n % 4]}" for n in range(COMMANDS)]
+
+    def entry(self, state, link, apart):
+        found = super().entry(state, link, ALWAYS[0])
+        found["ephemerals"]["z"] = {"at": ["c"], "mode": [MODES[(COMMANDS - 1) % 4]]} if link == "ok" else {"at": [*CONTEXTS], "mode": MODES}
+        return found
+
+    def results(self):
+        return ALWAYS
+
+    def points(self):
+        return 4 * occupied([4] * (len(OTHERS) + len(EPHEMERALS)))
+
+
 # The kinds whose points differ in places. Those of the first are also asked for at rest.
-SENT = (Placed, Absent, Crossed, Unjoined, Parted, Shattered, Moved, Added, Emptied, Few)
+SENT = (Placed, Absent, Crossed, Unjoined, Parted, Shattered, Moved, Added, Emptied, Sought, Few)

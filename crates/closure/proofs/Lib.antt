@@ -36,6 +36,7 @@ pub mod MixturePlaces
 pub mod MixtureEmptying
 pub mod MixtureStayers
 pub mod MixtureRefusals
+pub mod MixtureFound
 pub mod BlockMixtures
 pub mod MixtureSteps
 pub mod MixtureDuties

@@ -22,6 +22,7 @@ use Rattle.closure.specs.Findings.{AreCovered}
 use Rattle.closure.specs.Mixtures.{AreAlike, AreMixedCovered, AreMixedEntered, AreMixedLineCovered, AreMixedLinked, AreMixedNotesCovered, AreMixedRepliesCovered, AreMixedRestsCovered, AreMixedStepsCovered, IsMixed}
 use Rattle.closure.proofs.ClassRest.{below_covered, both_covered, each_covered, none_covered, of_kinds, of_lines}
 use Rattle.closure.specs.Placing.{AreLed, AreMixedRequestsCovered}
+use Rattle.closure.specs.Found.{AreFound}
 use Rattle.closure.specs.Refusals.{SuitsNone}
 use Rattle.closure.specs.Stayers.{AreHeldIn, HaveStayers}
 use Rattle.closure.proofs.ByComponent.{entered_by, linked_by, mixed_by}
@@ -84,10 +85,10 @@ module _ (script : Script) (entries : List Entry) (some : List Configuration) wh
       by_test true legal = absurd (never_legal some c mixed command none legal)
       by_test false illegal = step_covered entries (Refuse place, with_link c Failed) [] (failed c mixed formed) (none_covered entries)
 
-  pub request_goes_on : (command : Command) (more : List Command) (held : List Bool) (made : List Configuration) → AreMixedLinked entries some Failed
-      → AreLed script some command held made → AreMixedRequestsCovered script entries made held more
+  pub request_goes_on : (command : Command) (more : List Command) (held : List Bool) (found made : List Configuration)
+      → AreMixedLinked entries some Failed → AreFound some command found → AreLed script found command held made → AreMixedRequestsCovered script entries made held more
       → AreMixedRequestsCovered script entries some held (command ∷ more)
-  request_goes_on command more held made failed led later c mixed formed stayers place = by_test (is_legal c command) refl
+  request_goes_on command more held found made failed are_found led later c mixed formed stayers place = by_test (is_legal c command) refl
     where
       after : Configuration
       after = effect script c command
@@ -95,7 +96,7 @@ module _ (script : Script) (entries : List Entry) (some : List Configuration) wh
       by_test : (b : Bool) → is_legal c command ≡ b
           → AreCovered entries ((Refuse place, with_link c Failed)
           ∷ ((if b then refusals script after (place + 1) more else []) ++ execution (if b then executed script after more else None)))
-      by_test true legal = let here = led c mixed formed legal (stayers_of_one c command more held stayers) in
+      by_test true legal = let here = led c (are_found c mixed legal) formed legal (stayers_of_one c command more held stayers) in
           step_covered entries (Refuse place, with_link c Failed) (refusals script after (place + 1) more ++ execution (executed script after more))
           (failed c mixed formed)
           (later after here.1 (formed_effect script c formed command legal here.0) (stayers_after script c command more held stayers) (place + 1))

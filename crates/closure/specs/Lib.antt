@@ -14,6 +14,7 @@ pub mod Ways
 pub mod Naming
 pub mod Stayers
 pub mod Refusals
+pub mod Found
 pub mod Placing
 pub mod Emptying
 pub mod Parts

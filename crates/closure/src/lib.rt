@@ -6,11 +6,11 @@
 //! `class`, `media`, `held`, `rest` and `agreement`). Else it is asked of many points at once whether all obligations but that of joined lines hold
 //! (`kept_block`): the points are mixed from a few configurations (`mixture`, `block_mixture`), taken apart by the names that are bound (`named_mixture`), and
 //! where these are led all are (`mixed_steps`, over `mixed_entries`, and over `mixed_parts` where that lies in several entries). What a command makes of them
-//! is told by `mixed_commands`, over `mixed_refusals`, `mixed_emptying`, `mixed_stayers` and `mixed_contexts`. Where joined lines are known to be marked in
-//! all of them too, by the ways that media may take (`mixed_media`, over `mixed_hops` and `mixed_seen`), those that are well formed are counted and asked for
-//! nothing else (`formed_count`). Where the others aren't known to hold, the points are asked so in parts, and at last one by one: for its obligations
-//! (`obligations`), and its steps (`steps`, over `requests` and `effects`) are told to who looks whether an entry has their results (`covering`, over
-//! `cover`).
+//! is told by `mixed_commands`, over `mixed_refusals`, `mixed_found`, `mixed_emptying`, `mixed_stayers` and `mixed_contexts`. Where joined lines are known to
+//! be marked in all of them too, by the ways that media may take (`mixed_media`, over `mixed_hops` and `mixed_seen`), those that are well formed are counted
+//! and asked for nothing else (`formed_count`). Where the others aren't known to hold, the points are asked so in parts, and at last one by one: for its
+//! obligations (`obligations`), and its steps (`steps`, over `requests` and `effects`) are told to who looks whether an entry has their results (`covering`,
+//! over `cover`).
 #![tactic(auto)]
 
 mod agreement;
@@ -33,6 +33,7 @@ mod mixed_commands;
 mod mixed_contexts;
 mod mixed_emptying;
 mod mixed_entries;
+mod mixed_found;
 mod mixed_hops;
 mod mixed_media;
 mod mixed_parts;

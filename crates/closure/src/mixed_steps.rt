@@ -9,6 +9,7 @@ ghost use Rattle.closure.specs.Mixtures.{AreAlike, AreMixedEntered, AreMixedLine
 
 use crate::mixed_commands::led_by;
 use crate::mixed_entries::{with_link_each, with_state_each};
+use crate::mixed_found::found_each;
 use crate::mixed_parts::are_in_entries;
 use crate::mixed_refusals::is_refused;
 use crate::mixed_stayers::held_contexts;
@@ -155,7 +156,10 @@ fn is_request_covered(
     if is_refused(mixture, &command) {
         return true;
     }
-    let Some(after) = led_by(script, mixture, &command, held) else {
+    let Ok(found) = found_each(mixture, &command) else {
+        return false;
+    };
+    let Some(after) = led_by(script, &found, &command, held) else {
         return false;
     };
     is_request_covered(script, cert, &after, state, held, request)

@@ -3,6 +3,7 @@ use Rattle.std.proofs.Common.{List, map, sym, subst}
 use Rattle.mg_model.specs.declared.commands.Command.{Command}
 use Rattle.configuration.specs.Config.{configuration_of}
 use Rattle.closure.specs.Placing.{AreMixedRequestsCovered}
+use Rattle.closure.proofs.MixtureFound.{all_found}
 use Rattle.closure.proofs.MixtureSteps.{request_goes_on, request_refused}
 use Rattle.closure.proofs.mixed_steps.+is_request_covered.Goals as goal
 
@@ -18,5 +19,6 @@ returns t c holds =
     subst (λ (request : List Command). AreMixedRequestsCovered c.args.script.now c.args.cert.now (map configuration_of c.args.mixture.now) c.args.held.now request)
     (sym c.in-Some.ensures.some)
     (request_goes_on c.args.script.now c.args.cert.now (map configuration_of c.args.mixture.now) c.in-Some.command c.take_first.new.self
-    c.args.held.now (map configuration_of c.in-Some-led_by.after) (c.is_linked-2.ensures c.if-not-is_linked.false) c.in-Some-led_by.ensures
+    c.args.held.now (map configuration_of c.in-Ok.found) (map configuration_of c.in-Some-led_by.after) (c.is_linked-2.ensures c.if-not-is_linked.false)
+    (all_found (map configuration_of c.args.mixture.now) c.in-Some.command (map configuration_of c.in-Ok.found) c.in-Ok.ensures) c.in-Some-led_by.ensures
     (c.is_request_covered.ensures holds))
