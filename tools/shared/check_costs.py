@@ -182,7 +182,7 @@ def size_pairs():
     """What is doubled: its name, and the half and the whole as script and certificate."""
     placed, few = slow_checks.Placed(), slow_checks.Few()
     yield "points that differ in places, 128 and 256 entries", *((placed.script(1), placed.certificate(1, wide)) for wide in (116, 244))
-    yield "points that are looked at one by one, 4 states of 128 and of 256 entries", *((few.script(4), few.certificate(4, wide)) for wide in (116, 244))
+    yield "points that are looked at one by one, 32 states of 122 and of 244 entries", *((few.script(32), few.certificate(32, wide)) for wide in (122, 244))
     yield "entries, 64 states of 128 and of 256", *((checks.script(64, 2), checks.certificate(64, count)) for count in (128, 256))
     yield "states, 32 and 64 of 16 commands", *((checks.script(count, 16), checks.certificate(count, 1)) for count in (32, 64))
     yield "states, 16 and 32 with ephemerals and cuts", *((checks.rooms_script(count), checks.rooms_certificate(count)) for count in (16, 32))

@@ -162,8 +162,8 @@ def in_pieces(name, quarter, whole):
 
 
 def pieces():
-    few = slow_checks.Few()
-    in_pieces("points that are looked at one by one, 8 states", *((few.script(states), few.certificate(states, few.most() // slow_checks.STATES)) for states in (2, 8)))
+    parted = slow_checks.Shattered()
+    in_pieces("points that differ in places, with results in 32 parts, 8 states", *((parted.script(states), parted.certificate(states, 40)) for states in (2, 8)))
 
 
 def checks():
