@@ -5,3 +5,5 @@ pub mod RegionLemmas
 pub mod PlaceLemmas
 pub mod SievedLemmas
 pub mod ListsAt
+pub mod EachLemmas
+pub mod WithAllLemmas

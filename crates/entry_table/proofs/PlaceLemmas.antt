@@ -6,6 +6,8 @@ use Rattle.std.proofs.lemmas.Option.{same_Some, none-some, slice_get_within, sli
 use Rattle.entry_table.specs.Index.{places_from, places_of}
 use Rattle.entry_table.specs.Listed.{Listed}
 use Rattle.entry_table.specs.Places.{PlaceIncludes}
+use Rattle.entry_table.specs.WithAll.{PlaceAllowsEach}
+use Rattle.configuration.specs.Packed.{Words}
 use Rattle.mg_model.specs.Configuration.{Configuration}
 use Rattle.mg_model.specs.Entries.{IsCovered}
 
@@ -99,6 +101,57 @@ rising state (entry ∷ more) n first later one other order at_one at_other =
     by_test rest true e = listed rest first later order (rw e at at_one) (rw e at at_other)
     by_test rest false e = rest first later order (rw e at at_one) (rw e at at_other)
 
+-- ---- which entries of a state have something
+
+module _ (entries : List Listed) (state : ℕ) (P : ℕ → Type 0) (listed : (place : ℕ) → P place → IsListed state entries 0 place) where
+  abbrev its_places : List ℕ
+  its_places = places_of state entries
+
+  -- none of those that are listed before a number has it
+  abbrev pub NoneBefore : ℕ → Type 0
+  NoneBefore n = (number : ℕ) → number < n → (place : ℕ) → slice_get its_places number ≡ Some place → P place → ⊥
+
+  pub none_below : (n place : ℕ) → slice_get its_places n ≡ Some place → NoneBefore n → (other : ℕ) → other < place → P other → ⊥
+  none_below n place at none other below has = by_test (listed other has) (nat_lt (listed other has).0 n) refl
+    where
+      by_test : (there : (number : ℕ) × (slice_get its_places number ≡ Some other)) → (t : Bool) → nat_lt there.0 n ≡ t → ⊥
+      by_test there true e = none there.0 (ltb-true there.0 n e) other there.1 has
+      by_test there false e =
+          let order = rising state entries 0 n there.0 place other (ltb-false there.0 n e) at there.1 in
+          absurd (omega arith)
+
+  pub none_at_all : (n : ℕ) → length its_places ≤ n → NoneBefore n → (place : ℕ) → P place → ⊥
+  none_at_all n all none place has =
+      let there = listed place has in
+      let within = slice_get_within its_places there.0 place there.1 in
+      none there.0 (omega (arith, within, all)) place there.1 has
+
+  -- one more was asked
+  pub none_before_next : (n item : ℕ) → slice_get its_places n ≡ Some item → (P item → ⊥) → NoneBefore n → NoneBefore (n + 1)
+  none_before_next n item at hasnt none number below place at_number has = by_test (number == n) refl
+    where
+      by_test : (t : Bool) → (number == n) ≡ t → ⊥
+      by_test true e =
+          let same : place ≡ item =
+          same_Some place item (sym at_number ∙ ap (slice_get its_places) (eqb-true number n e) ∙ at) in
+          hasnt (subst P same has)
+      by_test false e =
+          let apart = eqb-false number n e in
+          none number (omega arith) place at_number has
+
+-- an entry of the state is listed with its place
+pub listed_at : (entries : List Listed) (state place : ℕ) (entry : Listed) → slice_get entries place ≡ Some entry → entry.state ≡ state
+    → IsListed state entries 0 place
+listed_at entries state place entry at same = subst (IsListed state entries 0) zero_more (is_listed state entries 0 place entry at same)
+  where
+    zero_more : 0 + place ≡ place
+    zero_more = omega arith
+
+-- an entry that allows each of some configurations is one of its state
+pub allowing_is_listed : (entries : List Listed) (state : ℕ) (configs : List Words) (place : ℕ) → PlaceAllowsEach entries state configs place
+    → IsListed state entries 0 place
+allowing_is_listed entries state configs place allows = listed_at entries state place allows.0 allows.1.0 allows.1.1.0
+
 -- ---- which entries have a configuration
 
 module _ (entries : List Listed) (c : Configuration) where
@@ -107,11 +160,7 @@ module _ (entries : List Listed) (c : Configuration) where
 
   -- an entry that has it is one of its state
   pub included_is_listed : (place : ℕ) → PlaceIncludes entries c place → (number : ℕ) × (slice_get places number ≡ Some place)
-  included_is_listed place includes =
-      subst (IsListed c.state entries 0) zero_more (is_listed c.state entries 0 place includes.0 includes.1.0 (sym includes.1.1.0))
-    where
-      zero_more : 0 + place ≡ place
-      zero_more = omega arith
+  included_is_listed place includes = listed_at entries c.state place includes.0 includes.1.0 (sym includes.1.1.0)
 
   -- none of those that are listed before a number has it
   abbrev pub NoneListedBefore : ℕ → Type 0
@@ -119,14 +168,7 @@ module _ (entries : List Listed) (c : Configuration) where
 
   pub first_listed : (n place : ℕ) → slice_get places n ≡ Some place → NoneListedBefore n
       → (other : ℕ) → other < place → PlaceIncludes entries c other → ⊥
-  first_listed n place at none other below includes =
-      by_test (included_is_listed other includes) (nat_lt (included_is_listed other includes).0 n) refl
-    where
-      by_test : (listed : (number : ℕ) × (slice_get places number ≡ Some other)) → (t : Bool) → nat_lt listed.0 n ≡ t → ⊥
-      by_test listed true e = none listed.0 (ltb-true listed.0 n e) other listed.1 includes
-      by_test listed false e =
-          let order = rising c.state entries 0 n listed.0 place other (ltb-false listed.0 n e) at listed.1 in
-          absurd (omega arith)
+  first_listed = none_below entries c.state (PlaceIncludes entries c) included_is_listed
 
   pub none_listed : (n : ℕ) → length places ≤ n → NoneListedBefore n → IsCovered entries c → ⊥
   none_listed n all none covered =
@@ -134,21 +176,9 @@ module _ (entries : List Listed) (c : Configuration) where
       let k = covered.1.0.0 in
       let at : slice_get entries k ≡ Some entry =
       slice_get-get_or entries k entry covered.1.0.1 ∙ ap (λ (e : Listed). Some e) covered.1.0.2 in
-      let includes : PlaceIncludes entries c k = (entry, (at, covered.1.1)) in
-      let listed = included_is_listed k includes in
-      let within = slice_get_within places listed.0 k listed.1 in
-      none listed.0 (omega (arith, within, all)) k listed.1 includes
+      none_at_all entries c.state (PlaceIncludes entries c) included_is_listed n all none k (entry, (at, covered.1.1))
 
   -- one more was asked
   pub one_more_asked : (n item : ℕ) → slice_get places n ≡ Some item → (PlaceIncludes entries c item → ⊥) → NoneListedBefore n
       → NoneListedBefore (n + 1)
-  one_more_asked n item at hasnt none number below place at_number includes = by_test (number == n) refl
-    where
-      by_test : (t : Bool) → (number == n) ≡ t → ⊥
-      by_test true e =
-          let same : place ≡ item =
-          same_Some place item (sym at_number ∙ ap (slice_get places) (eqb-true number n e) ∙ at) in
-          hasnt (subst (PlaceIncludes entries c) same includes)
-      by_test false e =
-          let apart = eqb-false number n e in
-          none number (omega arith) place at_number includes
+  one_more_asked = none_before_next entries c.state (PlaceIncludes entries c) included_is_listed

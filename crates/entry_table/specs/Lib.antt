@@ -7,3 +7,4 @@ pub mod Regions
 pub mod Places
 pub mod Sieved
 pub mod Values
+pub mod WithAll

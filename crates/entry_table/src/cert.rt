@@ -1,5 +1,5 @@
 //! Certificates.
-ghost use Rattle.std.specs.Prelude.{◌≡◌, ◌<◌, ◌↔◌, ◌∷◌, ◌++◌, [], ℕ, IsTrue, IfOk, IfSome, IfNone, List, OnOk, Some, length, map};
+ghost use Rattle.std.specs.Prelude.{◌≡◌, ◌<◌, ◌↔◌, ◌∷◌, ◌++◌, [], ℕ, IsTrue, IfOk, IfSome, IfNone, List, OnOk, Some, Contains, length, map};
 ghost use Rattle.std.specs.List.{slice_get, slice_index_or};
 ghost use Rattle.mg_model.specs.Configuration.{IsWellFormed};
 ghost use Rattle.mg_model.specs.Entries.{IsCovered};
@@ -7,6 +7,8 @@ ghost use Rattle.configuration.specs.Config.{configuration_of};
 ghost use Rattle.entry_table.specs.Index.{IsIndex, places_of};
 ghost use Rattle.entry_table.specs.Places.{PlaceIncludes};
 ghost use Rattle.entry_table.specs.Sieved.{AreSieved};
+ghost use Rattle.entry_table.specs.Listed.{Listed};
+ghost use Rattle.entry_table.specs.WithAll.{AllowsEach, IsFirstWithAll, PlaceAllowsEach};
 
 use crate::entry::Entry;
 use crate::sieved::all_sieves;
@@ -96,6 +98,62 @@ impl Cert {
     {
         match self.entries().get(place) {
             Some(entry) => entry.contains_formed(config),
+            None => false,
+        }
+    }
+
+    /// The first entry of a state that allows each of some configurations, well formed or not; nothing where none does, as where one
+    /// of them is of another state. This profile's own.
+    pub fn entry_with_all(&self, state: u8, configs: &[Config]) -> Option<&Entry>
+        ensures has { IfSome result (λ entry. Contains self.now entry.now) }
+        ensures allows { IfSome result (λ entry. AllowsEach configs.now entry.now) }
+        ensures first { IfSome result (λ entry. IsFirstWithAll self.now state configs.now entry.now) }
+        ensures none { IfNone result ((entry : Listed) → Contains self.now entry → entry.state ≡ state → AllowsEach configs.now entry → ⊥) }
+    {
+        match self.place_with_all(state, configs) {
+            Some(place) => Some(self.entry_at(place)),
+            None => None,
+        }
+    }
+
+    /// The entry at a place.
+    fn entry_at(&self, place: usize) -> &Entry
+        requires { place < length self.now }
+        ensures { slice_get self.now place ≡ Some result.now }
+    {
+        &self.entries[place]
+    }
+
+    /// The place of the first entry of a state that allows each of some configurations.
+    fn place_with_all(&self, state: u8, configs: &[Config]) -> Option<usize>
+        ensures has { IfSome result (PlaceAllowsEach self.now state configs.now) }
+        ensures first { IfSome result (λ place. (other : ℕ) → other < place → PlaceAllowsEach self.now state configs.now other → ⊥) }
+        ensures none { IfNone result ((place : ℕ) → PlaceAllowsEach self.now state configs.now place → ⊥) }
+    {
+        self.first_with_all_in_turn(state, configs)
+    }
+
+    /// The place of the first entry of a state that allows each of some configurations; each entry is asked.
+    fn first_with_all_in_turn(&self, state: u8, configs: &[Config]) -> Option<usize>
+        ensures has { IfSome result (PlaceAllowsEach self.now state configs.now) }
+        ensures first { IfSome result (λ place. (other : ℕ) → other < place → PlaceAllowsEach self.now state configs.now other → ⊥) }
+        ensures none { IfNone result ((place : ℕ) → PlaceAllowsEach self.now state configs.now place → ⊥) }
+    {
+        for place in self.of_state(state) {
+            if self.allows_each_at(*place, state, configs) {
+                return Some(*place);
+            }
+        }
+        None
+    }
+
+    /// Whether the entry at a place is one of a state and allows each of some configurations; none does past the last place.
+    fn allows_each_at(&self, place: usize, state: u8, configs: &[Config]) -> bool
+        ensures { IsTrue result ↔ PlaceAllowsEach self.now state configs.now place }
+    {
+        match self.entries().get(place) {
+            Some(entry) if entry.state() == state => entry.allows_each(configs),
+            Some(_) => false,
             None => false,
         }
     }

@@ -6,6 +6,7 @@ ghost use Rattle.mg_model.specs.Entries.{chosen, product};
 ghost use Rattle.configuration.specs.Config.{configuration_of};
 ghost use Rattle.entry_table.specs.Listed.{Allows, Includes, IsPointOf, choices_of, numbered, size_of};
 ghost use Rattle.entry_table.specs.Shown.{shown, shown_all};
+ghost use Rattle.entry_table.specs.WithAll.{AllowsEach};
 
 use crate::component::Component;
 use crate::regions::region_of;
@@ -145,6 +146,18 @@ impl Entry {
         ensures { IsTrue result ↔ (((configuration_of config.now).state ≡ self.now.state) × All (Allows (configuration_of config.now)) self.now.components) }
     {
         self.region.has(config)
+    }
+
+    /// Whether each of some configurations, well formed or not, is one of the entry's state, and has each component in its set.
+    pub(crate) fn allows_each(&self, configs: &[Config]) -> bool
+        ensures { IsTrue result ↔ AllowsEach configs.now self.now }
+    {
+        for config in configs {
+            if !self.allows(config) {
+                return false;
+            }
+        }
+        true
     }
 
     /// Whether it has a configuration: it is well formed, one of the entry's state, and has each component in its set.
