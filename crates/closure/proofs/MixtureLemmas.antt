@@ -28,6 +28,14 @@ contains_map f (y ∷ xs) x (suc k, lt, is) =
     let more = contains_map f xs x (k, omega (arith, lt), is) in
     (suc more.0, omega (arith, more.1), more.2)
 
+-- what holds of each of some words holds of each of their configurations
+pub each_of_words : (words : List Words) (P : Configuration → Type 0) → ((c : Words) → Contains words c → P (configuration_of c))
+    → (d : Configuration) → Contains (map configuration_of words) d → P d
+each_of_words [] P each d has = absurd (omega (arith, has.1))
+each_of_words (w ∷ words) P each d (zero, lt, is) = subst P is (each w (zero, omega arith, refl))
+each_of_words (w ∷ words) P each d (suc k, lt, is) =
+    each_of_words words P (λ c has. each c (suc has.0, omega (arith, has.1), has.2)) d (k, omega (arith, lt), is)
+
 -- ---- what is allowed
 
 module _ (some : List Configuration) where

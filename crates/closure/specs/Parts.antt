@@ -1,6 +1,9 @@
 -- Parts of a mixture: what is mixed has a value of a component that the component allows, or one that it doesn't. No public clause speaks of these words.
-use Rattle.std.specs.Prelude.{◌≡◌, ◌⊎◌, Bool, true, false, not, List, Contains}
+use Rattle.std.specs.Prelude.{◌≡◌, ◌⊎◌, ◌↔◌, IsTrue, Bool, true, false, not, List, Contains}
 use Rattle.mg_model.specs.Configuration.{Configuration}
+use Rattle.configuration.specs.Config.{configuration_of}
+use Rattle.configuration.specs.Packed.{Words, IsPacked}
+use Rattle.configuration.specs.Regions.{ValueSet, is_in}
 use Rattle.mg_model.specs.Entries.{Component, Allows, links, spots, modes, events, plays, contexts, remotes, cuts, link_choice, spot_choice, mode_choice, events_choice, plays_choice, context_choice, remote_choice, cut_choice}
 
 -- a configuration with another one's value of a component
@@ -18,6 +21,10 @@ with_component_of (cuts t u values) like d = cut_choice t u (like.cut t u) d
 abbrev pub IsAllowed : Component → Bool → Configuration → Type 0
 IsAllowed component true d = Allows d component
 IsAllowed component false d = Allows d component → ⊥
+
+-- a set has the component's values
+abbrev pub IsSetOf : ValueSet → Component → Type 0
+IsSetOf set component = (w : Words) → IsPacked w → IsTrue (is_in set w) ↔ Allows (configuration_of w) component
 
 -- what a part has for a configuration: it itself, if the component allows it as it is to, or else it with another one's value of the component
 abbrev pub IsPart : Component → Bool → Configuration → Configuration → Configuration → Type 0

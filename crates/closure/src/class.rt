@@ -9,6 +9,7 @@ ghost use Rattle.closure.specs.Walk.{ClassIsPassed};
 use crate::agreement::differ;
 use crate::freedom::{Freedom, is_free, is_idle};
 use crate::held::{MOST_CUTS, is_held};
+use crate::looks::Looks;
 use crate::media::widest;
 use crate::obligations::{
     created_are_unbound, ended_is_cleared, joined_are_marked, names_are_live,
@@ -105,15 +106,6 @@ fn are_apart(freedom: &Freedom<'_>, low: &Config, high: &Config) -> bool
     true
 }
 
-/// A look whether one entry has all that a step makes of a class takes no longer than a walk over so many of its configurations. So looks that are all in
-/// vain take no longer than the walk behind them.
-const CONFIGURATIONS_A_LOOK: u64 = 4;
-
-/// In how many entries may be looked for a class.
-fn looks_of(freedom: &Freedom<'_>) -> u64 {
-    freedom.class_size() / CONFIGURATIONS_A_LOOK
-}
-
 /// Looks at where the steps of the highest lead, beside those of the lowest, up to the first that doesn't hold.
 #[derive(Drop)]
 struct Pairs<'c, 'f, 'e, 'l> {
@@ -122,8 +114,8 @@ struct Pairs<'c, 'f, 'e, 'l> {
     lows: &'l Results,
     /// How many were looked at.
     at: usize,
-    /// In how many entries may be looked.
-    looks: u64,
+    /// How many looks may be taken.
+    looks: Looks,
 }
 
 /// What a step makes of the class isn't known to be in entries.
@@ -173,6 +165,7 @@ fn are_held(
     freedom: &Freedom<'_>,
     low: &Config,
     high: &Config,
+    looks: &mut Looks,
 ) -> bool
     ensures { IsTrue result → AreHeld (is_free (configuration_of freedom.now.placed)) (shown_all freedom.now.components.now) script.now cert.now
         (configuration_of low.now) (configuration_of high.now) }
@@ -186,9 +179,11 @@ fn are_held(
         freedom,
         lows: &lows,
         at: 0,
-        looks: looks_of(freedom),
+        looks: *looks,
     };
-    match tell_steps(script, high, &mut pairs) {
+    let told = tell_steps(script, high, &mut pairs);
+    *looks = pairs.looks;
+    match told {
         Ok(()) => true,
         Err(_) => false,
     }
@@ -201,15 +196,16 @@ fn are_steps_held(
     freedom: &Freedom<'_>,
     low: &Config,
     high: &Config,
+    looks: &mut Looks,
 ) -> bool
     ensures { IsTrue result → AreStepsHeld (is_free (configuration_of freedom.now.placed)) (shown_all freedom.now.components.now) script.now cert.now
         (configuration_of low.now) (configuration_of high.now) (configuration_of low.now).link }
 {
     if !at_rest(low) {
-        return are_held(script, cert, freedom, low, high);
+        return are_held(script, cert, freedom, low, high, looks);
     }
     let span = Span { freedom, low, high };
-    are_entered(script, cert, &span, &mut looks_of(freedom))
+    are_entered(script, cert, &span, looks)
 }
 
 /// Whether each obligation of each configuration of a class is known to hold.
@@ -219,6 +215,7 @@ fn is_class_kept(
     freedom: &Freedom<'_>,
     low: &Config,
     high: &Config,
+    looks: &mut Looks,
 ) -> bool
     requires { AreApart (is_free (configuration_of freedom.now.placed)) (shown_all freedom.now.components.now)
         (configuration_of low.now) (configuration_of high.now) }
@@ -240,19 +237,26 @@ fn is_class_kept(
     if !names_are_live(low) {
         return false;
     }
-    are_steps_held(script, cert, freedom, low, high)
+    are_steps_held(script, cert, freedom, low, high, looks)
 }
 
-/// Passes a class: it is one number, a point or none; `None` where it isn't known that each obligation of each configuration of it holds.
+/// What is asked of a class beside its steps takes so many looks for each value of a component.
+const LOOKS_A_VALUE: u64 = 4;
+
+/// Passes a class: it is one number, a point or none; `None` where it isn't known that each obligation of each configuration of it holds, or no look is left.
 pub(crate) fn pass_class(
     script: &Script,
     cert: &Cert,
     freedom: &Freedom<'_>,
     low: &Config,
+    looks: &mut Looks,
 ) -> Option<u64>
     ensures { IfSome result (λ points. ClassIsPassed script.now cert.now (is_free (configuration_of freedom.now.placed)) (shown_all freedom.now.components.now)
         [] (configuration_of low.now) points) }
 {
+    if !looks.take(LOOKS_A_VALUE, freedom.values()) {
+        return None;
+    }
     let high = highest(freedom, low);
     if !are_apart(freedom, low, &high) {
         return None;
@@ -260,7 +264,7 @@ pub(crate) fn pass_class(
     if !is_well_formed(low) {
         return Some(0);
     }
-    if is_class_kept(script, cert, freedom, low, &high) {
+    if is_class_kept(script, cert, freedom, low, &high, looks) {
         return Some(1);
     }
     None

@@ -8,6 +8,7 @@ ghost use Rattle.closure.specs.Walk.{BlockIsPassed, ClassIsPassed};
 
 use crate::class::pass_class;
 use crate::freedom::{Freedom, is_free};
+use crate::looks::Looks;
 use configuration::config::Config;
 use entry_table::{Cert, Component, product_of};
 use script_table::Script;
@@ -16,13 +17,14 @@ use script_table::Script;
 const MANY: u64 = 256;
 
 /// Passes the classes that the rest of an entry's components make of a configuration, and counts their points; `None` where an obligation of
-/// one of them isn't known to hold.
+/// one of them isn't known to hold, or no look is left.
 fn pass_classes(
     script: &Script,
     cert: &Cert,
     freedom: &Freedom<'_>,
     rest: &[Component],
     low: &Config,
+    looks: &mut Looks,
 ) -> Option<u64>
     requires among { AreAmong (shown_all rest.now) (shown_all freedom.now.components.now) }
     requires small { size_of (shown_all rest.now) < 2 ^ 32 }
@@ -30,30 +32,31 @@ fn pass_classes(
         (shown_all rest.now) (configuration_of low.now) points) }
 {
     let Some((first, more)) = rest.split_first() else {
-        return pass_class(script, cert, freedom, low);
+        return pass_class(script, cert, freedom, low, looks);
     };
     if first.count() > 0 && is_free(&freedom.placed, first) {
         let mut chosen = *low;
         first.choose(0, &mut chosen);
-        let points = pass_classes(script, cert, freedom, more, &chosen)?;
+        let points = pass_classes(script, cert, freedom, more, &chosen, looks)?;
         return Some(points * first.count() as u64);
     }
     let mut points = 0;
     for place in 0..first.count() {
         let mut chosen = *low;
         first.choose(place, &mut chosen);
-        points += pass_classes(script, cert, freedom, more, &chosen)?;
+        points += pass_classes(script, cert, freedom, more, &chosen, looks)?;
     }
     Some(points)
 }
 
 /// How many points some components make of a configuration, where it is known class by class that no obligation is broken, and where classes are so
-/// large that it pays to go by them.
+/// large that it pays to go by them. It fails too where so many looks aren't enough.
 pub(crate) fn decide(
     script: &Script,
     cert: &Cert,
     components: &[Component],
     config: &Config,
+    looks: &mut Looks,
 ) -> Option<u64>
     requires small { size_of (shown_all components.now) < 2 ^ 32 }
     ensures { IfSome result (λ points. BlockIsPassed script.now cert.now (shown_all components.now) (configuration_of config.now) points) }
@@ -65,5 +68,5 @@ pub(crate) fn decide(
     if freedom.class_size() < MANY {
         return None;
     }
-    pass_classes(script, cert, &freedom, components, config)
+    pass_classes(script, cert, &freedom, components, config, looks)
 }

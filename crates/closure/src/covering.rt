@@ -4,6 +4,7 @@ ghost use Rattle.mg_model.specs.Configuration.{IsWellFormed};
 ghost use Rattle.configuration.specs.Config.{configuration_of};
 
 use crate::cover::covers_first;
+use crate::looks::Looks;
 use crate::visitor::Visitor;
 use configuration::config::Config;
 use configuration::formed::Formed;
@@ -20,6 +21,8 @@ pub(crate) struct Covering<'c> {
     kept: [usize; 64],
     /// The last configuration that was well formed.
     formed: Formed,
+    /// What may be spent on asking many points at once.
+    looks: Looks,
 }
 
 /// The number of a kind of notes.
@@ -57,6 +60,7 @@ impl<'c> Covering<'c> {
             cert,
             kept: [0; 64],
             formed: Formed::first(),
+            looks: Looks::first(),
         }
     }
 }
@@ -75,6 +79,18 @@ impl Covering<'_> {
         ensures same { self.new.cert.now ≡ self.old.cert.now }
     {
         self.formed.take_up(config)
+    }
+
+    /// What may be spent on asking many points at once.
+    pub(crate) fn looks(&self) -> Looks {
+        self.looks
+    }
+
+    /// Puts what may be spent on that.
+    pub(crate) fn set_looks(&mut self, looks: Looks)
+        ensures { self.new.cert.now ≡ self.old.cert.now }
+    {
+        self.looks = looks;
     }
 }
 
@@ -96,6 +112,7 @@ impl Visitor for Covering<'_> {
         if !self.formed.take_up(leads_to) {
             return Err(name);
         }
+        self.looks.earn();
         let number = number_of(&name);
         let mut kept = self.kept[number];
         let covered = covers_first(self.cert, leads_to, &mut kept);

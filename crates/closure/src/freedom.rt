@@ -166,6 +166,15 @@ impl<'e> Freedom<'e> {
         size
     }
 
+    /// How many values the components have together.
+    pub(crate) fn values(&self) -> usize {
+        let mut values: usize = 1;
+        for component in self.components {
+            values = values.saturating_add(component.count());
+        }
+        values
+    }
+
     /// The component at a place, if it is free and no other gives its values to the same setting, and a configuration has the first of them.
     pub(crate) fn sole_at(&self, place: usize, low: &Config) -> Option<&'e Component>
         ensures { IfSome result (λ component. IsSole (is_free (configuration_of self.now.placed)) (shown_all self.now.components.now) (shown component.now)

@@ -6,6 +6,7 @@ ghost use Rattle.closure.specs.Classes.{Agree, AreEvery, IsEvery, IsHeld, IsInOn
 
 use crate::agreement::agree;
 use crate::freedom::{Freedom, is_free};
+use crate::looks::Looks;
 use configuration::config::Config;
 use configuration::well_formed::is_well_formed;
 use entry_table::{Cert, Component, Entry};
@@ -102,6 +103,9 @@ fn look_in_one(
 /// No entry has more components of several values, since its numbers fit 32 bits.
 pub(crate) const MOST_CUTS: usize = 32;
 
+/// Whether an entry has every value takes so many looks for each.
+const LOOKS_A_VALUE: u64 = 4;
+
 /// Whether entries have all that a step makes of a class: one has all, or after so many cuts at most, each by the values of a component that the step left
 /// as it was, one has all of each part. It fails too where so many looks weren't enough.
 pub(crate) fn is_held(
@@ -110,15 +114,14 @@ pub(crate) fn is_held(
     low: &Config,
     high: &Config,
     cuts: usize,
-    looks: &mut u64,
+    looks: &mut Looks,
 ) -> bool
     ensures { IsTrue result → IsHeld (is_free (configuration_of freedom.now.placed)) (shown_all freedom.now.components.now) cert.now
         (configuration_of low.now) (configuration_of high.now) }
 {
-    if cuts == 0 || *looks == 0 {
+    if cuts == 0 || !looks.take(LOOKS_A_VALUE, freedom.values()) {
         return false;
     }
-    *looks -= 1;
     let place = match look_in_one(cert, freedom, low, high) {
         Ok(()) => return true,
         Err(Unheld::Nowhere) => return false,

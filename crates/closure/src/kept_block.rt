@@ -10,6 +10,7 @@ ghost use Rattle.closure.specs.Mixtures.{AreAlike, AreOfState, IsBlockKept, IsBl
 ghost use Rattle.closure.specs.Naming.{AreNamedKept};
 
 use crate::block_mixture::mixture_of;
+use crate::looks::Looks;
 use crate::mixed_media::are_joined_marked;
 use crate::mixed_steps::are_steps_covered;
 use crate::mixture::Mixture;
@@ -17,7 +18,7 @@ use crate::named_mixture::{named_each, named_unlike, with_name_of};
 use crate::obligations::{created_are_unbound, ended_is_cleared, names_are_live};
 use crate::requests::have_same_names;
 use configuration::config::Config;
-use entry_table::{Cert, Component, product_of};
+use entry_table::{Cert, Component};
 use mg_names::phases::LinkPhase;
 use script_table::Script;
 
@@ -70,10 +71,22 @@ fn are_live(mixture: &Mixture) -> bool
     true
 }
 
+/// To give a configuration the names of another, and to ask it for obligations, takes so many looks.
+const LOOKS_A_NAMED: u64 = 10;
+
 /// Whether all obligations but that of joined lines hold of all that are mixed from some configurations and have the names bound that one has.
-fn is_mixture_kept(script: &Script, cert: &Cert, mixture: &Mixture, one: &Config) -> bool
+fn is_mixture_kept(
+    script: &Script,
+    cert: &Cert,
+    mixture: &Mixture,
+    one: &Config,
+    looks: &mut Looks,
+) -> bool
     ensures { IsTrue result → AreNamedKept script.now cert.now (map configuration_of mixture.now) 8 (configuration_of one.now) }
 {
+    if !looks.take(LOOKS_A_NAMED, mixture.as_slice().len()) {
+        return false;
+    }
     let Ok(named) = named_each(mixture, one) else {
         return false;
     };
@@ -89,58 +102,55 @@ fn is_mixture_kept(script: &Script, cert: &Cert, mixture: &Mixture, one: &Config
     if !are_live(&named) {
         return false;
     }
-    are_steps_covered(script, cert, &named, one)
+    are_steps_covered(script, cert, &named, one, looks)
 }
 
 /// Of fewer numbers no mixture is asked: each step is looked for in the entries of a state, of which there may be as many, and one by one a number's step is
 /// looked for in little more than one.
 pub(crate) const NUMBERS_A_MIXTURE: u64 = 256;
 
-/// The same of all that have the first few of the eight names bound that one has, whatever the others are. It fails too where so many mixtures aren't enough.
+/// The same of all that have the first few of the eight names bound that one has, whatever the others are. It fails too where so many looks aren't enough.
 fn are_named_kept(
     script: &Script,
     cert: &Cert,
     mixture: &Mixture,
     number: usize,
     one: &Config,
-    left: &mut u64,
+    looks: &mut Looks,
 ) -> bool
     ensures { IsTrue result → AreNamedKept script.now cert.now (map configuration_of mixture.now) number (configuration_of one.now) }
 {
     if number >= 8 {
-        if *left == 0 {
-            return false;
-        }
-        *left -= 1;
-        return is_mixture_kept(script, cert, mixture, one);
+        return is_mixture_kept(script, cert, mixture, one, looks);
     }
-    if !are_named_kept(script, cert, mixture, number + 1, one, left) {
+    if !are_named_kept(script, cert, mixture, number + 1, one, looks) {
         return false;
     }
     let Some(unlike) = named_unlike(mixture, number, one) else {
         return true;
     };
     let other = with_name_of(one, number, &unlike);
-    are_named_kept(script, cert, mixture, number + 1, &other, left)
+    are_named_kept(script, cert, mixture, number + 1, &other, looks)
 }
 
-/// Whether it is known that all obligations but that of joined lines hold of all points that some components make of a configuration.
+/// Whether it is known that all obligations but that of joined lines hold of all points that some components make of a configuration, where so many looks may be
+/// taken.
 pub(crate) fn is_block_kept(
     script: &Script,
     cert: &Cert,
     components: &[Component],
     config: &Config,
+    looks: &mut Looks,
 ) -> bool
     ensures { IsTrue result → IsBlockKept script.now cert.now (shown_all components.now) (configuration_of config.now) }
 {
-    let mut left = product_of(components) / NUMBERS_A_MIXTURE;
     let Ok(mixture) = mixture_of(components, config) else {
         return false;
     };
     let Some(one) = mixture.as_slice().first() else {
         return false;
     };
-    are_named_kept(script, cert, &mixture, 0, one, &mut left)
+    are_named_kept(script, cert, &mixture, 0, one, looks)
 }
 
 /// Whether some configurations are of one state.

@@ -8,7 +8,7 @@ ghost use Rattle.closure.specs.Mixtures.{AreMixedCovered};
 
 use crate::mixture::{Mixture, TooMany};
 use configuration::config::Config;
-use entry_table::{Cert, Entry};
+use entry_table::Cert;
 use mg_names::phases::LinkPhase;
 
 /// Some configurations with a link.
@@ -42,29 +42,12 @@ pub(crate) fn with_state_each(
     Ok(made)
 }
 
-/// Whether an entry allows each of some configurations.
-fn allows_each(entry: &Entry, mixture: &Mixture) -> bool
-    ensures { IsTrue result → (d : Configuration) → Contains (map configuration_of mixture.now) d
-        → (d.state ≡ entry.now.state) × All (Allows d) entry.now.components }
-{
-    for config in mixture.as_slice() {
-        if !entry.allows(config) {
-            return false;
-        }
-    }
-    true
-}
-
 /// Whether one entry of a state has all that are mixed from some configurations, and well formed.
 pub(crate) fn are_in_one(cert: &Cert, mixture: &Mixture, state: u8) -> bool
     ensures { IsTrue result → AreMixedCovered cert.now (map configuration_of mixture.now) }
 {
-    for place in cert.of_state(state) {
-        if let Some(entry) = cert.entries().get(*place) {
-            if allows_each(entry, mixture) {
-                return true;
-            }
-        }
+    match cert.entry_with_all(state, mixture.as_slice()) {
+        Some(_entry) => true,
+        None => false,
     }
-    false
 }

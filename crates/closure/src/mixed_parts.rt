@@ -6,19 +6,26 @@ ghost use Rattle.mg_model.specs.Entries.{Allows};
 ghost use Rattle.configuration.specs.Config.{configuration_of};
 ghost use Rattle.entry_table.specs.Shown.{shown};
 ghost use Rattle.closure.specs.Mixtures.{AreMixedCovered};
-ghost use Rattle.closure.specs.Parts.{HasPart, IsPart, with_component_of};
+ghost use Rattle.closure.specs.Parts.{HasPart, IsPart, IsSetOf, with_component_of};
 
+use crate::looks::Looks;
 use crate::mixed_entries::are_in_one;
 use crate::mixture::{Mixture, TooMany};
 use configuration::config::Config;
-use entry_table::{Cert, Component, Entry};
+use configuration::value_set::ValueSet;
+use entry_table::{Cert, Component, Entry, set_of};
+use std::slice;
 
-/// How many mixtures are asked at most, before it counts as not known whether entries have all. A state has 256 entries, of which half are for what is
-/// refused and half for what is executed where both lie in as many; so many parts want twice as many mixtures.
-const PARTS: u32 = 256;
+/// How deep parts are parted at most: each takes room for its mixture until it is told of.
+const DEEPEST: u32 = 128;
 
-/// How deep parts are parted at most. Each of two parts is asked, so that no more can be had of those that may be asked.
-const DEEPEST: u32 = PARTS / 2;
+/// To ask a state's entries for a configuration takes so many looks, and so many to part one.
+const LOOKS_AN_INDEX: u64 = 3;
+
+const LOOKS_A_PARTING: u64 = 4;
+
+/// To find what parts a mixture takes so many looks.
+const LOOKS_A_COMPONENT: u64 = 64;
 
 /// By what a mixture is parted: a component with a configuration that it allows, and one that it doesn't.
 #[derive(Drop)]
@@ -44,12 +51,19 @@ fn take_component(config: &mut Config, component: &Component, like: &Config)
     }
 }
 
-/// A configuration, if a component allows it as it is to, or else with another one's value of that component.
-fn part_of(config: &Config, component: &Component, allowed: bool, like: &Config) -> Config
+/// A configuration, if a component, whose values this set has, allows it as it is to, or else with another one's value of that component.
+fn part_of(
+    config: &Config,
+    component: &Component,
+    set: &ValueSet,
+    allowed: bool,
+    like: &Config,
+) -> Config
+    requires { IsSetOf set.now (shown component.now) }
     ensures { IsPart (shown component.now) allowed (configuration_of like.now) (configuration_of config.now) (configuration_of result) }
 {
     let mut part = *config;
-    match (component.allows(config), allowed) {
+    match (set.has(config), allowed) {
         (true, true) => {}
         (true, false) => take_component(&mut part, component, like),
         (false, true) => take_component(&mut part, component, like),
@@ -67,27 +81,12 @@ fn part_each(
 ) -> Result<Mixture, TooMany>
     ensures { IfOk result (λ m. HasPart (shown component.now) allowed (configuration_of like.now) (map configuration_of mixture.now) (map configuration_of m)) }
 {
+    let set = set_of(component);
     let mut made = Mixture::new();
     for config in mixture.as_slice() {
-        made.push(&part_of(config, component, allowed, like))?;
+        made.push(&part_of(config, component, &set, allowed, like))?;
     }
     Ok(made)
-}
-
-/// The first entry of a state that allows a configuration.
-fn entry_with<'c>(cert: &'c Cert, config: &Config, state: u8) -> Option<&'c Entry>
-    ensures has { IfSome result (λ entry. Contains cert.now entry.now) }
-    ensures allows { IfSome result (λ entry. ((configuration_of config.now).state ≡ entry.now.state)
-        × All (Allows (configuration_of config.now)) entry.now.components) }
-{
-    for place in cert.of_state(state) {
-        if let Some(entry) = cert.entries().get(*place) {
-            if entry.allows(config) {
-                return Some(entry);
-            }
-        }
-    }
-    None
 }
 
 /// The first component of an entry that doesn't allow a configuration.
@@ -112,6 +111,9 @@ fn parting_by<'e>(entry: &'e Entry, mixture: &Mixture, one: &Config) -> Option<P
     ensures other { IfSome result (λ parting. Contains mixture.now parting.without) }
 {
     for other in mixture.as_slice() {
+        if entry.allows(other) {
+            continue;
+        }
         if let Some(component) = component_without(entry, other) {
             return Some(Parting {
                 component,
@@ -130,21 +132,26 @@ fn parting_of<'c>(cert: &'c Cert, mixture: &Mixture, state: u8) -> Option<Partin
     ensures of_these { IfSome result (λ parting. Contains mixture.now parting.within × Contains mixture.now parting.without) }
 {
     let one = mixture.as_slice().first()?;
-    let entry = entry_with(cert, one, state)?;
+    let entry = cert.entry_with_all(state, slice::from_ref(one))?;
     parting_by(entry, mixture, one)
 }
 
 /// Whether entries of a state have all that are mixed from some configurations, and well formed: one has all, or entries have all of either of two parts. It
-/// fails too where so many mixtures, or so deep a parting, aren't enough.
-fn are_in_parts(cert: &Cert, mixture: &Mixture, state: u8, depth: u32, left: &mut u32) -> bool
+/// fails too where so many looks, or so deep a parting, aren't enough.
+fn are_in_parts(cert: &Cert, mixture: &Mixture, state: u8, depth: u32, looks: &mut Looks) -> bool
     ensures { IsTrue result → AreMixedCovered cert.now (map configuration_of mixture.now) }
 {
-    if depth == 0 || *left == 0 {
+    if depth == 0 || !looks.take(LOOKS_AN_INDEX, mixture.as_slice().len()) {
         return false;
     }
-    *left -= 1;
     if are_in_one(cert, mixture, state) {
         return true;
+    }
+    if !looks.take(LOOKS_A_PARTING, mixture.as_slice().len()) {
+        return false;
+    }
+    if !looks.take(LOOKS_A_COMPONENT, 1) {
+        return false;
     }
     let Some(parting) = parting_of(cert, mixture, state) else {
         return false;
@@ -152,19 +159,21 @@ fn are_in_parts(cert: &Cert, mixture: &Mixture, state: u8, depth: u32, left: &mu
     let Ok(within) = part_each(mixture, parting.component, true, &parting.within) else {
         return false;
     };
-    if !are_in_parts(cert, &within, state, depth - 1, left) {
+    if !are_in_parts(cert, &within, state, depth - 1, looks) {
         return false;
     }
     let Ok(without) = part_each(mixture, parting.component, false, &parting.without) else {
         return false;
     };
-    are_in_parts(cert, &without, state, depth - 1, left)
+    are_in_parts(cert, &without, state, depth - 1, looks)
 }
 
-/// Whether entries of a state have all that are mixed from some configurations, and well formed.
-pub(crate) fn are_in_entries(cert: &Cert, mixture: &Mixture, state: u8) -> bool
+/// Whether entries have all that are mixed from some configurations of one state, and well formed.
+pub(crate) fn are_in_entries(cert: &Cert, mixture: &Mixture, looks: &mut Looks) -> bool
     ensures { IsTrue result → AreMixedCovered cert.now (map configuration_of mixture.now) }
 {
-    let mut left = PARTS;
-    are_in_parts(cert, mixture, state, DEEPEST, &mut left)
+    let Some(one) = mixture.as_slice().first() else {
+        return false;
+    };
+    are_in_parts(cert, mixture, one.state(), DEEPEST, looks)
 }

@@ -7,6 +7,7 @@ ghost use Rattle.configuration.specs.Config.{configuration_of};
 ghost use Rattle.closure.specs.Placing.{AreMixedRequestsCovered};
 ghost use Rattle.closure.specs.Mixtures.{AreAlike, AreMixedEntered, AreMixedLineCovered, AreMixedLinked, AreMixedNotesCovered, AreMixedRepliesCovered, AreMixedRestsCovered, AreMixedStepsCovered};
 
+use crate::looks::Looks;
 use crate::mixed_commands::led_by;
 use crate::mixed_entries::{with_link_each, with_state_each};
 use crate::mixed_found::found_each;
@@ -31,6 +32,7 @@ fn is_entered(
     mixture: &Mixture,
     one: &Config,
     target: Option<u8>,
+    looks: &mut Looks,
 ) -> bool
     requires { AreAlike (map configuration_of mixture.now) (configuration_of one.now) }
     ensures { IsTrue result → AreMixedEntered script.now cert.now (map configuration_of mixture.now) target }
@@ -42,7 +44,7 @@ fn is_entered(
     let Ok(entered) = with_state_each(mixture, state, link) else {
         return false;
     };
-    are_in_entries(cert, &entered, state)
+    are_in_entries(cert, &entered, looks)
 }
 
 /// Whether a line of one of some configurations has a list that raises notes of a kind.
@@ -57,23 +59,30 @@ fn may_raise(script: &Script, mixture: &Mixture, line: Slot, kind: Kind) -> bool
     false
 }
 
-/// Whether entries have all where notes of a line and kind lead.
+/// Notes of a line and kind.
+#[derive(Clone, Copy, Debug)]
+struct Notes {
+    line: Slot,
+    kind: Kind,
+}
+
+/// Whether entries have all where such notes lead.
 fn are_notes_covered(
     script: &Script,
     cert: &Cert,
     mixture: &Mixture,
     one: &Config,
-    line: Slot,
-    kind: Kind,
+    notes: Notes,
+    looks: &mut Looks,
 ) -> bool
     requires { AreAlike (map configuration_of mixture.now) (configuration_of one.now) }
-    ensures { IsTrue result → AreMixedNotesCovered script.now cert.now (map configuration_of mixture.now) line kind }
+    ensures { IsTrue result → AreMixedNotesCovered script.now cert.now (map configuration_of mixture.now) notes.line notes.kind }
 {
-    if !may_raise(script, mixture, line, kind) {
+    if !may_raise(script, mixture, notes.line, notes.kind) {
         return true;
     }
-    let target = script.target_of(one.state(), line, kind);
-    is_entered(script, cert, mixture, one, target)
+    let target = script.target_of(one.state(), notes.line, notes.kind);
+    is_entered(script, cert, mixture, one, target, looks)
 }
 
 /// The same of all notes of a line.
@@ -83,78 +92,141 @@ fn is_line_covered(
     mixture: &Mixture,
     one: &Config,
     line: Slot,
+    looks: &mut Looks,
 ) -> bool
     requires { AreAlike (map configuration_of mixture.now) (configuration_of one.now) }
     ensures { IsTrue result → AreMixedLineCovered script.now cert.now (map configuration_of mixture.now) line }
 {
-    if !are_notes_covered(script, cert, mixture, one, line, Kind::On) {
+    if !are_notes_covered(
+        script,
+        cert,
+        mixture,
+        one,
+        Notes {
+            line,
+            kind: Kind::On,
+        },
+        looks,
+    ) {
         return false;
     }
-    if !are_notes_covered(script, cert, mixture, one, line, Kind::Of) {
+    if !are_notes_covered(
+        script,
+        cert,
+        mixture,
+        one,
+        Notes {
+            line,
+            kind: Kind::Of,
+        },
+        looks,
+    ) {
         return false;
     }
-    if !are_notes_covered(script, cert, mixture, one, line, Kind::Fl) {
+    if !are_notes_covered(
+        script,
+        cert,
+        mixture,
+        one,
+        Notes {
+            line,
+            kind: Kind::Fl,
+        },
+        looks,
+    ) {
         return false;
     }
-    if !are_notes_covered(script, cert, mixture, one, line, Kind::Full) {
+    if !are_notes_covered(
+        script,
+        cert,
+        mixture,
+        one,
+        Notes {
+            line,
+            kind: Kind::Full,
+        },
+        looks,
+    ) {
         return false;
     }
-    are_notes_covered(script, cert, mixture, one, line, Kind::Part)
+    are_notes_covered(
+        script,
+        cert,
+        mixture,
+        one,
+        Notes {
+            line,
+            kind: Kind::Part,
+        },
+        looks,
+    )
 }
 
 /// The same of all notes of a call at rest, and of its timer.
-fn is_rest_covered(script: &Script, cert: &Cert, mixture: &Mixture, one: &Config) -> bool
+fn is_rest_covered(
+    script: &Script,
+    cert: &Cert,
+    mixture: &Mixture,
+    one: &Config,
+    looks: &mut Looks,
+) -> bool
     requires { AreAlike (map configuration_of mixture.now) (configuration_of one.now) }
     ensures { IsTrue result → AreMixedRestsCovered script.now cert.now (map configuration_of mixture.now) }
 {
     // Its contract says that there are four lines at most.
     let _lines = script.lines();
     let [first, second, third, fourth] = Slot::all();
-    if !is_line_covered(script, cert, mixture, one, first) {
+    if !is_line_covered(script, cert, mixture, one, first, looks) {
         return false;
     }
-    if !is_line_covered(script, cert, mixture, one, second) {
+    if !is_line_covered(script, cert, mixture, one, second, looks) {
         return false;
     }
-    if !is_line_covered(script, cert, mixture, one, third) {
+    if !is_line_covered(script, cert, mixture, one, third, looks) {
         return false;
     }
-    if !is_line_covered(script, cert, mixture, one, fourth) {
+    if !is_line_covered(script, cert, mixture, one, fourth, looks) {
         return false;
     }
     let timer = script.timer_of(one.state());
-    is_entered(script, cert, mixture, one, timer)
+    is_entered(script, cert, mixture, one, timer, looks)
 }
 
 /// Whether entries have all that some configurations are with another link.
-fn is_linked(cert: &Cert, mixture: &Mixture, state: u8, link: LinkPhase) -> bool
+fn is_linked(cert: &Cert, mixture: &Mixture, link: LinkPhase, looks: &mut Looks) -> bool
     ensures { IsTrue result → AreMixedLinked cert.now (map configuration_of mixture.now) link }
 {
     let Ok(linked) = with_link_each(mixture, link) else {
         return false;
     };
-    are_in_entries(cert, &linked, state)
+    are_in_entries(cert, &linked, looks)
 }
+
+/// To do a command in a configuration takes so many looks.
+const LOOKS_A_COMMAND: u64 = 10;
 
 /// Whether entries have all that refusals and the execution of a request make, of which the first commands are done.
 fn is_request_covered(
     script: &Script,
     cert: &Cert,
     mixture: &Mixture,
-    state: u8,
     held: &[bool; 4],
     request: &mut Request<'_>,
+    looks: &mut Looks,
 ) -> bool
     ensures { IsTrue result → AreMixedRequestsCovered script.now cert.now (map configuration_of mixture.now) held.now request.old }
 {
     let Some(command) = request.take_first() else {
-        return is_linked(cert, mixture, state, LinkPhase::Answered);
+        return is_linked(cert, mixture, LinkPhase::Answered, looks);
     };
-    if !is_linked(cert, mixture, state, LinkPhase::Failed) {
+    if !is_linked(cert, mixture, LinkPhase::Failed, looks) {
         return false;
     }
     if is_refused(mixture, &command) {
         return true;
+    }
+    if !looks.take(LOOKS_A_COMMAND, mixture.as_slice().len()) {
+        return false;
     }
     let Ok(found) = found_each(mixture, &command) else {
         return false;
@@ -162,17 +234,23 @@ fn is_request_covered(
     let Some(after) = led_by(script, &found, &command, held) else {
         return false;
     };
-    is_request_covered(script, cert, &after, state, held, request)
+    is_request_covered(script, cert, &after, held, request, looks)
 }
 
 /// Whether entries have all where a reply without a failure leads.
-fn is_reply_covered(script: &Script, cert: &Cert, mixture: &Mixture, one: &Config) -> bool
+fn is_reply_covered(
+    script: &Script,
+    cert: &Cert,
+    mixture: &Mixture,
+    one: &Config,
+    looks: &mut Looks,
+) -> bool
     requires { AreAlike (map configuration_of mixture.now) (configuration_of one.now) }
     ensures { IsTrue result → AreMixedRepliesCovered script.now cert.now (map configuration_of mixture.now) }
 {
     match script.ok_of(one.state()) {
-        None => is_linked(cert, mixture, one.state(), LinkPhase::Resting),
-        Some(state) => is_entered(script, cert, mixture, one, Some(state)),
+        None => is_linked(cert, mixture, LinkPhase::Resting, looks),
+        Some(state) => is_entered(script, cert, mixture, one, Some(state), looks),
     }
 }
 
@@ -182,6 +260,7 @@ pub(crate) fn are_steps_covered(
     cert: &Cert,
     mixture: &Mixture,
     one: &Config,
+    looks: &mut Looks,
 ) -> bool
     requires { AreAlike (map configuration_of mixture.now) (configuration_of one.now) }
     ensures { IsTrue result → AreMixedStepsCovered script.now cert.now (map configuration_of mixture.now) }
@@ -190,13 +269,13 @@ pub(crate) fn are_steps_covered(
         LinkPhase::Sent => {
             let mut request = Request::new(script, bound_in(one), one.state());
             let held = held_contexts(script, mixture, one.state());
-            is_request_covered(script, cert, mixture, one.state(), &held, &mut request)
+            is_request_covered(script, cert, mixture, &held, &mut request, looks)
         }
-        LinkPhase::Answered => is_reply_covered(script, cert, mixture, one),
+        LinkPhase::Answered => is_reply_covered(script, cert, mixture, one, looks),
         LinkPhase::Failed => {
             let target = script.fault_of(one.state());
-            is_entered(script, cert, mixture, one, target)
+            is_entered(script, cert, mixture, one, target, looks)
         }
-        LinkPhase::Resting => is_rest_covered(script, cert, mixture, one),
+        LinkPhase::Resting => is_rest_covered(script, cert, mixture, one, looks),
     }
 }

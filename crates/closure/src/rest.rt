@@ -11,6 +11,7 @@ ghost use Rattle.closure.specs.Classes.{AreEntered, IsEntered, IsNoteEntered, Ma
 
 use crate::freedom::Freedom;
 use crate::held::{MOST_CUTS, is_held};
+use crate::looks::Looks;
 use crate::steps::with_state;
 use configuration::config::Config;
 use entry_table::{Cert, Component};
@@ -32,7 +33,7 @@ fn is_entered(
     cert: &Cert,
     span: &Span<'_, '_>,
     target: Option<u8>,
-    looks: &mut u64,
+    looks: &mut Looks,
 ) -> bool
     ensures { IsTrue result → IsEntered (is_free (configuration_of span.now.freedom.now.placed)) (shown_all span.now.freedom.now.components.now)
         script.now cert.now (configuration_of span.now.low.now) (configuration_of span.now.high.now) target }
@@ -85,7 +86,7 @@ fn is_note_entered(
     span: &Span<'_, '_>,
     line: Slot,
     kind: Kind,
-    looks: &mut u64,
+    looks: &mut Looks,
 ) -> bool
     ensures { IsTrue result → IsNoteEntered (is_free (configuration_of span.now.freedom.now.placed)) (shown_all span.now.freedom.now.components.now)
         script.now cert.now (configuration_of span.now.low.now) (configuration_of span.now.high.now) line kind }
@@ -106,7 +107,7 @@ fn are_notes_entered(
     cert: &Cert,
     span: &Span<'_, '_>,
     line: Slot,
-    looks: &mut u64,
+    looks: &mut Looks,
 ) -> bool
     ensures { IsTrue result → (kind : NoteKind) → IsNoteEntered (is_free (configuration_of span.now.freedom.now.placed))
         (shown_all span.now.freedom.now.components.now) script.now cert.now (configuration_of span.now.low.now) (configuration_of span.now.high.now) line kind }
@@ -131,7 +132,7 @@ pub(crate) fn are_entered(
     script: &Script,
     cert: &Cert,
     span: &Span<'_, '_>,
-    looks: &mut u64,
+    looks: &mut Looks,
 ) -> bool
     ensures { IsTrue result → AreEntered (is_free (configuration_of span.now.freedom.now.placed)) (shown_all span.now.freedom.now.components.now)
         script.now cert.now (configuration_of span.now.low.now) (configuration_of span.now.high.now) }

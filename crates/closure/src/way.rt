@@ -10,6 +10,7 @@ ghost use Rattle.closure.specs.Ways.{IsWay};
 use crate::class_walk::decide;
 use crate::formed_count::count_formed;
 use crate::kept_block::{NUMBERS_A_MIXTURE, is_block_kept, is_block_marked};
+use crate::looks::Looks;
 use configuration::config::Config;
 use entry_table::{Cert, Component, product_of};
 use script_table::Script;
@@ -33,21 +34,31 @@ fn is_of_links(components: &[Component]) -> bool {
     }
 }
 
-/// How the points are passed that some components make of a configuration.
-pub(crate) fn way_of(script: &Script, cert: &Cert, components: &[Component], config: &Config) -> Way
+/// How the points are passed that some components make of a configuration, where so many looks may be taken to tell. Where none is left they are looked at
+/// one after the other.
+pub(crate) fn way_of(
+    script: &Script,
+    cert: &Cert,
+    components: &[Component],
+    config: &Config,
+    looks: &mut Looks,
+) -> Way
     requires small { size_of (shown_all components.now) < 2 ^ 32 }
     ensures { IsWay script.now cert.now (shown_all components.now) (configuration_of config.now) result }
 {
     if is_of_links(components) {
         return Way::Split;
     }
-    if let Some(points) = decide(script, cert, components, config) {
-        return Way::Counted(points);
-    }
-    if product_of(components) < NUMBERS_A_MIXTURE {
+    if looks.are_spent() || product_of(components) < NUMBERS_A_MIXTURE {
         return Way::Walked(false);
     }
-    if !is_block_kept(script, cert, components, config) {
+    let lent = looks.lend(script, components, config);
+    let mut left = lent;
+    if let Some(points) = decide(script, cert, components, config, &mut left) {
+        return Way::Counted(points);
+    }
+    if !is_block_kept(script, cert, components, config, &mut left) {
+        looks.pay(&lent, &left);
         return Way::Split;
     }
     if !is_block_marked(script, components, config) {

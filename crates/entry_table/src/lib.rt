@@ -16,4 +16,5 @@ mod values;
 pub use cert::Cert;
 pub use component::Component;
 pub use entry::{Entry, PointsByComponent, product_of};
+pub use regions::set_of;
 pub use values::Values;

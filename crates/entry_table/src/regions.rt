@@ -13,8 +13,8 @@ use configuration::region::Region;
 use configuration::value_set::ValueSet;
 use std::alloc::{AllocError, Global};
 
-/// The values of a component, as a set.
-pub(crate) fn set_of(component: &Component) -> ValueSet
+/// The values of a component, as a set: asked of many configurations it is made once. This profile's own.
+pub fn set_of(component: &Component) -> ValueSet
     ensures { (w : Words) → IsPacked w → IsTrue (is_in result w) ↔ Allows (configuration_of w) (shown component.now) }
 {
     match component {
