@@ -1,13 +1,14 @@
 -- Bits of rows that some members have.
-use Rattle.std.proofs.Common.{◌≡◌, ◌∙◌, ℕ, ◌+◌, ◌-◌, ◌*◌, ◌%◌, ◌^◌, ◌<◌, ◌≤◌, ◌==◌, nat_lt, Bool, true, false, not, ◌&&◌, ◌||◌, List, length, slice_index, slice_set, get_or-set_other, get_or-set_same, length-set, ap, refl, sym, arith}
+use Rattle.std.proofs.Common.{◌≡◌, ◌∙◌, ℕ, ◌+◌, ◌-◌, ◌*◌, ◌%◌, ◌^◌, ◌<◌, ◌≤◌, ◌==◌, nat_lt, Bool, true, false, not, ◌&&◌, ◌||◌, List, length, slice_index, slice_set, get_or-set_other, get_or-set_same, length-set, bit_and, ap, refl, sym, arith}
 use Rattle.std.specs.Int.{bit_at}
-use Rattle.std.proofs.lemmas.Bool.{eqb-true, eqb-false}
+use Rattle.std.proofs.lemmas.Bool.{eqb-true, eqb-false, ne_eqb}
 use Rattle.std.proofs.lemmas.Grind.{common_steps}
 use Rattle.std.proofs.lemmas.Nat.{one_shl}
 use Rattle.std.proofs.lemmas.Nat.Bits.{bit_at_ones, bit_at_ones_above}
 use Rattle.configuration.specs.Bits.{has}
 use Rattle.configuration.specs.Codes.{flag_at}
-use Rattle.configuration.proofs.BitLemmas.{has_bit}
+use Rattle.configuration.proofs.BitLemmas.{has_and, has_bit, has_none}
+use Rattle.configuration.proofs.FieldLemmas.{power_le}
 
 -- a row of every member
 pub has_every : (b : ℕ) → b < 64 → has (2 ^ 64 - 1) b ≡ true
@@ -52,6 +53,49 @@ one_more rows first member allowed i row below is before = record {
     by_test n b under small false e =
         let other = eqb-false n i e in
         ap (λ r. has r b) (get_or-set_other rows i n row 0 other) ∙ before.done n b (not_last n other under) small
+      where
+        not_last : (n : ℕ) → (n ≡ i → ⊥) → n < i + 1 → n < i
+        not_last n other below = omega arith
+
+-- a number of at most 5 bits
+pub below_32 : (bits i : ℕ) → bits ≤ 5 → i < 1 * 2 ^ bits % 2 ^ 64 → i < 32
+below_32 bits i few below = omega (arith, one_shl bits 64 (omega arith), power_le bits 5 few)
+
+pub below_shifted : (bits i : ℕ) → bits ≤ 5 → i < 1 * 2 ^ bits % 2 ^ 64 → i < 2 ^ bits
+below_shifted bits i few below = omega (arith, one_shl bits 64 (omega arith))
+
+pub past_shifted : (bits n i : ℕ) → bits ≤ 5 → 1 * 2 ^ bits % 2 ^ 64 ≤ i → n < 2 ^ bits → n < i
+past_shifted bits n i few past below = omega (arith, one_shl bits 64 (omega arith))
+
+-- a row with all of some members has each of them, and one with none of them has none
+pub has_all : (row members b : ℕ) → bit_and row members ≡ members → has members b ≡ true → has row b ≡ true
+has_all row members b is has_b = first (has row b) (has members b) has_b (sym (has_and row members b) ∙ ap (λ r. has r b) is ∙ has_b)
+  where
+    first : (a c : Bool) → c ≡ true → (a && c) ≡ true → a ≡ true
+    first true c p q = refl
+    first false c p q = absurd (cc)
+
+pub has_not_any : (row members b : ℕ) → bit_and row members ≡ 0 → has members b ≡ true → has row b ≡ false
+has_not_any row members b is has_b = first (has row b) (has members b) has_b (sym (has_and row members b) ∙ ap (λ r. has r b) is ∙ has_none b)
+  where
+    first : (a c : Bool) → c ≡ true → (a && c) ≡ false → a ≡ false
+    first true true p q = absurd (cc)
+    first true false p q = absurd (cc)
+    first false c p q = refl
+
+-- one row more is clear
+pub one_more_clear : (rows : List ℕ) (members number i : ℕ) → ((i == number) ≡ false → (b : ℕ) → has members b ≡ true → has (slice_index rows i) b ≡ false)
+    → ((n b : ℕ) → n < i → (n ≡ number → ⊥) → has members b ≡ true → has (slice_index rows n) b ≡ false)
+    → (n b : ℕ) → n < i + 1 → (n ≡ number → ⊥) → has members b ≡ true → has (slice_index rows n) b ≡ false
+one_more_clear rows members number i clear before n b below apart has_b = by_test (n == i) refl
+  where
+    by_test : (t : Bool) → (n == i) ≡ t → has (slice_index rows n) b ≡ false
+    by_test true e =
+        let same : n ≡ i = eqb-true n i e in
+        ap (λ k. has (slice_index rows k) b) same ∙ clear (ne_eqb i number (λ is. apart (same ∙ is))) b has_b
+    by_test false e =
+        let other = eqb-false n i e in
+        before n b (not_last n other below) apart has_b
       where
         not_last : (n : ℕ) → (n ≡ i → ⊥) → n < i + 1 → n < i
         not_last n other below = omega arith

@@ -1,5 +1,5 @@
 //! The rows of a field: for each of its numbers a bit for each member of a group.
-ghost use Rattle.std.specs.Prelude.{◌≡◌, ◌-◌, ◌^◌, ◌<◌, ◌≤◌, ◌==◌, ◌&&◌, ◌||◌, ℕ, not, nat_lt, slice_index};
+ghost use Rattle.std.specs.Prelude.{◌≡◌, ◌-◌, ◌^◌, ◌<◌, ◌≤◌, ◌==◌, ◌&&◌, ◌||◌, ℕ, true, false, not, IfSome, IsTrue, nat_lt, slice_index};
 ghost use Rattle.configuration.specs.Bits.{has};
 
 use configuration::fields::field;
@@ -43,4 +43,41 @@ pub(crate) fn narrow_rows(rows: &mut [u64; 32], bits: u32, member: u32, allowed:
         let is_allowed = field(allowed, number as u32, 1) != 0;
         rows[number] = narrowed(rows[number], member, is_allowed);
     }
+}
+
+/// The first number, of so many bits, whose row has each of some members.
+pub(crate) fn row_of_all(rows: &[u64; 32], bits: u32, members: u64) -> Option<usize>
+    requires bits { bits ≤ 5 }
+    ensures small { IfSome result (λ number. number < 2 ^ bits) }
+    ensures all { IfSome result (λ number. (b : ℕ) → has members b ≡ true → has (slice_index rows.now number) b ≡ true) }
+{
+    for number in 0..1usize << bits {
+        if rows[number] & members == members {
+            return Some(number);
+        }
+    }
+    None
+}
+
+/// Whether a row has none of some members, unless it is one that may.
+fn is_clear(row: u64, members: u64, may: bool) -> bool
+    ensures { IsTrue result → may ≡ false → (b : ℕ) → has members b ≡ true → has row b ≡ false }
+{
+    if may {
+        return true;
+    }
+    row & members == 0
+}
+
+/// Whether no other row than that of a number, of so many bits, has one of some members.
+pub(crate) fn is_alone(rows: &[u64; 32], bits: u32, members: u64, number: usize) -> bool
+    requires bits { bits ≤ 5 }
+    ensures { IsTrue result → (n b : ℕ) → n < 2 ^ bits → (n ≡ number → ⊥) → has members b ≡ true → has (slice_index rows.now n) b ≡ false }
+{
+    for other in 0..1usize << bits {
+        if !is_clear(rows[other], members, other == number) {
+            return false;
+        }
+    }
+    true
 }

@@ -1,12 +1,13 @@
 //! A sieve: which members of a group allow which numbers of one field.
-use crate::rows::{narrow_rows, rows_of_all};
+use crate::likeness::Likeness;
+use crate::rows::{is_alone, narrow_rows, row_of_all, rows_of_all};
 use configuration::config::Config;
 use configuration::fields::field;
 use configuration::value_set::{ValueSet, config_word};
 use std::marker::Model;
 
 /// Which members of a group of 64 allow which numbers of one field.
-#[derive(Drop)]
+#[derive(Clone, Copy)]
 pub(crate) struct Sieve {
     /// The number of the field's word.
     word: u8,
@@ -19,21 +20,26 @@ pub(crate) struct Sieve {
 }
 
 impl Model for Sieve {
-    ghost use Rattle.std.specs.Prelude.{◌<◌, ◌≤◌};
+    ghost use Rattle.std.specs.Prelude.{◌+◌, ◌<◌, ◌≤◌};
     ghost use Rattle.entry_index.specs.Sieves as sieves;
 
     ghost Value = { sieves.Sieve };
 
     ghost view = { λ s. record { word = s.word; at = s.at; bits = s.bits; rows = s.rows } };
 
-    ghost invariant = { λ s. (s.at < 64) × (s.bits ≤ 5) };
+    ghost invariant = { λ s. (s.at < 64) × (s.bits ≤ 5) × (s.at + s.bits ≤ 64) };
+
+    ghost inverse = { λ s. record { word = s.word; at = s.at; bits = s.bits; rows = s.rows } };
 }
 
 impl Sieve {
-    ghost use Rattle.std.specs.Prelude.{◌≡◌, ◌↔◌, ◌<◌, ◌==◌, ◌&&◌, ◌||◌, ℕ, true, not, IsTrue};
+    ghost use Rattle.std.specs.Prelude.{◌≡◌, ◌↔◌, ◌^◌, ◌<◌, ◌==◌, ◌&&◌, ◌||◌, ℕ, true, not, IfSome, IsTrue};
+    ghost use Rattle.std.specs.Bool.{OnTrue, OnFalse};
+    ghost use Rattle.configuration.specs.Bits.{has};
+    ghost use Rattle.configuration.specs.Fields.{field_of};
     ghost use Rattle.configuration.specs.Packed.{Words};
-    ghost use Rattle.configuration.specs.Regions.{is_in};
-    ghost use Rattle.entry_index.specs.Sieves.{IsOfField, passes, row_of};
+    ghost use Rattle.configuration.specs.Regions.{is_in, word_at};
+    ghost use Rattle.entry_index.specs.Sieves.{IsOfField, is_like, passes, row_of};
 
     /// The sieve of a set's field that lets every member pass.
     pub(crate) fn of_field(set: &ValueSet) -> Sieve
@@ -71,5 +77,30 @@ impl Sieve {
             → passes self.new other w ≡ (passes self.old other w && (not (other == member) || is_in set.now w)) }
     {
         narrow_rows(&mut self.rows, self.bits, member, set.allowed());
+    }
+
+    /// The number that each of some members wants in the field, and no other; nothing where they don't want one alone.
+    fn number_of(&self, members: u64) -> Option<u64>
+        ensures small { IfSome result (λ number. number < 2 ^ self.now.bits) }
+        ensures alone { IfSome result (λ number. (member : ℕ) (w : Words) → member < 64 → has members member ≡ true
+            → passes self.now member w ≡ (field_of (word_at w self.now.word) self.now.at self.now.bits == number)) }
+    {
+        let number = row_of_all(&self.rows, self.bits, members)?;
+        if !is_alone(&self.rows, self.bits, members, number) {
+            return None;
+        }
+        Some(number as u64)
+    }
+
+    /// Whether what some members want in the field is wanted of single bits from now on; else nothing changes.
+    pub(crate) fn settle(&self, members: u64, alike: &mut Likeness) -> bool
+        ensures settled { OnTrue result ((member : ℕ) (w : Words) → member < 64 → has members member ≡ true
+            → is_like alike.new w ≡ (is_like alike.old w && passes self.now member w)) }
+        ensures kept { OnFalse result (alike.new ≡ alike.old) }
+    {
+        match self.number_of(members) {
+            Some(number) => alike.fix(self.word, self.at, self.bits, number),
+            None => false,
+        }
     }
 }

@@ -5,6 +5,7 @@ use configuration::config::Config;
 use configuration::value_set::{ValueSet, config_word};
 use std::alloc::{AllocError, Global};
 use std::marker::Model;
+use std::slice;
 
 /// Some lists of value sets, numbered from 0: which of them have a configuration is asked of 64 at once. This profile's own.
 #[derive(Drop)]
@@ -27,10 +28,10 @@ impl Model for Sieves {
 }
 
 impl Sieves {
-    ghost use Rattle.std.specs.Prelude.{◌≡◌, ◌<◌, ◌&&◌, ℕ, nat_lt, false, IfOk, OnOk, OnErr, IfSome, IfNone};
+    ghost use Rattle.std.specs.Prelude.{◌≡◌, ◌<◌, ◌&&◌, ℕ, nat_lt, length, false, IfOk, OnOk, OnErr, IfSome, IfNone};
     ghost use Rattle.configuration.specs.Packed.{Words, IsPacked};
     ghost use Rattle.configuration.specs.Regions.{is_in};
-    ghost use Rattle.entry_index.specs.Sieves.{IsFirstLeft, is_left};
+    ghost use Rattle.entry_index.specs.Sieves.{IsFirstLeft, IsFirstLeftForEach, is_left, is_left_for_each};
 
     /// So many lists with no set: each is left for every configuration. The only error is running out of memory.
     pub fn new(alloc: Global, count: usize) -> Result<Sieves, AllocError>
@@ -58,6 +59,31 @@ impl Sieves {
         Ok(())
     }
 
+    /// Wants of single bits what all lists of a group want there, as it is asked faster and takes less memory. No list is left for
+    /// other configurations than before. The only error is running out of memory.
+    pub fn settle(&mut self, alloc: Global) -> Result<(), AllocError>
+        ensures left { (number : ℕ) (w : Words) → is_left self.new number w ≡ is_left self.old number w }
+        ensures count { self.new.count ≡ self.old.count }
+    {
+        for place in 0..self.groups.len() {
+            self.settle_group(alloc, place)?;
+        }
+        Ok(())
+    }
+
+    /// The same in the group at a place.
+    fn settle_group(&mut self, alloc: Global, place: usize) -> Result<(), AllocError>
+        requires { place < length self.old.groups }
+        ensures left { (number : ℕ) (w : Words) → is_left self.new number w ≡ is_left self.old number w }
+        ensures count { self.new.count ≡ self.old.count }
+        ensures groups { length self.new.groups ≡ length self.old.groups }
+    {
+        let members = first_members(self.count - 64 * place);
+        let group = &mut self.groups[place];
+        group.settle(alloc, members)?;
+        Ok(())
+    }
+
     /// The lowest number of a list of which each set has a configuration; nothing where there is none.
     pub fn first_left(&self, config: &Config) -> Option<usize>
         ensures first { IfSome result (IsFirstLeft self.now config.now) }
@@ -66,8 +92,16 @@ impl Sieves {
     {
         // Where there is no list no word is read; one tells that all are packed.
         let _lines = config_word(config, 0);
+        self.first_left_of_all(slice::from_ref(config))
+    }
+
+    /// The lowest number of a list of which each set has each of some configurations; nothing where there is none.
+    pub fn first_left_of_all(&self, configs: &[Config]) -> Option<usize>
+        ensures first { IfSome result (IsFirstLeftForEach self.now configs.now) }
+        ensures none { IfNone result ((number : ℕ) → is_left_for_each self.now configs.now number ≡ false) }
+    {
         for (place, group) in self.groups.iter().enumerate() {
-            let left = group.left_of(first_members(self.count - 64 * place), config);
+            let left = group.left_of_each(first_members(self.count - 64 * place), configs);
             if left != 0 {
                 return Some(64 * place + left.trailing_zeros() as usize);
             }

@@ -7,3 +7,4 @@ pub mod SievedLemmas
 pub mod ListsAt
 pub mod EachLemmas
 pub mod WithAllLemmas
+pub mod LeftForEach

@@ -109,9 +109,10 @@ one_sieved entries places old new i place entry at_i at_place here others before
           λ both. others number w apart ∙ were.1 (both.0, λ below. both.1 (omega arith)),
         )
 
-pub all_sieved : (entries : List Listed) (places : List ℕ) (sieves : Sieves) (i : ℕ) → length places ≤ i
+pub all_sieved : (entries : List Listed) (places : List ℕ) (sieves : Sieves) (i : ℕ) → length places ≤ i → sieves.count ≡ length places
     → AreSievedBelow entries places sieves i → AreSieved entries places sieves
-all_sieved entries places sieves i all are = record {
+all_sieved entries places sieves i all count are = record {
+  count = count;
   left = λ number w packed.
       let is = are.left number w packed in (
         λ left. (let both = is.0 left in both.1 (omega (arith, both.0))),
@@ -119,6 +120,16 @@ all_sieved entries places sieves i all are = record {
             let within = slice_get_within places number allows.0 allows.1.0 in
             is.1 (within, λ below. allows),
       );
+}
+
+-- sieves that leave the same lists
+pub same_sieved : (entries : List Listed) (places : List ℕ) (old new : Sieves) → ((number : ℕ) (w : Words) → is_left new number w ≡ is_left old number w)
+    → new.count ≡ old.count → AreSieved entries places old → AreSieved entries places new
+same_sieved entries places old new same count are = record {
+  count = count ∙ are.count;
+  left = λ number w packed.
+      let is = are.left number w packed in
+      (λ left. is.0 (sym (same number w) ∙ left), λ allows. same number w ∙ is.1 allows);
 }
 
 -- ---- the sieves of the states, one by one

@@ -15,8 +15,9 @@ AllowsAt entries places c number =
     (place : ℕ) × ((slice_get places number ≡ Some place)
     × ((entry : Listed) × ((slice_get entries place ≡ Some entry) × All (Allows c) entry.components)))
 
--- of the entries at some places those are left that allow the values
+-- there is a list for each of the entries at some places, and those are left that allow the values
 pub record AreSieved (entries : List Listed) (places : List ℕ) (sieves : Sieves) : Type 0 where
+  pub count : sieves.count ≡ length places
   pub left : (number : ℕ) (w : Words) → IsPacked w
       → IsTrue (is_left sieves number w) ↔ AllowsAt entries places (configuration_of w) number
 

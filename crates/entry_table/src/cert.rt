@@ -1,9 +1,10 @@
 //! Certificates.
-ghost use Rattle.std.specs.Prelude.{◌≡◌, ◌<◌, ◌↔◌, ◌∷◌, ◌++◌, [], ℕ, IsTrue, IfOk, IfSome, IfNone, List, OnOk, Some, Contains, length, map};
+ghost use Rattle.std.specs.Prelude.{◌≡◌, ◌<◌, ◌↔◌, ◌∷◌, ◌++◌, [], ℕ, false, IsTrue, IfOk, IfSome, IfNone, List, OnOk, Some, Contains, length, map};
 ghost use Rattle.std.specs.List.{slice_get, slice_index_or};
 ghost use Rattle.mg_model.specs.Configuration.{IsWellFormed};
 ghost use Rattle.mg_model.specs.Entries.{IsCovered};
 ghost use Rattle.configuration.specs.Config.{configuration_of};
+ghost use Rattle.configuration.specs.Packed.{Words, IsPacked};
 ghost use Rattle.entry_table.specs.Index.{IsIndex, places_of};
 ghost use Rattle.entry_table.specs.Places.{PlaceIncludes};
 ghost use Rattle.entry_table.specs.Sieved.{AreSieved};
@@ -13,6 +14,7 @@ ghost use Rattle.entry_table.specs.WithAll.{AllowsEach, IsFirstWithAll, PlaceAll
 use crate::entry::Entry;
 use crate::sieved::all_sieves;
 use configuration::config::Config;
+use configuration::value_set::config_word;
 use entry_index::Sieves;
 use std::alloc::{AllocError, Global};
 use std::marker::Model;
@@ -130,7 +132,16 @@ impl Cert {
         ensures first { IfSome result (λ place. (other : ℕ) → other < place → PlaceAllowsEach self.now state configs.now other → ⊥) }
         ensures none { IfNone result ((place : ℕ) → PlaceAllowsEach self.now state configs.now place → ⊥) }
     {
-        self.first_with_all_in_turn(state, configs)
+        if self.of_state(state).len() <= FEW {
+            return self.first_with_all_in_turn(state, configs);
+        }
+        if !are_of_state(configs, state) {
+            return None;
+        }
+        match self.sieves_of(state).first_left_of_all(configs) {
+            Some(number) => Some(self.place_at(state, number)),
+            None => None,
+        }
     }
 
     /// The place of the first entry of a state that allows each of some configurations; each entry is asked.
@@ -190,6 +201,30 @@ impl Cert {
         let places = &self.places[state as usize];
         places[number]
     }
+}
+
+/// Whether some configurations are of a state.
+fn are_of_state(configs: &[Config], state: u8) -> bool
+    ensures state { IsTrue result → (c : Words) → Contains configs.now c → (configuration_of c).state ≡ state }
+    ensures packed { IsTrue result → (c : Words) → Contains configs.now c → IsPacked c }
+    ensures others { result ≡ false → ((c : Words) → Contains configs.now c → (configuration_of c).state ≡ state) → ⊥ }
+{
+    for config in configs {
+        if !is_of_state(config, state) {
+            return false;
+        }
+    }
+    true
+}
+
+/// Whether a configuration is of a state.
+fn is_of_state(config: &Config, state: u8) -> bool
+    ensures state { IsTrue result ↔ ((configuration_of config.now).state ≡ state) }
+    ensures packed { IsPacked config.now }
+{
+    // The state is no word of its own; one tells that all are packed.
+    let _lines = config_word(config, 0);
+    config.state() == state
 }
 
 /// No places yet, for each state.

@@ -37,6 +37,7 @@ fn sieves_for(alloc: Global, entries: &[Entry], places: &[usize]) -> Result<Siev
     for (number, place) in places.iter().enumerate() {
         narrow_by(&mut sieves, number, &entries[*place])?;
     }
+    sieves.settle(alloc)?;
     Ok(sieves)
 }
 

@@ -1,13 +1,9 @@
 -- One row more is narrowed.
-use Rattle.std.proofs.Common.{ℕ, ◌*◌, ◌%◌, ◌^◌, ◌<◌, ◌≤◌, ◌∙◌, ◌==◌, ◌&&◌, ◌||◌, not, nat_eq, slice_index, ap, arith}
+use Rattle.std.proofs.Common.{◌∙◌, ◌==◌, ◌&&◌, ◌||◌, not, nat_eq, slice_index, ap, arith}
 use Rattle.std.proofs.lemmas.Nat.{one_shl}
 use Rattle.configuration.specs.Bits.{has}
-use Rattle.configuration.proofs.FieldLemmas.{power_le}
-use Rattle.entry_index.proofs.RowLemmas.{one_more}
+use Rattle.entry_index.proofs.RowLemmas.{below_32, one_more}
 use Rattle.entry_index.proofs.rows.narrow_rows.Goals as goal
-
-below_32 : (bits i : ℕ) → bits ≤ 5 → i < 1 * 2 ^ bits % 2 ^ 64 → i < 32
-below_32 bits i few below = omega (arith, one_shl bits 64 (omega arith), power_le bits 5 few)
 
 pub field-is_allowed-requires-clause-place : goal.field-is_allowed-requires-clause-place
 field-is_allowed-requires-clause-place c =

@@ -2,7 +2,7 @@
 use Rattle.std.proofs.Common.{◌∙◌, length, refl}
 use Rattle.std.specs.List.{slice_index_or}
 use Rattle.std.proofs.lemmas.Option.{slice_get-get_or, slice_get_read}
-use Rattle.entry_table.proofs.SievedLemmas.{one_sieved, all_sieved}
+use Rattle.entry_table.proofs.SievedLemmas.{one_sieved, all_sieved, same_sieved}
 use Rattle.entry_table.proofs.sieved.sieves_for.Goals as goal
 
 pub loop-number-preserved : goal.loop-number-preserved
@@ -22,4 +22,7 @@ loop-number-preserved c =
 
 pub returns : goal.returns
 returns c =
-    all_sieved c.args.entries.now c.args.places.now c.loop-number.sieves c.loop-number.number c.loop-number-test.false c.loop-number.invariant.sieved
+    let entries = c.args.entries.now in
+    let places = c.args.places.now in
+    same_sieved entries places c.loop-number.sieves c.settle.new.self c.settle.ensures.left c.settle.ensures.count
+    (all_sieved entries places c.loop-number.sieves c.loop-number.number c.loop-number-test.false c.loop-number.invariant.count c.loop-number.invariant.sieved)

@@ -1,49 +1,28 @@
--- A sieve more is asked; at the end, all were.
-use Rattle.std.proofs.Common.{◌≡◌, ◌∙◌, ◌&&◌, ◌+◌, ◌<◌, ◌≤◌, List, Bool, true, false, length, drop, refl, subst, ap, sym}
-use Rattle.std.specs.List.{slice_index_or}
-use Rattle.std.proofs.lemmas.List.{drop_all}
+-- None has what each wants of single bits, or the sieves tell.
+use Rattle.std.proofs.Common.{◌≡◌, ◌∙◌, ◌&&◌, Bool, true, false, ap, refl, sym}
 use Rattle.configuration.specs.Bits.{has}
 use Rattle.configuration.proofs.BitLemmas.{has_none}
-use Rattle.entry_index.specs.Sieves.{Sieve, passes_all}
-use Rattle.entry_index.proofs.SieveLemmas.{sifted}
+use Rattle.entry_index.specs.Sieves.{Group, is_like, passes_sieves}
 use Rattle.entry_index.proofs.group.Group.left_of.Goals as goal
 
-nothing : (a b : Bool) → a ≡ false → a ≡ (a && b)
-nothing true b is = absurd (cc)
-nothing false b is = refl
+none_of : (a p : Bool) → false ≡ (a && (false && p))
+none_of true p = refl
+none_of false p = refl
 
-all_of_it : (a b : Bool) → b ≡ true → a ≡ (a && b)
-all_of_it true b is = sym is
-all_of_it false b is = refl
-
-pub loop-sieve-preserved : goal.loop-sieve-preserved
-loop-sieve-preserved c member =
-    let sieves = c.args.self.now in
-    let i = c.loop-sieve.sieve-index in
-    let same : c.deref-sieve-items.result.now ≡ sieves = c.deref-sieve-items.ensures.value ∙ c.self.view_is in
-    sifted sieves i c.sieve-item.result c.loop-sieve.left c.row-left.result member c.args.config.now
-    (subst (λ (xs : List Sieve). i < length xs) same c.loop-sieve-test.true)
-    (c.sieve-item.is ∙ ap (λ (xs : List Sieve). slice_index_or xs i c.sieve-item.result) same) c.row-left.ensures
-    ∙ c.loop-sieve.invariant member
-
-pub returns-then-left-eq0 : goal.returns-then-left-eq0
-returns-then-left-eq0 c member below =
-    let sieves = c.args.self.now in
-    let i = c.loop-sieve.sieve-index in
-    let rest = passes_all (drop (i + 1) sieves) member c.args.config.now in
-    let same : c.deref-sieve-items.result.now ≡ sieves = c.deref-sieve-items.ensures.value ∙ c.self.view_is in
-    nothing (has 0 member) rest (has_none member) ∙ ap (λ row. has row member && rest) (sym c.if-left-eq0.true)
-    ∙ sifted sieves i c.sieve-item.result c.loop-sieve.left c.row-left.result member c.args.config.now
-    (subst (λ (xs : List Sieve). i < length xs) same c.loop-sieve-test.true)
-    (c.sieve-item.is ∙ ap (λ (xs : List Sieve). slice_index_or xs i c.sieve-item.result) same) c.row-left.ensures
-    ∙ c.loop-sieve.invariant member
+pub returns-then-not-has : goal.returns-then-not-has
+returns-then-not-has c member below =
+    let w = c.args.config.now in
+    let group = c.args.self.now in
+    let a = has c.args.members member in
+    let p = passes_sieves group.sieves member w in
+    let unlike = ap (λ (g : Group). is_like g.alike w) (sym c.self.view_is) ∙ sym c.has.ensures ∙ c.if-not-has.true in
+    has_none member ∙ none_of a p ∙ ap (λ b. a && (b && p)) (sym unlike)
 
 pub returns : goal.returns
 returns c member below =
-    let sieves = c.args.self.now in
-    let i = c.loop-sieve.sieve-index in
-    let same : c.deref-sieve-items.result.now ≡ sieves = c.deref-sieve-items.ensures.value ∙ c.self.view_is in
-    let none = drop_all i sieves (subst (λ (xs : List Sieve). length xs ≤ i) same c.loop-sieve-test.false) in
-    all_of_it (has c.loop-sieve.left member) (passes_all (drop i sieves) member c.args.config.now)
-    (ap (λ (xs : List Sieve). passes_all xs member c.args.config.now) none)
-    ∙ c.loop-sieve.invariant member
+    let w = c.args.config.now in
+    let group = c.args.self.now in
+    let a = has c.args.members member in
+    let p = passes_sieves group.sieves member w in
+    let like = ap (λ (g : Group). is_like g.alike w) (sym c.self.view_is) ∙ sym c.has.ensures ∙ c.if-not-has.false in
+    c.left_by_sieves.ensures member below ∙ ap (λ b. a && (b && p)) (sym like)

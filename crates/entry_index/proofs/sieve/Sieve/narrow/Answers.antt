@@ -1,9 +1,8 @@
 -- In the row of the field's number the member is left where the set has the number.
-use Rattle.std.proofs.Common.{◌∙◌, ◌<◌, ◌==◌, ◌&&◌, ◌||◌, not, slice_index, ap, arith}
+use Rattle.std.proofs.Common.{◌∙◌, ◌==◌, ◌&&◌, ◌||◌, not, slice_index, ap}
 use Rattle.configuration.specs.Bits.{has}
 use Rattle.configuration.specs.Fields.{field_of}
 use Rattle.configuration.specs.Regions.{is_in, word_at}
-use Rattle.configuration.proofs.FieldLemmas.{power_le}
 use Rattle.configuration.proofs.WordLemmas.{small}
 use Rattle.entry_index.specs.Sieves.{Sieve, passes}
 use Rattle.entry_index.proofs.sieve.Sieve.narrow.Goals as goal

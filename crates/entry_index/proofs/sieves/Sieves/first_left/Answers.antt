@@ -1,41 +1,11 @@
--- The lists of one group more are asked; at the end, all were.
-use Rattle.std.proofs.Common.{◌≡◌, ◌∙◌, ◌*◌, ◌-◌, ◌<◌, ◌&&◌, [], List, length, nat_lt, ap, subst, arith}
-use Rattle.std.specs.List.{slice_index_or}
-use Rattle.std.proofs.lemmas.List.{get_or_default}
-use Rattle.entry_index.specs.Sieves.{Sieve, Sieves, passes_all}
-use Rattle.entry_index.proofs.LeftLemmas.{AreLeft, first_found, none_more, none_at_all}
+-- One configuration is asked of all.
+use Rattle.entry_index.proofs.LeftLemmas.{first_for_one, none_for_one}
 use Rattle.entry_index.proofs.sieves.Sieves.first_left.Goals as goal
 
-pub returns-then-left-ne0-clause-first : goal.returns-then-left-ne0-clause-first
-returns-then-left-ne0-clause-first c =
-    let w = c.args.config.now in
-    let i = c.loop-place.place in
-    let items = c.self.inside.groups.items in
-    let same : c.deref-group-items.result.now ≡ items = c.deref-group-items.ensures.value in
-    let group : c.group-item.result ≡ slice_index_or items i [] =
-    c.group-item.is ∙ ap (λ (xs : List (List Sieve)). slice_index_or xs i c.group-item.result) same
-    ∙ get_or_default items i c.group-item.result [] (subst (λ (xs : List (List Sieve)). i < length xs) same c.loop-place-test.true) in
-    first_found c.args.self.now w i c.left_of-left.result c.if-left-ne0.true c.left_of-left.type_inv
-    (subst (λ (s : Sieves). AreLeft s w i c.left_of-left.result) c.self.view_is
-    (λ b below. c.left_of-left.ensures b below ∙ ap (λ t. t && passes_all c.group-item.result b w) (c.first_members.ensures b below)
-    ∙ ap (λ (g : List Sieve). nat_lt b (c.self.inside.count - 64 * i) && passes_all g b w) group)) c.loop-place.invariant
-
-pub loop-place-preserved : goal.loop-place-preserved
-loop-place-preserved c =
-    let w = c.args.config.now in
-    let i = c.loop-place.place in
-    let items = c.self.inside.groups.items in
-    let same : c.deref-group-items.result.now ≡ items = c.deref-group-items.ensures.value in
-    let group : c.group-item.result ≡ slice_index_or items i [] =
-    c.group-item.is ∙ ap (λ (xs : List (List Sieve)). slice_index_or xs i c.group-item.result) same
-    ∙ get_or_default items i c.group-item.result [] (subst (λ (xs : List (List Sieve)). i < length xs) same c.loop-place-test.true) in
-    none_more c.args.self.now w i c.left_of-left.result c.if-left-ne0.false
-    (subst (λ (s : Sieves). AreLeft s w i c.left_of-left.result) c.self.view_is
-    (λ b below. c.left_of-left.ensures b below ∙ ap (λ t. t && passes_all c.group-item.result b w) (c.first_members.ensures b below)
-    ∙ ap (λ (g : List Sieve). nat_lt b (c.self.inside.count - 64 * i) && passes_all g b w) group)) c.loop-place.invariant
+pub returns-clause-first : goal.returns-clause-first
+returns-clause-first c =
+    first_for_one c.args.self.now c.args.config.now c.from_ref.result.now c.first_left_of_all.result c.from_ref.ensures.value c.first_left_of_all.ensures.first
 
 pub returns-clause-none : goal.returns-clause-none
 returns-clause-none c =
-    let count = ap (λ (s : Sieves). s.count) c.self.view_is in
-    let long = ap (λ (xs : List (List Sieve)). length xs) c.deref-group-items.ensures.value in
-    none_at_all c.args.self.now c.args.config.now c.loop-place.place (omega (arith, count, long, c.self.invariant.0, c.loop-place-test.false)) c.loop-place.invariant
+    none_for_one c.args.self.now c.args.config.now c.from_ref.result.now c.first_left_of_all.result c.from_ref.ensures.value c.first_left_of_all.ensures.none
