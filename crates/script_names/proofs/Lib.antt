@@ -1,1 +1,2 @@
 pub mod RepeatedNames
+pub mod FoundPlaces

@@ -1,1 +1,2 @@
 pub mod DeclaredNames
+pub mod Places

@@ -1,7 +1,10 @@
-use Rattle.std.proofs.Common.{List, ℕ, Bor, sym, ◌∙◌, ap, not}
-use Rattle.std.specs.Str.{bytes_eq}
-use Rattle.typed_values.proofs.MappedLists.{list_any-mapped}
+-- The new name has the last place.
+use Rattle.std.proofs.Common.{ℕ, List, [], ◌∷◌, ◌++◌, length, Bor, sym, ap, ◌∙◌}
+use Rattle.script_names.proofs.FoundPlaces.{placed_more}
 use Rattle.script_names.proofs.names.Names.add.Goals as goal
 
-pub returns-clause-added : goal.returns-clause-added
-returns-clause-added c = rw (← c.self.view_is) (c.in_ok-insert.ensures.added ∙ ap not (sym (list_any-mapped (λ other. bytes_eq c.args.name.now other) (λ (k : Bor (List ℕ)). k.now) _)))
+pub invariant_of-self-2 : goal.invariant_of-self-2
+invariant_of-self-2 c =
+    placed_more c.self.inside.texts.items c.push.new.self.items c.args.name c.self.inside.places c.insert.new.self (length c.as_slice-place.result.now)
+    c.self.invariant (rw c.self.view_is (sym c.has.ensures ∙ c.if-has.false)) (ap (λ (names : List (Bor (List ℕ))). length names) c.as_slice-place.ensures.value)
+    c.in_ok-insert.ensures.updates (c.in_ok-push.ensures.items ∙ ap (λ (names : List (Bor (List ℕ))). names ++ c.args.name ∷ []) c.in_ok-reserve.ensures.items)

@@ -1,7 +1,8 @@
-use Rattle.std.proofs.Common.{List, ℕ, Bor, sym, ◌∙◌}
-use Rattle.std.specs.Str.{bytes_eq}
-use Rattle.typed_values.proofs.MappedLists.{list_any-mapped}
+-- A name is among the names exactly where it has a place.
+use Rattle.std.proofs.Common.{ℕ, Option, ap, ◌∙◌}
+use Rattle.std.specs.Prelude.{is_some}
+use Rattle.script_names.proofs.FoundPlaces.{placed}
 use Rattle.script_names.proofs.names.Names.has.Goals as goal
 
 pub returns : goal.returns
-returns c = rw (← c.self.view_is) (c.contains.ensures ∙ sym (list_any-mapped (λ other. bytes_eq c.args.name.now other) (λ (k : Bor (List ℕ)). k.now) _))
+returns c = rw (← c.self.view_is) (c.contains_key.ensures ∙ (ap (λ (place : Option ℕ). is_some place) (c.self.invariant c.args.name.now) ∙ placed c.args.name.now _))

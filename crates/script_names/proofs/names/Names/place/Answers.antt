@@ -1,7 +1,6 @@
-use Rattle.std.proofs.Common.{List, ℕ, Bor, sym, ◌∙◌}
-use Rattle.std.specs.Str.{bytes_eq}
-use Rattle.script_table.proofs.MappedPlaces.{position-mapped}
+-- The table finds a name's place.
+use Rattle.std.proofs.Common.{◌∙◌}
 use Rattle.script_names.proofs.names.Names.place.Goals as goal
 
 pub returns : goal.returns
-returns c = rw (← c.self.view_is) (c.get_index_of.ensures.index ∙ sym (position-mapped (λ other. bytes_eq c.args.name.now other) (λ (k : Bor (List ℕ)). k.now) _))
+returns c = rw (← c.self.view_is) (c.copied.ensures ∙ (c.get.ensures.value ∙ c.self.invariant c.args.name.now))
