@@ -1,5 +1,6 @@
--- Two runs after each other are a run, and so are all pieces; one more piece goes on where the last one ends.
-use Rattle.std.proofs.Common.{◌≡◌, ◌∙◌, ℕ, ◌+◌, ◌-◌, ◌*◌, ◌^◌, ◌<◌, ◌≤◌, List, [], ◌∷◌, ◌++◌, length, drop, slice_index_or, min, inl, inr, refl, sym, subst, ap, arith}
+-- Two runs after each other are a run; one more piece goes on where the last one ends; what is walked over of pieces stands in their order.
+use Rattle.std.proofs.Common.{◌≡◌, ◌∙◌, ℕ, ◌+◌, ◌-◌, ◌*◌, ◌^◌, ◌≤◌, List, [], ◌∷◌, ◌++◌, drop, min, inl, inr, refl, sym, subst, arith}
+use Rattle.std.specs.List.{AllZip}
 use Rattle.std.proofs.Math.Nat.{min-eq_left}
 use Rattle.std.proofs.lemmas.Bool.{cases_lt}
 use Rattle.mg_model.specs.Script.{Script}
@@ -7,10 +8,9 @@ use Rattle.mg_model.specs.Entries.{Entry, HavePoints}
 use Rattle.mg_model.specs.declared.faults.Fault.{Fault}
 use Rattle.closure.specs.Runs.{IsFirstInRun, IsOfRun, RunHasPoints, RunIsKept}
 use Rattle.parcheck.specs.declared.pieces.Piece.{Piece}
-use Rattle.closure.specs.declared.first_fault.Finding.{Finding}
 use Rattle.closure.specs.declared.first_fault.Finding.TheVariants as finding
-use Rattle.parcheck.specs.Pieces.{AreRuns, IsOfBoth, IsOfPieces}
-use Rattle.configuration.proofs.NumberLemmas.{at}
+use Rattle.parcheck.specs.declared.walked.Walked.{Walked}
+use Rattle.parcheck.specs.Pieces.{AreRuns, AreWalked, IsOfPiece}
 
 module _ (script : Script) (entries : List Entry) (a b c : ℕ) where
   pub both_kept : RunIsKept script entries a b → RunIsKept script entries b c → RunIsKept script entries a c
@@ -64,11 +64,6 @@ module _ (script : Script) (entries : List Entry) (a b c : ℕ) where
       subst (λ (n : ℕ). IsOfRun script entries a c (finding.Kept n)) (sym exact)
       (both_kept one.0 another.0, λ within. (both_counted points more (one.1 rise).0 (another.1 more_rise).0, few))
 
--- a list of runs rises
-pub runs_rise : (first : ℕ) (pieces : List Piece) (last : ℕ) → AreRuns first pieces last → first ≤ last
-runs_rise first [] last same = omega (arith, same)
-runs_rise first (piece ∷ pieces) last runs = omega (arith, runs.1, runs_rise piece.last pieces last runs.2)
-
 -- one more piece goes on where the last one ends
 pub one_more_run : (first : ℕ) (pieces : List Piece) (last : ℕ) (piece : Piece) → AreRuns first pieces last → piece.first ≡ last
     → last ≤ piece.last → AreRuns first (pieces ++ piece ∷ []) piece.last
@@ -76,14 +71,7 @@ one_more_run first [] last piece same from rise = (from ∙ sym same, omega (ari
 one_more_run first (other ∷ pieces) last piece runs from rise =
     (runs.0, runs.1, one_more_run other.last pieces last piece runs.2 from rise)
 
--- ---- what is found of them
-
--- a list from one place earlier on
-pub from_before : (findings : List Finding) (n : ℕ) (found : Finding) → 0 < n → n ≤ length findings
-    → found ≡ slice_index_or findings (n - 1) found → drop (n - 1) findings ≡ found ∷ drop n findings
-from_before findings n found some within is =
-    let next : (n - 1) + 1 ≡ n = omega (arith, some) in
-    at findings (n - 1) found (omega (arith, some, within)) is ∙ ap (λ (k : ℕ). found ∷ drop k findings) next
+-- ---- what is walked over
 
 module _ (script : Script) (entries : List Entry) where
   pub none_of_none : (first last : ℕ) → first ≡ last → IsOfRun script entries first last (finding.Kept 0)
@@ -95,14 +83,20 @@ module _ (script : Script) (entries : List Entry) where
     ),
   )
 
-pub none_found : IsOfPieces [] (finding.Kept 0)
-none_found script entries [] first last small same are = none_of_none script entries first last same
-none_found script entries (piece ∷ pieces) first last small runs are = absurd are
+  -- runs that are walked over rise
+  pub walked_rise : (first : ℕ) (all : List Walked) (last : ℕ) → AreWalked script entries first all last → first ≤ last
+  walked_rise first [] last rise = rise
+  walked_rise first (walked ∷ more) last are = omega (arith, are.0, are.1, walked_rise walked.last more last are.3)
 
-pub one_more_found : (found rest both : Finding) (findings : List Finding) → IsOfBoth found rest both → IsOfPieces findings rest
-    → IsOfPieces (found ∷ findings) both
-one_more_found found rest both findings joins earlier script entries [] first last small same are = absurd are
-one_more_found found rest both findings joins earlier script entries (piece ∷ pieces) first last small runs are =
-    joins script entries first piece.last last runs.1 (runs_rise piece.last pieces last runs.2) small
-    (subst (λ from. IsOfRun script entries from piece.last found) runs.0 are.0)
-    (earlier script entries pieces piece.last last small runs.2 are.1)
+  -- what is walked over of pieces stands in file order, as they do
+  pub all_walked : (start first : ℕ) (pieces : List Piece) (last : ℕ) (all : List Walked) → start ≤ first → AreRuns first pieces last
+      → AllZip (IsOfPiece script entries) pieces all → AreWalked script entries start all last
+  all_walked start first [] last [] rise runs each = omega (arith, rise, runs)
+  all_walked start first [] last (walked ∷ more) rise runs each = absurd each
+  all_walked start first (piece ∷ pieces) last [] rise runs each = absurd each
+  all_walked start first (piece ∷ pieces) last (walked ∷ more) rise runs each = (
+    omega (arith, rise, each.0.from, runs.0),
+    each.0.rises,
+    each.0.found,
+    all_walked walked.last piece.last pieces last more (each.0.within (omega (arith, runs.0, runs.1))) runs.2 each.1,
+  )

@@ -1,13 +1,15 @@
-//! The first broken obligation of a certificate, or how many points it has, found piece by piece.
+//! The first broken obligation of a certificate, or how many points it has, found piece by piece. A piece is left where an earlier one is broken.
 ghost use Rattle.std.specs.Prelude.{◌≡◌, IfOk, Option};
 ghost use Rattle.mg_model.specs.declared.faults.Fault.{Fault};
 ghost use Rattle.closure.specs.Answer.{IsAnswer, IsFinding};
-ghost use Rattle.closure.specs.Runs.{IsOfRun};
 ghost use Rattle.closure.specs.declared.first_fault.Finding.{Finding};
+ghost use Rattle.parcheck.specs.Pieces.{IsOfPiece};
 
+use crate::first_broken::FirstBroken;
 use crate::in_order::in_order;
 use crate::pieces::{Piece, pieces_of};
-use closure::first_fault::{Finding, check_run, whole_fault};
+use crate::walked::{Walked, walk_piece};
+use closure::first_fault::{Finding, whole_fault};
 use entry_table::Cert;
 use mg_model::faults::Fault;
 use rayon::prelude::*;
@@ -31,17 +33,18 @@ pub fn check_par(
         return Ok(Finding::Broken(fault));
     }
     let pieces = pieces_of(alloc, cert, pieces)?;
-    let found: Vec<Finding> = pieces
+    let broken = FirstBroken::new();
+    let walked: Vec<Walked> = pieces
         .as_slice()
         .par_iter()
         .with_min_len(1)
         .map(
-            |piece: &Piece| -> Finding
-                ensures { IsOfRun script.entry.now cert.entry.now piece.now.first piece.now.last result }
-            { check_run(script, cert, piece.first, piece.last) },
+            |piece: &Piece| -> Walked
+                ensures { IsOfPiece script.entry.now cert.entry.now piece.now result }
+            { walk_piece(script, cert, piece, &broken) },
         )
         .collect(rt, alloc)?;
-    Ok(in_order(found.as_slice()))
+    Ok(in_order(script, cert, walked.as_slice()))
 }
 
 /// The first obligation that a certificate breaks, from so many pieces, and `None` where none is broken: what the check in one answers. The

@@ -1,12 +1,12 @@
--- The run has come so far, and no farther than the entries go.
-use Rattle.std.proofs.Common.{◌≤◌, ◌-◌, length}
+-- The run has come so far, and no farther than it may.
+use Rattle.std.proofs.Common.{◌≤◌, ◌-◌}
 use Rattle.parcheck.proofs.pieces.end_of.Given as goal
 
-abbrev pub invariant-loop-last : goal.invariant-loop-last
-invariant-loop-last l = record {
-  from : l.first ≤ l.last;
-  within : l.last ≤ length l.cert;
+abbrev pub invariant-loop-end : goal.invariant-loop-end
+invariant-loop-end l = record {
+  from : l.first ≤ l.end;
+  within : l.end ≤ l.last;
 }
 
-abbrev pub decreases-loop-last : goal.decreases-loop-last
-decreases-loop-last l = length l.cert - l.last
+abbrev pub decreases-loop-end : goal.decreases-loop-end
+decreases-loop-end l = l.last - l.end
