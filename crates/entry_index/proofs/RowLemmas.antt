@@ -23,16 +23,16 @@ has_first n b h = ap (λ m. has (m - 1) b) (one_shl n 64 h) ∙ has_bit (2 ^ n -
     by_test false e = ap flag_at (bit_at_ones_above n b (grind (arith, common_steps)))
 
 -- some rows are narrowed, and the rest are as they were
-pub record AreNarrowedBelow (rows first : List ℕ) (member allowed i : ℕ) : Type 0 where
+pub record AreNarrowedBelow (rows first : List ℕ) (members allowed i : ℕ) : Type 0 where
   pub long : length rows ≡ 32
   pub done : (n b : ℕ) → n < i → b < 64
-      → has (slice_index rows n) b ≡ (has (slice_index first n) b && (not (b == member) || has allowed n))
+      → has (slice_index rows n) b ≡ (has (slice_index first n) b && (not (has members b) || has allowed n))
   pub rest : (n : ℕ) → i ≤ n → slice_index rows n ≡ slice_index first n
 
-pub one_more : (rows first : List ℕ) (member allowed i row : ℕ) → i < 32
-    → ((b : ℕ) → b < 64 → has row b ≡ (has (slice_index rows i) b && (not (b == member) || has allowed i)))
-    → AreNarrowedBelow rows first member allowed i → AreNarrowedBelow (slice_set rows i row) first member allowed (i + 1)
-one_more rows first member allowed i row below is before = record {
+pub one_more : (rows first : List ℕ) (members allowed i row : ℕ) → i < 32
+    → ((b : ℕ) → b < 64 → has row b ≡ (has (slice_index rows i) b && (not (has members b) || has allowed i)))
+    → AreNarrowedBelow rows first members allowed i → AreNarrowedBelow (slice_set rows i row) first members allowed (i + 1)
+one_more rows first members allowed i row below is before = record {
   long = length-set rows i row ∙ before.long;
   done = λ n b under small. by_test n b under small (n == i) refl;
   rest = λ n above.
@@ -44,12 +44,12 @@ one_more rows first member allowed i row below is before = record {
     within = omega (arith, before.long)
 
     by_test : (n b : ℕ) → n < i + 1 → b < 64 → (t : Bool) → (n == i) ≡ t
-        → has (slice_index (slice_set rows i row) n) b ≡ (has (slice_index first n) b && (not (b == member) || has allowed n))
+        → has (slice_index (slice_set rows i row) n) b ≡ (has (slice_index first n) b && (not (has members b) || has allowed n))
     by_test n b under small true e =
         let same : n ≡ i = eqb-true n i e in
         ap (λ k. has (slice_index (slice_set rows i row) k) b) same ∙ ap (λ r. has r b) (get_or-set_same rows i row 0 within) ∙ is b small
-        ∙ ap (λ r. has r b && (not (b == member) || has allowed i)) (before.rest i (omega arith))
-        ∙ ap (λ k. has (slice_index first k) b && (not (b == member) || has allowed k)) (sym same)
+        ∙ ap (λ r. has r b && (not (has members b) || has allowed i)) (before.rest i (omega arith))
+        ∙ ap (λ k. has (slice_index first k) b && (not (has members b) || has allowed k)) (sym same)
     by_test n b under small false e =
         let other = eqb-false n i e in
         ap (λ r. has r b) (get_or-set_other rows i n row 0 other) ∙ before.done n b (not_last n other under) small

@@ -1,7 +1,7 @@
 -- Which of some numbered lists of value sets have a configuration, as words of bits tell it.
 -- A reader should check that a list is left where the configuration is like what its group asks of single bits, and the sieves of the
--- group have the list's bit in the rows of the configuration's numbers.
-use Rattle.std.specs.Prelude.{◌≡◌, ℕ, ◌/◌, ◌%◌, ◌<◌, nat_lt, Bool, true, false, ◌&&◌, List, []}
+-- group let the list pass with the configuration's numbers.
+use Rattle.std.specs.Prelude.{◌≡◌, ℕ, ◌/◌, ◌%◌, ◌<◌, nat_lt, Bool, true, false, ◌&&◌, ◌||◌, not, List, []}
 use Rattle.std.specs.List.{list_all, slice_index_or}
 use Rattle.configuration.specs.Bits.{has}
 use Rattle.configuration.specs.Fields.{field_of}
@@ -9,12 +9,14 @@ use Rattle.configuration.specs.Packed.{Words}
 use Rattle.configuration.specs.Regions.{ValueSet, are_alike, word_at}
 
 -- of one field the number of its word, its place and its size, and for each number a word with a bit for each of 64 members that
--- allows it
+-- allows it; then some of the members, and a bit for each number that these allow at most
 pub record Sieve : Type 0 where
   pub word : ℕ
   pub at : ℕ
   pub bits : ℕ
   pub rows : List ℕ
+  pub members : ℕ
+  pub allowed : ℕ
 
 -- the sieve's field is that of a set
 pub record IsOfField (sieve : Sieve) (set : ValueSet) : Type 0 where
@@ -22,12 +24,20 @@ pub record IsOfField (sieve : Sieve) (set : ValueSet) : Type 0 where
   pub at : sieve.at ≡ set.at
   pub bits : sieve.bits ≡ set.bits
 
--- the row of the number that words have in the sieve's field
-abbrev pub row_of : Sieve → Words → ℕ
-row_of sieve w = slice_index_or sieve.rows (field_of (word_at w sieve.word) sieve.at sieve.bits) 0
+-- two sieves are of one field
+pub record IsSameField (sieve other : Sieve) : Type 0 where
+  pub word : sieve.word ≡ other.word
+  pub at : sieve.at ≡ other.at
+  pub bits : sieve.bits ≡ other.bits
+
+-- the number that words have in the sieve's field
+abbrev pub number_in : Sieve → Words → ℕ
+number_in sieve w = field_of (word_at w sieve.word) sieve.at sieve.bits
 
 unfoldable pub passes : Sieve → ℕ → Words → Bool
-passes sieve member w = has (row_of sieve w) member
+passes sieve member w =
+    has (slice_index_or sieve.rows (number_in sieve w) 0) member
+    && (not (has sieve.members member) || has sieve.allowed (number_in sieve w))
 
 abbrev pub passes_sieves : List Sieve → ℕ → Words → Bool
 passes_sieves sieves member w = list_all (λ sieve. passes sieve member w) sieves

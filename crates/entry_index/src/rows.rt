@@ -21,27 +21,25 @@ pub(crate) fn rows_of_all() -> [u64; 32]
     [u64::MAX; 32]
 }
 
-/// A row without a member's bit, unless the member allows the row's number.
-fn narrowed(row: u64, member: u32, is_allowed: bool) -> u64
-    requires { member < 64 }
-    ensures { (b : ℕ) → b < 64 → has result b ≡ (has row b && (not (b == member) || is_allowed)) }
+/// A row without the bits of some members, unless these allow the row's number.
+pub(crate) fn narrowed(row: u64, members: u64, is_allowed: bool) -> u64
+    ensures { (b : ℕ) → b < 64 → has result b ≡ (has row b && (not (has members b) || is_allowed)) }
 {
     if is_allowed {
         return row;
     }
-    row & !(1 << member)
+    row & !members
 }
 
-/// Clears a member's bit in the row of each number of so many bits that isn't allowed.
-pub(crate) fn narrow_rows(rows: &mut [u64; 32], bits: u32, member: u32, allowed: u64)
+/// Clears the bits of some members in the row of each number of so many bits that isn't allowed.
+pub(crate) fn narrow_rows(rows: &mut [u64; 32], bits: u32, members: u64, allowed: u64)
     requires bits { bits ≤ 5 }
-    requires member { member < 64 }
     ensures { (n b : ℕ) → n < 2 ^ bits → b < 64
-        → has (slice_index rows.new n) b ≡ (has (slice_index rows.old n) b && (not (b == member) || has allowed n)) }
+        → has (slice_index rows.new n) b ≡ (has (slice_index rows.old n) b && (not (has members b) || has allowed n)) }
 {
     for number in 0..1usize << bits {
         let is_allowed = field(allowed, number as u32, 1) != 0;
-        rows[number] = narrowed(rows[number], member, is_allowed);
+        rows[number] = narrowed(rows[number], members, is_allowed);
     }
 }
 

@@ -1,6 +1,6 @@
 //! A sieve: which members of a group allow which numbers of one field.
 use crate::likeness::Likeness;
-use crate::rows::{is_alone, narrow_rows, row_of_all, rows_of_all};
+use crate::rows::{is_alone, narrow_rows, narrowed, row_of_all, rows_of_all};
 use configuration::config::Config;
 use configuration::fields::field;
 use configuration::value_set::{ValueSet, config_word};
@@ -17,6 +17,10 @@ pub(crate) struct Sieve {
     bits: u32,
     /// For each number a bit for each member that allows it.
     rows: [u64; 32],
+    /// Members that were narrowed last, by sets of the same numbers. The rows hear of them all at once.
+    members: u64,
+    /// A bit for each of these numbers.
+    allowed: u64,
 }
 
 impl Model for Sieve {
@@ -25,11 +29,11 @@ impl Model for Sieve {
 
     ghost Value = { sieves.Sieve };
 
-    ghost view = { λ s. record { word = s.word; at = s.at; bits = s.bits; rows = s.rows } };
+    ghost view = { λ s. record { word = s.word; at = s.at; bits = s.bits; rows = s.rows; members = s.members; allowed = s.allowed } };
 
     ghost invariant = { λ s. (s.at < 64) × (s.bits ≤ 5) × (s.at + s.bits ≤ 64) };
 
-    ghost inverse = { λ s. record { word = s.word; at = s.at; bits = s.bits; rows = s.rows } };
+    ghost inverse = { λ s. record { word = s.word; at = s.at; bits = s.bits; rows = s.rows; members = s.members; allowed = s.allowed } };
 }
 
 impl Sieve {
@@ -39,7 +43,7 @@ impl Sieve {
     ghost use Rattle.configuration.specs.Fields.{field_of};
     ghost use Rattle.configuration.specs.Packed.{Words};
     ghost use Rattle.configuration.specs.Regions.{is_in, word_at};
-    ghost use Rattle.entry_index.specs.Sieves.{IsOfField, is_like, passes, row_of};
+    ghost use Rattle.entry_index.specs.Sieves.{IsOfField, IsSameField, is_like, passes};
 
     /// The sieve of a set's field that lets every member pass.
     pub(crate) fn of_field(set: &ValueSet) -> Sieve
@@ -51,6 +55,8 @@ impl Sieve {
             at: set.place(),
             bits: set.size(),
             rows: rows_of_all(),
+            members: 0,
+            allowed: set.allowed(),
         }
     }
 
@@ -63,10 +69,34 @@ impl Sieve {
 
     /// The members that allow the number that a configuration has in the field.
     pub(crate) fn row(&self, config: &Config) -> u64
-        ensures { result ≡ row_of self.now config.now }
+        ensures { (member : ℕ) → member < 64 → has result member ≡ passes self.now member config.now }
     {
         let number = field(config_word(config, self.word), self.at, self.bits);
-        self.rows[number as usize]
+        let is_allowed = field(self.allowed, number as u32, 1) != 0;
+        narrowed(self.rows[number as usize], self.members, is_allowed)
+    }
+
+    /// Narrows the rows by the members that were narrowed last.
+    fn flush(&mut self)
+        ensures same { (member : ℕ) (w : Words) → member < 64 → passes self.new member w ≡ passes self.old member w }
+        ensures none { self.new.members ≡ 0 }
+        ensures field { IsSameField self.new self.old }
+    {
+        narrow_rows(&mut self.rows, self.bits, self.members, self.allowed);
+        self.members = 0;
+    }
+
+    /// Makes way for members that allow these numbers.
+    fn make_way(&mut self, allowed: u64)
+        ensures same { (member : ℕ) (w : Words) → member < 64 → passes self.new member w ≡ passes self.old member w }
+        ensures allowed { self.new.allowed ≡ allowed }
+        ensures field { IsSameField self.new self.old }
+    {
+        if self.allowed == allowed {
+            return;
+        }
+        self.flush();
+        self.allowed = allowed;
     }
 
     /// Lets a member pass with the values of a set alone.
@@ -76,7 +106,8 @@ impl Sieve {
         ensures { (other : ℕ) (w : Words) → other < 64
             → passes self.new other w ≡ (passes self.old other w && (not (other == member) || is_in set.now w)) }
     {
-        narrow_rows(&mut self.rows, self.bits, member, set.allowed());
+        self.make_way(set.allowed());
+        self.members |= 1 << member;
     }
 
     /// The number that each of some members wants in the field, and no other; nothing where they don't want one alone.
@@ -85,8 +116,10 @@ impl Sieve {
         ensures alone { IfSome result (λ number. (member : ℕ) (w : Words) → member < 64 → has members member ≡ true
             → passes self.now member w ≡ (field_of (word_at w self.now.word) self.now.at self.now.bits == number)) }
     {
-        let number = row_of_all(&self.rows, self.bits, members)?;
-        if !is_alone(&self.rows, self.bits, members, number) {
+        let mut whole = *self;
+        whole.flush();
+        let number = row_of_all(&whole.rows, whole.bits, members)?;
+        if !is_alone(&whole.rows, whole.bits, members, number) {
             return None;
         }
         Some(number as u64)

@@ -1,5 +1,5 @@
 -- One row more is narrowed.
-use Rattle.std.proofs.Common.{◌∙◌, ◌==◌, ◌&&◌, ◌||◌, not, nat_eq, slice_index, ap, arith}
+use Rattle.std.proofs.Common.{◌∙◌, ◌&&◌, ◌||◌, not, nat_eq, slice_index, ap, arith}
 use Rattle.std.proofs.lemmas.Nat.{one_shl}
 use Rattle.configuration.specs.Bits.{has}
 use Rattle.entry_index.proofs.RowLemmas.{below_32, one_more}
@@ -20,9 +20,9 @@ unfolding has
 loop-number-preserved c =
     let rows = c.loop-number.rows in
     let i = c.loop-number.number in
-    one_more rows c.args.rows.now c.args.member c.args.allowed i c.narrowed.result (below_32 c.args.bits i c.requires.bits c.loop-number-test.true)
+    one_more rows c.args.rows.now c.args.members c.args.allowed i c.narrowed.result (below_32 c.args.bits i c.requires.bits c.loop-number-test.true)
     (λ b below. c.narrowed.ensures b below
-    ∙ ap (λ n. has (slice_index rows i) b && (not (b == c.args.member) || not (nat_eq n 0))) c.field-is_allowed.ensures.value)
+    ∙ ap (λ n. has (slice_index rows i) b && (not (has c.args.members b) || not (nat_eq n 0))) c.field-is_allowed.ensures.value)
     c.loop-number.invariant
 
 pub returns : goal.returns

@@ -9,14 +9,14 @@ use Rattle.entry_index.proofs.SieveLemmas.{all_of_it, nothing, sifted}
 use Rattle.entry_index.proofs.group.Group.left_by_sieves.Goals as goal
 
 pub loop-sieve-preserved : goal.loop-sieve-preserved
-loop-sieve-preserved c member =
+loop-sieve-preserved c member below =
     let sieves = c.args.self.now.sieves in
     let i = c.loop-sieve.sieve-index in
     let same : c.deref-sieve-items.result.now ≡ sieves = c.deref-sieve-items.ensures.value ∙ ap (λ (g : Group). g.sieves) c.self.view_is in
     sifted sieves i c.sieve-item.result c.loop-sieve.left c.row-left.result member c.args.config.now
     (subst (λ (xs : List Sieve). i < length xs) same c.loop-sieve-test.true)
-    (c.sieve-item.is ∙ ap (λ (xs : List Sieve). slice_index_or xs i c.sieve-item.result) same) c.row-left.ensures
-    ∙ c.loop-sieve.invariant member
+    (c.sieve-item.is ∙ ap (λ (xs : List Sieve). slice_index_or xs i c.sieve-item.result) same) (c.row-left.ensures member below)
+    ∙ c.loop-sieve.invariant member below
 
 pub returns-then-left-eq0 : goal.returns-then-left-eq0
 returns-then-left-eq0 c member below =
@@ -27,8 +27,8 @@ returns-then-left-eq0 c member below =
     nothing (has 0 member) rest (has_none member) ∙ ap (λ row. has row member && rest) (sym c.if-left-eq0.true)
     ∙ sifted sieves i c.sieve-item.result c.loop-sieve.left c.row-left.result member c.args.config.now
     (subst (λ (xs : List Sieve). i < length xs) same c.loop-sieve-test.true)
-    (c.sieve-item.is ∙ ap (λ (xs : List Sieve). slice_index_or xs i c.sieve-item.result) same) c.row-left.ensures
-    ∙ c.loop-sieve.invariant member
+    (c.sieve-item.is ∙ ap (λ (xs : List Sieve). slice_index_or xs i c.sieve-item.result) same) (c.row-left.ensures member below)
+    ∙ c.loop-sieve.invariant member below
 
 pub returns : goal.returns
 returns c member below =
@@ -38,4 +38,4 @@ returns c member below =
     let none = drop_all i sieves (subst (λ (xs : List Sieve). length xs ≤ i) same c.loop-sieve-test.false) in
     all_of_it (has c.loop-sieve.left member) (passes_sieves (drop i sieves) member c.args.config.now)
     (ap (λ (xs : List Sieve). passes_sieves xs member c.args.config.now) none)
-    ∙ c.loop-sieve.invariant member
+    ∙ c.loop-sieve.invariant member below
