@@ -7,8 +7,9 @@ LETTERS, NAME_SIGNS = string.ascii_lowercase, string.ascii_lowercase + string.di
 KEY_SIGNS = string.ascii_letters + string.digits + "_-"
 # The most parts that the library that reads TOML allows a key.
 PARTS = 80
-# The library's hash of a text, whose seed is fixed: the state at the start and the factor; and how many entries it wants to a group of its table.
-SEED, FACTOR, GROUP = 0x243F_6A88_85A3_08D3, 0x9E37_79B9_7F4A_7C15, 9
+# The library's hash of a text, whose seed is fixed: the state at the start, the factor, and what it takes the byte behind a text for; and how many entries it
+# wants to a group of its table.
+SEED, FACTOR, END, GROUP = 0x243F_6A88_85A3_08D3, 0x9E37_79B9_7F4A_7C15, 0xFF_FFFF, 9
 WORD = 2**64 - 1
 # The names that collide are sought in one part in so many of the table.
 PARTING = 16
@@ -46,7 +47,7 @@ def table_hash(name):
     text = name.encode()
     first, second = (int.from_bytes(text[at : at + 8], "little") for at in (0, 8))
     state = folded(first ^ (SEED + len(text)), second ^ FACTOR)
-    state = folded(state ^ 0xFF, FACTOR ^ 2)
+    state = folded(state ^ END, FACTOR ^ 2)
     return (state ^ (state >> 32)) & 0xFFFF_FFFF
 
 
@@ -56,7 +57,8 @@ def names_of_sixteen():
 
 
 def crowded(count):
-    """So many names that a table of them has to keep in few of its groups: a name whose group is full goes into the next, and its look-up through all before."""
+    """So many names that a table of them has to keep in few of its groups: a name whose group is full goes into the next one that isn't, and its look-up
+    through all between."""
     groups = 1
     while GROUP * groups < count:
         groups *= 2
@@ -71,10 +73,10 @@ def colliding_names(size):
     return (front + "".join(f'"{name}",\n' for name in crowded(count)) + back).encode()
 
 
-def long_section_name(size):
-    """A section with many pairs, whose name is half of the script: the library compares the name with itself at each pair."""
-    half = size // 2
-    header = f"[{'a' * (half - len('[]') - 1)}]\n"
+def long_section_name(size, parts=1):
+    """A section with many pairs, whose name, of so many parts, is half of the script: the library compares the name with itself at each pair."""
+    part = "a" * (size // 2 // parts - 1)
+    header = f"[{'.'.join([part] * parts)}]\n"
     return (header + filled((f"{key}=1\n" for key in keys()), size - len(header))).encode()
 
 

@@ -63,7 +63,8 @@ fn of_tree(alloc: Global, tree: Table) -> Result<Script, Unread<ScriptFault>>
 }
 
 /// Reads a script. The bytes are TOML; the format is this profile's own. Of all faults that the document has anywhere
-/// the lowest is given; `NoMemory` may come in place of any answer. Time goes up with the length of the bytes.
+/// the lowest is given; `NoMemory` may come in place of any answer. Once the library has made a tree of the bytes, time goes up
+/// with their number and its logarithm, whatever they are. What the tree takes stands in `docs/use/LIMITS.md`.
 #[tactic(auto, using(crate::proofs::Readings::answered))]
 pub fn read_script(alloc: Global, bytes: &[u8]) -> Result<Script, Unread<ScriptFault>>
     ensures reads { OrNoMemory (ReadsScript bytes.now) result }
