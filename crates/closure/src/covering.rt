@@ -52,15 +52,15 @@ fn number_of(name: &StepName) -> usize
 }
 
 impl<'c> Covering<'c> {
-    /// Nobody was told of a step.
-    pub(crate) fn new(cert: &'c Cert) -> Covering<'c>
+    /// Nobody was told of a step, and so much may be spent.
+    pub(crate) fn new(cert: &'c Cert, looks: Looks) -> Covering<'c>
         ensures { result.cert.now ≡ cert.now }
     {
         Covering {
             cert,
             kept: [0; 64],
             formed: Formed::first(),
-            looks: Looks::first(),
+            looks,
         }
     }
 }

@@ -7,6 +7,7 @@ ghost use Rattle.closure.specs.Runs.{IsOfRun};
 use crate::broken::Broken;
 use crate::cover::covers;
 use crate::covering::Covering;
+use crate::looks::Looks;
 use crate::steps::{opening, reset};
 use crate::walk::walk;
 use entry_table::Cert;
@@ -68,11 +69,17 @@ pub fn whole_fault(script: &Script, cert: &Cert) -> Option<Fault>
 }
 
 /// Walks over the points of a run of entries, those from a place up to another where the certificate has them, and counts them, or
-/// finds the first that breaks an obligation. This profile's own.
-pub fn check_run(script: &Script, cert: &Cert, first: usize, last: usize) -> Finding
+/// finds the first that breaks an obligation. What may be spent on asking many points at once goes on from run to run. This profile's own.
+pub fn check_run(
+    script: &Script,
+    cert: &Cert,
+    first: usize,
+    last: usize,
+    looks: &mut Looks,
+) -> Finding
     ensures { IsOfRun script.now cert.now first last result }
 {
-    let mut covering = Covering::new(cert);
+    let mut covering = Covering::new(cert, *looks);
     let mut points = 0u128;
     for place in first..last {
         let Some(entry) = cert.entries().get(place) else {
@@ -82,6 +89,7 @@ pub fn check_run(script: &Script, cert: &Cert, first: usize, last: usize) -> Fin
             Ok(count) => points += u128::from(count),
             Err(found) => return Finding::Broken(fault_at(place, found.number, &found.broken)),
         }
+        *looks = covering.looks();
     }
     Finding::Kept(points)
 }
@@ -95,7 +103,7 @@ pub fn check(script: &Script, cert: &Cert) -> Finding
     if let Some(fault) = whole_fault(script, cert) {
         return Finding::Broken(fault);
     }
-    check_run(script, cert, 0, cert.entries().len())
+    check_run(script, cert, 0, cert.entries().len(), &mut Looks::first())
 }
 
 /// The first obligation that a certificate breaks. `None` where none is broken.

@@ -27,7 +27,7 @@ mod formed_count;
 mod freedom;
 mod held;
 mod kept_block;
-mod looks;
+pub mod looks;
 mod marks;
 mod media;
 mod mixed_commands;

@@ -7,13 +7,13 @@ use mg_names::phases::LinkPhase;
 use mg_names::slots::Slot;
 use script_table::Script;
 
-/// What is lent at the beginning: a hundredth of a second.
-const LENT: u64 = 1 << 19;
+/// What is lent at the beginning: some milliseconds.
+const LENT: u64 = 1 << 18;
 
 /// How many looks may be taken. In one a configuration is asked of an entry, or changed: some thirty instructions, where a step of a point takes five times as
-/// many.
+/// many. This profile's own.
 #[derive(Clone, Copy, Debug)]
-pub(crate) struct Looks {
+pub struct Looks {
     left: u64,
 }
 
@@ -49,7 +49,7 @@ fn steps_at(script: &Script, config: &Config) -> u64 {
 
 impl Looks {
     /// Those at the beginning.
-    pub(crate) fn first() -> Looks {
+    pub fn first() -> Looks {
         Looks { left: LENT }
     }
 

@@ -6,6 +6,7 @@ ghost use Rattle.parcheck.specs.Pieces.{AreWalked, IsFurther, IsOfBoth};
 use crate::pieces::entries_of;
 use crate::walked::Walked;
 use closure::first_fault::{Finding, check_run};
+use closure::looks::Looks;
 use entry_table::Cert;
 use script_table::Script;
 
@@ -28,7 +29,11 @@ fn gone_on(script: &Script, cert: &Cert, found: Finding, reached: usize, last: u
 {
     match found {
         Finding::Broken(_) => found,
-        Finding::Kept(_) => joined(found, check_run(script, cert, reached, last)),
+        Finding::Kept(_) => {
+            let mut looks = Looks::first();
+            let more = check_run(script, cert, reached, last, &mut looks);
+            joined(found, more)
+        }
     }
 }
 

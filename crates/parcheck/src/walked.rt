@@ -5,6 +5,7 @@ use crate::first_broken::FirstBroken;
 use crate::in_order::joined;
 use crate::pieces::{Piece, lot_end};
 use closure::first_fault::{Finding, check_run};
+use closure::looks::Looks;
 use entry_table::Cert;
 use script_table::Script;
 
@@ -30,9 +31,11 @@ pub(crate) fn walk_piece(
 {
     let mut last = piece.first;
     let mut found = Finding::Kept(0);
+    let mut looks = Looks::first();
     while last < piece.last && !broken.is_by(piece.first) {
         let next = lot_end(cert, last, piece.last);
-        found = joined(found, check_run(script, cert, last, next));
+        let more = check_run(script, cert, last, next, &mut looks);
+        found = joined(found, more);
         broken.take_up(piece.first, &found);
         last = next;
     }

@@ -15,4 +15,4 @@ returns-in-Broken c first from rise small found =
 
 pub returns-in-Kept : goal.returns-in-Kept
 returns-in-Kept c first from rise small found =
-    c.joined.ensures c.args.script.now c.args.cert.now first c.args.reached c.args.last from rise small found c.check_run.ensures
+    c.joined.ensures c.args.script.now c.args.cert.now first c.args.reached c.args.last from rise small found c.check_run-more.ensures

@@ -20,5 +20,5 @@ loop-last-preserved c =
       rises = omega (arith, c.loop-last.invariant.rises, c.lot_end-next.ensures.more);
       within = λ rise. c.lot_end-next.ensures.within;
       found = c.joined-found.ensures script entries first c.loop-last.last next c.loop-last.invariant.rises
-          (omega (arith, c.lot_end-next.ensures.more)) (omega (arith, c.lot_end-next.type_inv)) c.loop-last.invariant.found c.check_run.ensures;
+          (omega (arith, c.lot_end-next.ensures.more)) (omega (arith, c.lot_end-next.type_inv)) c.loop-last.invariant.found c.check_run-more.ensures;
     }
