@@ -43,7 +43,7 @@ fn settle_or_keep(
     if sieve.settle(members, alike) {
         return Ok(());
     }
-    kept.push(*sieve)?;
+    kept.push(sieve.whole())?;
     Ok(())
 }
 

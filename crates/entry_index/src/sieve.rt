@@ -72,8 +72,12 @@ impl Sieve {
         ensures { (member : ℕ) → member < 64 → has result member ≡ passes self.now member config.now }
     {
         let number = field(config_word(config, self.word), self.at, self.bits);
+        let row = self.rows[number as usize];
+        if self.members == 0 {
+            return row;
+        }
         let is_allowed = field(self.allowed, number as u32, 1) != 0;
-        narrowed(self.rows[number as usize], self.members, is_allowed)
+        narrowed(row, self.members, is_allowed)
     }
 
     /// Narrows the rows by the members that were narrowed last.
@@ -84,6 +88,17 @@ impl Sieve {
     {
         narrow_rows(&mut self.rows, self.bits, self.members, self.allowed);
         self.members = 0;
+    }
+
+    /// The same with rows that have heard of all members.
+    pub(crate) fn whole(&self) -> Sieve
+        ensures same { (member : ℕ) (w : Words) → member < 64 → passes result member w ≡ passes self.now member w }
+        ensures none { result.members ≡ 0 }
+        ensures field { IsSameField result self.now }
+    {
+        let mut whole = *self;
+        whole.flush();
+        whole
     }
 
     /// Makes way for members that allow these numbers.
@@ -116,8 +131,7 @@ impl Sieve {
         ensures alone { IfSome result (λ number. (member : ℕ) (w : Words) → member < 64 → has members member ≡ true
             → passes self.now member w ≡ (field_of (word_at w self.now.word) self.now.at self.now.bits == number)) }
     {
-        let mut whole = *self;
-        whole.flush();
+        let whole = self.whole();
         let number = row_of_all(&whole.rows, whole.bits, members)?;
         if !is_alone(&whole.rows, whole.bits, members, number) {
             return None;

@@ -1,5 +1,5 @@
 //! A component of a configuration with the values that an entry gives it, as choices that make a configuration.
-ghost use Rattle.std.specs.Prelude.{◌≡◌, length, slice_index_or};
+ghost use Rattle.std.specs.Prelude.{◌≡◌, ◌<◌, length, slice_index_or};
 ghost use Rattle.mg_model.specs.Entries.{same_choice};
 ghost use Rattle.configuration.specs.Config.{configuration_of};
 ghost use Rattle.entry_table.specs.Listed.{choices_of};
@@ -45,6 +45,15 @@ impl Component {
         if place >= self.count() {
             return;
         }
+        self.give(place, config);
+    }
+
+    /// Gives a configuration the value at a place, where there is one.
+    pub(crate) fn give(&self, place: usize, config: &mut Config)
+        requires { place < length (choices_of (shown self.now)) }
+        ensures { configuration_of config.new
+            ≡ (slice_index_or (choices_of (shown self.now)) place same_choice) (configuration_of config.old) }
+    {
         match self {
             Component::Links(values) => config.set_link(values.as_slice()[place]),
             Component::Spots(t, values) => config.set_spot(*t, values.as_slice()[place]),

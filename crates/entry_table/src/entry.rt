@@ -105,9 +105,10 @@ impl Entry {
         requires within { size_of (shown_all components.items) < 2 ^ 32 }
         ensures { IfOk result (λ entry. entry ≡ record { state = state; lines = lines; components = shown_all components.items }) }
     {
-        let product = product_of(components.as_slice()) as u32;
         let first = Config::unused(lines, state, LinkPhase::Resting, EventsName::Empty);
         let turned = parted(alloc, first, components.as_slice())?;
+        // A component of one value makes the product no larger.
+        let product = product_of(turned.components.as_slice()) as u32;
         let region = region_of(alloc, state, components.as_slice())?;
         Ok(Entry {
             state,

@@ -53,7 +53,7 @@ fn take(alloc: Global, component: &Component, turned: &mut Turned) -> Result<(),
         → IsParted all first rest (shown_all turned.new.components.items) (configuration_of turned.new.base) turned.new.above) }
 {
     if is_fixed(component, turned.above) {
-        component.choose(0, &mut turned.base);
+        component.give(0, &mut turned.base);
         return Ok(());
     }
     turned.components.push(again(alloc, component)?)?;

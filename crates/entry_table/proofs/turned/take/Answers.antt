@@ -13,7 +13,7 @@ pub returns-then-is_fixed : goal.returns-then-is_fixed
 returns-then-is_fixed c all rest first parted =
     let kept : List Listed = shown_all c.args.turned.now.components.items in
     let fixed = c.is_fixed.ensures c.if-is_fixed.true in (
-      subst (λ (base : Configuration). IsTurned all first (kept ++ rest) base) (sym c.choose.ensures)
+      subst (λ (base : Configuration). IsTurned all first (kept ++ rest) base) (sym c.give.ensures)
           (one_given all kept rest (shown c.args.component.now) c.args.turned.now.above first (configuration_of c.args.turned.now.base) fixed.0 fixed.1 parted.1 parted.0),
       parted.1,
     )

@@ -12,4 +12,5 @@ returns-clause-fixed c word =
     let at = c.args.at in
     let bits = c.args.bits in
     let ones = subst (λ v. IsPut c.put-self-2.result mask at bits (v - 1)) (one_shl bits 64 c.requires.size) c.put-self-2.ensures in
-    narrowed_word word base mask c.put-self.result c.put-self-2.result at bits c.args.number c.put-self.ensures ones (sym c.field.ensures.value ∙ c.if-field-ne0.false)
+    narrowed_word word base mask c.put-self.result c.put-self-2.result at bits c.args.number c.put-self.ensures ones
+    (sym c.field.ensures.value ∙ c.if-field-ne0.false)

@@ -8,4 +8,5 @@ use Rattle.entry_index.proofs.group.Group.settle.Given as goal
 abbrev pub invariant-loop-sieve : goal.invariant-loop-sieve
 invariant-loop-sieve l =
     (member : ℕ) (w : Words) → member < 64 → has l.members member ≡ true
-    → ((is_like l.alike w && passes_sieves l.kept.items member w) && passes_sieves (drop l.sieve-index l.fn.self.sieves) member w) ≡ passes_all l.fn.self member w
+    → ((is_like l.alike w && passes_sieves l.kept.items member w) && passes_sieves (drop l.sieve-index l.fn.self.sieves) member w)
+    ≡ passes_all l.fn.self member w

@@ -38,4 +38,5 @@ pub returns-clause-none : goal.returns-clause-none
 returns-clause-none c =
     let count = ap (λ (s : Sieves). s.count) c.self.view_is in
     let long = ap (λ (xs : List Group). length xs) c.deref-group-items.ensures.value in
-    none_at_all c.args.self.now c.args.configs.now c.loop-place.place (omega (arith, count, long, c.self.invariant.0, c.loop-place-test.false)) c.loop-place.invariant
+    none_at_all c.args.self.now c.args.configs.now c.loop-place.place (omega (arith, count, long, c.self.invariant.0, c.loop-place-test.false))
+    c.loop-place.invariant
