@@ -1,6 +1,7 @@
 """A search at random over inputs of `mgcall check` for the one that takes most of the time that the plain checker takes for it. Inputs are shapes of
-`vain_checks` with parameters that are drawn; from one that is bad those go on that differ from it in one parameter. Trials are judged by processor time, the
-best ones at the end by instructions. Each trial compares the lines of both programs, and a difference ends the search."""
+`vain_checks` with parameters that are drawn, or those that the bench measures; from one that is bad those go on that differ from it in one parameter. Trials
+are judged by processor time, the best ones at the end by instructions. Each trial compares the lines of both programs, and a difference ends the search."""
+import functools
 import itertools
 import json
 import random
@@ -13,13 +14,13 @@ from pathlib import Path
 
 from shared import adversary, check_costs, checks, measuring, vain_checks
 from shared.certificates import MODES
-from shared.vain_checks import CONTEXTS, EPHEMERALS, LISTS, Resting, Shape, others, remote, spot
+from shared.vain_checks import CONTEXTS, EPHEMERALS, LINES, LISTS, Resting, Shape, others, remote, spot
 
 OUT = Path(__file__).resolve().parents[2] / "out/bench"
 # What processor time says is rough by this much, in seconds. So short trials say little, and larger ones are found to be worse.
 ROUGH = 0.002
 # A trial that takes longer is ended, and judged as if it had taken so long; in seconds.
-LONGEST = 20
+LONGEST = 5
 # How many numbers the entries of a trial have together, at first and at most; and so many trials that are no worse begin anew.
 FIRST_NUMBERS, MOST_NUMBERS, PATIENCE = 70_000, 600_000, 25
 # How many of the worst are judged by instructions.
@@ -29,12 +30,12 @@ KEPT = 3
 TURNS = {
     **{f"lines.{line}.at": [["c", "d"], ["-", "c", "d"], ["-", *CONTEXTS]] for line in "gh"},
     "lines.b.at": [["-", "d"], ["d", "e"]],
-    **{f"lines.{line}.mode": [MODES[:2], MODES] for line in "bgh"},
+    **{f"lines.{line}.mode": [MODES[:2], MODES] for line in LINES},
     **{f"lines.{line}.events": [LISTS[:2], LISTS[:4], LISTS[:15]] for line in "bgh"},
-    **{f"lines.{line}.plays": [["no", "may"]] for line in "gh"},
+    **{f"lines.{line}.plays": [["no", "may"]] for line in LINES},
     **{f"contexts.{name}": [["free", "live"]] for name in CONTEXTS},
     **{spot(name): [["c", "d"], ["absent", "c"], ["absent", "c", "d"], ["absent", *CONTEXTS]] for name in EPHEMERALS},
-    **{f"ephemerals.{name}.mode": [MODES] for name in "wz"},
+    **{f"ephemerals.{name}.mode": [MODES[3:], MODES] for name in EPHEMERALS},
     **{remote(name): [others(name)[:2], others(name)] for name in EPHEMERALS},
     **{f"cuts.{pair}": [["no", "yes"]] for pair in ("g>h", "h>g", "w>z")},
 }
@@ -62,7 +63,7 @@ class Trial:
 
 def drawn_levels(chance):
     """Up to three levels of up to four components each, no component in two."""
-    paths = chance.sample([*TURNS, "lines.a.mode", "lines.a.events"], 12)
+    paths = chance.sample([*TURNS], 12)
     return [[paths.pop() for _ in range(chance.randint(1, 4))] for _ in range(chance.randint(0, 3))]
 
 
@@ -81,6 +82,20 @@ def parameters():
     found |= {"count": lambda chance: chance.choice([1, 4, 16]), "wide": lambda chance: chance.choice([1, 2, 8])}
     found |= {"narrow": lambda chance: chance.choice([0, 0, 16, 150])}
     return found | {"states": lambda chance: chance.choice([1, 2])}
+
+
+@functools.cache
+def known():
+    """What would be drawn for the shapes that the bench measures, of those that can be."""
+    found = []
+    for shape, _ in vain_checks.shapes():
+        kinds = [kind for kind, (make, _) in COMMANDS.items() if [make(number) for number in range(len(shape.commands))] == shape.commands]
+        if kinds and type(shape) in (Shape, Resting) and set(shape.turned) <= set(TURNS):
+            own = {name: getattr(shape, name) for name in ("refused", "executed", "sent", "wide", "narrow", "states")}
+            how = {"is parted alike": shape.refused == shape.executed, "is far": shape.is_far, "is unmarked": not shape.are_marked}
+            how |= {"is at rest": isinstance(shape, Resting), "commands": kinds[0], "count": len(shape.commands)}
+            found.append({**{path: shape.turned.get(path) for path in TURNS}, **own, **how})
+    return found
 
 
 def shape_of(drawn):
@@ -103,12 +118,19 @@ def size_of(shape):
     return shape.states * sum(vain_checks.numbers_of(*each) for each in [*shape.of_state()])
 
 
-def next_trial(chance, current, most):
-    """One that differs from a trial in one parameter, or one drawn anew, whose entries have so many numbers at most."""
+def next_drawn(chance, current):
+    """What differs from what was drawn in one parameter; or is drawn anew, or known."""
     every = parameters()
+    if not current and chance.random() < 0.5:
+        return chance.choice(known())
+    names = [chance.choice([*every])] if current else [*every]
+    return {**(current.drawn if current else {}), **{name: every[name](chance) for name in names}}
+
+
+def next_trial(chance, current, most):
+    """A trial that differs from another one in one parameter, or a new one, whose entries have so many numbers at most."""
     while True:
-        names = [chance.choice([*every])] if current else [*every]
-        drawn = {**(current.drawn if current else {}), **{name: every[name](chance) for name in names}}
+        drawn = next_drawn(chance, current)
         shape = shape_of(drawn)
         if (size := size_of(shape)) and size <= most and (not current or drawn != current.drawn):
             return Trial(drawn, shape)
