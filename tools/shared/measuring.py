@@ -5,6 +5,7 @@ import shutil
 import subprocess
 import sys
 import tempfile
+import time
 from pathlib import Path
 
 
@@ -23,6 +24,19 @@ def used(path, program, *words, times=3, wanted=(0,)):
     return least, most
 
 
+def most_memory(command, path=None):
+    """The most memory that a program had, in bytes, as the system tells it again and again until it ends: what the process has of its own, without what it was
+    started from."""
+    most = 0
+    with open(path or os.devnull, "rb") as text:
+        started = subprocess.Popen([*map(str, command)], stdin=text, stdout=subprocess.DEVNULL, stderr=subprocess.DEVNULL)
+    while started.poll() is None:
+        told = [line.split() for line in Path(f"/proc/{started.pid}/status").read_text().splitlines() if line.startswith("VmHWM")]
+        most = max([most, *(int(words[1]) * 1024 for words in told)])
+        time.sleep(0.001)
+    return most
+
+
 def has_valgrind():
     """Whether instructions can be counted; says so where they can't."""
     if shutil.which("valgrind"):
@@ -31,11 +45,13 @@ def has_valgrind():
     return False
 
 
-def counted(command, path=None):
+def counted(command, path=None, wanted=(0,)):
     """How many instructions a program takes, by valgrind, from its first to its last."""
     with open(path or os.devnull, "rb") as text:
         words = ["valgrind", "--tool=callgrind", "--callgrind-out-file=/dev/null", *map(str, command)]
-        result = subprocess.run(words, stdin=text, stdout=subprocess.DEVNULL, stderr=subprocess.PIPE, text=True, check=True)
+        result = subprocess.run(words, stdin=text, stdout=subprocess.DEVNULL, stderr=subprocess.PIPE, text=True, check=False)
+    if result.returncode not in wanted:
+        sys.exit(f"{command[0]} ended with {result.returncode} under valgrind")
     return int(re.search(r"Collected : (\d+)", result.stderr)[1])
 
 
