@@ -97,69 +97,39 @@ fn is_line_covered(
     requires { AreAlike (map configuration_of mixture.now) (configuration_of one.now) }
     ensures { IsTrue result → AreMixedLineCovered script.now cert.now (map configuration_of mixture.now) line }
 {
-    if !are_notes_covered(
-        script,
-        cert,
-        mixture,
-        one,
-        Notes {
-            line,
-            kind: Kind::On,
-        },
-        looks,
-    ) {
+    let on = Notes {
+        line,
+        kind: Kind::On,
+    };
+    let of = Notes {
+        line,
+        kind: Kind::Of,
+    };
+    let flash = Notes {
+        line,
+        kind: Kind::Fl,
+    };
+    let full = Notes {
+        line,
+        kind: Kind::Full,
+    };
+    let part = Notes {
+        line,
+        kind: Kind::Part,
+    };
+    if !are_notes_covered(script, cert, mixture, one, on, looks) {
         return false;
     }
-    if !are_notes_covered(
-        script,
-        cert,
-        mixture,
-        one,
-        Notes {
-            line,
-            kind: Kind::Of,
-        },
-        looks,
-    ) {
+    if !are_notes_covered(script, cert, mixture, one, of, looks) {
         return false;
     }
-    if !are_notes_covered(
-        script,
-        cert,
-        mixture,
-        one,
-        Notes {
-            line,
-            kind: Kind::Fl,
-        },
-        looks,
-    ) {
+    if !are_notes_covered(script, cert, mixture, one, flash, looks) {
         return false;
     }
-    if !are_notes_covered(
-        script,
-        cert,
-        mixture,
-        one,
-        Notes {
-            line,
-            kind: Kind::Full,
-        },
-        looks,
-    ) {
+    if !are_notes_covered(script, cert, mixture, one, full, looks) {
         return false;
     }
-    are_notes_covered(
-        script,
-        cert,
-        mixture,
-        one,
-        Notes {
-            line,
-            kind: Kind::Part,
-        },
-        looks,
-    )
+    are_notes_covered(script, cert, mixture, one, part, looks)
 }
 
 /// The same of all notes of a call at rest, and of its timer.
