@@ -10,7 +10,7 @@
 //! be marked in all of them too, by the ways that media may take (`mixed_media`, over `mixed_hops` and `mixed_seen`), those that are well formed are counted
 //! and asked for nothing else (`formed_count`). Where the others aren't known to hold, the points are asked so in parts, and at last one by one: for its
 //! obligations (`obligations`), and its steps (`steps`, over `requests` and `effects`) are told to who looks whether an entry has their results (`covering`,
-//! over `cover`).
+//! over `cover`). What is asked of many at once may be in vain: it is paid for by points that were looked at (`looks`).
 #![tactic(auto)]
 
 mod agreement;
