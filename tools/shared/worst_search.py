@@ -6,6 +6,7 @@ import itertools
 import json
 import random
 import resource
+import signal
 import subprocess
 import tempfile
 import time
@@ -19,7 +20,7 @@ from shared.vain_checks import CONTEXTS, EPHEMERALS, LINES, LISTS, Resting, Shap
 OUT = Path(__file__).resolve().parents[2] / "out/bench"
 # What processor time says is rough by this much, in seconds. So short trials say little, and larger ones are found to be worse.
 ROUGH = 0.002
-# A trial that takes longer is ended, and judged as if it had taken so long; in seconds.
+# A trial that takes longer is ended, and judged as if it had taken so long; in seconds of a processor.
 LONGEST = 5
 # How many numbers the entries of a trial have together, at first and at most; and so many trials that are no worse begin anew.
 FIRST_NUMBERS, MOST_NUMBERS, PATIENCE = 70_000, 600_000, 25
@@ -136,15 +137,20 @@ def next_trial(chance, current, most):
             return Trial(drawn, shape)
 
 
+def limited():
+    """Ends a program that takes too much of a processor."""
+    resource.setrlimit(resource.RLIMIT_CPU, (LONGEST, LONGEST + 1))
+
+
 def timed(command, path=None):
     """The processor time of a check, its status and line, and what it says besides; nothing where it takes too long."""
     before = resource.getrusage(resource.RUSAGE_CHILDREN)
     with open(path or "/dev/null", "rb") as text:
-        try:
-            result = subprocess.run([str(word) for word in command], stdin=text, capture_output=True, text=True, timeout=LONGEST, check=False)
-        except subprocess.TimeoutExpired:
-            return None
+        words = [str(word) for word in command]
+        result = subprocess.run(words, stdin=text, capture_output=True, text=True, preexec_fn=limited, check=False)
     after = resource.getrusage(resource.RUSAGE_CHILDREN)
+    if result.returncode in (-signal.SIGXCPU, -signal.SIGKILL):
+        return None
     return after.ru_utime - before.ru_utime + after.ru_stime - before.ru_stime, (result.returncode, result.stdout.strip()), result.stderr
 
 
@@ -160,16 +166,13 @@ def written(trial, name):
 def judge(plain, folder, trial):
     """How much more processor time the walk takes than the plain checker's. Ends the search where their lines differ."""
     each = check_costs.Input(folder, "trial", trial.shape.script(), trial.shape.certificate())
-    beside, whole = timed([plain, each.flat]), timed([checks.PROGRAM, "check"], each.whole)
-    if not beside:
+    beside, reading, whole = timed([plain, each.flat]), timed([checks.PROGRAM, "check"], each.read), timed([checks.PROGRAM, "check"], each.whole)
+    if not beside or not reading:
         return
-    if not whole:
-        trial.score = LONGEST / (float(beside[2].split()[1]) + ROUGH)
-        return
-    if whole[1] != beside[1]:
+    if whole and whole[1] != beside[1]:
         raise SystemExit(f"the programs differ, {whole[1]} and {beside[1]}: {written(trial, 'differs')}")
-    reading = timed([checks.PROGRAM, "check"], each.read)
-    trial.score = (max(whole[0] - reading[0], 0) + ROUGH) / (float(beside[2].split()[1]) + ROUGH)
+    walk = whole[0] - reading[0] if whole else LONGEST
+    trial.score = (max(walk, 0) + ROUGH) / (float(beside[2].split()[1]) + ROUGH)
 
 
 def told(shape):
