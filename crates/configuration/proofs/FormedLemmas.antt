@@ -12,7 +12,6 @@ use Rattle.mg_model.specs.declared.commands.Termination.{Termination}
 use Rattle.mg_model.specs.declared.commands.Termination.TheVariants.{Line, Ephemeral}
 use Rattle.mg_model.specs.declared.components.Spot.{Spot}
 use Rattle.mg_model.specs.declared.components.Spot.TheVariants.{Absent}
-use Rattle.mg_model.specs.declared.components.Remote.{Remote}
 use Rattle.mg_model.specs.declared.components.Remote.TheVariants.{Unset, To}
 use Rattle.mg_model.specs.Configuration.{IsWellFormed, is_live, is_in, is_present, stands_in}
 use Rattle.mg_model.specs.Steps.{unused}

@@ -1,6 +1,6 @@
 -- Sets of packed configurations: those that agree with one in some bits, and have their values in some sets. A value is a
 -- number in a field, so a set of values is a number with a bit for each.
-use Rattle.std.specs.Prelude.{ℕ, ◌==◌, Bool, ◌&&◌, if◌then◌else◌, List}
+use Rattle.std.specs.Prelude.{◌≡◌, ◌<◌, ℕ, ◌==◌, Bool, ◌&&◌, if◌then◌else◌, List, slice_index}
 use Rattle.std.specs.List.{list_all}
 use Rattle.std.specs.Int.RustNames.{bit_and, bit_xor}
 use Rattle.configuration.specs.Fields.{field_of}
@@ -18,6 +18,10 @@ pub record ValueSet : Type 0 where
 -- the lines' word is 0, the ephemerals' 1, the cuts' 2
 abbrev pub word_at : Words → ℕ → ℕ
 word_at w n = if n == 0 then w.lines else if n == 1 then w.ephemerals else w.cuts
+
+-- numbers are the words, by their numbers
+abbrev pub AreWordsOf : List ℕ → Words → Type 0
+AreWordsOf numbers w = (n : ℕ) → n < 3 → slice_index numbers n ≡ word_at w n
 
 abbrev pub with_word : Words → ℕ → ℕ → Words
 with_word w n word =

@@ -2,7 +2,7 @@
 ghost use Rattle.std.specs.Prelude.{◌≡◌, ◌+◌, ◌≤◌, ◌<◌};
 ghost use Rattle.std.specs.List.{list_all};
 ghost use Rattle.configuration.specs.Packed.{IsPacked};
-ghost use Rattle.configuration.specs.Regions.{is_in, word_at};
+ghost use Rattle.configuration.specs.Regions.{AreWordsOf, is_in, word_at};
 
 use crate::config::Config;
 use crate::fields::field;
@@ -57,12 +57,25 @@ pub fn config_word(config: &Config, number: u8) -> u64
     }
 }
 
+/// The words of a configuration, by their numbers: many fields are read of them in turn.
+pub fn words_of(config: &Config) -> [u64; 3]
+    ensures words { AreWordsOf result config.now }
+    ensures packed { IsPacked config.now }
+{
+    [
+        config_word(config, 0),
+        config_word(config, 1),
+        config_word(config, 2),
+    ]
+}
+
 /// Whether a configuration has its values in some sets.
 pub(crate) fn are_in(sets: &[ValueSet], config: &Config) -> bool
     ensures { result ≡ list_all (λ set. is_in set config.now) sets.now }
 {
+    let words = words_of(config);
     for set in sets {
-        if !set.has(config) {
+        if !set.has_word(&words) {
             return false;
         }
     }
@@ -74,7 +87,7 @@ impl ValueSet {
     ghost use Rattle.std.specs.Prelude.{◌^◌, ◌==◌, true, IsTrue, IfSome};
     ghost use Rattle.configuration.specs.Fields.{field_of};
     ghost use Rattle.configuration.specs.Packed.{IsPacked, Words};
-    ghost use Rattle.configuration.specs.Regions.{is_in, word_at};
+    ghost use Rattle.configuration.specs.Regions.{AreWordsOf, is_in, word_at};
 
     fn of_field(word: u8, at: u32, bits: u8, allowed: u64) -> ValueSet
         requires word { word < 3 }
@@ -130,6 +143,14 @@ impl ValueSet {
     {
         let word = config_word(config, self.word());
         let number = field(word, self.place(), self.size()) as u32;
+        field(self.allowed(), number, 1) != 0
+    }
+
+    /// Whether a configuration with these words has its value in the set.
+    fn has_word(&self, words: &[u64; 3]) -> bool
+        ensures { (w : Words) → AreWordsOf words.now w → result ≡ is_in self.now w }
+    {
+        let number = field(words[self.word() as usize], self.place(), self.size()) as u32;
         field(self.allowed(), number, 1) != 0
     }
 

@@ -7,7 +7,7 @@ ghost use Rattle.entry_index.specs.Sieves.{is_like, passes, passes_sieves};
 use crate::likeness::Likeness;
 use crate::sieve::Sieve;
 use configuration::config::Config;
-use configuration::value_set::ValueSet;
+use configuration::value_set::{ValueSet, words_of};
 use std::alloc::{AllocError, Global};
 use std::marker::Model;
 
@@ -120,9 +120,10 @@ impl Group {
     fn left_by_sieves(&self, members: u64, config: &Config) -> u64
         ensures { (member : ℕ) → member < 64 → has result member ≡ (has members member && passes_sieves self.now.sieves member config.now) }
     {
+        let words = words_of(config);
         let mut left = members;
         for sieve in &self.sieves {
-            left &= sieve.row(config);
+            left &= sieve.row(&words);
             if left == 0 {
                 return 0;
             }

@@ -1,9 +1,8 @@
 //! A sieve: which members of a group allow which numbers of one field.
 use crate::likeness::Likeness;
 use crate::rows::{is_alone, narrow_rows, narrowed, row_of_all, rows_of_all};
-use configuration::config::Config;
 use configuration::fields::field;
-use configuration::value_set::{ValueSet, config_word};
+use configuration::value_set::ValueSet;
 use std::marker::Model;
 
 /// Which members of a group of 64 allow which numbers of one field.
@@ -15,6 +14,8 @@ pub(crate) struct Sieve {
     at: u32,
     /// Its size.
     bits: u32,
+    /// As many bits, from the low end.
+    mask: u64,
     /// For each number a bit for each member that allows it.
     rows: [u64; 32],
     /// Members that were narrowed last, by sets of the same numbers. The rows hear of them all at once.
@@ -24,16 +25,16 @@ pub(crate) struct Sieve {
 }
 
 impl Model for Sieve {
-    ghost use Rattle.std.specs.Prelude.{◌+◌, ◌<◌, ◌≤◌};
+    ghost use Rattle.std.specs.Prelude.{◌≡◌, ◌+◌, ◌-◌, ◌^◌, ◌<◌, ◌≤◌};
     ghost use Rattle.entry_index.specs.Sieves as sieves;
 
     ghost Value = { sieves.Sieve };
 
     ghost view = { λ s. record { word = s.word; at = s.at; bits = s.bits; rows = s.rows; members = s.members; allowed = s.allowed } };
 
-    ghost invariant = { λ s. (s.at < 64) × (s.bits ≤ 5) × (s.at + s.bits ≤ 64) };
+    ghost invariant = { λ s. (s.word < 3) × (s.at < 64) × (s.bits ≤ 5) × (s.at + s.bits ≤ 64) × (s.mask ≡ 2 ^ s.bits - 1) };
 
-    ghost inverse = { λ s. record { word = s.word; at = s.at; bits = s.bits; rows = s.rows; members = s.members; allowed = s.allowed } };
+    ghost inverse = { λ s. record { word = s.word; at = s.at; bits = s.bits; mask = 2 ^ s.bits - 1; rows = s.rows; members = s.members; allowed = s.allowed } };
 }
 
 impl Sieve {
@@ -42,7 +43,7 @@ impl Sieve {
     ghost use Rattle.configuration.specs.Bits.{has};
     ghost use Rattle.configuration.specs.Fields.{field_of};
     ghost use Rattle.configuration.specs.Packed.{Words};
-    ghost use Rattle.configuration.specs.Regions.{is_in, word_at};
+    ghost use Rattle.configuration.specs.Regions.{AreWordsOf, is_in, word_at};
     ghost use Rattle.entry_index.specs.Sieves.{IsOfField, IsSameField, is_like, passes};
 
     /// The sieve of a set's field that lets every member pass.
@@ -54,6 +55,7 @@ impl Sieve {
             word: set.word(),
             at: set.place(),
             bits: set.size(),
+            mask: (1 << set.size()) - 1,
             rows: rows_of_all(),
             members: 0,
             allowed: set.allowed(),
@@ -67,11 +69,11 @@ impl Sieve {
         self.word == set.word() && self.at == set.place() && self.bits == set.size()
     }
 
-    /// The members that allow the number that a configuration has in the field.
-    pub(crate) fn row(&self, config: &Config) -> u64
-        ensures { (member : ℕ) → member < 64 → has result member ≡ passes self.now member config.now }
+    /// The members that allow the number that a configuration with these words has in the field.
+    pub(crate) fn row(&self, words: &[u64; 3]) -> u64
+        ensures { (member : ℕ) (w : Words) → AreWordsOf words.now w → member < 64 → has result member ≡ passes self.now member w }
     {
-        let number = field(config_word(config, self.word), self.at, self.bits);
+        let number = (words[self.word as usize] >> self.at) & self.mask;
         let row = self.rows[number as usize];
         if self.members == 0 {
             return row;

@@ -13,15 +13,15 @@ pub loop-set-preserved : goal.loop-set-preserved
 loop-set-preserved c =
     let test : ValueSet → Bool = λ set. is_in set c.args.config.now in
     let here = at c.args.sets.now c.loop-set.set-index c.set-item.result c.loop-set-test.true c.set-item.is in
-    let passes : test c.set-item.result ≡ true = sym c.has.ensures.value ∙ c.if-not-has.false in
+    let passes : test c.set-item.result ≡ true = sym (c.has_word.ensures c.args.config.now c.words_of-words.ensures.words) ∙ c.if-not-has_word.false in
     sym (ap (list_all test) here ∙ ap (λ b. b && list_all test (drop (c.loop-set.set-index + 1) c.args.sets.now)) passes)
     ∙ c.loop-set.invariant
 
-pub returns-then-not-has : goal.returns-then-not-has
-returns-then-not-has c =
+pub returns-then-not-has_word : goal.returns-then-not-has_word
+returns-then-not-has_word c =
     let test : ValueSet → Bool = λ set. is_in set c.args.config.now in
     let here = at c.args.sets.now c.loop-set.set-index c.set-item.result c.loop-set-test.true c.set-item.is in
-    let fails : test c.set-item.result ≡ false = sym c.has.ensures.value ∙ c.if-not-has.true in
+    let fails : test c.set-item.result ≡ false = sym (c.has_word.ensures c.args.config.now c.words_of-words.ensures.words) ∙ c.if-not-has_word.true in
     sym (sym c.loop-set.invariant ∙ ap (list_all test) here
     ∙ ap (λ b. b && list_all test (drop (c.loop-set.set-index + 1) c.args.sets.now)) fails)
 

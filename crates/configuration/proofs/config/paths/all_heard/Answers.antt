@@ -1,7 +1,5 @@
 -- Each byte is that of its line.
-use Rattle.std.proofs.Common.{◌≡◌, ◌∙◌, ◌<◌, ◌↔◌, ℕ, slice_index_or, refl, subst, arith, IsTrue}
-use Rattle.configuration.specs.Bits.{has}
-use Rattle.configuration.specs.Search.{Goes}
+use Rattle.std.proofs.Common.{◌≡◌, ◌∙◌, ℕ, slice_index_or, refl, subst, arith}
 use Rattle.configuration.proofs.WayLemmas.{AreHeard, four_ways}
 use Rattle.configuration.proofs.config.paths.all_heard.Goals as goal
 

@@ -1,5 +1,5 @@
 -- All the numbers of a field of one bit, and of one of two.
-use Rattle.std.proofs.Common.{◌≡◌, ◌∙◌, ◌==◌, ◌<◌, ℕ, zero, suc, true, IsTrue, refl, sym, ap, subst, arith, rules}
+use Rattle.std.proofs.Common.{◌≡◌, ◌∙◌, ◌==◌, ◌<◌, ℕ, zero, suc, true, IsTrue, refl, sym, ap, arith}
 use Rattle.std.proofs.lemmas.Grind.{common_steps}
 use Rattle.configuration.specs.Bits.{has}
 use Rattle.configuration.specs.Fields.{field_of}

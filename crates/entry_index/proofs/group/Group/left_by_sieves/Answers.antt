@@ -15,7 +15,7 @@ loop-sieve-preserved c member below =
     let same : c.deref-sieve-items.result.now ≡ sieves = c.deref-sieve-items.ensures.value ∙ ap (λ (g : Group). g.sieves) c.self.view_is in
     sifted sieves i c.sieve-item.result c.loop-sieve.left c.row-left.result member c.args.config.now
     (subst (λ (xs : List Sieve). i < length xs) same c.loop-sieve-test.true)
-    (c.sieve-item.is ∙ ap (λ (xs : List Sieve). slice_index_or xs i c.sieve-item.result) same) (c.row-left.ensures member below)
+    (c.sieve-item.is ∙ ap (λ (xs : List Sieve). slice_index_or xs i c.sieve-item.result) same) (c.row-left.ensures member c.args.config.now c.words_of-words.ensures.words below)
     ∙ c.loop-sieve.invariant member below
 
 pub returns-then-left-eq0 : goal.returns-then-left-eq0
@@ -27,7 +27,7 @@ returns-then-left-eq0 c member below =
     nothing (has 0 member) rest (has_none member) ∙ ap (λ row. has row member && rest) (sym c.if-left-eq0.true)
     ∙ sifted sieves i c.sieve-item.result c.loop-sieve.left c.row-left.result member c.args.config.now
     (subst (λ (xs : List Sieve). i < length xs) same c.loop-sieve-test.true)
-    (c.sieve-item.is ∙ ap (λ (xs : List Sieve). slice_index_or xs i c.sieve-item.result) same) (c.row-left.ensures member below)
+    (c.sieve-item.is ∙ ap (λ (xs : List Sieve). slice_index_or xs i c.sieve-item.result) same) (c.row-left.ensures member c.args.config.now c.words_of-words.ensures.words below)
     ∙ c.loop-sieve.invariant member below
 
 pub returns : goal.returns
