@@ -1,6 +1,7 @@
 pub mod Answer
 pub mod Findings
 pub mod Groups
+pub mod Resting
 pub mod Runs
 pub mod Shown
 pub mod Tests

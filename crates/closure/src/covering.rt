@@ -3,11 +3,10 @@ ghost use Rattle.std.specs.Prelude.{◌≡◌, ◌<◌, ◌↔◌, IsTrue};
 ghost use Rattle.mg_model.specs.Configuration.{IsWellFormed};
 ghost use Rattle.configuration.specs.Config.{configuration_of};
 
-use crate::cover::covers_first;
 use crate::looks::Looks;
+use crate::lookup::Lookup;
 use crate::visitor::Visitor;
 use configuration::config::Config;
-use configuration::formed::Formed;
 use entry_table::Cert;
 use mg_model::steps::StepName;
 use mg_names::kinds::Kind;
@@ -15,12 +14,7 @@ use mg_names::kinds::Kind;
 /// Looks at the results of steps, up to the first that is in no entry.
 #[derive(Drop)]
 pub(crate) struct Covering<'c> {
-    cert: &'c Cert,
-    /// For each number of a step the place of the entry that had its last result. Points that are looked at one after the other differ in little, so
-    /// mostly it has the next one too.
-    kept: [usize; 64],
-    /// The last configuration that was well formed.
-    formed: Formed,
+    entries: Lookup<'c>,
     /// What may be spent on asking many points at once.
     looks: Looks,
 }
@@ -54,12 +48,10 @@ fn number_of(name: &StepName) -> usize
 impl<'c> Covering<'c> {
     /// Nobody was told of a step, and so much may be spent.
     pub(crate) fn new(cert: &'c Cert, looks: Looks) -> Covering<'c>
-        ensures { result.cert.now ≡ cert.now }
+        ensures { result.entries ≡ cert.now }
     {
         Covering {
-            cert,
-            kept: [0; 64],
-            formed: Formed::first(),
+            entries: Lookup::new(cert),
             looks,
         }
     }
@@ -68,17 +60,17 @@ impl<'c> Covering<'c> {
 impl Covering<'_> {
     /// The certificate.
     pub(crate) fn cert(&self) -> &Cert
-        ensures { result.now ≡ self.now.cert.now }
+        ensures { result.now ≡ self.now.entries }
     {
-        self.cert
+        self.entries.cert()
     }
 
     /// Whether a configuration is well formed.
     pub(crate) fn is_formed(&mut self, config: &Config) -> bool
         ensures formed { IsTrue result ↔ IsWellFormed (configuration_of config.now) }
-        ensures same { self.new.cert.now ≡ self.old.cert.now }
+        ensures same { self.new.entries ≡ self.old.entries }
     {
-        self.formed.take_up(config)
+        self.entries.is_formed(config)
     }
 
     /// What may be spent on asking many points at once.
@@ -88,7 +80,7 @@ impl Covering<'_> {
 
     /// Puts what may be spent on that.
     pub(crate) fn set_looks(&mut self, looks: Looks)
-        ensures { self.new.cert.now ≡ self.old.cert.now }
+        ensures { self.new.entries ≡ self.old.entries }
     {
         self.looks = looks;
     }
@@ -104,19 +96,16 @@ impl Visitor for Covering<'_> {
 
     ghost By = { List Entry };
 
-    ghost told = { λ c entries steps. (c.cert.now ≡ entries) × AreCovered entries steps };
+    ghost told = { λ c entries steps. (c.entries ≡ entries) × AreCovered entries steps };
 
     ghost stopped = { λ entries name steps. IsFirstUncovered entries steps name };
 
     fn visit(&mut self, name: StepName, leads_to: &Config) -> Result<(), StepName> {
-        if !self.formed.take_up(leads_to) {
-            return Err(name);
-        }
         self.looks.earn();
-        let number = number_of(&name);
-        let mut kept = self.kept[number];
-        let covered = covers_first(self.cert, leads_to, &mut kept);
-        self.kept[number] = kept;
-        if covered { Ok(()) } else { Err(name) }
+        if self.entries.has(number_of(&name), leads_to) {
+            Ok(())
+        } else {
+            Err(name)
+        }
     }
 }

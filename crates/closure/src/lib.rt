@@ -9,11 +9,12 @@
 //! is told by `mixed_commands`, over `mixed_refusals`, `mixed_found`, `mixed_emptying`, `mixed_stayers` and `mixed_contexts`. Where joined lines are known to
 //! be marked in all of them too, by the ways that media may take (`mixed_media`, over `mixed_hops` and `mixed_seen`), those that are well formed are counted
 //! and asked for nothing else (`formed_count`). Where the others aren't known to hold, the points are asked so in parts, and at last one by one: for its
-//! obligations (`obligations`), and its steps (`steps`, over `requests` and `effects`) are told to who looks whether an entry has their results (`covering`,
-//! over `cover`). What is asked of many at once may be in vain: it is paid for by points that were looked at (`looks`).
+//! obligations (`obligations`), and its steps (`steps`, over `requests`, `effects` and `at_rest`) are told to who looks whether an entry has their results
+//! (`covering`, over `lookup`). What is asked of many at once may be in vain: it is paid for by points that were looked at (`looks`).
 #![tactic(auto)]
 
 mod agreement;
+mod at_rest;
 mod block_mixture;
 mod broken;
 mod class;
@@ -28,6 +29,7 @@ mod freedom;
 mod held;
 mod kept_block;
 pub mod looks;
+mod lookup;
 mod marks;
 mod media;
 mod mixed_commands;

@@ -1,5 +1,5 @@
-//! What is spent on asking many points at once. It may be in vain, so it is earned: each step of a point that was looked at by itself is worth one look more.
-//! What is asked in vain so costs a part of the walk over those points, whatever a certificate is like, but for what is lent at the beginning.
+//! What is spent on asking many points at once. It may be in vain, so it is earned by steps of points that were looked at by themselves. What is asked in vain so
+//! costs a part of the walk over those points, whatever a certificate is like, but for what is lent at the beginning.
 use crate::steps::kinds;
 use configuration::config::Config;
 use entry_table::{Component, product_of};
@@ -7,14 +7,19 @@ use mg_names::phases::LinkPhase;
 use mg_names::slots::Slot;
 use script_table::Script;
 
-/// What is lent at the beginning: some milliseconds.
+/// How many steps earn a look. In one a configuration is asked of an entry, or changed: measured it takes as long as a step does, with what is made for it. So what
+/// is asked in vain takes a fourth or so of the walk.
+const STEPS_A_LOOK: u64 = 4;
+
+/// What is lent at the beginning, in steps: some milliseconds.
 const LENT: u64 = 1 << 18;
 
-/// How many looks may be taken. In one a configuration is asked of an entry, or changed: some thirty instructions, where a step of a point takes five times as
-/// many. This profile's own.
+/// How many looks may be taken, as steps that earn them. This profile's own.
 #[derive(Clone, Copy, Debug)]
 pub struct Looks {
     left: u64,
+    /// With fewer nothing is asked: more were lent the last time that they weren't enough.
+    wanted: u64,
 }
 
 /// How many steps notes of a line make at most.
@@ -50,21 +55,27 @@ fn steps_at(script: &Script, config: &Config) -> u64 {
 impl Looks {
     /// Those at the beginning.
     pub fn first() -> Looks {
-        Looks { left: LENT }
+        Looks {
+            left: LENT,
+            wanted: 1,
+        }
     }
 
-    /// Whether none is left.
-    pub(crate) fn are_spent(&self) -> bool {
-        self.left == 0
+    /// Whether there are too few to ask anything.
+    pub(crate) fn are_few(&self) -> bool {
+        self.left < self.wanted
     }
 
     /// Takes so many for each of some, and says whether there were more.
     pub(crate) fn take(&mut self, each: u64, count: usize) -> bool {
-        self.left = self.left.saturating_sub(each.saturating_mul(count as u64));
+        let steps = each
+            .saturating_mul(count as u64)
+            .saturating_mul(STEPS_A_LOOK);
+        self.left = self.left.saturating_sub(steps);
         self.left > 0
     }
 
-    /// Earns one for a step that was looked at.
+    /// Earns what a step that was looked at is worth.
     pub(crate) fn earn(&mut self) {
         self.left = self.left.saturating_add(1);
     }
@@ -73,9 +84,12 @@ impl Looks {
     /// than to look at each.
     pub(crate) fn lend(&self, script: &Script, components: &[Component], config: &Config) -> Looks {
         let steps = steps_at(script, config).saturating_add(1);
-        let most = product_of(components).saturating_mul(steps);
+        let most = product_of(components)
+            .saturating_mul(steps)
+            .saturating_mul(STEPS_A_LOOK);
         Looks {
             left: self.left.min(most),
+            wanted: 1,
         }
     }
 
@@ -83,5 +97,8 @@ impl Looks {
     pub(crate) fn pay(&mut self, lent: &Looks, rest: &Looks) {
         let taken = lent.left.saturating_sub(rest.left);
         self.left = self.left.saturating_sub(taken);
+        if rest.are_few() {
+            self.wanted = lent.left.saturating_mul(2);
+        }
     }
 }

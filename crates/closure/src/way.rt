@@ -49,7 +49,7 @@ pub(crate) fn way_of(
     if is_of_links(components) {
         return Way::Split;
     }
-    if looks.are_spent() || product_of(components) < NUMBERS_A_MIXTURE {
+    if looks.are_few() || product_of(components) < NUMBERS_A_MIXTURE {
         return Way::Walked(false);
     }
     let lent = looks.lend(script, components, config);

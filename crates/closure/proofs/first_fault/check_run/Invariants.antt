@@ -5,7 +5,7 @@ use Rattle.closure.proofs.first_fault.check_run.Given as goal
 
 abbrev pub invariant-loop-place : goal.invariant-loop-place
 invariant-loop-place l = record {
-  same : l.covering.cert.now ≡ l.cert;
+  same : l.covering.entries ≡ l.cert;
   from : l.first ≤ l.place;
   within : l.first ≤ l.last → l.place ≤ l.last;
   fits : l.points + l.first * 2 ^ 32 ≤ l.place * 2 ^ 32;
