@@ -167,6 +167,22 @@ class Resting(Shape):
         return all(len(each) <= ENTRIES and all(map(is_within, each)) for each in (at_rest, self.results()))
 
 
+class Apart(Resting):
+    """The same, but each note and the timer lead to a state of their own."""
+
+    def targets(self):
+        return [f"t{place}" for place in range(len(led_on("", LINES)))]
+
+    def script(self):
+        leading = [line.replace('""', f'"{target}"') for line, target in zip(led_on("", LINES), self.targets())]
+        led_to = [(target, [f"do = {json.dumps(self.commands)}", f'ok = "{target}"', f'fault = "{target}"']) for target in self.targets()]
+        return script_of([("r0", leading), *led_to], self.are_marked)
+
+    def certificate(self):
+        entries = [entry("r0", ["rest"], part) for part in parts(self.space(), self.sent)] * self.wide
+        return certificate_of([*entries, *(entry(target, *each) for target in self.targets() for each in self.results())])
+
+
 class Left(Shape):
     """All leave the first context; who stays in the second one may name either of two that leave or stay, so whether its Remote is gone hangs on which it
     names. Only what holds of the points is in the entries, and what is asked of many at once is more."""
@@ -208,6 +224,8 @@ def remote(name):
     return f"ephemerals.{name}.remote"
 
 
+# A request each command of which gives a line another mode.
+STIRRING = [f"modify c a mode={MODES[place % 4]}" for place in range(COMMANDS)]
 # All that an entry of 65,536 numbers may have of two contexts; and of ephemerals that are absent or there, with names of contexts that are free or bound.
 PLACED = {**SPOTS, **REMOTES, "lines.g.mode": MODES}
 NAMED = {
@@ -233,6 +251,9 @@ def vain():
         yield Shape("refused in 128 parts, executed in 256", PLACED, few, many, wide=wide, states=states)
         yield Shape("the same behind narrow entries", PLACED, few, many, wide=wide, narrow=180, states=states, is_far=True)
         yield Shape("refused and executed in 128 parts", PLACED, few, few, wide=wide, states=states)
+    placed = {**SPOTS, **REMOTES, "lines.a.mode": MODES}
+    for executed, said in ((few, "refused and executed in 128 parts"), (many, "refused in 128 parts, executed in 256")):
+        yield Shape(f"{said}, each command changing a mode", placed, few, executed, commands=STIRRING)
     shattered = [["lines.g.at", "lines.h.at", spot("w"), remote("w")], [spot("x"), remote("x"), spot("y")], [remote("y"), remote("z")]]
     leaving = ["modify c a mode=Inactive"] * (COMMANDS - 1) + ["subtract c *"]
     named = {spot("w"): ["c", "d"], spot("x"): ["c", "d"], spot("y"): ["d"], spot("z"): ["d"]}
@@ -262,6 +283,8 @@ def bound():
         for turned, said in ((NAMED, "in vain"), (NAMED_ENOUGH, "with a mixture for each")):
             yield Shape(f"256 sets of names, {said}", turned, wide=wide)
             yield Shape(f"256 sets of names, {said}, results scattered", turned, scattered, scattered, wide=wide)
+    stirred = {name: values for name, values in NAMED.items() if name not in ("contexts.c", "contexts.d")} | {"lines.a.mode": MODES}
+    yield Shape("64 sets of names, each command changing a mode", stirred, commands=STIRRING, wide=2)
 
 
 def alone():
@@ -290,6 +313,8 @@ def resting():
     for states in (1, 2):
         yield Resting("at rest, leading to a request that is empty", turned, inner, [], outer, ["modify f h mode=Inactive"] * COMMANDS, states=states)
         yield Resting("at rest, leading to a full request", turned, inner, [], outer, ["modify c b mode=Inactive"] * COMMANDS, states=states)
+    for commands, said in ((["modify f h mode=Inactive"], "requests that are empty"), (["modify c b mode=Inactive"], "full requests")):
+        yield Apart(f"at rest, each note leading to another of 21 {said}", turned, inner, [], outer, commands * COMMANDS)
 
 
 def shapes():
