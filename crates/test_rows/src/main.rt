@@ -7,8 +7,6 @@
 #![tactic(auto)]
 
 use std::process::ExitCode;
-use std::sync::Wait;
-use std::thread::Threads;
 use test_layers::rows::Page;
 use test_words::failure::{Failure, wanted};
 use test_words::programs::{read_input, status};
@@ -40,54 +38,32 @@ fn tell_calls(rt: &HostRuntime, layer: &str, rows: &str) -> Result<(), Failure> 
     test_shards::tell(rt, layer, rows)
 }
 
-/// The rows of documents, and of the whole program.
-fn tell_documents<T: Threads + Wait + Sync>(
-    rt: &HostRuntime,
-    threads: &T,
-    layer: &str,
-    rows: &str,
-) -> Result<(), Failure> {
-    test_plans::tell(rt, layer, rows)?;
-    test_readers::tell(rt, threads, layer, rows)?;
-    test_engine::tell(rt, threads, layer, rows)
-}
-
 /// The rows of a file, whose first line names its layer.
-fn tell_file<T: Threads + Wait + Sync>(
-    rt: &HostRuntime,
-    threads: &T,
-    is_watched: bool,
-    file: &str,
-) -> Result<(), Failure> {
+fn tell_file(rt: &HostRuntime, is_watched: bool, file: &str) -> Result<(), Failure> {
     let (layer, rows) = wanted(file.split_once('\n'))?;
     tell_gateway(rt, is_watched, layer, rows)?;
-    tell_calls(rt, layer, rows)?;
-    tell_documents(rt, threads, layer, rows)
+    tell_calls(rt, layer, rows)
 }
 
 /// The rows of each file of a text, before which a line `watched` may stand.
-fn tell_files<T: Threads + Wait + Sync>(
-    rt: &HostRuntime,
-    threads: &T,
-    text: &str,
-) -> Result<(), Failure> {
+fn tell_files(rt: &HostRuntime, text: &str) -> Result<(), Failure> {
     let (is_watched, files) = match text.strip_prefix("watched\n") {
         Some(files) => (true, files),
         None => (false, text),
     };
     let files = wanted(files.strip_prefix("layer "))?;
     for file in files.split("\nlayer ") {
-        tell_file(rt, threads, is_watched, file)?;
+        tell_file(rt, is_watched, file)?;
     }
     Ok(())
 }
 
 /// The rows of each file that is read.
-fn tell_input<T: Threads + Wait + Sync>(rt: &HostRuntime, threads: &T) -> Result<(), Failure> {
+fn tell_input(rt: &HostRuntime) -> Result<(), Failure> {
     let text = read_input(rt)?;
-    tell_files(rt, threads, text.as_str())
+    tell_files(rt, text.as_str())
 }
 
 fn main(rt: HostRuntime) -> ExitCode {
-    status(tell_input(&rt, &rt))
+    status(tell_input(&rt))
 }
