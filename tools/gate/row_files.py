@@ -7,7 +7,7 @@ MARK = " => "
 PROGRAM = "test_rows"
 # The layers: of a gateway, and of calls.
 GATEWAY = ("identifiers", "terminations", "contexts", "digits", "line_events", "delivery", "requests", "gateway")
-CALLS = ("agents", "messages", "calls", "shards")
+CALLS = ("agents", "calls", "shards")
 
 
 def files():
