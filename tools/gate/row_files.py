@@ -5,11 +5,9 @@ ROWS = programs.TOP / "tests" / "rows"
 MARK = " => "
 # The program that answers them.
 PROGRAM = "test_rows"
-# The layers: of a gateway, of calls, of documents and of the whole program.
+# The layers: of a gateway, and of calls.
 GATEWAY = ("identifiers", "terminations", "contexts", "digits", "line_events", "delivery", "requests", "gateway")
-CALLS = ("agents", "messages", "calls", "shards")
-DOCUMENTS = ("plans", "scripts", "certificates", "checks", "tables")
-DEVICES = ("devices",)
+CALLS = ("agents", "calls", "shards")
 
 
 def files():

@@ -4,44 +4,54 @@
 #![tactic(auto)]
 
 mod boards;
-mod empty_boards;
-mod failure;
+mod documents;
 mod gateways;
-mod library_trees;
-mod lines;
 mod notes;
-mod plan_documents;
 mod ways;
-mod words;
 
-use crate::failure::Failure;
-use std::io::{Read, Write};
+use std::alloc::Global;
+use std::io::Read;
 use std::process::ExitCode;
 use std::{env, io};
 
-/// All that standard input gives.
-fn input(rt: &HostRuntime) -> Result<Vec<u8>, Failure> {
-    let mut bytes = Vec::new(rt.alloc());
-    match rt.stdin().read_to_end(&mut bytes) {
-        Ok(_) => Ok(bytes),
-        Err(_) => Err(Failure::Device),
+/// The number that a word is; 0 where there is none.
+fn number(words: &[String], place: usize) -> u32 {
+    match words.get(place) {
+        Some(word) => word.as_str().parse::<u32>().unwrap_or(0),
+        None => 0,
     }
 }
 
+/// What comes of the document in standard input.
+fn read(rt: &HostRuntime, words: &[String]) -> Option<usize> {
+    let mut bytes = Vec::new(rt.alloc());
+    rt.stdin().read_to_end(&mut bytes).ok()?;
+    match words.get(2)?.as_str() {
+        "toml" => documents::keys_of_toml(rt.alloc(), bytes.as_slice()),
+        "json" => documents::keys_of_json(rt.alloc(), bytes.as_slice()),
+        _ => documents::calls_of(rt.alloc(), bytes.as_slice()),
+    }
+}
+
+/// How many contexts a board has after the commands. The path through the chain has to be found then, and none past the crossings.
+fn of_boards(alloc: Global, words: &[String]) -> Option<usize> {
+    let contexts = boards::commanded(alloc, number(words, 2), number(words, 3))?;
+    let (chain, crossings) = (number(words, 4), number(words, 5));
+    if chain > 0 && !ways::goes_through(alloc, chain)? || ways::goes_past(alloc, crossings)? {
+        return None;
+    }
+    Some(contexts)
+}
+
 /// What comes of the words.
-fn measured(rt: &HostRuntime, words: &[String]) -> Result<String, Failure> {
-    let [_, layer, numbers @ ..] = words else {
-        return Err(Failure::Words);
-    };
-    match layer.as_str() {
-        "board" => boards::measured(rt.alloc(), numbers),
-        "gateway" => gateways::measured(rt.alloc(), numbers),
-        "notes" => notes::measured(rt.alloc(), numbers),
-        "plan" => plan_documents::measured(rt.alloc(), numbers, input(rt)?.as_slice()),
-        "script" | "certificate" => {
-            library_trees::measured(rt.alloc(), numbers, input(rt)?.as_slice())
-        }
-        _ => Err(Failure::Words),
+fn measured(rt: &HostRuntime, words: &[String]) -> Option<usize> {
+    let (first, second) = (number(words, 2), number(words, 3));
+    match words.get(1)?.as_str() {
+        "board" => of_boards(rt.alloc(), words),
+        "gateway" if words.len() > 4 => gateways::begun(rt.alloc(), first, second),
+        "gateway" => gateways::asked(rt.alloc(), first, second),
+        "notes" => notes::told(rt.alloc(), first, second),
+        _ => read(rt, words),
     }
 }
 
@@ -55,11 +65,8 @@ fn main(rt: HostRuntime) -> ExitCode {
     let Ok(words) = arguments(&rt) else {
         return ExitCode::FAILURE;
     };
-    let Ok(told) = measured(&rt, words.as_slice()) else {
-        return ExitCode::FAILURE;
-    };
-    match writeln!(rt.stdout(), "{told}") {
-        Ok(()) => ExitCode::SUCCESS,
-        Err(_) => ExitCode::FAILURE,
+    match measured(&rt, words.as_slice()) {
+        Some(count) if println!(rt; "{count}").is_ok() => ExitCode::SUCCESS,
+        _ => ExitCode::FAILURE,
     }
 }

@@ -1,6 +1,4 @@
 //! Notes that reach a call at rest, numbered from 1, each as far from the one before it as a stride says, and round again.
-use crate::failure::Failure;
-use crate::words::number;
 use agent::{Call, Next, Resting};
 use line_events::{EventList, LineSet};
 use mg_model::line_events::Hook;
@@ -12,8 +10,9 @@ use script_table::Script;
 use scriptreader::read_script;
 use std::alloc::Global;
 
-/// A state that nothing leads out of.
-const SCRIPT: &str = "lines = ['a', 'b']\nstart = 's'\nrestart = 's'\n[[state]]\nname = 's'\n";
+/// A script of two lines, and a state that nothing leads out of.
+pub(crate) const SCRIPT: &str =
+    "lines = ['a', 'b']\nstart = 's'\nrestart = 's'\n[[state]]\nname = 's'\n";
 
 const CALL: CallNo = CallNo(1);
 
@@ -82,24 +81,10 @@ fn counted(alloc: Global, script: &Script, notes: u32, stride: u32) -> Option<us
     accepted(&mut lines, opened(alloc, script)?, notes, stride)
 }
 
-/// The script of the call.
-fn script(alloc: Global) -> Result<Script, Failure> {
+/// How many of so many notes are accepted.
+pub(crate) fn told(alloc: Global, notes: u32, stride: u32) -> Option<usize> {
     match read_script(alloc, SCRIPT.as_bytes()) {
-        Ok(script) => Ok(script),
-        Err(_) => Err(Failure::Memory),
+        Ok(script) => counted(alloc, &script, notes, stride),
+        Err(_) => None,
     }
-}
-
-/// How many of so many notes are accepted: `NOTES STRIDE`.
-pub(crate) fn measured(alloc: Global, words: &[String]) -> Result<String, Failure> {
-    let [notes, stride] = words else {
-        return Err(Failure::Words);
-    };
-    let (notes, stride) = (number(notes)?, number(stride)?);
-    let script = script(alloc)?;
-    let Some(count) = counted(alloc, &script, notes, stride) else {
-        return Err(Failure::Refused);
-    };
-    let told = format!(in alloc; "{count}")?;
-    Ok(told)
 }

@@ -2,39 +2,16 @@
 //! Standard input has the three documents, divided by lines `%%`. `docs/change/EMBED.md` walks through it. It promises nothing of its own.
 #![tactic(auto)]
 
-use composition::{Verdict, check};
+use composition::{Checked, Verdict, check};
 use mg_model::events::{CallEvent, Event};
 use mg_names::identifiers::CallNo;
 use plans::Plan;
-use runner::{NoGate, Outcome, run};
+use runner::{Line, NoGate, Outcome, run};
 use script_table::Script;
-use std::alloc::{AllocError, AllocFailed};
-use std::io::{self, Read, Write};
+use std::io::Read;
 use std::process::ExitCode;
 use std::sync::Wait;
 use std::thread::Threads;
-
-/// Why nothing is told: a document is refused, memory ran out, or a device failed.
-#[derive(Debug, Drop)]
-struct Failure;
-
-impl From<AllocError> for Failure {
-    fn from(_e: AllocError) -> Failure {
-        Failure
-    }
-}
-
-impl<T: Drop> From<AllocFailed<T>> for Failure {
-    fn from(_e: AllocFailed<T>) -> Failure {
-        Failure
-    }
-}
-
-impl From<io::Error> for Failure {
-    fn from(_e: io::Error) -> Failure {
-        Failure
-    }
-}
 
 /// The word for an event.
 fn word_of(event: &Event) -> &'static str {
@@ -53,47 +30,76 @@ fn word_of(event: &Event) -> &'static str {
     }
 }
 
-/// What happened to the first call, and the name of its state.
-fn tell(rt: &HostRuntime, script: &Script, outcome: &Outcome<'_>) -> Result<(), Failure> {
-    let events = outcome.transcript(rt.alloc(), CallNo(0))?;
-    for event in events.as_slice() {
-        writeln!(rt.stdout(), "{}", word_of(event))?;
+/// Prints what happened to a call; whether it could be printed.
+fn tell_events(rt: &HostRuntime, events: &[Event]) -> bool {
+    for event in events {
+        if println!(rt; "{}", word_of(event)).is_err() {
+            return false;
+        }
     }
-    let [line, ..] = outcome.lines() else {
-        return Err(Failure);
-    };
-    let Some(state) = script.state(line.state) else {
-        return Err(Failure);
-    };
-    writeln!(rt.stdout(), "{} {}", state.name(), line.phase.text())?;
-    Ok(())
+    true
 }
 
-/// The three calls: check, read, run.
-fn all<T: Threads + Wait + Sync>(rt: &HostRuntime, threads: &T) -> Result<(), Failure> {
-    let mut text = String::new(rt.alloc());
-    let _read = rt.stdin().read_to_string(&mut text)?;
-    let sections: Vec<&str> = text.as_str().split("\n%%\n").collect(rt.alloc())?;
-    let [script, certificate, plan] = sections.as_slice() else {
-        return Err(Failure);
+/// Prints the name of the state that a call is left in, and its phase.
+fn tell_line(rt: &HostRuntime, script: &Script, line: &Line) -> bool {
+    match script.state(line.state) {
+        Some(state) => println!(rt; "{} {}", state.name(), line.phase.text()).is_ok(),
+        None => false,
+    }
+}
+
+/// Prints what happened to the first call, and the state that it is left in.
+fn tell(rt: &HostRuntime, script: &Script, outcome: &Outcome<'_>) -> bool {
+    match (
+        outcome.transcript(rt.alloc(), CallNo(0)),
+        outcome.lines().first(),
+    ) {
+        (Ok(events), Some(line)) => {
+            tell_events(rt, events.as_slice()) && tell_line(rt, script, line)
+        }
+        _ => false,
+    }
+}
+
+/// The second and the third call: reads a plan for the script, and runs it.
+fn run_plan<T: Threads + Wait + Sync>(
+    rt: &HostRuntime,
+    threads: &T,
+    checked: &Checked,
+    plan: &str,
+) -> bool {
+    match Plan::read(rt.alloc(), plan.as_bytes(), checked.script()) {
+        Ok(plan) => match run(threads, rt.alloc(), checked, &plan, 1, &NoGate) {
+            Ok(outcome) => tell(rt, checked.script(), &outcome),
+            Err(_) => false,
+        },
+        Err(_) => false,
+    }
+}
+
+/// The three documents of an input.
+fn sections(text: &str) -> Option<(&str, &str, &str)> {
+    let (script, rest) = text.split_once("\n%%\n")?;
+    let (certificate, plan) = rest.split_once("\n%%\n")?;
+    Some((script, certificate, plan))
+}
+
+/// The first call: checks a script with its certificate. Nothing is told where a document is refused, memory runs out or a device fails.
+fn all<T: Threads + Wait + Sync>(rt: &HostRuntime, threads: &T, text: &str) -> bool {
+    let Some((script, certificate, plan)) = sections(text) else {
+        return false;
     };
-    let checked = match check(rt.alloc(), script.as_bytes(), certificate.as_bytes()) {
-        Ok(Verdict::Yes(checked)) => checked,
-        _ => return Err(Failure),
-    };
-    let plan = match Plan::read(rt.alloc(), plan.as_bytes(), checked.script()) {
-        Ok(plan) => plan,
-        Err(_) => return Err(Failure),
-    };
-    match run(threads, rt.alloc(), &checked, &plan, 1, &NoGate) {
-        Ok(outcome) => tell(rt, checked.script(), &outcome),
-        Err(_) => Err(Failure),
+    match check(rt.alloc(), script.as_bytes(), certificate.as_bytes()) {
+        Ok(Verdict::Yes(checked)) => run_plan(rt, threads, &checked, plan),
+        _ => false,
     }
 }
 
 fn main(rt: HostRuntime) -> ExitCode {
-    match all(&rt, &rt) {
-        Ok(()) => ExitCode::SUCCESS,
-        Err(_) => ExitCode::FAILURE,
+    let mut text = String::new(rt.alloc());
+    if rt.stdin().read_to_string(&mut text).is_ok() && all(&rt, &rt, text.as_str()) {
+        ExitCode::SUCCESS
+    } else {
+        ExitCode::FAILURE
     }
 }

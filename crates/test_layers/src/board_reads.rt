@@ -1,42 +1,43 @@
 //! What is read of a board, as answers of rows: what exists on it, what is kept of a termination, and where media goes.
 use crate::names::{self, Names};
-use crate::{results, rows};
+use crate::pages::{Answer, Page};
+use crate::results;
+use crate::words::Words;
 use contexts::Board;
 use mg_names::identifiers::ContextId;
-use test_words::failure::Failure;
-use test_words::words::Words;
 
-fn write_contexts(told: &mut String, names: &Names, contexts: &[ContextId]) -> Result<(), Failure> {
+/// Writes how many contexts there are, and their names.
+fn write_contexts(page: &mut Page, names: &Names, contexts: &[ContextId]) -> Answer {
+    page.number(contexts.len() as u64);
+    page.say(":");
     for context in contexts {
-        write!(told, " ")?;
-        names.write_context(told, *context)?;
+        page.say(" ");
+        names.write_context(page, *context);
     }
-    Ok(())
+    Answer::Told
 }
 
-/// Writes what exists on a board.
-fn write_existing(
-    told: &mut String,
-    names: &Names,
-    board: &Board,
-    what: &str,
-) -> Result<(), Failure> {
-    match what {
-        "lines" => {
-            let found = board.lines()?;
-            write!(told, "{}:", found.len())?;
-            results::write_lines(told, found.as_slice())
-        }
-        "ephemerals" => {
-            let found = board.ephemerals()?;
-            write!(told, "{}:", found.len())?;
-            results::write_ephemerals(told, names, found.as_slice())
-        }
-        _ => {
-            let found = board.context_numbers()?;
-            write!(told, "{}:", board.contexts())?;
-            write_contexts(told, names, found.as_slice())
-        }
+/// Writes the lines of a board.
+pub(crate) fn write_lines(page: &mut Page, board: &Board) -> Answer {
+    match board.lines() {
+        Ok(found) => results::write_all_lines(page, found.as_slice()),
+        Err(_) => Answer::NoMemory,
+    }
+}
+
+/// Writes the ephemerals of a board.
+fn write_ephemerals(page: &mut Page, names: &Names, board: &Board) -> Answer {
+    match board.ephemerals() {
+        Ok(found) => results::write_all_ephemerals(page, names, found.as_slice()),
+        Err(_) => Answer::NoMemory,
+    }
+}
+
+/// Writes the contexts of a board.
+fn write_existing(page: &mut Page, names: &Names, board: &Board) -> Answer {
+    match board.context_numbers() {
+        Ok(found) => write_contexts(page, names, found.as_slice()),
+        Err(_) => Answer::NoMemory,
     }
 }
 
@@ -51,49 +52,42 @@ fn asked(names: &Names, board: &Board, verb: &str, words: &mut Words<'_>) -> Opt
     }
 }
 
-/// The number of a context or an ephemeral that was given.
-fn number_of(names: &Names, word: &str) -> Option<u32> {
-    match names.ephemeral(word) {
-        Some(number) => Some(number),
-        None => Some(names.context(word)?.0),
+/// The number that a verb asks for: of the members of a context, of a context or an ephemeral that was given, or what is left where that is divided.
+fn number_of(names: &Names, board: &Board, verb: &str, words: &mut Words<'_>) -> Option<u64> {
+    let word = words.next();
+    match verb {
+        "members" => Some(board.members(names.context(word)?).len() as u64),
+        "number" => Some(u64::from(names.number(word)?)),
+        _ => Some(u64::from(names.number(word)?.checked_rem(words.number()?)?)),
     }
 }
 
-/// What is left where the number of a context or an ephemeral that was given is divided.
-fn rest(names: &Names, words: &mut Words<'_>) -> Option<u32> {
-    let number = number_of(names, words.next())?;
-    number.checked_rem(words.number()?)
-}
-
 /// Writes what a board, or the names, tell.
-pub fn write_read(
-    told: &mut String,
+pub(crate) fn write_read(
+    page: &mut Page,
     names: &Names,
     board: &Board,
     verb: &str,
     words: &mut Words<'_>,
-) -> Result<(), Failure> {
+) -> Answer {
     match verb {
-        "lines" | "ephemerals" | "contexts" => write_existing(told, names, board, verb),
+        "lines" => write_lines(page, board),
+        "ephemerals" => write_ephemerals(page, names, board),
+        "contexts" => write_existing(page, names, board),
         "show" => match names.termination(words.next()) {
-            Some(termination) => names.write_row(told, board.get(termination)),
-            None => Err(Failure::Unreadable),
+            Some(termination) => names.write_row(page, board.get(termination)),
+            None => Answer::NoCall,
         },
-        "members" => match names.context(words.next()) {
-            Some(context) => Ok(write!(told, "{}", board.members(context).len())?),
-            None => Err(Failure::Unreadable),
-        },
-        "number" => match number_of(names, words.next()) {
-            Some(number) => Ok(write!(told, "{number}")?),
-            None => Err(Failure::Unreadable),
-        },
-        "rest" => match rest(names, words) {
-            Some(rest) => Ok(write!(told, "{rest}")?),
-            None => Err(Failure::Unreadable),
+        "members" | "number" | "rest" => match number_of(names, board, verb, words) {
+            Some(number) => {
+                page.number(number);
+                Answer::Told
+            }
+            None => Answer::NoCall,
         },
         _ => match asked(names, board, verb, words) {
-            Some(answer) => rows::yes_or_no(told, answer),
-            None => Err(Failure::Unreadable),
+            Some(answer) => page.yes_or_no(answer),
+            None => Answer::NoCall,
         },
     }
 }

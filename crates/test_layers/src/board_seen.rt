@@ -1,85 +1,86 @@
 //! What rows can see of boards, as a text: it is told before a call and again where the call wanted memory, and has to be the same then. Contexts
 //! and ephemerals are told by their very numbers.
 use crate::names::NO_NAMES;
+use crate::pages::Page;
 use contexts::Board;
 use mg_model::rows::Row;
 use mg_names::identifiers::{ContextId, LineNo, TermId};
-use test_words::failure::Failure;
 
 /// Tells which termination it is that something is told of.
-fn show_name(told: &mut String, t: TermId) -> Result<(), Failure> {
+fn show_name(page: &mut Page, t: TermId) {
     match t {
-        TermId::Line(line) => write!(told, " l/{}", line.0)?,
-        TermId::Eph(number) => write!(told, " e/{number}")?,
+        TermId::Line(line) => page.numbered(" l/", u64::from(line.0)),
+        TermId::Eph(number) => page.numbered(" e/", u64::from(number)),
     }
-    Ok(())
 }
 
 /// Tells what is kept of a termination.
-pub fn show_row(told: &mut String, t: TermId, row: Option<Row>) -> Result<(), Failure> {
-    write!(told, ";")?;
-    show_name(told, t)?;
-    write!(told, " ")?;
-    NO_NAMES.write_row(told, row)
+pub(crate) fn show_row(page: &mut Page, t: TermId, row: Option<Row>) {
+    page.say(";");
+    show_name(page, t);
+    page.say(" ");
+    NO_NAMES.write_row(page, row);
 }
 
 /// Tells the contexts, each with the number of its members, which a board keeps beside its rows.
-fn show_contexts(told: &mut String, board: &Board) -> Result<(), Failure> {
-    write!(told, "; {} contexts:", board.contexts())?;
-    let found: Vec<ContextId> = board.context_numbers()?;
-    for context in found.as_slice() {
-        write!(told, " {} of {}", context.0, board.members(*context).len())?;
+fn show_contexts(page: &mut Page, board: &Board, contexts: &[ContextId]) {
+    page.numbered("; contexts: ", board.contexts() as u64);
+    for context in contexts {
+        page.numbered(" ", u64::from(context.0));
+        page.numbered(" of ", board.members(*context).len() as u64);
     }
-    Ok(())
 }
 
 /// Tells a cut, where there is one.
-fn show_cut(told: &mut String, board: &Board, from: TermId, to: TermId) -> Result<(), Failure> {
+fn show_cut(page: &mut Page, board: &Board, from: TermId, to: TermId) {
     if board.is_cut(from, to) {
-        write!(told, ", cut from")?;
-        show_name(told, from)?;
+        page.say(", cut from");
+        show_name(page, from);
     }
-    Ok(())
 }
 
-/// Tells what a board keeps of a termination, and from which ones it is cut.
-fn show_termination(
-    told: &mut String,
-    board: &Board,
-    lines: &[LineNo],
-    ephemerals: &[u32],
-    t: TermId,
-) -> Result<(), Failure> {
-    show_row(told, t, board.get(t))?;
+/// Tells from which lines a termination is cut.
+fn show_cuts_from_lines(page: &mut Page, board: &Board, lines: &[LineNo], t: TermId) {
     for line in lines {
-        show_cut(told, board, TermId::Line(*line), t)?;
+        show_cut(page, board, TermId::Line(*line), t);
     }
-    for ephemeral in ephemerals {
-        show_cut(told, board, TermId::Eph(*ephemeral), t)?;
-    }
-    Ok(())
 }
 
-/// Tells what a board keeps of these terminations.
-fn show_terminations(
-    told: &mut String,
-    board: &Board,
-    lines: &[LineNo],
-    ephemerals: &[u32],
-) -> Result<(), Failure> {
-    for line in lines {
-        show_termination(told, board, lines, ephemerals, TermId::Line(*line))?;
-    }
+/// Tells from which ephemerals a termination is cut.
+fn show_cuts_from_ephemerals(page: &mut Page, board: &Board, ephemerals: &[u32], t: TermId) {
     for ephemeral in ephemerals {
-        show_termination(told, board, lines, ephemerals, TermId::Eph(*ephemeral))?;
+        show_cut(page, board, TermId::Eph(*ephemeral), t);
     }
-    Ok(())
+}
+
+/// Tells what a board keeps of its lines, and from which terminations they are cut.
+fn show_lines(page: &mut Page, board: &Board, lines: &[LineNo], ephemerals: &[u32]) {
+    for line in lines {
+        let t = TermId::Line(*line);
+        show_row(page, t, board.get(t));
+        show_cuts_from_lines(page, board, lines, t);
+        show_cuts_from_ephemerals(page, board, ephemerals, t);
+    }
+}
+
+/// Tells what a board keeps of its ephemerals, and from which terminations they are cut.
+fn show_ephemerals(page: &mut Page, board: &Board, lines: &[LineNo], ephemerals: &[u32]) {
+    for ephemeral in ephemerals {
+        let t = TermId::Eph(*ephemeral);
+        show_row(page, t, board.get(t));
+        show_cuts_from_lines(page, board, lines, t);
+        show_cuts_from_ephemerals(page, board, ephemerals, t);
+    }
 }
 
 /// Tells what exists on a board.
-pub fn show_board(told: &mut String, board: &Board) -> Result<(), Failure> {
-    show_contexts(told, board)?;
-    let lines = board.lines()?;
-    let ephemerals = board.ephemerals()?;
-    show_terminations(told, board, lines.as_slice(), ephemerals.as_slice())
+pub(crate) fn show_board(page: &mut Page, board: &Board) {
+    match (board.context_numbers(), board.lines(), board.ephemerals()) {
+        (Ok(contexts), Ok(lines), Ok(ephemerals)) => {
+            show_contexts(page, board, contexts.as_slice());
+            show_lines(page, board, lines.as_slice(), ephemerals.as_slice());
+            show_ephemerals(page, board, lines.as_slice(), ephemerals.as_slice());
+        }
+        _ => page.lack(),
+    }
 }

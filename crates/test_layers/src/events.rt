@@ -1,5 +1,7 @@
 //! Events descriptors, as words such as `al/on:state+dd/ce:12|123` (H.248.1 section 7.1.9), what happens on a line, and the notes of it.
+use crate::pages::{Answer, Page};
 use crate::signals;
+use crate::words::Words;
 use digits::{DigitMap, MapFault};
 use line_events::{EventList, LineFault, LineRow, ListItem, Note};
 use mg_model::line_events::{Hook, LineEvent, Method};
@@ -8,8 +10,6 @@ use mg_names::signals::Signal;
 use mg_names::strictness::Strict;
 use mg_names::symbols::Symbol;
 use std::alloc::Global;
-use test_words::failure::Failure;
-use test_words::words::Words;
 
 /// The item of package al that a word names; `:state` is `strict=state`, and `strict=exact` where it isn't there.
 fn hook_item(word: &str) -> Option<ListItem> {
@@ -24,40 +24,56 @@ fn hook_item(word: &str) -> Option<ListItem> {
 }
 
 /// The item that a word names.
-fn item(alloc: Global, word: &str) -> Result<ListItem, Failure> {
+fn item(alloc: Global, word: &str) -> Result<ListItem, Answer> {
     if let Some(item) = hook_item(word) {
         return Ok(item);
     }
     let Some(text) = word.strip_prefix("dd/ce:") else {
-        return Err(Failure::Unreadable);
+        return Err(Answer::NoCall);
     };
     match DigitMap::parse(alloc, text) {
         Ok(map) => Ok(EventItem::Digits(map)),
-        Err(MapFault::NoMemory) => Err(Failure::Memory),
-        Err(_) => Err(Failure::Unreadable),
+        Err(MapFault::NoMemory) => Err(Answer::NoMemory),
+        Err(_) => Err(Answer::NoCall),
     }
 }
 
-/// The items that a text names; `none` for an empty descriptor.
-fn read_items(alloc: Global, items: &mut Vec<ListItem>, text: &str) -> Result<(), Failure> {
+/// Adds the item that a word names.
+fn add_item(alloc: Global, items: &mut Vec<ListItem>, word: &str) -> Answer {
+    match item(alloc, word) {
+        Ok(item) => match items.push(item) {
+            Ok(()) => Answer::Told,
+            Err(_) => Answer::NoMemory,
+        },
+        Err(answer) => answer,
+    }
+}
+
+/// Adds the items that a text names; `none` for an empty descriptor.
+fn add_items(alloc: Global, items: &mut Vec<ListItem>, text: &str) -> Answer {
     if text == "none" {
-        return Ok(());
+        return Answer::Told;
     }
     for word in text.split('+') {
-        items.push(item(alloc, word)?)?;
+        let answer = add_item(alloc, items, word);
+        if answer != Answer::Told {
+            return answer;
+        }
     }
-    Ok(())
+    Answer::Told
 }
 
 /// The Events descriptor that a text names.
-pub fn read(alloc: Global, text: &str) -> Result<EventList, Failure> {
+pub(crate) fn read(alloc: Global, text: &str) -> Result<EventList, Answer> {
     let mut items = Vec::new(alloc);
-    read_items(alloc, &mut items, text)?;
-    Ok(EventList::new(items))
+    match add_items(alloc, &mut items, text) {
+        Answer::Told => Ok(EventList::new(items)),
+        answer => Err(answer),
+    }
 }
 
 /// What happens on a line, by the verb of a row and the words behind its line.
-pub fn event(verb: &str, words: &mut Words<'_>) -> Option<LineEvent> {
+pub(crate) fn event(verb: &str, words: &mut Words<'_>) -> Option<LineEvent> {
     match verb {
         "off" => Some(LineEvent::Hook(Hook::Off)),
         "on" => Some(LineEvent::Hook(Hook::On)),
@@ -70,77 +86,83 @@ pub fn event(verb: &str, words: &mut Words<'_>) -> Option<LineEvent> {
 }
 
 /// Writes how a digit map was completed, and by what (Annex E.6).
-pub fn write_method(told: &mut String, method: Method, symbols: &[Symbol]) -> Result<(), Failure> {
-    match method {
-        Method::Unambiguous => write!(told, "Meth=UM ds=")?,
-        Method::Full => write!(told, "Meth=FM ds=")?,
-        Method::Partial => write!(told, "Meth=PM ds=")?,
-    }
+pub(crate) fn write_method(page: &mut Page, method: Method, symbols: &[Symbol]) {
+    page.say(match method {
+        Method::Unambiguous => "Meth=UM ds=",
+        Method::Full => "Meth=FM ds=",
+        Method::Partial => "Meth=PM ds=",
+    });
     for symbol in symbols {
-        write!(told, "{}", symbol.text())?;
+        page.say(symbol.text());
     }
-    Ok(())
 }
 
 /// Writes what a note reports.
-pub fn write_note(told: &mut String, note: &Note) -> Result<(), Failure> {
-    write!(told, "{}, RequestID {}", note.kind().text(), note.request())?;
+pub(crate) fn write_note(page: &mut Page, note: &Note) {
+    page.say(note.kind().text());
+    page.numbered(", RequestID ", u64::from(note.request()));
     if let Some(method) = note.method() {
-        write!(told, ", ")?;
-        write_method(told, method, note.symbols().as_slice())?;
+        page.say(", ");
+        write_method(page, method, note.symbols().as_slice());
     }
-    Ok(())
 }
 
 /// Writes the items of a list.
-fn write_items(told: &mut String, items: &[ListItem]) -> Result<(), Failure> {
+fn write_items(page: &mut Page, items: &[ListItem]) {
     for item in items {
         match item {
-            EventItem::OnHook(strict) => write!(told, ", al/on {}", strict.text())?,
-            EventItem::OffHook(strict) => write!(told, ", al/of {}", strict.text())?,
-            EventItem::Flash => write!(told, ", al/fl")?,
-            EventItem::Digits(map) => write!(told, ", dd/ce {}", map.alternatives().len())?,
+            EventItem::OnHook(strict) => {
+                page.say(", al/on ");
+                page.say(strict.text());
+            }
+            EventItem::OffHook(strict) => {
+                page.say(", al/of ");
+                page.say(strict.text());
+            }
+            EventItem::Flash => page.say(", al/fl"),
+            EventItem::Digits(map) => page.numbered(", dd/ce ", map.alternatives().len() as u64),
         }
     }
-    Ok(())
 }
 
 /// Writes the row of a line: its hook state, its RequestID with its events, and what plays.
-pub fn write_line(told: &mut String, row: Option<&LineRow>) -> Result<(), Failure> {
+pub(crate) fn write_line(page: &mut Page, row: Option<&LineRow>) -> Answer {
     let Some(row) = row else {
-        write!(told, "unknown")?;
-        return Ok(());
+        page.say("unknown");
+        return Answer::Told;
     };
-    match row.hook_state() {
-        Hook::On => write!(told, "on hook")?,
-        Hook::Off => write!(told, "off hook")?,
-    }
+    page.say(match row.hook_state() {
+        Hook::On => "on hook",
+        Hook::Off => "off hook",
+    });
     if let Some(request) = row.request() {
-        write!(told, ", RequestID {request}")?;
+        page.numbered(", RequestID ", u64::from(request));
     }
-    write_items(told, row.list().items())?;
-    signals::write(told, row.playing())
+    write_items(page, row.list().items());
+    signals::write(page, row.playing());
+    Answer::Told
 }
 
 /// Writes why nothing happened on a line.
-pub fn write_fault(told: &mut String, fault: LineFault) -> Result<(), Failure> {
+pub(crate) fn write_fault(page: &mut Page, fault: LineFault) -> Answer {
     match fault {
-        LineFault::NoMemory => Err(Failure::Memory),
-        fault => Ok(write!(told, "{} {}", fault.number(), fault.name())?),
+        LineFault::NoMemory => Answer::NoMemory,
+        fault => page.refused(u16::from(fault.number()), fault.name()),
     }
 }
 
-/// Writes the note that was raised, or why nothing happened.
-pub fn write_noted(
-    told: &mut String,
-    answer: Result<Option<Note>, LineFault>,
-) -> Result<(), Failure> {
+/// Writes the note that something raised on a line.
+pub(crate) fn write_noted(page: &mut Page, answer: &Result<Option<Note>, LineFault>) -> Answer {
     match answer {
         Ok(Some(note)) => {
-            write!(told, "note ")?;
-            write_note(told, &note)
+            page.say("note ");
+            write_note(page, note);
+            Answer::Told
         }
-        Ok(None) => Ok(write!(told, "no note")?),
-        Err(fault) => write_fault(told, fault),
+        Ok(None) => {
+            page.say("no note");
+            Answer::Told
+        }
+        Err(fault) => write_fault(page, *fault),
     }
 }

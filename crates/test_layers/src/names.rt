@@ -1,26 +1,26 @@
 //! How rows name contexts and terminations: `$`, `-` and `*` as H.248.1 writes them, `c1` and `e1` for the first context and the first
 //! ephemeral that was given, `l/1` for line 1, `5` and `e/5` for the context and the ephemeral of that very number.
 use crate::given::{Given, NOTHING_GIVEN};
+use crate::pages::{Answer, Page};
+use crate::words::number;
 use mg_model::rows::Row;
 use mg_names::identifiers::{ContextId, LineNo, TermId};
-use test_words::failure::Failure;
-use test_words::words::number;
 
 /// The contexts and ephemerals that were given.
 #[derive(Clone, Copy)]
-pub struct Names {
+pub(crate) struct Names {
     contexts: Given,
     ephemerals: Given,
 }
 
 /// Nothing was given.
-pub const NO_NAMES: Names = Names {
+pub(crate) const NO_NAMES: Names = Names {
     contexts: NOTHING_GIVEN,
     ephemerals: NOTHING_GIVEN,
 };
 
 /// The line that a word names.
-pub fn line(word: &str) -> Option<LineNo> {
+pub(crate) fn line(word: &str) -> Option<LineNo> {
     Some(LineNo(number(word.strip_prefix("l/")?)?))
 }
 
@@ -31,25 +31,25 @@ fn given(given: &Given, word: &str, sign: char) -> Option<u32> {
 
 impl Names {
     /// A context is given.
-    pub fn give_context(&mut self, context: ContextId) {
+    pub(crate) fn give_context(&mut self, context: ContextId) {
         self.contexts.give(context.0);
     }
 
     /// An ephemeral is given.
-    pub fn give_ephemeral(&mut self, ephemeral: u32) {
+    pub(crate) fn give_ephemeral(&mut self, ephemeral: u32) {
         self.ephemerals.give(ephemeral);
     }
 
     /// Tells the numbers of contexts and of ephemerals that were given.
-    pub fn show(&self, told: &mut String) -> Result<(), Failure> {
-        write!(told, "contexts")?;
-        self.contexts.show(told)?;
-        write!(told, ", ephemerals")?;
-        self.ephemerals.show(told)
+    pub(crate) fn show(&self, page: &mut Page) {
+        page.say("contexts");
+        self.contexts.show(page);
+        page.say(", ephemerals");
+        self.ephemerals.show(page);
     }
 
     /// The context that a word names.
-    pub fn context(&self, word: &str) -> Option<ContextId> {
+    pub(crate) fn context(&self, word: &str) -> Option<ContextId> {
         match word {
             "$" => Some(ContextId::CHOOSE),
             "-" => Some(ContextId::NULL),
@@ -62,7 +62,7 @@ impl Names {
     }
 
     /// The ephemeral that a word names.
-    pub fn ephemeral(&self, word: &str) -> Option<u32> {
+    pub(crate) fn ephemeral(&self, word: &str) -> Option<u32> {
         match word.strip_prefix("e/") {
             Some(text) => number(text),
             None => given(&self.ephemerals, word, 'e'),
@@ -70,56 +70,65 @@ impl Names {
     }
 
     /// The termination that a word names.
-    pub fn termination(&self, word: &str) -> Option<TermId> {
+    pub(crate) fn termination(&self, word: &str) -> Option<TermId> {
         match line(word) {
             Some(line) => Some(TermId::Line(line)),
             None => Some(TermId::Eph(self.ephemeral(word)?)),
         }
     }
 
-    /// Writes the name of a context.
-    pub fn write_context(&self, told: &mut String, context: ContextId) -> Result<(), Failure> {
-        match self.contexts.place(context.0) {
-            0 if context == ContextId::NULL => write!(told, "-")?,
-            0 => write!(told, "{}", context.0)?,
-            place => write!(told, "c{place}")?,
+    /// The number of a context or an ephemeral that was given.
+    pub(crate) fn number(&self, word: &str) -> Option<u32> {
+        match self.ephemeral(word) {
+            Some(number) => Some(number),
+            None => Some(self.context(word)?.0),
         }
-        Ok(())
+    }
+
+    /// Writes the name of a context.
+    pub(crate) fn write_context(&self, page: &mut Page, context: ContextId) {
+        match self.contexts.place(context.0) {
+            0 if context == ContextId::NULL => page.say("-"),
+            0 => page.number(u64::from(context.0)),
+            place => page.numbered("c", place as u64),
+        }
     }
 
     /// Writes the name of an ephemeral.
-    pub fn write_ephemeral(&self, told: &mut String, ephemeral: u32) -> Result<(), Failure> {
+    pub(crate) fn write_ephemeral(&self, page: &mut Page, ephemeral: u32) {
         match self.ephemerals.place(ephemeral) {
-            0 => write!(told, "e/{ephemeral}")?,
-            place => write!(told, "e{place}")?,
+            0 => page.numbered("e/", u64::from(ephemeral)),
+            place => page.numbered("e", place as u64),
         }
-        Ok(())
     }
 
     /// Writes what is kept of a termination.
-    pub fn write_row(&self, told: &mut String, row: Option<Row>) -> Result<(), Failure> {
+    pub(crate) fn write_row(&self, page: &mut Page, row: Option<Row>) -> Answer {
         let Some(row) = row else {
-            write!(told, "unknown")?;
-            return Ok(());
+            page.say("unknown");
+            return Answer::Told;
         };
-        write!(told, "in ")?;
-        self.write_context(told, row.place)?;
-        write!(told, ", {}", row.mode.text())?;
+        page.say("in ");
+        self.write_context(page, row.place);
+        page.say(", ");
+        page.say(row.mode.text());
         if let Some(remote) = row.remote {
-            write!(told, ", remote ")?;
-            self.write_ephemeral(told, remote)?;
+            page.say(", remote ");
+            self.write_ephemeral(page, remote);
         }
-        Ok(())
+        Answer::Told
     }
 }
 
 /// Reads the lines that the words of a text name.
-pub fn read_lines(lines: &mut Vec<LineNo>, text: &str) -> Result<(), Failure> {
+pub(crate) fn read_lines(lines: &mut Vec<LineNo>, text: &str) -> Answer {
     lines.clear();
     for word in text.split(' ') {
         if let Some(line) = line(word) {
-            lines.push(line)?;
+            if lines.push(line).is_err() {
+                return Answer::NoMemory;
+            }
         }
     }
-    Ok(())
+    Answer::Told
 }

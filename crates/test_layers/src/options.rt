@@ -1,18 +1,18 @@
 //! What a command sets on its termination, as words such as `mode=SendOnly remote=e1 events=al/on:state+dd/ce:12|123 signals=cg/dt`.
 use crate::names::Names;
 use crate::signals;
+use crate::words::number;
 use mg_model::items::{RemoteSetting, Settings};
 use mg_model::line_events::SignalSet;
 use mg_model::references::{EphemeralRef, RemoteRef, SettingsRef};
 use mg_names::modes::Mode;
-use test_words::words::number;
 
 /// What the words of a command set, with its events list as it is written.
 #[derive(Clone, Copy)]
-pub struct Options<'a> {
-    pub settings: SettingsRef,
-    pub events: Option<&'a str>,
-    pub signals: Option<SignalSet>,
+pub(crate) struct Options<'a> {
+    pub(crate) settings: SettingsRef,
+    pub(crate) events: Option<&'a str>,
+    pub(crate) signals: Option<SignalSet>,
 }
 
 /// Nothing is set.
@@ -26,12 +26,12 @@ const NOTHING: Options<'static> = Options {
 };
 
 /// The place that a word such as `@0` names: that of an earlier command of the request, from 0.
-pub fn place(word: &str) -> Option<usize> {
+pub(crate) fn place(word: &str) -> Option<usize> {
     Some(number(word.strip_prefix('@')?)? as usize)
 }
 
 /// The ephemeral that a word names.
-pub fn ephemeral(names: &Names, word: &str) -> Option<EphemeralRef> {
+pub(crate) fn ephemeral(names: &Names, word: &str) -> Option<EphemeralRef> {
     match place(word) {
         Some(place) => Some(EphemeralRef::MadeAt(place)),
         None => Some(EphemeralRef::Number(names.ephemeral(word)?)),
@@ -86,7 +86,7 @@ fn with<'a>(names: &Names, options: Options<'a>, word: &'a str) -> Option<Option
 }
 
 /// What the words of a text set.
-pub fn read<'a>(names: &Names, text: &'a str) -> Option<Options<'a>> {
+pub(crate) fn read<'a>(names: &Names, text: &'a str) -> Option<Options<'a>> {
     let mut options = NOTHING;
     if text.is_empty() {
         return Some(options);
@@ -107,7 +107,7 @@ fn numbered(remote: RemoteRef) -> Option<RemoteSetting> {
 }
 
 /// What the words of a text set on the connection model, by numbers.
-pub fn settings(names: &Names, text: &str) -> Option<Settings> {
+pub(crate) fn settings(names: &Names, text: &str) -> Option<Settings> {
     let set = read(names, text)?.settings;
     let remote = match set.remote {
         Some(remote) => Some(numbered(remote)?),

@@ -1,64 +1,67 @@
 //! What is written of what a command did.
 use crate::names::Names;
+use crate::pages::{Answer, Page};
 use contexts::Done;
 use mg_names::codes::Code;
 use mg_names::identifiers::LineNo;
-use test_words::failure::Failure;
 
 /// Writes a code with its name.
-pub fn write_code(told: &mut String, code: Code) -> Result<(), Failure> {
-    write!(told, "{} {}", code.number(), code.name())?;
-    Ok(())
+pub(crate) fn write_code(page: &mut Page, code: Code) -> Answer {
+    page.refused(code.number(), code.name())
 }
 
 /// Writes the names of lines, each behind a blank.
-pub fn write_lines(told: &mut String, lines: &[LineNo]) -> Result<(), Failure> {
+pub(crate) fn write_lines(page: &mut Page, lines: &[LineNo]) {
     for line in lines {
-        write!(told, " l/{}", line.0)?;
+        page.numbered(" l/", u64::from(line.0));
     }
-    Ok(())
 }
 
 /// Writes the names of ephemerals, each behind a blank.
-pub fn write_ephemerals(
-    told: &mut String,
-    names: &Names,
-    ephemerals: &[u32],
-) -> Result<(), Failure> {
+pub(crate) fn write_ephemerals(page: &mut Page, names: &Names, ephemerals: &[u32]) {
     for ephemeral in ephemerals {
-        write!(told, " ")?;
-        names.write_ephemeral(told, *ephemeral)?;
+        page.say(" ");
+        names.write_ephemeral(page, *ephemeral);
     }
-    Ok(())
 }
 
-/// Writes what a command created.
-fn write_created(told: &mut String, names: &Names, done: &Done) -> Result<(), Failure> {
-    if let Some(context) = done.context() {
-        write!(told, ", context ")?;
-        names.write_context(told, context)?;
-    }
-    if let Some(ephemeral) = done.ephemeral() {
-        write!(told, ", ephemeral ")?;
-        names.write_ephemeral(told, ephemeral)?;
-    }
-    Ok(())
+/// Writes how many lines there are, and their names.
+pub(crate) fn write_all_lines(page: &mut Page, lines: &[LineNo]) -> Answer {
+    page.number(lines.len() as u64);
+    page.say(":");
+    write_lines(page, lines);
+    Answer::Told
+}
+
+/// Writes how many ephemerals there are, and their names.
+pub(crate) fn write_all_ephemerals(page: &mut Page, names: &Names, ephemerals: &[u32]) -> Answer {
+    page.number(ephemerals.len() as u64);
+    page.say(":");
+    write_ephemerals(page, names, ephemerals);
+    Answer::Told
 }
 
 /// Writes what a command did: what it created, and what it subtracted.
-pub fn write_done(told: &mut String, names: &Names, done: &Done) -> Result<(), Failure> {
-    write!(told, "done")?;
-    write_created(told, names, done)?;
-    if done.lines().is_empty() && done.ephemerals().is_empty() {
-        return Ok(());
+pub(crate) fn write_done(page: &mut Page, names: &Names, done: &Done) -> Answer {
+    page.say("done");
+    if let Some(context) = done.context() {
+        page.say(", context ");
+        names.write_context(page, context);
     }
-    write!(told, ", subtracted")?;
-    write_lines(told, done.lines())?;
-    write_ephemerals(told, names, done.ephemerals())
+    if let Some(ephemeral) = done.ephemeral() {
+        page.say(", ephemeral ");
+        names.write_ephemeral(page, ephemeral);
+    }
+    if !done.lines().is_empty() || !done.ephemerals().is_empty() {
+        page.say(", subtracted");
+        write_lines(page, done.lines());
+        write_ephemerals(page, names, done.ephemerals());
+    }
+    Answer::Told
 }
 
 /// What a command created is given.
-pub fn give(names: &mut Names, done: &Done) {
+pub(crate) fn give(names: &mut Names, done: &Done) {
     if let Some(context) = done.context() {
         names.give_context(context);
     }

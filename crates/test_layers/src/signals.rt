@@ -1,7 +1,7 @@
 //! Signals descriptors, as words such as `cg/dt+al/ri` (H.248.1 section 7.1.11).
+use crate::pages::Page;
 use mg_model::line_events::SignalSet;
 use mg_names::signals::Signal;
-use test_words::failure::Failure;
 
 /// A set with one more signal.
 fn with(set: SignalSet, signal: Signal) -> SignalSet {
@@ -17,7 +17,7 @@ fn with(set: SignalSet, signal: Signal) -> SignalSet {
 }
 
 /// The signals that a text names; `none` for an empty descriptor.
-pub fn read(text: &str) -> Option<SignalSet> {
+pub(crate) fn read(text: &str) -> Option<SignalSet> {
     let mut set = SignalSet::SILENT;
     if text == "none" {
         return Some(set);
@@ -29,7 +29,7 @@ pub fn read(text: &str) -> Option<SignalSet> {
 }
 
 /// Writes the signals that play.
-pub fn write(told: &mut String, playing: SignalSet) -> Result<(), Failure> {
+pub(crate) fn write(page: &mut Page, playing: SignalSet) {
     let all = [
         (playing.ring, Signal::Ring),
         (playing.dial_tone, Signal::DialTone),
@@ -39,8 +39,8 @@ pub fn write(told: &mut String, playing: SignalSet) -> Result<(), Failure> {
     ];
     for (plays, signal) in all {
         if plays {
-            write!(told, ", plays {}", signal.text())?;
+            page.say(", plays ");
+            page.say(signal.text());
         }
     }
-    Ok(())
 }

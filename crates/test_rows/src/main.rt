@@ -1,93 +1,78 @@
 //! `test_rows`: answers rows of every layer. It reads files of rows from standard input, makes the call that each row writes, and writes the row again with the
-//! answer that it got. `tests/rows/README.md` says how rows are written; `tools/gate/rows` compares. A row whose call wants memory is answered once more, so
-//! what is written is the same where one growth is refused; behind a first line `watched` rows of the gateway's layers are compared with what they saw
-//! before the call. Where memory was wanted by the program itself the status is 4. It promises nothing else.
-//!
-//! The way of a file: its first line names its layer, and each crate of rows is asked in turn, of which one knows the layer.
+//! answer that it got. `tests/rows/README.md` says how rows are written; `tools/gate/rows` compares. A row whose call wants memory is compared with what
+//! it saw before the call, and answered once more, so what is written is the same where one growth is refused. Where memory was wanted by the program itself the
+//! status is 4. It promises nothing else.
 #![tactic(auto)]
 
+mod plan_steps;
+mod shard_opening;
+mod shard_rows;
+
+use std::alloc::Global;
+use std::io::{self, Read};
 use std::process::ExitCode;
-use std::sync::Wait;
-use std::thread::Threads;
-use test_layers::rows::Page;
-use test_words::failure::{Failure, wanted};
-use test_words::programs::{read_input, status};
+use test_layers::sheets::{End, Sheet};
 
-/// The rows of the gateway's layers, on a page that is written then.
-fn tell_gateway(
-    rt: &HostRuntime,
-    is_watched: bool,
-    layer: &str,
-    rows: &str,
-) -> Result<(), Failure> {
-    let mut page = Page::new(rt.alloc(), is_watched)?;
-    let played = play(rt, &mut page, layer, rows);
-    print!(rt; "{}", page.told())?;
-    played
-}
+/// Room for the files of rows that the program is given, made at once.
+const ROOM: usize = 65_536;
 
-/// The rows of the gateway's layers, on a page.
-fn play(rt: &HostRuntime, page: &mut Page, layer: &str, rows: &str) -> Result<(), Failure> {
-    test_boards::play(rt.alloc(), page, layer, rows)?;
-    test_lines::play(rt.alloc(), page, layer, rows)?;
-    test_gateway::play(rt.alloc(), page, layer, rows)
-}
-
-/// The rows of the layers of calls.
-fn tell_calls(rt: &HostRuntime, layer: &str, rows: &str) -> Result<(), Failure> {
-    test_agents::tell(rt, layer, rows)?;
-    test_calls::tell(rt, layer, rows)?;
-    test_shards::tell(rt, layer, rows)
-}
-
-/// The rows of documents, and of the whole program.
-fn tell_documents<T: Threads + Wait + Sync>(
-    rt: &HostRuntime,
-    threads: &T,
-    layer: &str,
-    rows: &str,
-) -> Result<(), Failure> {
-    test_plans::tell(rt, layer, rows)?;
-    test_readers::tell(rt, threads, layer, rows)?;
-    test_engine::tell(rt, threads, layer, rows)
+/// Adds the rows of a layer to a sheet, with their answers.
+fn play(alloc: Global, sheet: &mut Sheet, layer: &str, rows: &str) -> End {
+    match layer {
+        "shards" => shard_rows::play(alloc, sheet, rows),
+        _ => test_layers::play(alloc, sheet, layer, rows),
+    }
 }
 
 /// The rows of a file, whose first line names its layer.
-fn tell_file<T: Threads + Wait + Sync>(
-    rt: &HostRuntime,
-    threads: &T,
-    is_watched: bool,
-    file: &str,
-) -> Result<(), Failure> {
-    let (layer, rows) = wanted(file.split_once('\n'))?;
-    tell_gateway(rt, is_watched, layer, rows)?;
-    tell_calls(rt, layer, rows)?;
-    tell_documents(rt, threads, layer, rows)
+fn tell_file(rt: &HostRuntime, file: &str) -> End {
+    let Some((layer, rows)) = file.split_once('\n') else {
+        return End::Unreadable;
+    };
+    let Ok(mut sheet) = Sheet::new(rt.alloc()) else {
+        return End::NoMemory;
+    };
+    let end = play(rt.alloc(), &mut sheet, layer, rows);
+    match print!(rt; "{}", sheet.told()) {
+        Ok(()) => end,
+        Err(_) => End::Unreadable,
+    }
 }
 
-/// The rows of each file of a text, before which a line `watched` may stand.
-fn tell_files<T: Threads + Wait + Sync>(
-    rt: &HostRuntime,
-    threads: &T,
-    text: &str,
-) -> Result<(), Failure> {
-    let (is_watched, files) = match text.strip_prefix("watched\n") {
-        Some(files) => (true, files),
-        None => (false, text),
+/// The rows of each file of a text.
+fn tell_files(rt: &HostRuntime, text: &str) -> End {
+    let Some(files) = text.strip_prefix("layer ") else {
+        return End::Unreadable;
     };
-    let files = wanted(files.strip_prefix("layer "))?;
     for file in files.split("\nlayer ") {
-        tell_file(rt, threads, is_watched, file)?;
+        let end = tell_file(rt, file);
+        if end != End::Well {
+            return end;
+        }
     }
-    Ok(())
+    End::Well
+}
+
+/// All that standard input gives.
+fn read_input(rt: &HostRuntime) -> io::Result<String> {
+    let mut text = String::with_capacity(rt.alloc(), ROOM)?;
+    let _read = rt.stdin().read_to_string(&mut text)?;
+    Ok(text)
 }
 
 /// The rows of each file that is read.
-fn tell_input<T: Threads + Wait + Sync>(rt: &HostRuntime, threads: &T) -> Result<(), Failure> {
-    let text = read_input(rt)?;
-    tell_files(rt, threads, text.as_str())
+fn tell_input(rt: &HostRuntime) -> End {
+    match read_input(rt) {
+        Ok(text) => tell_files(rt, text.as_str()),
+        Err(e) if e.kind() == io::ErrorKind::OutOfMemory => End::NoMemory,
+        Err(_) => End::Unreadable,
+    }
 }
 
 fn main(rt: HostRuntime) -> ExitCode {
-    status(tell_input(&rt, &rt))
+    match tell_input(&rt) {
+        End::Well => ExitCode::SUCCESS,
+        End::NoMemory => ExitCode::from(4),
+        _ => ExitCode::FAILURE,
+    }
 }

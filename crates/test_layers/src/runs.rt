@@ -1,0 +1,273 @@
+//! The layer `requests`: requests that run on a connection model and its lines by themselves, without links and calls.
+use crate::names::{self, NO_NAMES, Names};
+use crate::pages::{Answer, Page};
+use crate::sheets::{End, Layer, Sheet};
+use crate::words::Words;
+use crate::{board_reads, board_seen, commands, events, replies};
+use mg_model::failures::ChosenRefusal;
+use mg_model::line_events::LineEvent;
+use mg_names::identifiers::{Assoc, CallNo, LineNo};
+use requests::{Connections, LineNote, MessageId, Outcome, Reply, Request, SentNote};
+use std::alloc::{AllocError, Global};
+
+/// The message that a row names by its number: of call 1 in association 1.
+const fn id(number: u32) -> MessageId {
+    MessageId {
+        call: CallNo(1),
+        association: Assoc(1),
+        number,
+    }
+}
+
+/// Connections, and the names of what they gave.
+#[derive(Drop)]
+struct Runs {
+    alloc: Global,
+    lines: Vec<LineNo>,
+    connections: Connections,
+    names: Names,
+}
+
+/// Connections with these lines, which give numbers of a class.
+fn made(
+    alloc: Global,
+    lines: &[LineNo],
+    (first, stride): (u32, u32),
+) -> Result<Connections, AllocError> {
+    if (first, stride) == (0, 1) || first >= stride {
+        return Connections::new(alloc, lines);
+    }
+    Connections::with_ids(alloc, lines, first, stride)
+}
+
+/// Connections without lines.
+fn open(alloc: Global) -> Result<Runs, AllocError> {
+    Ok(Runs {
+        alloc,
+        lines: Vec::with_capacity(alloc, 24)?,
+        connections: Connections::new(alloc, &[])?,
+        names: NO_NAMES,
+    })
+}
+
+/// The rows of requests.
+pub(crate) fn play(alloc: Global, sheet: &mut Sheet, rows: &str) -> End {
+    match open(alloc) {
+        Ok(mut runs) => sheet.play(&mut runs, rows),
+        Err(_) => End::NoMemory,
+    }
+}
+
+fn write_notes(page: &mut Page, notes: &[LineNote]) {
+    for raised in notes {
+        page.numbered(" ; note l/", u64::from(raised.line.0));
+        page.say(" ");
+        events::write_note(page, &raised.note);
+    }
+}
+
+/// A copy of the reply that says what a request came to, and its notes.
+fn replied(id: MessageId, outcome: Outcome) -> Result<(Reply, Vec<LineNote>), AllocError> {
+    let Outcome {
+        results,
+        failure,
+        notes,
+    } = outcome;
+    let copied = Reply::new(id, results, failure).copy()?;
+    Ok((copied, notes))
+}
+
+/// Tells these lines of connections.
+fn show_lines(page: &mut Page, connections: &Connections, lines: &[LineNo]) {
+    for line in lines {
+        page.numbered("; l/", u64::from(line.0));
+        page.say(" ");
+        events::write_line(page, connections.line(*line));
+    }
+}
+
+/// What a request leaves on equal connections and what it came to.
+fn ran(
+    connections: &Connections,
+    request: &Request,
+    chosen: Option<ChosenRefusal>,
+) -> Result<(Connections, Outcome), AllocError> {
+    connections.copy()?.run(request, chosen)
+}
+
+/// The same, where what it leaves is what following its results leaves.
+fn followed(
+    connections: &Connections,
+    request: &Request,
+    chosen: Option<ChosenRefusal>,
+) -> Result<(Connections, Outcome), AllocError> {
+    let (_, outcome) = ran(connections, request, chosen)?;
+    let results = outcome.results.as_slice();
+    match connections.copy()?.follow(request, chosen, results) {
+        Some(after) => Ok((after, outcome)),
+        None => Err(AllocError),
+    }
+}
+
+impl Runs {
+    /// Connections with the lines that the words name.
+    fn anew(&mut self, page: &mut Page, words: &mut Words<'_>) -> Answer {
+        let class = words.class();
+        if names::read_lines(&mut self.lines, words.rest()) != Answer::Told {
+            return Answer::NoMemory;
+        }
+        match made(self.alloc, self.lines.as_slice(), class) {
+            Ok(connections) => {
+                self.connections = connections;
+                self.names = NO_NAMES;
+                page.done()
+            }
+            Err(_) => Answer::NoMemory,
+        }
+    }
+
+    /// What a request left stays.
+    fn stay(
+        &mut self,
+        page: &mut Page,
+        id: MessageId,
+        after: Connections,
+        outcome: Outcome,
+    ) -> Answer {
+        match replied(id, outcome) {
+            Ok((reply, notes)) => {
+                self.connections = after;
+                replies::write_reply(page, &mut self.names, id, &reply);
+                write_notes(page, notes.as_slice());
+                Answer::Told
+            }
+            Err(_) => Answer::NoMemory,
+        }
+    }
+
+    /// A request runs, or is followed, and what it leaves stays once no more memory is wanted.
+    fn run(
+        &mut self,
+        page: &mut Page,
+        verb: &str,
+        request: &Request,
+        chosen: Option<ChosenRefusal>,
+    ) -> Answer {
+        let ran = match verb {
+            "run" => ran(&self.connections, request, chosen),
+            _ => followed(&self.connections, request, chosen),
+        };
+        match ran {
+            Ok((after, outcome)) => self.stay(page, request.id(), after, outcome),
+            Err(_) => Answer::NoMemory,
+        }
+    }
+
+    /// The request of a row runs: `run NUMBER : COMMANDS`.
+    fn asked(&mut self, page: &mut Page, verb: &str, words: &mut Words<'_>) -> Answer {
+        let number = words.number();
+        let chosen = commands::chosen(words);
+        let _colon = words.next();
+        let Some(number) = number else {
+            return Answer::NoCall;
+        };
+        match commands::read(self.alloc, &self.names, words.rest()) {
+            Ok(commands) => self.run(page, verb, &Request::new(id(number), commands), chosen),
+            Err(answer) => answer,
+        }
+    }
+
+    /// Something happens on a line, and its note is number 1 to call 1.
+    fn happen(&mut self, page: &mut Page, line: LineNo, event: LineEvent) -> Answer {
+        match self.connections.happen(line, event) {
+            Ok(Some(note)) => {
+                replies::write_note(page, &SentNote::new(id(1), LineNote { line, note }))
+            }
+            answer => events::write_noted(page, &answer),
+        }
+    }
+
+    /// A line is opened.
+    fn open_line(&mut self, page: &mut Page, line: LineNo) -> Answer {
+        match self.connections.open_line(line) {
+            Ok(()) => page.done(),
+            Err(_) => Answer::NoMemory,
+        }
+    }
+
+    /// A line is deactivated.
+    fn deactivate(&mut self, page: &mut Page, line: LineNo) -> Answer {
+        match self.connections.deactivate(line) {
+            Ok(()) => page.done(),
+            Err(_) => Answer::NoMemory,
+        }
+    }
+
+    /// Writes whether an event on a line raises a note.
+    fn write_raises(&self, page: &mut Page, line: LineNo, words: &mut Words<'_>) -> Answer {
+        let verb = words.next();
+        match events::event(verb, words) {
+            Some(event) => page.yes_or_no(self.connections.raises(line, event)),
+            None => Answer::NoCall,
+        }
+    }
+
+    /// What is done to a line, or read of it.
+    fn of_line(&mut self, page: &mut Page, verb: &str, words: &mut Words<'_>) -> Answer {
+        let Some(line) = names::line(words.next()) else {
+            return Answer::NoCall;
+        };
+        match verb {
+            "open" => self.open_line(page, line),
+            "deactivate" => self.deactivate(page, line),
+            "line" => events::write_line(page, self.connections.line(line)),
+            "idle" => page.yes_or_no(self.connections.is_idle(line)),
+            "there" => page.yes_or_no(self.connections.has_line(line)),
+            "raises" => self.write_raises(page, line, words),
+            _ => match events::event(verb, words) {
+                Some(event) => self.happen(page, line, event),
+                None => Answer::NoCall,
+            },
+        }
+    }
+}
+
+impl Layer for Runs {
+    fn show(&self, page: &mut Page) {
+        self.names.show(page);
+        board_seen::show_board(page, self.connections.board());
+        match self.connections.board().lines() {
+            Ok(found) => show_lines(page, &self.connections, found.as_slice()),
+            Err(_) => page.lack(),
+        }
+    }
+
+    fn answer(&mut self, page: &mut Page, words: Words<'_>) -> Answer {
+        let mut words = words;
+        let verb = words.next();
+        match verb {
+            "new" => self.anew(page, &mut words),
+            "run" | "follow" => self.asked(page, verb, &mut words),
+            "restart" => {
+                self.connections.restart();
+                page.done()
+            }
+            "show"
+            | "members"
+            | "number"
+            | "lines"
+            | "ephemerals"
+            | "contexts"
+            | "cut"
+            | "path"
+            | "joined" => board_reads::write_read(
+                page,
+                &self.names,
+                self.connections.board(),
+                verb,
+                &mut words,
+            ),
+            _ => self.of_line(page, verb, &mut words),
+        }
+    }
+}
