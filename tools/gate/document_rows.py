@@ -1,11 +1,10 @@
-"""Rows of documents: the files of tests/documents have scripts, certificates and plans, a row each, with what `mgcall` answers, and tests/mistakes/plans.rows
-has plans with the place of their fault. tests/documents/README.md says how rows are written."""
+"""Rows of documents: the files of tests/documents have scripts, certificates and plans, a row each, with what `mgcall` answers. Their README.md says how rows
+are written."""
 from collections import namedtuple
 
 from shared import programs
 
 FOLDER = programs.TOP / "tests" / "documents"
-PLACES = programs.TOP / "tests" / "mistakes" / "plans.rows"
 MARK = " => "
 # A certificate without entries, which is read for any script, and then a no: the opening is in no entry.
 NOTHING = '{"version":2,"entries":[]}\n'
@@ -71,7 +70,7 @@ class File:
                 self.head = self.taken()
             elif line and not line.startswith("#"):
                 row, _, said = line.partition(MARK)
-                verb, _, text = row.removeprefix("place ").partition(" ")
+                verb, _, text = row.partition(" ")
                 kind, words, sections = self.document(verb, text)
                 yield Row(f"{self.path.name}:{number}", row, kind, words, "%%\n".join(sections).encode(), said)
 

@@ -1,16 +1,19 @@
-"""What `mgexplain` says of runs, for `tools/gate/explain`: for each stored run and each plan of gallery/ and examples/ its first lines and its status are those
-of `mgcall run --workers 1`; the steps of each call of the plan are told once and in order; events and idle steps, counted anew from what is told, are those of
-the lines; each number that a call knows was given by a reply; what is told of one call is what is told of it among all; and the ladder stands under the same
-lines. The rows below are reasoned by hand."""
+"""What `mgexplain` tells of runs, for `tools/gate/explain`: for each stored run and each plan of gallery/ and examples/ its first lines and its status are
+those of `mgcall run --workers 1`; the steps of each call of the plan are told once and in order; events and idle steps, counted anew from what is told, are
+those of the lines; each number that a call knows was given by a reply; what is told of one call is what is told of it among all; and the ladder stands
+under the same lines. The rows below are reasoned by hand."""
 import json
-import subprocess
 import tomllib
 from pathlib import Path
 
+from gate import told_words
+from gate.told_words import asked
+from shared import explained, run_words
+
 TOP = Path(__file__).resolve().parents[2]
 RUNS = TOP / "tests" / "runs"
-SECONDS = 600
-FORMAT = 1
+FORMAT = 2
+IN_WORDS = "In words: mgcall-why, or tools/why of the sources.\n"
 DIVIDER = b"%%\n"
 FILES = ("script.toml", "certificate.json", "plan.toml")
 # What is told beside the steps of a call: no step of it, and the step that another call has.
@@ -32,12 +35,6 @@ ROWS = (
         ("call 0 done retired events=11 idle=13", "call 0.1 idle resting events=1 idle=1"),
     ),
 )
-
-
-def asked(program, data, *words):
-    """Status and output of a program."""
-    result = subprocess.run([program, *words], input=data, stdout=subprocess.PIPE, timeout=SECONDS, check=False)
-    return result.returncode, result.stdout.decode()
 
 
 def ended(text):
@@ -102,7 +99,8 @@ def in_order(calls, report):
 
 
 def leads_on(report, number):
-    """What is wrong with where a call is from step to step: each begins where the one before it ended, or where another call begins or the gateway restarts."""
+    """What is wrong with where a call is from step to step: each begins where the one before it ended, or where another call begins or the gateway "
+    "restarts."""
     at = None
     for step in of_call(report, number):
         if at not in (None, step["before"]):
@@ -147,7 +145,7 @@ def numbers(line):
 def strings(value):
     """What the text has of a JSON value of steps, as it has it."""
     for step in value:
-        yield step["says"]
+        yield run_words.says(step)
         for part in ("executed", "sent"):
             yield from (each["command"] for each in step.get(part, {}).get("request", []))
 
@@ -157,20 +155,19 @@ def wrongs(programs, data, refused):
     mgcall, mgexplain = programs
     status, output = asked(mgcall, data, "run", "--workers", "1")
     text_status, text = asked(mgexplain, data)
-    if text_status != status or not text.startswith(output) or output and text == output:
+    if (text_status, text) != (status, output + IN_WORDS):
         yield f"{text_status} {text[:80]!r}"
-    json_status, said = asked(mgexplain, data, "--json")
-    page = json.loads(said)
+    json_status, page = told_words.facts(mgexplain, data)
     yield from (f"the schema: {error.message}" for error in refused(page))
     if json_status != status or page["format"] != FORMAT or page["status"] != status:
         yield f"status {json_status} with --json"
-    if asked(mgexplain, data, "--dot")[0] != 2:
-        yield "a picture of a plan"
     if status:
         if page["line"] != output.rstrip("\n"):
             yield "another line"
         return
-    report = page["report"]
+    report, text = page["report"], told_words.view(page, data)
+    if not text.startswith(output) or output and text == output:
+        yield f"words that don't stand under the report: {text[:80]!r}"
     if "".join(f"{line['line']}\n" for line in report) != output:
         yield "another report"
     for line in report:
@@ -181,8 +178,7 @@ def wrongs(programs, data, refused):
     yield from in_order(calls, report)
     for number in range(len(calls)):
         yield from leads_on(report, number)
-    ladder_status, ladder = asked(mgexplain, data, "--ladder")
-    if ladder_status != 0 or not ladder.startswith(output):
+    if not told_words.view(page, data, explained.LADDER).startswith(output):
         yield "no ladder"
     yield from of_one(mgexplain, data, report, len(calls))
 
@@ -190,9 +186,9 @@ def wrongs(programs, data, refused):
 def of_one(mgexplain, data, report, count):
     """What is wrong with what is said of one call: the last one, and one that the plan doesn't have."""
     for number in {max(count - 1, 0), count}:
-        page = json.loads(asked(mgexplain, data, "--json", "--call", str(number))[1])
+        page = told_words.facts(mgexplain, data, "--call", str(number))[1]
         alone = [{key: value for key, value in line.items() if key != "steps" or line["call"] == number} for line in report]
-        if page["report"] != alone or ("says" in page) != (number >= count):
+        if page["report"] != alone or ("untold" in page) != (number >= count):
             yield f"another call {number}"
 
 
@@ -208,8 +204,8 @@ def by_hand(mgexplain):
             words += [step] if step else []
         plan = f"[[call]]\nlines = [1, 2]\nepochs = [{json.dumps(words)}]\n"
         data = DIVIDER.join([*(ended((folder / part).read_bytes()) for part in FILES[:2]), plan.encode()])
-        status, said = asked(mgexplain, data, "--json")
-        report = json.loads(said)["report"]
+        status, page = told_words.facts(mgexplain, data)
+        report = page["report"]
         told = [step.get("reason", step["came"]) for line in report for step in line["steps"]]
         right = status == 0 and told == wanted and tuple(line["line"] for line in report) == lines
         yield name, [] if right else [f"{told}, {[line['line'] for line in report]}"]
@@ -219,7 +215,7 @@ def words_are_refused(mgexplain):
     """Whether words that ask of a run what it doesn't have, or of no run, are answered by the line on the words."""
     watch = given(TOP / "examples" / "watch")
     pair = watch.rpartition(DIVIDER)[0]
-    for data, words in ((watch, ["--dot"]), (pair, ["--ladder"]), (pair, ["--call", "0"]), (pair, ["--json", "--call", "0"]), (watch, ["--call", "00"])):
+    for data, words in ((watch, ["--strict"]), (pair, ["--call", "0"]), (pair, ["--json", "--call", "0"]), (watch, ["--call", "00"])):
         status, said = asked(mgexplain, data, *words)
         yield f"words {' '.join(words)}", [] if status == 2 and "usage: mgexplain" in said else [said[:80]]
 

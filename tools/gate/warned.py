@@ -4,7 +4,9 @@ hand. With `--strict` a yes with a warning has status 1, and all else has the st
 import json
 import tomllib
 
-from gate.told_runs import DIVIDER, TOP, asked
+from gate import told_words
+from gate.told_runs import DIVIDER, TOP
+from gate.told_words import asked
 from shared import drafting
 
 STORY = TOP / "gallery" / "hotline"
@@ -74,7 +76,7 @@ def drafted(program, script):
     """Entries that are made by doing what is said from nothing on, with no configuration that no call comes to."""
 
     def page_of(entries):
-        return json.loads(asked(program, joined(script, entries), "--json")[1])
+        return told_words.facts(program, joined(script, entries))[1]
 
     table = tomllib.loads(script)
     return drafting.followed(page_of, [], lambda entries, page: drafting.exactly(table, False, entries, page), MOST).entries
@@ -94,7 +96,7 @@ def status_wrong(program, data, page):
 
 def wrong(program, data, facts, wanted):
     """What is wrong with what is warned of."""
-    page = json.loads(asked(program, data, "--json")[1])
+    page = told_words.facts(program, data)[1]
     if not page["line"].startswith("yes "):
         yield page["line"]
     told = [facts(warning) for warning in page.get("warnings", [])]
@@ -108,7 +110,7 @@ def patterns(program):
     for name, unfollowed in PATTERNS.items():
         for folder in sorted((TOP / "gallery" / "patterns" / name).iterdir()):
             script, certificate = ((folder / file).read_bytes() for file in ("script.toml", "certificate.json"))
-            page = json.loads(asked(program, script + DIVIDER + certificate, "--json")[1])
+            page = told_words.facts(program, script + DIVIDER + certificate)[1]
             told = {warning["warning"] for warning in page.get("warnings", []) if "state" in warning}
             wanted = unfollowed if folder.name == "without" else set()
             yield f"warnings: {name} {folder.name}", [] if told == wanted else [f"{told}, and not {wanted}"]
@@ -141,7 +143,6 @@ def judged(program):
         yield f"warnings: {name}", [*wrong(program, joined(script, [*first, *own, *last]), of_entry, wanted)]
     yield from patterns(program)
     for name, words, data in (
-        ("with a picture", ("--strict", "--dot"), joined(script, own)),
         ("of a plan", ("--strict",), joined(script, own) + DIVIDER + (STORY / "plan.toml").read_bytes()),
         ("of a plan as JSON", ("--strict", "--json"), joined(script, own) + DIVIDER + (STORY / "plan.toml").read_bytes()),
     ):

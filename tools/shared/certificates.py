@@ -61,6 +61,16 @@ def normal(script, entry):
     return laid_out(script, entry["state"], sets(script, entry))
 
 
+def of_facts(script, told):
+    """An entry as `mgexplain` tells it, with each component, as a certificate has it."""
+    return laid_out(script, told["state"], {part["component"]: part["has"] for part in told["parts"]})
+
+
+def link(told):
+    """The link of a configuration as `mgexplain` tells it."""
+    return next(part["value"] for part in told["parts"] if part["component"] == "link")
+
+
 def text(entries):
     """A certificate of these entries, one a line."""
     rows = ",\n".join(json.dumps(entry, separators=(",", ":")) for entry in entries)

@@ -1,4 +1,4 @@
-"""A certificate that is made by doing what `mgexplain` says, from No to No. An entry is put in so that it brings no configuration but the one that is lacking:
+"""A certificate that is made by doing what is said of a No, from No to No. An entry is put in so that it brings no configuration but the one that is lacking:
 a wider one where that holds of it, else the entry of one point. So, from nothing, every configuration of a draft is one that a call comes to by the check's
 own steps, and a No of K3, K4, K5 or K7 is about the script. It is installed too, so it knows nothing of this repository."""
 import functools
@@ -7,7 +7,7 @@ import json
 import sys
 from collections import namedtuple
 
-from shared import asking, certificates, scripts
+from shared import asking, certificates, explained, scripts
 
 WIDE, TARGET = "--wide", "-o"
 USAGE = f"SCRIPT [CERTIFICATE] [{TARGET} FILE] [{WIDE}]"
@@ -48,7 +48,7 @@ def alone(script, configuration):
 def exactly(script, is_wide, entries, page):
     """Entries with the configuration of a page put in, and no other beside it: in the place of the entry that it widens where that gets no other one, else
     behind the last. Where its state has all the entries that it may have, entries are joined if that is asked for; None where there is no room."""
-    place, wider = page.get("widens"), certificates.normal(script, page["entry"])
+    place, wider = page.get("widens"), certificates.normal(script, certificates.of_facts(script, page["entry"]))
     if place is not None and size(script, wider) == size(script, entries[place]) + 1:
         return [*entries[:place], wider, *entries[place + 1 :]]
     new = alone(script, lacking(page))
@@ -116,7 +116,7 @@ def became(end, is_wide):
 def made(program, texts, asked):
     """What drafting from a script and a certificate comes to. Where they can't be read, the tool ends with what `mgexplain` says of that."""
     if page_of(program, texts)["status"] == 3:
-        asking.stop(asking.told(program, [], texts)[1].rstrip("\n"), 1)
+        asking.stop(explained.in_words(program, [], texts)[1].rstrip("\n"), 1)
     script, entries = begun(asked[:2], texts)
 
     def page_of_entries(entries):
@@ -142,6 +142,6 @@ def drafted(asked, find):
     print(became(end, asked.is_wide), file=sys.stderr)
     if end.page["status"] == 0:
         return 0
-    words = asking.told(program, [], [given[0], draft.encode()])[1]
+    words = explained.in_words(program, [], [given[0], draft.encode()])[1]
     print(words.partition("\n")[2].rstrip("\n"), file=sys.stderr)
     return 1

@@ -1,6 +1,6 @@
-"""A page for a script, its certificate and perhaps a plan: what `mgexplain` tells of them, as values that a template lays out. The template is of Jinja2, the
-machine is drawn by Graphviz. A page names its sources with their checksums, and has its name once it is whole. It is installed too, so it knows nothing of
-this repository."""
+"""A page for a script, its certificate and perhaps a plan: what `mgexplain` tells of them, and what is said of that, as values that a template lays out.
+The template is of Jinja2, the machine is drawn by Graphviz. A page names its sources with their checksums, and has its name once it is whole. It is
+installed too, so it knows nothing of this repository."""
 import hashlib
 import json
 import re
@@ -9,7 +9,7 @@ import subprocess
 from collections import namedtuple
 from pathlib import Path
 
-from shared import asking, certificates, messages, pictures, scripts
+from shared import asking, certificates, check_words, explained, marked_pictures, messages, pictures, run_words, scripts
 
 try:
     import jinja2
@@ -23,14 +23,14 @@ TEMPLATE = Path(__file__).with_name("script_page.html")
 YES, NO = 0, 1
 # What is asked for: the names of the files, and that of the page.
 Wanted = namedtuple("Wanted", "names target")
-# What `mgexplain` says of a script and its certificate: the status, the value of --json, the text, and that of --dot.
-Verdict = namedtuple("Verdict", "status page text dot")
+# What `mgexplain` tells of a script and its certificate, with the status, and what is said of it.
+Verdict = namedtuple("Verdict", "status page words")
 # A state as the page has it: its name, whether it is an end, its pairs, its commands, its ways out, and its entries.
 State = namedtuple("State", "name is_end talk commands ways entries")
 # An entry: its place, its link, its rows of lines and of ephemerals, its contexts and its cuts, and the number of the point that a No names, None where none.
 Entry = namedtuple("Entry", "place link lines ephemerals contexts cuts point")
-# A step: what `mgexplain` tells of it, the messages that end at it, and those that are sent at it, each with its number.
-Step = namedtuple("Step", "told ended sent")
+# A step: what `mgexplain` tells of it, what is said of that, the messages that end at it, and those that are sent at it, each with its number.
+Step = namedtuple("Step", "told says ended sent")
 # A call of the report: its line, and its steps.
 Told = namedtuple("Told", "line steps")
 # How Graphviz is called: no background, and each state leads to its part of the page.
@@ -63,9 +63,9 @@ def svg(text):
 
 
 def verdict_of(program, texts):
-    """What `mgexplain` says of a script and its certificate."""
-    status, page = asking.told(program, ["--json"], texts)
-    return Verdict(status, json.loads(page or "{}"), *(asking.told(program, words, texts)[1] for words in ([], ["--dot"])))
+    """What `mgexplain` tells of a script and its certificate."""
+    status, page = explained.told(program, [], texts)
+    return Verdict(status, page or {}, explained.view(None, page, texts) if page else "")
 
 
 def joined(values):
@@ -117,7 +117,7 @@ def told_calls(page, texts):
     for line in page["report"]:
         own = of_call.get(messages.call_of(line), [])
         ended, sent = by_step(own, "ended"), by_step(own, "sent")
-        yield Told(line["line"], [Step(step, ended.get(place, []), sent.get(place, [])) for place, step in enumerate(line["steps"])])
+        yield Told(line["line"], [Step(step, run_words.says(step), ended.get(place, []), sent.get(place, [])) for place, step in enumerate(line["steps"])])
 
 
 def heading(text):
@@ -142,8 +142,10 @@ def laid_out(names, texts, verdict, run):
     return environment.from_string(TEMPLATE.read_text()).render(
         heading=heading(texts[0]),
         verdict=verdict,
-        words=verdict.text.partition("\n")[2].strip("\n"),
-        machine=svg(verdict.dot),
+        rule=check_words.rule(verdict.page),
+        warnings=[(told, check_words.warned(told)) for told in verdict.page.get("warnings", [])],
+        words=verdict.words.partition("\n")[2].strip("\n"),
+        machine=svg("\n".join(marked_pictures.lines(verdict.page, texts))),
         script=script,
         states=[*states_of(script, entries, verdict.page.get("point", {}))],
         calls=[*told_calls(run, texts)] if run else [],
@@ -157,10 +159,10 @@ def written(asked, find):
     can_draw()
     program = find("mgexplain")
     verdict, run = verdict_of(program, texts[:2]), {}
-    status, said = verdict.status, verdict.text
+    status, said = verdict.status, verdict.words
     if status == YES and len(texts) > 2:
-        status, output = asking.told(program, ["--json"], texts)
-        run, said = json.loads(output or "{}"), asking.told(program, [], texts)[1] if status else ""
+        status, run = explained.told(program, [], texts)
+        said = explained.view(None, run, texts) if status and run else ""
     if status not in (YES, NO):
         print(said, end="")
         return status

@@ -1,13 +1,12 @@
 """The trace of a run: its messages as one text, as files of their own, and as a capture. A file or a folder has its name once it is whole. It is installed
 too, so it knows nothing of this repository."""
 import contextlib
-import json
 import os
 import shutil
 from collections import namedtuple
 from pathlib import Path
 
-from shared import annex_b, asking, capture, messages, scripts
+from shared import annex_b, asking, capture, explained, messages, run_words, scripts
 
 CALL, FOLDER, CAPTURE = "--call", "--messages", "--pcap"
 USAGE = f"SCRIPT CERTIFICATE PLAN [{CALL} N] [{FOLDER} DIR] [{CAPTURE} FILE]"
@@ -62,8 +61,7 @@ def lines(page, sent):
         yield from (f"; {told['line']}", "")
         for number, message in of_call.get(messages.call_of(told), []):
             yield from of_message(number, message)
-    if "says" in page:
-        yield f"; {page['says']}"
+    yield from (f"; {line}" for paragraph in run_words.untold(page) for line in paragraph)
 
 
 @contextlib.contextmanager
@@ -97,16 +95,15 @@ def captured(sent):
 
 
 def told(wanted_of, find):
-    """The status and what is said as JSON of what is asked for, and the texts of the files. Where there is no report, what `mgexplain` says stands for that."""
+    """The status, what `mgexplain` tells of what is asked for, and the texts of the files. Where there is no report, what is said of that is printed."""
     scripts.can_read()
     texts = asking.read(wanted_of.names)
     program = find("mgexplain")
     words = [CALL, wanted_of.call] if wanted_of.call is not None else []
-    status, output = asking.told(program, ["--json", *words], texts)
-    page = json.loads(output) if output else {}
-    if "report" not in page:
-        print(asking.told(program, words, texts)[1], end="")
-    return status, page, texts
+    status, page = explained.told(program, words, texts)
+    if page and "report" not in page:
+        print(explained.view(None, page, texts), end="")
+    return status, page or {}, texts
 
 
 def traced(asked, find):

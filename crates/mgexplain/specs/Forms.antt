@@ -1,20 +1,17 @@
--- What words ask for: a form, the number of one call of a plan, or both in either order; that warnings count, with or without a form, in either order; or one of
--- two words alone.
+-- What words ask for: a form, the number of one call of a plan, or both in either order; that warnings count, with or without a form, in either order; or
+-- one of two words alone.
 use Rattle.std.specs.Prelude.{ℕ, List, [], ◌∷◌, Option, Some, None, codes, if◌then◌else◌}
 use Rattle.std.specs.Str.{bytes_eq}
 use Rattle.plans.specs.Texts.{number_in}
-use Rattle.check_explanation.specs.declared.form.Form.{Form}
-use Rattle.check_explanation.specs.declared.form.Form.TheVariants.{Text, Json, Dot, Ladder}
+use Rattle.check_facts.specs.declared.form.Form.{Form}
+use Rattle.check_facts.specs.declared.form.Form.TheVariants.{Text, Json}
 use Rattle.mgexplain.specs.declared.words.Asked.{Asked}
 use Rattle.mgexplain.specs.declared.words.Asked.TheVariants.{Saying, Strictly, Help, Version}
 
 -- a form other than that of a text
 abbrev pub form_of : List ℕ → Option Form
 form_of word =
-    if bytes_eq word (codes "--json") then Some Json
-    else if bytes_eq word (codes "--dot") then Some Dot
-    else if bytes_eq word (codes "--ladder") then Some Ladder
-    else None
+    if bytes_eq word (codes "--json") then Some Json else None
 
 -- the number of a call, in decimal digits without leading zeros
 abbrev pub call_number : List ℕ → Option ℕ
@@ -40,10 +37,10 @@ asked_by word =
     else if bytes_eq word (codes "--strict") then Some (Strictly Text)
     else in_form (form_of word)
 
--- with warnings counted; only a text and JSON tell them
+-- with warnings counted
 abbrev pub strictly : Option Form → Option Asked
-strictly (Some Json) = Some (Strictly Json)
-strictly _ = None
+strictly None = None
+strictly (Some form) = Some (Strictly form)
 
 abbrev pub asked_by_two : List ℕ → List ℕ → Option Asked
 asked_by_two first second =

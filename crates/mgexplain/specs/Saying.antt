@@ -1,16 +1,16 @@
--- What is said of an input: under the line of the check, with the status of that line, or that of a no where warnings count; and of one with a plan under what `mgcall run` writes for it on one worker,
--- with the status of that. A reader should check that a plan has no picture and no warnings, and that where there is none nothing is asked of it. This profile's own.
+-- What is told of an input: the line of the check, with the status of that line, or that of a no where warnings count; and of one with a plan what `mgcall
+-- run` writes for it on one worker, with the status of that. A reader should check that a plan has no warnings, and that where there is none no call of it
+-- is asked for. This profile's own.
 use Rattle.std.specs.Prelude.{◌≡◌, ℕ, ◌⊎◌, Bool, true, Option, None, Some, Result, Ok, Err}
 use Rattle.std.specs.declared.alloc.AllocError.{AllocError}
 use Rattle.check_lines.specs.Output.{Text, too_long}
 use Rattle.program_rim.specs.Sections.{pair_of, sections_of, triple_of}
 use Rattle.program_rim.specs.declared.input.Input.{Input}
 use Rattle.program_rim.specs.declared.input.Input.TheVariants as input
-use Rattle.check_explanation.specs.Saying.{IsTold, IsUnder}
-use Rattle.check_explanation.specs.declared.form.Form.{Form}
-use Rattle.check_explanation.specs.declared.form.Form.TheVariants as form
-use Rattle.check_explanation.specs.declared.said.Said.{Said}
-use Rattle.run_explanation.specs.Saying.{IsRunTold}
+use Rattle.check_facts.specs.Saying.{IsTold, IsUnder}
+use Rattle.check_facts.specs.declared.form.Form.{Form}
+use Rattle.check_facts.specs.declared.said.Said.{Said}
+use Rattle.run_facts.specs.Saying.{IsRunTold}
 use Rattle.mgexplain.specs.declared.outcome.Outcome.{Outcome}
 use Rattle.mgexplain.specs.declared.outcome.Outcome.TheVariants as outcome
 
@@ -19,18 +19,14 @@ abbrev pub IsSaidOf : Bool → Option (Text × Text × Text) → Option (Text ×
 IsSaidOf strict (Some (script, certificate, plan)) pair form said = IsRunTold script certificate plan form said
 IsSaidOf strict None pair form said = IsTold strict pair form said
 
--- the words ask for a run's ladder or for one call of it
-abbrev pub AskOfRun : Form → Option ℕ → Type 0
-AskOfRun asked only = (asked ≡ form.Ladder) ⊎ ((number : ℕ) × (only ≡ Some number))
+-- the words ask for one call of a run
+abbrev pub AskOfRun : Option ℕ → Type 0
+AskOfRun only = (number : ℕ) × (only ≡ Some number)
 
--- the words ask for a picture, or that warnings count
-abbrev pub AskOfCheck : Bool → Form → Type 0
-AskOfCheck strict asked = (asked ≡ form.Dot) ⊎ (strict ≡ true)
-
--- with a plan no picture is drawn and no warning counts, and without one nothing is said of a run
-abbrev pub IsUnanswered : Bool → Option (Text × Text × Text) → Form → Option ℕ → Type 0
-IsUnanswered strict (Some sections) asked only = AskOfCheck strict asked
-IsUnanswered strict None asked only = AskOfRun asked only
+-- with a plan no warning counts, and without one no call is asked for
+abbrev pub IsUnanswered : Bool → Option (Text × Text × Text) → Option ℕ → Type 0
+IsUnanswered strict (Some sections) only = strict ≡ true
+IsUnanswered strict None only = AskOfRun only
 
 -- what was said comes of it; else there was no memory. No public clause speaks of this word
 abbrev pub IsOutcomeOf : Result Said AllocError → Outcome → Type 0
@@ -40,7 +36,7 @@ IsOutcomeOf (Err error) result = result ≡ outcome.NoMemory
 -- what comes of sections: the saying, or the usage line where the words don't go with them; memory may run out
 abbrev pub IsOutcomeOn : Bool → Form → Option ℕ → Option (Text × Text × Text) → Option (Text × Text) → Outcome → Type 0
 IsOutcomeOn strict form only triple pair (outcome.Told said) = IsSaidOf strict triple pair form said
-IsOutcomeOn strict form only triple pair outcome.Usage = IsUnanswered strict triple form only
+IsOutcomeOn strict form only triple pair outcome.Usage = IsUnanswered strict triple only
 IsOutcomeOn strict form only triple pair outcome.NoMemory = Unit {0}
 IsOutcomeOn strict form only triple pair outcome.ReadFailed = ⊥
 

@@ -1,9 +1,9 @@
-//! `mgexplain [SCRIPT CERTIFICATE [PLAN]] [--json | --dot | --ladder] [--call N] [--strict] | --help | --version`: reads a script and a certificate, from files or as
-//! `mgcall check` does from standard input, and says in words what that program's line says. The first line is that line, by the same calls, and the exit status is the same. With a plan behind them it
-//! says what `mgcall run` says, and under each line of the report what its steps came to. `--json` says the same facts as one JSON value; `--dot` writes the
-//! script's state machine as Graphviz text, with what a No names marked; `--ladder` writes the messages of a run as a ladder; `--call` tells one call.
+//! `mgexplain [SCRIPT CERTIFICATE [PLAN]] [--json] [--call N] [--strict] | --help | --version`: reads a script and a certificate, from files or as `mgcall
+//! check` does from standard input, and tells what that program's line is about. The first line is that line, by the same calls, and the exit status is the
+//! same. With a plan behind them the first lines are those of `mgcall run`. `--json` tells the facts as one JSON value: of the check, or with a plan of
+//! each step of a run; `--call` tells one call. Sentences and pictures are made of that value elsewhere.
 //!
-//! `check_explanation` says what the check comes to, under its line, and `run_explanation` what a plan comes to, under its report. Here they are asked for what goes
+//! `check_facts` tells what the check comes to, with its line, and `run_facts` what a plan comes to, with its report. Here they are asked for what goes
 //! with the input (`outcome`), in the form that the words ask for (`words`, with `call_number`), and bound to the process; `documents` reads files.
 #![tactic(auto)]
 
@@ -15,7 +15,7 @@ mod words;
 use crate::documents::read_documents;
 use crate::outcome::{Outcome, told_of};
 use crate::words::{Asked, Request, name_json, read_words};
-use check_explanation::form::Form;
+use check_facts::form::Form;
 use program_rim::host::Host;
 use program_rim::input::{Input, read_all};
 use program_rim::sink::write_all;
@@ -26,33 +26,29 @@ use std::thread::Threads;
 use std::{env, io};
 
 /// How the program is called.
-const USAGE: &str =
-    "usage: mgexplain [SCRIPT CERTIFICATE [PLAN]] [--json | --dot | --ladder] [--call N] [--strict]\n";
+const USAGE: &str = "usage: mgexplain [SCRIPT CERTIFICATE [PLAN]] [--json] [--call N] [--strict]\n";
 
 /// The same as a JSON value.
 const USAGE_AS_JSON: &str =
-    "{\"format\":1,\"line\":\"usage: mgexplain [SCRIPT CERTIFICATE [PLAN]] [--json | --dot | --ladder] [--call N] [--strict]\",\"status\":2}\n";
+    "{\"format\":2,\"line\":\"usage: mgexplain [SCRIPT CERTIFICATE [PLAN]] [--json] [--call N] [--strict]\",\"status\":2}\n";
 
 /// What it says where there was no memory.
 const NO_MEMORY: &str = "no memory\n";
 
 /// The same as a JSON value.
-const NO_MEMORY_AS_JSON: &str = "{\"format\":1,\"line\":\"no memory\",\"status\":4}\n";
+const NO_MEMORY_AS_JSON: &str = "{\"format\":2,\"line\":\"no memory\",\"status\":4}\n";
 
 /// What it says where help is asked for.
-const HELP: &str =
-    "usage: mgexplain [SCRIPT CERTIFICATE [PLAN]] [--json | --dot | --ladder] [--call N] [--strict]
-Reads the files of a script and a certificate, and says in words what mgcall check says of them. With the file of a plan it says what
-mgcall run says of the three, and what each step of the plan came to. Where no file is named it reads standard input, as these commands
-do: a script, a line %%, a certificate, and perhaps another line %% and a plan.
-  --json     the same as one JSON value
-  --dot      the script as a picture for Graphviz, with what a no names in red; not with a plan
-  --ladder   the messages of each call of a plan as a ladder, the call on the left and its gateway on the right
+const HELP: &str = "usage: mgexplain [SCRIPT CERTIFICATE [PLAN]] [--json] [--call N] [--strict]
+Reads the files of a script and a certificate, and tells what the line of mgcall check is about. With the file of a plan it tells what
+mgcall run comes to for the three, and what each step of the plan came to. Where no file is named it reads standard input, as these
+commands do: a script, a line %%, a certificate, and perhaps another line %% and a plan.
+  --json     the facts as one JSON value; without it the line or the report alone
   --call N   the steps of one call of a plan alone
   --strict   status 1 for a yes under which something is warned of, alone or with --json; not with a plan
   --help     this
   --version  which version it is
-The status is that of mgcall check, with a plan that of mgcall run.
+The status is that of mgcall check, with a plan that of mgcall run. mgcall-why tells the facts in words.
 ";
 
 /// Which version it is.
@@ -77,7 +73,7 @@ fn request(words: &[String]) -> Result<Request, &'static str> {
 fn no_memory(form: Form) -> &'static str {
     match form {
         Form::Json => NO_MEMORY_AS_JSON,
-        Form::Text | Form::Dot | Form::Ladder => NO_MEMORY,
+        Form::Text => NO_MEMORY,
     }
 }
 
@@ -85,7 +81,7 @@ fn no_memory(form: Form) -> &'static str {
 fn usage(form: Form) -> &'static str {
     match form {
         Form::Json => USAGE_AS_JSON,
-        Form::Text | Form::Dot | Form::Ladder => USAGE,
+        Form::Text => USAGE,
     }
 }
 

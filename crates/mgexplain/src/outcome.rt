@@ -1,14 +1,14 @@
 //! What comes of an input: what is said of a check, or with a plan of a run, where the words that the program was called with go with it.
 ghost use Rattle.std.specs.Prelude.{◌≡◌, true};
 ghost use Rattle.program_rim.specs.Sections.{pair_of, sections_of, triple_of};
-ghost use Rattle.mgexplain.specs.Saying.{AskOfCheck, AskOfRun, IsOutcome, IsOutcomeOf, IsOutcomeOn};
+ghost use Rattle.mgexplain.specs.Saying.{AskOfRun, IsOutcome, IsOutcomeOf, IsOutcomeOn};
 
-use check_explanation::form::Form;
-use check_explanation::said::Said;
-use check_explanation::told::{input_told, too_long_told};
+use check_facts::form::Form;
+use check_facts::said::Said;
+use check_facts::told::{input_told, too_long_told};
 use program_rim::input::Input;
 use program_rim::sections::three_sections;
-use run_explanation::told_run::run_told;
+use run_facts::told_run::run_told;
 use std::alloc::{AllocError, Global};
 use std::sync::Wait;
 use std::thread::Threads;
@@ -36,26 +36,6 @@ fn outcome_of(told: Result<Said, AllocError>) -> Outcome
     }
 }
 
-/// Whether the words ask for what only a run has.
-fn ask_of_run(form: Form, only: Option<u32>) -> bool
-    ensures { result ≡ true → AskOfRun form only }
-{
-    if form == Form::Ladder {
-        return true;
-    }
-    only.is_some()
-}
-
-/// Whether the words ask for what only a check has.
-fn ask_of_check(form: Form, is_strict: bool) -> bool
-    ensures { result ≡ true → AskOfCheck is_strict form }
-{
-    if form == Form::Dot {
-        return true;
-    }
-    is_strict
-}
-
 /// What comes of an input that was read to its end.
 fn outcome_on<R: Threads + Wait + Sync>(
     rt: &R,
@@ -69,13 +49,13 @@ fn outcome_on<R: Threads + Wait + Sync>(
     let (form, only) = asked;
     match three_sections(input) {
         Some(sections) => {
-            if ask_of_check(form, is_strict) {
+            if is_strict {
                 return Outcome::Usage;
             }
             outcome_of(run_told(rt, alloc, asked, sections))
         }
         None => {
-            if ask_of_run(form, only) {
+            if only.is_some() {
                 return Outcome::Usage;
             }
             outcome_of(input_told(alloc, form, is_strict, input))

@@ -4,7 +4,7 @@ ghost use Rattle.mgexplain.specs.Files.{asks, file_count, go_with, request_behin
 ghost use Rattle.mgexplain.specs.Forms.{asked_behind, asked_by, asked_by_three, asked_by_two, call_number, form_of, in_form, of_call, of_form, strictly};
 
 use crate::call_number::call_number;
-use check_explanation::form::Form;
+use check_facts::form::Form;
 
 /// What the words ask for.
 #[derive(Clone, Copy, Debug, PartialEq, Eq)]
@@ -33,12 +33,6 @@ fn form_of(word: &str) -> Option<Form>
 {
     if word == "--json" {
         return Some(Form::Json);
-    }
-    if word == "--dot" {
-        return Some(Form::Dot);
-    }
-    if word == "--ladder" {
-        return Some(Form::Ladder);
     }
     None
 }
@@ -82,13 +76,13 @@ fn of_form(form: &str, number: &str) -> Option<Asked>
     }
 }
 
-/// What is said in a form with a status that counts warnings; only a text and JSON tell them.
+/// What is said in a form with a status that counts warnings.
 fn strictly(form: Option<Form>) -> Option<Asked>
     ensures { result ≡ strictly form }
 {
     match form {
-        Some(Form::Json) => Some(Asked::Strictly(Form::Json)),
-        _ => None,
+        Some(form) => Some(Asked::Strictly(form)),
+        None => None,
     }
 }
 

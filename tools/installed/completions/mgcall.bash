@@ -32,9 +32,9 @@ _mgcall() {
         ;;
     mgexplain)
         if ((place == 1)) && [[ $current == -* ]]; then
-            COMPREPLY=($(compgen -W '--json --dot --ladder --call --strict --help --version' -- "$current"))
+            COMPREPLY=($(compgen -W '--json --call --strict --help --version' -- "$current"))
         elif ((place > 3)) || [[ $current == -* ]]; then
-            COMPREPLY=($(compgen -W '--json --dot --ladder --call --strict' -- "$current"))
+            COMPREPLY=($(compgen -W '--json --call --strict' -- "$current"))
         else
             _mgcall_over_files "$current" "$place" toml json toml
         fi

@@ -1,0 +1,64 @@
+-- What is told of an input with the line of its check, with the status of that line; or, where warnings count, with the status of a no for a yes of whose
+-- script or certificate something is warned of. A reader should check that a status of 0 says then that nothing is. This profile's own.
+use Rattle.std.specs.Prelude.{◌≡◌, ◌⊎◌, ⊤, ℕ, Bool, true, List, [], ◌∷◌, ◌++◌, Option, Some, codes, string_bytes}
+use Rattle.mg_model.specs.Script.{Script}
+use Rattle.mg_model.specs.Entries.{Entry}
+use Rattle.composition.specs.Verdict.{AreRead}
+use Rattle.call_ways.specs.Ways.{ComeToMany}
+use Rattle.check_warnings.specs.Candidates.{candidates_of}
+use Rattle.check_warnings.specs.Warnings.{ArePicked}
+use Rattle.check_warnings.specs.declared.warning.Warning.{Warning}
+use Rattle.check_lines.specs.Output.{Text, Line, text_of, line_status, yes}
+use Rattle.check_lines.specs.VerdictLines.{IsLineOfSections}
+use Rattle.program_rim.specs.Statuses.{code_of}
+use Rattle.check_facts.specs.declared.form.Form.{Form}
+use Rattle.check_facts.specs.declared.form.Form.TheVariants as form
+use Rattle.check_facts.specs.declared.said.Said.{Said}
+
+-- the text begins with the line
+abbrev pub IsHead : Line → Text → Type 0
+IsHead l text = (rest : Text) × (text ≡ text_of l ++ (10 ∷ rest))
+
+-- the text is a JSON value that has the line
+abbrev pub IsInValue : Line → Text → Type 0
+IsInValue l text = (rest : Text) × (text ≡ codes "{\"format\":2,\"line\":\"" ++ (text_of l ++ (codes "\",\"status\":" ++ rest)))
+
+-- the line is told in each form
+abbrev pub Begins : Form → Line → Text → Type 0
+Begins form.Text l text = IsHead l text
+Begins form.Json l text = IsInValue l text
+
+-- under a line, with its status
+abbrev pub IsUnder : Form → Line → Said → Type 0
+IsUnder form l said = Begins form l (string_bytes said.text) × (code_of said.status ≡ line_status l)
+
+-- under a line of this kind
+abbrev pub IsSaid : (Line → Type 0) → Form → Said → Type 0
+IsSaid Is form said = (l : Line) × Is l × IsUnder form l said
+
+-- of the script and the certificate nothing is warned of
+abbrev pub IsWithoutWarning : Script → List Entry → Type 0
+IsWithoutWarning table entries = ArePicked table entries (candidates_of table entries) []
+
+-- something is warned of, or calls come to too many configurations to tell
+abbrev pub IsInDoubt : Script → List Entry → Type 0
+IsInDoubt table entries =
+    ((first : Warning) × ((more : List Warning) × ArePicked table entries (candidates_of table entries) (first ∷ more))) ⊎ ComeToMany table entries
+
+-- the status of a yes where warnings count
+abbrev pub IsStrictStatus : Text → Text → ℕ → Type 0
+IsStrictStatus script certificate code =
+    (table : Script) × ((entries : List Entry) × (AreRead script certificate table entries
+    × (((code ≡ 0) × IsWithoutWarning table entries) ⊎ ((code ≡ 1) × IsInDoubt table entries))))
+
+-- the status that goes with a line, where warnings count or don't
+abbrev pub IsStatus : Bool → Option (Text × Text) → Line → ℕ → Type 0
+IsStatus true (Some (script, certificate)) (yes states count points) code = IsStrictStatus script certificate code
+IsStatus strict sections l code = code ≡ line_status l
+
+-- what is said of an input without a plan, by its two sections, where warnings count or don't
+pub record IsTold (strict : Bool) (sections : Option (Text × Text)) (form : Form) (said : Said) : Type 0 where
+  pub line : Line
+  pub is : IsLineOfSections sections line
+  pub begins : Begins form line (string_bytes said.text)
+  pub status : IsStatus strict sections line (code_of said.status)

@@ -1,0 +1,33 @@
+-- What a yes is worth, and the status that it has where that counts. No public clause speaks of these words.
+use Rattle.std.specs.Prelude.{◌≡◌, ◌⊎◌, Bool, true, false, List, [], ◌∷◌, Option, Some, None}
+use Rattle.program_rim.specs.declared.status.Status.{Status}
+use Rattle.program_rim.specs.declared.status.Status.TheVariants as status
+use Rattle.mg_model.specs.Script.{Script}
+use Rattle.mg_model.specs.Entries.{Entry}
+use Rattle.call_ways.specs.Ways.{ComeToMany}
+use Rattle.check_warnings.specs.Candidates.{candidates_of}
+use Rattle.check_warnings.specs.Warnings.{ArePicked}
+use Rattle.check_warnings.specs.declared.warning.Warning.{Warning}
+use Rattle.program_rim.specs.Statuses.{code_of}
+use Rattle.check_facts.specs.Saying.{IsInDoubt, IsWithoutWarning}
+use Rattle.check_facts.specs.declared.worth.Worth.{Worth}
+
+-- these are all the warnings; or calls come to too many configurations to tell
+abbrev pub IsWorth : Script → List Entry → Option Worth → Type 0
+IsWorth table entries None = ComeToMany table entries
+IsWorth table entries (Some worth) = ArePicked table entries (candidates_of table entries) worth.warnings.items
+
+abbrev pub strict_status : List Warning → Status
+strict_status [] = status.Yes
+strict_status (first ∷ more) = status.No
+
+abbrev pub yes_status : Bool → Option Worth → Status
+yes_status false worth = status.Yes
+yes_status true None = status.No
+yes_status true (Some worth) = strict_status worth.warnings.items
+
+-- the status of a yes, where warnings count or don't
+abbrev pub IsYesStatus : Bool → Script → List Entry → Status → Type 0
+IsYesStatus false table entries status = code_of status ≡ 0
+IsYesStatus true table entries status =
+    ((code_of status ≡ 0) × IsWithoutWarning table entries) ⊎ ((code_of status ≡ 1) × IsInDoubt table entries)

@@ -1,0 +1,25 @@
+//! The facts of a check: what its line is about, as one JSON value whose fields are values. Sentences are made of these by whoever reads it, and nothing is
+//! decided here. The line is made by the same calls as `mgcall check` makes it.
+//!
+//! The way of an input: it is two sections, or its fault is told; these are checked, and the verdict or the fault is told (`told`), as a text with its
+//! status (`said`) in a `form`. A No has its facts (`no_facts`): the point with its configuration (`configurations`, `components`), the way there (`ways`),
+//! what of it breaks the obligation (`breaches`), its step (`requests`), and what no entry has (`uncovered`). A yes has its `worth`, which is its
+//! `warnings`. Each writes behind one text, in the names of the script (`names`, `command_text`) of the `documents`; no name and no word needs an escape.
+//! This profile's own.
+#![tactic(auto)]
+
+mod breaches;
+pub mod command_text;
+mod components;
+mod configurations;
+mod documents;
+pub mod form;
+pub mod names;
+mod no_facts;
+mod requests;
+pub mod said;
+pub mod told;
+mod uncovered;
+mod warnings;
+mod ways;
+mod worth;

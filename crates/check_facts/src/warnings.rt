@@ -1,0 +1,109 @@
+//! What a yes is worth: what of the script and of its certificate no call uses, and lines that no call hears. What there is to warn of is found by
+//! `check_warnings`.
+use crate::documents::Documents;
+use crate::names::{line_name, state_name};
+use call_ways::reached::Reached;
+use check_warnings::{Warning, find_holder, find_unreached};
+use mg_names::slots::Slot;
+use script_table::Script;
+use std::alloc::{AllocError, Global};
+
+/// Adds a warning of a state.
+fn write_of_state(
+    out: &mut String,
+    script: &Script,
+    word: &str,
+    state: u8,
+) -> Result<(), AllocError> {
+    let state = state_name(script, state);
+    write!(out, r#"{{"warning":"{word}","state":"{state}""#)
+}
+
+/// Adds the line that a warning is about.
+fn write_line(out: &mut String, script: &Script, line: Slot) -> Result<(), AllocError> {
+    let name = line_name(script, line);
+    write!(out, r#","names":["{name}"]"#)
+}
+
+/// Adds a warning of a state and of what of it.
+fn write_state_warning(
+    out: &mut String,
+    script: &Script,
+    warning: &Warning,
+) -> Result<(), AllocError> {
+    match *warning {
+        Warning::StateUnlisted(state) => write_of_state(out, script, "state_unlisted", state),
+        Warning::StateNeverLeft(state) => write_of_state(out, script, "state_never_left", state),
+        Warning::ArrowUnused(state, line, kind) => {
+            write_of_state(out, script, "arrow_unused", state)?;
+            write_line(out, script, line)?;
+            let kind = kind.text();
+            write!(out, r#","note_kind":"{kind}""#)
+        }
+        Warning::MarkUnneeded(state, pair) => {
+            write_of_state(out, script, "mark_unneeded", state)?;
+            let (first, second) = (
+                line_name(script, pair.first),
+                line_name(script, pair.second),
+            );
+            write!(out, r#","names":["{first}","{second}"]"#)
+        }
+        Warning::LineDeaf(state, line) => {
+            write_of_state(out, script, "line_deaf", state)?;
+            write_line(out, script, line)
+        }
+        _ => Ok(()),
+    }
+}
+
+/// Adds a warning of an entry.
+fn write_of_entry(out: &mut String, word: &str, place: usize) -> Result<(), AllocError> {
+    write!(out, r#"{{"warning":"{word}","entry_place":{place}"#)
+}
+
+/// Adds a warning, where what calls come to is this.
+fn write_warning(
+    out: &mut String,
+    documents: Documents<'_>,
+    reached: &Reached,
+    warning: &Warning,
+) -> Result<(), AllocError> {
+    match *warning {
+        Warning::EntryUnreached(place) => write_of_entry(out, "entry_unreached", place),
+        Warning::EntryHeld(place) => {
+            write_of_entry(out, "entry_held", place)?;
+            match find_holder(documents.cert, place) {
+                Some(holder) => write!(out, r#","held_by":{holder}"#),
+                None => Ok(()),
+            }
+        }
+        Warning::PointUnreached(place) => {
+            write_of_entry(out, "point_unreached", place)?;
+            match find_unreached(documents.cert, reached, place) {
+                Some(number) => write!(out, r#","point_number":{number}"#),
+                None => Ok(()),
+            }
+        }
+        _ => write_state_warning(out, documents.script, warning),
+    }
+}
+
+/// The warnings of a yes, in their order, as a member of a JSON object behind a comma. The only error is running out of memory.
+pub(crate) fn warning_facts(
+    alloc: Global,
+    documents: Documents<'_>,
+    reached: &Reached,
+    warnings: &[Warning],
+) -> Result<String, AllocError> {
+    let mut out = String::new(alloc);
+    out.push_str(r#","warnings":["#)?;
+    let mut gap = "";
+    for warning in warnings {
+        out.push_str(gap)?;
+        write_warning(&mut out, documents, reached, warning)?;
+        out.push_str("}")?;
+        gap = ",";
+    }
+    out.push_str("]")?;
+    Ok(out)
+}

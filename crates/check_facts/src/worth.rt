@@ -1,0 +1,52 @@
+//! What a yes is worth: the warnings of a script and its certificate, and the status that a yes has where these count.
+ghost use Rattle.std.specs.Prelude.{◌≡◌, IfOk};
+ghost use Rattle.check_facts.specs.Worth.{IsWorth, yes_status};
+
+use call_ways::find::find_all;
+use call_ways::reached::Reached;
+use check_warnings::{Warning, find_warnings};
+use entry_table::Cert;
+use program_rim::status::Status;
+use script_table::Script;
+use std::alloc::{AllocError, Global};
+
+/// What calls come to, and what is warned of.
+#[derive(Drop)]
+pub(crate) struct Worth {
+    /// The configurations that calls come to.
+    pub(crate) reached: Reached,
+    /// What of the script and the certificate they don't use, and lines that none of them hears.
+    pub(crate) warnings: Vec<Warning>,
+}
+
+/// What a yes on a script and a certificate is worth; nothing where calls come to too many configurations to tell. The only error is running out of
+/// memory.
+pub(crate) fn find_worth(
+    alloc: Global,
+    script: &Script,
+    cert: &Cert,
+) -> Result<Option<Worth>, AllocError>
+    ensures { IfOk result (IsWorth script.now cert.now) }
+{
+    let Some(reached) = find_all(alloc, script, cert)? else {
+        return Ok(None);
+    };
+    let warnings = find_warnings(alloc, script, cert, &reached)?;
+    Ok(Some(Worth { reached, warnings }))
+}
+
+/// The status of a yes: that of a no where warnings count and there are some, or where it can't be told whether there are.
+pub(crate) fn yes_status(is_strict: bool, worth: &Option<Worth>) -> Status
+    ensures { result ≡ yes_status is_strict worth.now }
+{
+    if !is_strict {
+        return Status::Yes;
+    }
+    let Some(worth) = worth else {
+        return Status::No;
+    };
+    if worth.warnings.is_empty() {
+        return Status::Yes;
+    }
+    Status::No
+}

@@ -1,2 +1,0 @@
-pub use Rattle.run_reports.specs.RunAnswers
-pub use Rattle.run_reports.specs.Line

@@ -1,0 +1,44 @@
+-- What is told of an input with a plan: what `mgcall run` writes for it on one worker, with the status of that. This profile's own.
+use Rattle.std.specs.Prelude.{◌≡◌, List, ◌++◌, Ok, string_bytes}
+use Rattle.check_lines.specs.Output.{Text, Output, report, written, status_of}
+use Rattle.mg_model.specs.Script.{Script}
+use Rattle.mg_model.specs.Plans.{Plan}
+use Rattle.plans.specs.Reading.{ReadsPlan}
+use Rattle.run_reports.specs.Line.{Line as RunLine}
+use Rattle.run_reports.specs.RunAnswers.{AnswersPlan, AnswersRun, call_lines}
+use Rattle.program_rim.specs.Statuses.{code_of}
+use Rattle.check_facts.specs.declared.form.Form.{Form}
+use Rattle.check_facts.specs.declared.form.Form.TheVariants as form
+use Rattle.check_facts.specs.declared.said.Said.{Said}
+
+-- the text begins with an output, whose status it has
+abbrev pub Begins : Output → Said → Type 0
+Begins out said = ((rest : Text) × (string_bytes said.text ≡ written out ++ rest)) × (code_of said.status ≡ status_of out)
+
+-- the report stands before the line on words, and a JSON value has the status
+abbrev pub IsUnderOutput : Form → Output → Said → Type 0
+IsUnderOutput form.Text out said = Begins out said
+IsUnderOutput form.Json out said = code_of said.status ≡ status_of out
+
+-- under an output of this kind
+abbrev pub IsTold : (Output → Type 0) → Form → Said → Type 0
+IsTold Is form said = (out : Output) × Is out × IsUnderOutput form out said
+
+-- under what `mgcall run` writes on one worker for a script, a certificate and a plan
+abbrev pub IsRunTold : (script certificate plan : Text) → Form → Said → Type 0
+IsRunTold script certificate plan form said = IsTold (AnswersRun 1 script certificate plan) form said
+
+-- the same of a plan of a script that is checked
+abbrev pub IsPlanTold : Script → (plan : Text) → Form → Said → Type 0
+IsPlanTold table plan form said = IsTold (AnswersPlan table 1 plan) form said
+
+-- under the report of these lines
+abbrev pub IsUnderReport : Form → Script → List RunLine → Said → Type 0
+IsUnderReport form table lines said = IsUnderOutput form (report (call_lines table lines)) said
+
+-- under the report of a run of a plan on one worker, or a line for why there is none; memory may run out
+abbrev pub AnswersSteps : Script → Plan → Output → Type 0
+AnswersSteps table plan out = ((text : Text) → ReadsPlan table text (Ok plan) → AnswersPlan table 1 text out)
+
+abbrev pub IsRunOfPlanTold : Script → Plan → Form → Said → Type 0
+IsRunOfPlanTold table plan form said = IsTold (AnswersSteps table plan) form said

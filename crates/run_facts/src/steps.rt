@@ -1,0 +1,126 @@
+//! A step of a call: what it came to, where the call is before and behind it, its messages and what plays.
+use crate::notes::{write_note, write_notes, write_plays};
+use crate::plan_words::PlanWords;
+use crate::requests::{write_executed, write_reply, write_sent};
+use call_scenes::Shown;
+use check_facts::names::state_name;
+use mg_names::identifiers::LineNo;
+use run_steps::{Came, Idle, Position, ToldStep};
+use script_table::Script;
+use std::alloc::AllocError;
+
+/// The word of what a step came to.
+fn came_word(came: Came) -> &'static str {
+    match came {
+        Came::Happened(_) => "event",
+        Came::Idle(_) => "idle",
+        Came::Restarted => "restart",
+        Came::EpochEnded => "end of an epoch",
+        Came::OtherRestarted => "restart of another call",
+    }
+}
+
+/// The word of a reason for which a step is idle.
+fn idle_word(why: Idle) -> &'static str {
+    match why {
+        Idle::NothingSent => "nothing_sent",
+        Idle::NoNoteWaits => "no_note_waits",
+        Idle::Waits => "waits",
+        Idle::Rests => "rests",
+        Idle::HasEnded => "has_ended",
+        Idle::Lost => "lost",
+        Idle::NotAwaited => "not_awaited",
+        Idle::NotNew => "not_new",
+        Idle::NoTimer => "no_timer",
+        Idle::NothingToHear => "nothing_to_hear",
+        Idle::NotOnLine => "not_on_line",
+        Idle::NotReleased => "not_released",
+        Idle::NumbersEnd => "numbers_end",
+    }
+}
+
+/// Adds the place of a step of the call; nothing of what is no step of it.
+fn write_place(out: &mut String, came: Came, place: usize) -> Result<(), AllocError> {
+    match came {
+        Came::EpochEnded | Came::OtherRestarted => Ok(()),
+        _ => write!(out, r#""step_place":{place},"#),
+    }
+}
+
+/// Adds the reason for which a step is idle, where it is.
+fn write_reason(out: &mut String, came: Came) -> Result<(), AllocError> {
+    let Came::Idle(why) = came else {
+        return Ok(());
+    };
+    let why = idle_word(why);
+    write!(out, r#","reason":"{why}""#)
+}
+
+/// Adds where a call is, with a key.
+fn write_position(
+    out: &mut String,
+    script: &Script,
+    key: &str,
+    position: Position,
+) -> Result<(), AllocError> {
+    let (state, phase) = (state_name(script, position.state), position.phase.text());
+    write!(out, r#","{key}":{{"state":"{state}","phase":"{phase}"}}"#)
+}
+
+/// Adds the messages that reached their ends at a step.
+fn write_reached(
+    out: &mut String,
+    script: &Script,
+    lines: &[LineNo],
+    shown: &Shown,
+) -> Result<(), AllocError> {
+    if let Some(executed) = &shown.executed {
+        write_executed(out, script, lines, executed)?;
+    }
+    if let Some(reply) = &shown.reply {
+        write_reply(out, reply)?;
+    }
+    if let Some(note) = &shown.note {
+        out.push_str(r#","note":"#)?;
+        write_note(out, script, lines, note)?;
+    }
+    Ok(())
+}
+
+/// Adds what was sent at a step, and what plays behind it.
+fn write_shown(
+    out: &mut String,
+    script: &Script,
+    lines: &[LineNo],
+    shown: &Shown,
+) -> Result<(), AllocError> {
+    write_reached(out, script, lines, shown)?;
+    write_notes(out, script, lines, shown.notes.as_slice())?;
+    if let Some(sent) = &shown.sent {
+        write_sent(out, script, sent)?;
+    }
+    write_plays(out, script, shown.plays.as_slice())
+}
+
+/// Adds a step of a call with these lines, at a place among its steps. The only error is running out of memory.
+pub(crate) fn write_step(
+    out: &mut String,
+    script: &Script,
+    lines: &[LineNo],
+    place: usize,
+    told: &ToldStep,
+) -> Result<(), AllocError> {
+    let words = PlanWords {
+        script,
+        step: told.step,
+    };
+    let came = came_word(told.came);
+    out.push_str("{")?;
+    write_place(out, told.came, place)?;
+    write!(out, r#""step":"{words}","came":"{came}""#)?;
+    write_reason(out, told.came)?;
+    write_position(out, script, "before", told.before)?;
+    write_position(out, script, "after", told.after)?;
+    write_shown(out, script, lines, &told.shown)?;
+    out.push_str("}")
+}

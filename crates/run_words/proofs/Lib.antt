@@ -1,2 +1,0 @@
-pub use Rattle.report_lines.proofs.RunLemmas
-pub use Rattle.report_lines.proofs.SameReports

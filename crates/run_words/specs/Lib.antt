@@ -1,2 +1,0 @@
-pub use Rattle.report_lines.specs.Line
-pub use Rattle.report_lines.specs.RunAnswers
