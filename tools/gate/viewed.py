@@ -5,8 +5,8 @@ import json
 import re
 
 from gate import answers, row_documents, stored
-from shared import programs
-from shared.mistakes import findings, json_text, told, toml_text
+from shared import profile, programs
+from shared.mistakes import findings, json_text, told, toml_text, words
 from shared.mistakes.nodes import Unread
 
 TOP = programs.TOP
@@ -16,6 +16,10 @@ ROWS = TOP / "tests" / "rows"
 MANY = MISTAKES / "many"
 FAULT = re.compile(r"(\w+) fault (\d+) (\w+)")
 ANSWER = re.compile(r"(\d+) ([A-Z]\w+)")
+# The words of the formats by what they are words for.
+WORDS = {
+    "command": words.COMMANDS, "item of an events list": words.EVENTS, "signal": words.SIGNALS, "kind of a note": words.KINDS, "step of a plan": words.STEPS,
+}
 
 
 def table(path):
@@ -65,6 +69,26 @@ def singles():
     for row in table(MISTAKES / "told.tsv"):
         found, wanted = single(row)
         yield f"{row[2]!r} tells {found}, and not {wanted}", found == wanted
+
+
+def vocabularies():
+    """Whether the words that are known are those that the sources declare."""
+    for kind, known in WORDS.items():
+        declared = {thing.word for thing in profile.things() if thing.kind == kind}
+        yield f"words for a {kind}: {declared ^ set(known)}", declared == set(known)
+
+
+def explained():
+    """Each mistake of which `mgexplain` tells the place: it is told at the same place, with the same word that may have been meant."""
+    for document, folder, old, new, line, word, _, meant in table(MISTAKES / "mistakes.tsv"):
+        files = {name: TOP / folder / f"{name}.{stored.ENDINGS[name]}" for name in told.FORMATS}
+        texts = {name: path.read_bytes() for name, path in files.items()}
+        start = texts[document].index(old.encode())
+        texts[document] = texts[document].replace(old.encode(), new.encode())
+        found = [one for one in told.mistakes(texts) if one.document == document and faults_of(line) == (one.of, (one.fault_number, one.fault_name))]
+        places = [((one.at_line, one.at_column), one.meant or "") for one in found]
+        wanted = where(texts[document], start, word.encode()) if word else None
+        yield f"{new!r} is told at {places}", any(near == meant and wanted in (None, place) for place, near in places)
 
 
 def wholes():
@@ -196,7 +220,7 @@ def trees(of, sections):
 
 def tried():
     """Each trial, with what is said of it and whether it holds."""
-    for part in (singles, wholes, of_schemas, of_rows, of_plans, of_many, of_stored):
+    for part in (vocabularies, singles, explained, wholes, of_schemas, of_rows, of_plans, of_many, of_stored):
         yield from part()
     for one in stored.inputs():
         yield from trees(str(one.name), one.sections)
