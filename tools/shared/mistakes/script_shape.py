@@ -90,9 +90,10 @@ class Shape:
         """A bad key or value."""
         self.findings.add("BadKey", at, path, says, word, known)
 
-    def flaw(self, node, path, flaw):
+    def flaws(self, node, path, flaws):
         """What is wrong in a text."""
-        self.bad(self.findings.inside(node, flaw.before), path, flaw.says, flaw.word, flaw.known)
+        for flaw in flaws:
+            self.bad(self.findings.inside(node, flaw.before), f"{path}, {shown(node.value)}", flaw.says, flaw.word, flaw.known)
 
     def text(self, path, found, key):
         """The text at a key; none where it isn't there, or is none."""
@@ -123,8 +124,7 @@ class Shape:
         read = []
         for of, node in self.texts(path, found, key) or []:
             *said, flaws = reader(node.value)
-            for flaw in flaws:
-                self.flaw(node, f"{of}, {shown(node.value)}", flaw)
+            self.flaws(node, of, flaws)
             read.append((of, node, *said))
         return read
 
