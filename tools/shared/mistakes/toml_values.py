@@ -1,6 +1,6 @@
 """Reading the keys and values of TOML with their places. The language is TOML 1.1 within the limits of the library that `mgcall` has: a key has at most 80
 parts, arrays and tables stand in one another 80 deep, whole numbers have 64 bits. Python's `tomllib` knows TOML 1.0 alone, and tells places for few faults;
-`tools/gate/mistakes` compares the two. It is installed too, so it knows nothing of this repository."""
+a test compares the two. It is installed too, so it knows nothing of this repository."""
 import calendar
 import math
 import re
