@@ -3,10 +3,11 @@ of rows, places in plans, documents with many mistakes, and that it has the read
 import csv
 import json
 import re
+import time
 
 from gate import answers, row_documents, stored
-from shared import programs
-from shared.mistakes import findings, json_text, told, toml_text
+from shared import profile, programs
+from shared.mistakes import findings, json_text, told, toml_text, words
 from shared.mistakes.nodes import Unread
 
 TOP = programs.TOP
@@ -15,7 +16,13 @@ SCHEMAS = TOP / "tests" / "schemas"
 ROWS = TOP / "tests" / "rows"
 MANY = MISTAKES / "many"
 FAULT = re.compile(r"(\w+) fault (\d+) (\w+)")
+# How many mistakes a large document has at least, and how many seconds of processor time it may take.
+LARGE, SECONDS = 10_000, 60
 ANSWER = re.compile(r"(\d+) ([A-Z]\w+)")
+# The words of the formats by what they are words for.
+WORDS = {
+    "command": words.COMMANDS, "item of an events list": words.EVENTS, "signal": words.SIGNALS, "kind of a note": words.KINDS, "step of a plan": words.STEPS,
+}
 
 
 def table(path):
@@ -65,6 +72,26 @@ def singles():
     for row in table(MISTAKES / "told.tsv"):
         found, wanted = single(row)
         yield f"{row[2]!r} tells {found}, and not {wanted}", found == wanted
+
+
+def vocabularies():
+    """Whether the words that are known are those that the sources declare."""
+    for kind, known in WORDS.items():
+        declared = {thing.word for thing in profile.things() if thing.kind == kind}
+        yield f"words for a {kind}: {declared ^ set(known)}", declared == set(known)
+
+
+def explained():
+    """Each mistake of the table of what is said in words: it is told at its place, with the word that may have been meant."""
+    for document, folder, old, new, line, word, _, meant in table(MISTAKES / "mistakes.tsv"):
+        files = {name: TOP / folder / f"{name}.{stored.ENDINGS[name]}" for name in told.FORMATS}
+        texts = {name: path.read_bytes() for name, path in files.items()}
+        start = texts[document].index(old.encode())
+        texts[document] = texts[document].replace(old.encode(), new.encode())
+        found = [one for one in told.mistakes(texts) if one.document == document and faults_of(line) == (one.of, (one.fault_number, one.fault_name))]
+        places = [((one.at_line, one.at_column), one.meant or "") for one in found]
+        wanted = where(texts[document], start, word.encode()) if word else None
+        yield f"{new!r} is told at {places}", any(near == meant and wanted in (None, place) for place, near in places)
 
 
 def wholes():
@@ -164,6 +191,26 @@ def of_many():
         yield f"{one}", one == {key: value for key, value in (mistake._asdict() | {"file": names[mistake.document]}).items() if value not in (None, "")}
 
 
+def of_large():
+    """Documents with thousands of mistakes take seconds, and would take hours by the square; one past the limit of an input is told as that."""
+    head = "lines = ['a', 'b']\nstart = 's'\nrestart = 's'\n[[state]]\nname = 's'\n"
+    states = "".join(f"[[state]]\nname = 's{place}'\ntimer = 'z{place}'\nfoo = 1\n" for place in range(LARGE))
+    entries = ", ".join(f'{{"state": "s{place}", "link": ["x{place}"]}}' for place in range(LARGE))
+    steps = ", ".join(f"'end a x{place}'" for place in range(LARGE))
+    texts = {
+        "script": f"{head}{states}",
+        "certificate": f'{{"version": 2, "entries": [{entries}]}}',
+        "plan": f"[[call]]\nlines = [1, 2]\nepochs = [[{steps}]]\n",
+    }
+    for document, text in texts.items():
+        begun = time.process_time()
+        found = told.mistakes({"script": head.encode(), document: text.encode()})
+        spent = time.process_time() - begun
+        yield f"a {document} with {len(found)} mistakes takes {spent:.1f} s", len(found) > LARGE and spent < SECONDS
+    found = told.mistakes({"plan": b"#" * (told.MOST_BYTES + 1)})
+    yield f"an input past the limit: {found}", [(one.fault_name, one.at_line, one.at_column) for one in found] == [("TooLong", 1, told.MOST_BYTES + 1)]
+
+
 def plain(document, text):
     """What this repository's reader with places makes of a document, and what Python's own makes of it; none where it is refused."""
     other = answers.json_tree(text) if document == "certificate" else answers.toml_tree(text)
@@ -196,7 +243,7 @@ def trees(of, sections):
 
 def tried():
     """Each trial, with what is said of it and whether it holds."""
-    for part in (singles, wholes, of_schemas, of_rows, of_plans, of_many, of_stored):
+    for part in (vocabularies, singles, explained, wholes, of_schemas, of_rows, of_plans, of_many, of_large, of_stored):
         yield from part()
     for one in stored.inputs():
         yield from trees(str(one.name), one.sections)

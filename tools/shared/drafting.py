@@ -82,11 +82,11 @@ def wanted(given, usage):
 
 
 def page_of(program, texts):
-    """What `mgexplain` says of a script and a certificate, as a page. Where it can't say anything, the tool ends with its status."""
-    status, output = asking.told(program, ["--json"], texts)
+    """What `mgexplain` tells of a script and a certificate. Where it can't tell anything, the tool ends with its status."""
+    status, page = explained.told(program, [], texts)
     if status not in (0, 1, 3):
-        asking.stop(output.strip() or f"{program} ended with status {status}", status)
-    return json.loads(output)
+        asking.stop(page["line"] if page else f"{program} ended with status {status}", status)
+    return page
 
 
 def begun(names, texts):
@@ -114,7 +114,7 @@ def became(end, is_wide):
 
 
 def made(program, texts, asked):
-    """What drafting from a script and a certificate comes to. Where they can't be read, the tool ends with what `mgexplain` says of that."""
+    """What drafting from a script and a certificate comes to. Where they can't be read, the tool ends with what is said of that."""
     if page_of(program, texts)["status"] == 3:
         asking.stop(explained.in_words(program, [], texts)[1].rstrip("\n"), 1)
     script, entries = begun(asked[:2], texts)

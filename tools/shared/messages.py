@@ -168,7 +168,7 @@ def calls_of(plan):
 
 
 def of_run(page, texts):
-    """The messages of a run: of what `mgexplain` says as JSON of a script, a certificate and a plan."""
+    """The messages of a run: of what `mgexplain` tells of a script, a certificate and a plan."""
     script, numbers = scripts.read(texts[0]), calls_of(texts[2])
     told = [line for line in page["report"] if "steps" in line]
     for number, lines in itertools.groupby(told, lambda line: line["call"]):

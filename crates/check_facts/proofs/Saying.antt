@@ -1,5 +1,5 @@
 -- What stands under a line of a kind.
-use Rattle.std.proofs.Common.{◌≡◌, ℕ, Bool, true, false, List, length, Option, Some, None, Result, Ok, Err, sym, subst, rules}
+use Rattle.std.proofs.Common.{◌≡◌, ℕ, Bool, true, false, List, length, Option, Some, None, Result, Ok, Err, String, Global, sym, subst, rules}
 use Rattle.std.specs.Prelude.{⊤, IfOk, string_bytes}
 use Rattle.std.specs.declared.alloc.AllocError.{AllocError}
 use Rattle.mg_model.specs.declared.faults.Fault.{Fault}
@@ -11,10 +11,16 @@ use Rattle.composition.specs.Verdicts.{IsVerdict}
 use Rattle.composition.specs.declared.verdict.Verdict.TheVariants.{Yes}
 use Rattle.check_lines.specs.Output.{Text, Line, line_status, usage, sections, too_long, script_fault, certificate_fault, plan_fault, run_fault, yes, no, no_memory}
 use Rattle.check_lines.specs.VerdictLines.{IsLineOfSections, IsYes, NamesFault}
-use Rattle.check_facts.specs.Saying.{Begins, IsStatus, IsTold, IsUnder}
+use Rattle.check_facts.specs.Saying.{Begins, IsInValue, IsStatus, IsTold, IsUnder, value_text}
 use Rattle.check_facts.specs.Worth.{IsYesStatus}
 use Rattle.check_facts.specs.declared.form.Form.{Form}
 use Rattle.check_facts.specs.declared.said.Said.{Said}
+
+-- a value that is written with a line has it
+pub of_value : (l : Line) (code : ℕ) (members : Text) (result : Result (String Global) AllocError)
+    → IfOk result (λ text. string_bytes text ≡ value_text l code members) → IfOk result (λ text. IsInValue l (string_bytes text))
+of_value l code members (Ok text) is = (code, (members, is))
+of_value l code members (Err error) is = search rules
 
 -- a line that is no yes
 abbrev pub IsNoYes : Line → Type 0

@@ -1,6 +1,7 @@
 -- What is told of an input with the line of its check, with the status of that line; or, where warnings count, with the status of a no for a yes of whose
 -- script or certificate something is warned of. A reader should check that a status of 0 says then that nothing is. This profile's own.
 use Rattle.std.specs.Prelude.{◌≡◌, ◌⊎◌, ⊤, ℕ, Bool, true, List, [], ◌∷◌, ◌++◌, Option, Some, codes, string_bytes}
+use Rattle.std.specs.Fmt.{decimal}
 use Rattle.mg_model.specs.Script.{Script}
 use Rattle.mg_model.specs.Entries.{Entry}
 use Rattle.composition.specs.Verdict.{AreRead}
@@ -19,9 +20,14 @@ use Rattle.check_facts.specs.declared.said.Said.{Said}
 abbrev pub IsHead : Line → Text → Type 0
 IsHead l text = (rest : Text) × (text ≡ text_of l ++ (10 ∷ rest))
 
--- the text is a JSON value that has the line
+-- a JSON value with a line, a status and members; a reader should check that none of them has a quotation mark before its end
+abbrev pub value_text : Line → (code : ℕ) → (members : Text) → Text
+value_text l code members =
+    codes "{\"format\":2,\"line\":\"" ++ (text_of l ++ (codes "\",\"status\":" ++ (decimal code ++ (members ++ codes "}\n"))))
+
+-- the text is such a value with the line
 abbrev pub IsInValue : Line → Text → Type 0
-IsInValue l text = (rest : Text) × (text ≡ codes "{\"format\":2,\"line\":\"" ++ (text_of l ++ (codes "\",\"status\":" ++ rest)))
+IsInValue l text = (code : ℕ) × ((members : Text) × (text ≡ value_text l code members))
 
 -- the line is told in each form
 abbrev pub Begins : Form → Line → Text → Type 0

@@ -3,7 +3,7 @@ ghost use Rattle.std.specs.Prelude.{◌≡◌, IfOk, string_bytes};
 ghost use Rattle.check_lines.specs.Output.{line_status};
 ghost use Rattle.check_lines.specs.Replies.{line_of};
 ghost use Rattle.program_rim.specs.Statuses.{code_of};
-ghost use Rattle.check_facts.specs.Saying.{Begins, IsUnder};
+ghost use Rattle.check_facts.specs.Saying.{Begins, IsInValue, IsUnder, value_text};
 
 use crate::form::Form;
 use check_lines::reply::Reply;
@@ -22,8 +22,19 @@ pub struct Said {
 /// The line under a line or a report that says where there are words.
 pub const IN_WORDS: &str = "In words: mgcall-why, or tools/why of the sources.\n";
 
-/// Which keys the JSON value has, with which meanings: another number where one goes or means something else.
-pub const FORMAT: u8 = 2;
+/// A JSON value with the line of a reply, a status and these members, each behind a comma.
+fn value_of(alloc: Global, reply: &Reply, code: u8, members: &str) -> Result<String, AllocError>
+    ensures { IfOk result (λ text. string_bytes text ≡ value_text (line_of reply.now) code members.now) }
+{
+    format!(in alloc; "{{\"format\":2,\"line\":\"{reply}\",\"status\":{code}{members}}}\n")
+}
+
+/// The same, as a value that has the line.
+fn in_value(alloc: Global, reply: &Reply, code: u8, members: &str) -> Result<String, AllocError>
+    ensures { IfOk result (λ text. IsInValue (line_of reply.now) (string_bytes text)) }
+{
+    value_of(alloc, reply, code, members)
+}
 
 /// The line of a reply as text, or in a JSON value with a status and with these members, each behind a comma.
 pub(crate) fn text_of(
@@ -37,10 +48,7 @@ pub(crate) fn text_of(
 {
     match form {
         Form::Text => format!(in alloc; "{reply}\n{IN_WORDS}"),
-        Form::Json => {
-            let code = status.code();
-            format!(in alloc; "{{\"format\":2,\"line\":\"{reply}\",\"status\":{code}{members}}}\n")
-        }
+        Form::Json => in_value(alloc, reply, status.code(), members),
     }
 }
 

@@ -54,12 +54,10 @@ fn outcome_on<R: Threads + Wait + Sync>(
             }
             outcome_of(run_told(rt, alloc, asked, sections))
         }
-        None => {
-            if only.is_some() {
-                return Outcome::Usage;
-            }
-            outcome_of(input_told(alloc, form, is_strict, input))
-        }
+        None => match only {
+            Some(_) => Outcome::Usage,
+            None => outcome_of(input_told(alloc, form, is_strict, input)),
+        },
     }
 }
 

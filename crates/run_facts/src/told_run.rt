@@ -89,6 +89,17 @@ fn run_value(alloc: Global, only: Option<u32>, ran: &Ran<'_, '_>) -> Result<Stri
     }
 }
 
+/// A text with the status of a report.
+fn reported(text: String) -> Said
+    ensures text { result.text ≡ text }
+    ensures status { code_of result.status ≡ 0 }
+{
+    Said {
+        text,
+        status: Status::Yes,
+    }
+}
+
 /// What is told of a run that ended well, of one call of it where that is asked for.
 fn outcome_told(
     alloc: Global,
@@ -98,17 +109,17 @@ fn outcome_told(
     ensures { IfOk result (IsUnderReport asked.0 ran.now.checked.now.table ran.now.outcome.now.lines) }
 {
     let (form, only) = asked;
-    let text = match form {
+    match form {
         Form::Text => {
             let report = report_text(alloc, ran.checked.script(), ran.outcome.lines())?;
-            format!(in alloc; "{report}{IN_WORDS}")?
+            let text = format!(in alloc; "{report}{IN_WORDS}")?;
+            Ok(reported(text))
         }
-        Form::Json => run_value(alloc, only, ran)?,
-    };
-    Ok(Said {
-        text,
-        status: Status::Yes,
-    })
+        Form::Json => {
+            let text = run_value(alloc, only, ran)?;
+            Ok(reported(text))
+        }
+    }
 }
 
 /// What is told of a plan that was read, of a script that is checked. It is run on one worker.

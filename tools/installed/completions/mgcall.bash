@@ -81,7 +81,14 @@ _mgcall() {
             _mgcall_over_files "$current" "$place" toml json toml
         fi
         ;;
+    mgcall-mistakes)
+        if ((place > 3)) || [[ $place -gt 1 && $current == -* ]]; then
+            COMPREPLY=($(compgen -W '--json' -- "$current"))
+        else
+            _mgcall_over_files "$current" "$place" toml json toml
+        fi
+        ;;
     esac
 }
 
-complete -F _mgcall mgcall mgexplain mgcall-check mgcall-run mgcall-why mgcall-draft mgcall-picture mgcall-trace mgcall-page
+complete -F _mgcall mgcall mgexplain mgcall-check mgcall-run mgcall-why mgcall-draft mgcall-picture mgcall-trace mgcall-page mgcall-mistakes

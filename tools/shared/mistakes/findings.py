@@ -61,7 +61,12 @@ class Findings:
             yield mistake._replace(at_line=line, at_column=at - begins[line - 1] + 1)
 
 
+def printable(text):
+    """A text in one line, with escapes in the place of signs that move a terminal or end a line."""
+    return "".join(sign if sign.isprintable() else sign.encode("unicode_escape").decode() for sign in text)
+
+
 def sentence(mistake):
     """What is wrong, in a sentence or two."""
     path = f"{mistake.path}: " if mistake.path else ""
-    return f"{path}{mistake.says}." + (f" Did you mean `{mistake.meant}`?" if mistake.meant is not None else "")
+    return printable(f"{path}{mistake.says}." + (f" Did you mean `{mistake.meant}`?" if mistake.meant is not None else ""))

@@ -1,6 +1,6 @@
 """Reading a JSON text with the places of its keys and values, within the limits of the library that `mgcall` has: arrays and objects stand in one another 127
 deep, no number is past the largest floating one, no surrogate stands alone. Of a key that stands twice the last one counts. Python's `json` takes more, and
-`tools/gate/mistakes` compares the two. It is installed too, so it knows nothing of this repository."""
+a test compares the two. It is installed too, so it knows nothing of this repository."""
 import math
 import re
 

@@ -3,6 +3,7 @@ knows nothing of this repository."""
 from collections import namedtuple
 
 from shared.mistakes import commands, items, keys, words
+from shared.mistakes.findings import MOST_MEANT
 from shared.mistakes.near import MOST_WORDS, nearest
 from shared.mistakes.nodes import LIST, TABLE, TEXT, TRUTH
 from shared.mistakes.words import FORM, is_name, shown
@@ -30,6 +31,8 @@ class Script:
         self.names, self.may_have_more = names, may_have_more
         self.sets = {sort: frozenset(name.text for name in names[sort]) for sort in WHAT}
         self.fronts = {sort: tuple(name.text for name in names[sort][:MOST_WORDS] if is_name(name.text)) for sort in WHAT}
+        # For how many names more it is sought whether they are near to one: it takes long beside the rest.
+        self.left = MOST_MEANT
         # The keys of its top, what `start` and `restart` name, and the tables of each array.
         self.top, self.named, self.tables = {}, {}, {key: [] for key in TABLES}
 
@@ -39,7 +42,10 @@ class Script:
 
     def knows(self, sort, text):
         """Whether a name of a sort is declared, or may be: one of those that can't be told, but for one that is near to another."""
-        return text in self.sets[sort] or sort in self.may_have_more and nearest(text, self.fronts[sort]) is None
+        if text in self.sets[sort] or sort not in self.may_have_more:
+            return text in self.sets[sort]
+        self.left -= 1
+        return self.left < 0 or nearest(text, self.fronts[sort]) is None
 
     def declares(self, sort, text):
         """Whether a name of a sort is declared."""
@@ -84,9 +90,10 @@ class Shape:
         """A bad key or value."""
         self.findings.add("BadKey", at, path, says, word, known)
 
-    def flaw(self, node, path, flaw):
+    def flaws(self, node, path, flaws):
         """What is wrong in a text."""
-        self.bad(self.findings.inside(node, flaw.before), path, flaw.says, flaw.word, flaw.known)
+        for flaw in flaws:
+            self.bad(self.findings.inside(node, flaw.before), f"{path}, {shown(node.value)}", flaw.says, flaw.word, flaw.known)
 
     def text(self, path, found, key):
         """The text at a key; none where it isn't there, or is none."""
@@ -117,8 +124,7 @@ class Shape:
         read = []
         for of, node in self.texts(path, found, key) or []:
             *said, flaws = reader(node.value)
-            for flaw in flaws:
-                self.flaw(node, f"{of}, {shown(node.value)}", flaw)
+            self.flaws(node, of, flaws)
             read.append((of, node, *said))
         return read
 

@@ -1,6 +1,6 @@
 """Reading the keys and values of TOML with their places. The language is TOML 1.1 within the limits of the library that `mgcall` has: a key has at most 80
 parts, arrays and tables stand in one another 80 deep, whole numbers have 64 bits. Python's `tomllib` knows TOML 1.0 alone, and tells places for few faults;
-`tools/gate/mistakes` compares the two. It is installed too, so it knows nothing of this repository."""
+a test compares the two. It is installed too, so it knows nothing of this repository."""
 import calendar
 import math
 import re
@@ -25,9 +25,9 @@ ESCAPE = re.compile(rb'\\(?:[befnrt"\\]|x[0-9A-Fa-f]{2}|u(?![dD][89a-fA-F])[0-9A
 QUOTES = re.compile(rb"\"+|'+")
 # The words that are a value without quotes.
 TRUTHS = {b"true": True, b"false": False}
-DECIMAL = re.compile(rb"[+-]?(?:0|[1-9](?:_?[0-9])*)")
-BASED = re.compile(rb"0x[0-9A-Fa-f](?:_?[0-9A-Fa-f])*|0o[0-7](?:_?[0-7])*|0b[01](?:_?[01])*")
-FLOAT = re.compile(rb"[+-]?(?:0|[1-9](?:_?[0-9])*)(?:\.[0-9](?:_?[0-9])*)?(?:[eE][+-]?[0-9](?:_?[0-9])*)?|[+-]?(?:inf|nan)")
+DECIMAL = re.compile(rb"[+-]?(?:0|[1-9](?:_?[0-9])*+)")
+BASED = re.compile(rb"0x[0-9A-Fa-f](?:_?[0-9A-Fa-f])*+|0o[0-7](?:_?[0-7])*+|0b[01](?:_?[01])*+")
+FLOAT = re.compile(rb"[+-]?(?:0|[1-9](?:_?[0-9])*+)(?:\.[0-9](?:_?[0-9])*+)?(?:[eE][+-]?[0-9](?:_?[0-9])*+)?|[+-]?(?:inf|nan)")
 DAY, HOUR = rb"([0-9]{4})-([0-9]{2})-([0-9]{2})", rb"([0-9]{2}):([0-9]{2})(?::([0-9]{2})(?:\.[0-9]+)?)?"
 MOMENT = re.compile(DAY + rb"(?:[Tt ]" + HOUR + rb"(?:[Zz]|[+-](?:[01][0-9]|2[0-3]):[0-5][0-9])?)?|" + HOUR)
 # What begins as a date or a time does.
