@@ -22,6 +22,7 @@ DECLARED = {
     "step of a plan": (("mg_model/src/plans.rt", "PlanStep"),),
     "obligation": (("mg_names/src/obligations.rt", "Obligation"),),
     "code": (("mg_names/src/codes.rt", "Code"),),
+    "reason of an idle step": (("taken_steps/src/idle.rt", "Idle"),),
 }
 # The word that rows, scripts and plans write for a thing, where that isn't its variant in small letters and isn't told by its declaration.
 WORDS = {
@@ -33,6 +34,8 @@ WORDS = {
         "TakesReply": "reply", "Passes": "pass", "TakesNote": "note", "TimesOut": "timer", "Hears": "hear", "Begins": "begin", "Restarts": "restart",
     },
 }
+# Enums that are asked for by their own names too.
+ASKED_WHOLE = ("Idle",)
 # What finds the word, where it isn't the word alone.
 PATTERNS = {"Subtract": r"subtract(?! \S+ \*)", "SubtractAll": r"subtract \S+ \*", "Hook": "(off|on)"}
 TOKEN = re.compile(r"[A-Za-z]\w*")
@@ -76,6 +79,8 @@ def things():
         for place, name in enumerate(variants(*declared)):
             word = word_for(kind, place, name)
             found.append(Thing(kind, name, word, written_for(kind, name, word)))
+        if declared[1] in ASKED_WHOLE:
+            found.append(Thing(kind, declared[1], declared[1].lower(), declared[1].lower()))
     return found
 
 
