@@ -77,7 +77,15 @@ fn request(alloc: Global, id: MessageId) -> Option<Request> {
     }
 }
 
-/// Executes one request; whether none of its commands failed.
+/// Whether a request was executed, and none of its commands failed.
+fn is_done(answer: &Answer) -> bool {
+    match answer {
+        Answer::Executed { reply, .. } => reply.failure().is_none(),
+        _ => false,
+    }
+}
+
+/// Executes one request, none of whose commands may fail.
 fn execute(alloc: Global, gateway: &mut Gateway, call: u32, number: u32) -> Option<()> {
     let id = MessageId {
         call: CallNo(call),
@@ -85,10 +93,8 @@ fn execute(alloc: Global, gateway: &mut Gateway, call: u32, number: u32) -> Opti
         number,
     };
     let request = request(alloc, id)?;
-    match gateway.execute(CallNo(call), &request, None) {
-        Answer::Executed { reply, .. } if reply.failure().is_none() => Some(()),
-        _ => None,
-    }
+    let answer = gateway.execute(CallNo(call), &request, None);
+    if is_done(&answer) { Some(()) } else { None }
 }
 
 /// So many requests, one call after the other.
