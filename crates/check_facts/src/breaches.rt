@@ -10,6 +10,7 @@ use mg_model::commands::Termination;
 use mg_model::components::Spot;
 use mg_model::transitions::Pair;
 use mg_names::obligations::Obligation;
+use mg_names::slots::Slot;
 use script_table::Script;
 use std::alloc::{AllocError, Global};
 
@@ -47,11 +48,14 @@ fn write_hop(
     out: &mut String,
     script: &Script,
     config: &Config,
-    from: Termination,
-    to: Termination,
+    from: &Termination,
+    to: &Termination,
 ) -> Result<(), AllocError> {
-    let (first, second) = (termination_name(script, from), termination_name(script, to));
-    let context = match config.spot(from) {
+    let (first, second) = (
+        termination_name(script, *from),
+        termination_name(script, *to),
+    );
+    let context = match config.spot(*from) {
         Spot::In(context) => context_name(script, context),
         _ => "-",
     };
@@ -80,39 +84,40 @@ fn write_hops(
     out: &mut String,
     script: &Script,
     config: &Config,
-    pair: Pair,
+    from: Slot,
     crossings: &[Crossing],
+    to: Slot,
 ) -> Result<(), AllocError> {
     out.push_str(r#","path":["#)?;
-    let mut at = Termination::Line(pair.first);
+    let mut at = Termination::Line(from);
     for crossing in crossings {
-        let before: Termination = at;
         write_hop(
             out,
             script,
             config,
-            before,
-            Termination::Ephemeral(crossing.from),
+            &at,
+            &Termination::Ephemeral(crossing.from),
         )?;
         write_crossing(out, script, crossing)?;
         at = Termination::Ephemeral(crossing.to);
     }
-    write_hop(out, script, config, at, Termination::Line(pair.second))?;
+    write_hop(out, script, config, &at, &Termination::Line(to))?;
     out.push_str("]")
 }
 
-/// Adds the way of media from the first line of a pair to the second, and says whether there is one.
+/// Adds the way of media from one line to another, and says whether there is one.
 fn write_path(
     alloc: Global,
     out: &mut String,
     script: &Script,
     config: &Config,
-    pair: Pair,
+    from: Slot,
+    to: Slot,
 ) -> Result<bool, AllocError> {
-    let Some(crossings) = find_path(alloc, config, pair.first, pair.second)? else {
+    let Some(crossings) = find_path(alloc, config, from, to)? else {
         return Ok(false);
     };
-    write_hops(out, script, config, pair, crossings.as_slice())?;
+    write_hops(out, script, config, from, crossings.as_slice(), to)?;
     Ok(true)
 }
 
@@ -122,18 +127,15 @@ fn write_joined(
     out: &mut String,
     script: &Script,
     config: &Config,
-    pair: Pair,
+    pair: &Pair,
 ) -> Result<(), AllocError> {
-    let second = line_name(script, pair.second);
-    write!(out, r#","{second}"]"#)?;
-    if write_path(alloc, out, script, config, pair)? {
+    let (first, second) = (pair.first, pair.second);
+    let name = line_name(script, second);
+    write!(out, r#","{name}"]"#)?;
+    if write_path(alloc, out, script, config, first, second)? {
         return Ok(());
     }
-    let back = Pair {
-        first: pair.second,
-        second: pair.first,
-    };
-    write_path(alloc, out, script, config, back)?;
+    write_path(alloc, out, script, config, second, first)?;
     Ok(())
 }
 
@@ -161,7 +163,7 @@ fn write_breach(
 ) -> Result<(), AllocError> {
     let (word, name) = (word(breach), name_of(script, breach));
     write!(out, r#"{{"breach":"{word}","names":["{name}""#)?;
-    match *breach {
+    match breach {
         Breach::Joined(pair) => write_joined(alloc, out, script, config, pair),
         _ => out.push_str("]"),
     }

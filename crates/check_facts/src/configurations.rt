@@ -8,25 +8,33 @@ use explanation::alone;
 use script_table::Script;
 use std::alloc::{AllocError, Global};
 
-/// Adds a component with the value that a configuration has of it, behind a comma where another stands before it.
-fn write_part(
-    out: &mut String,
-    script: &Script,
-    component: &Component,
-    config: &Config,
-    gap: &str,
-) -> Result<(), AllocError> {
-    let keys = Keys { script, component };
-    let value = word_in(script, component, config);
-    write!(out, r#"{gap}{{"component":"{keys}","value":"{value}"}}"#)
-}
-
 /// Whether a component is to be told: each, or where there is a configuration before those alone that are others than there.
 fn is_told(component: &Component, before: Option<&Config>) -> bool {
     match before {
         Some(before) => !component.allows(before),
         None => true,
     }
+}
+
+/// Adds a component with the value that a configuration has of it, where it is to be told, behind a comma where another stands before it.
+fn write_part(
+    out: &mut String,
+    script: &Script,
+    component: &Component,
+    config: &Config,
+    before: Option<&Config>,
+) -> Result<(), AllocError> {
+    if !is_told(component, before) {
+        return Ok(());
+    }
+    let gap = if matches!(out.as_bytes(), [.., b'[']) {
+        ""
+    } else {
+        ","
+    };
+    let keys = Keys { script, component };
+    let value = word_in(script, component, config);
+    write!(out, r#"{gap}{{"component":"{keys}","value":"{value}"}}"#)
 }
 
 /// Adds a configuration that is well formed: its state, and each component with its value, or those alone that are others than in the one before; of another
@@ -42,12 +50,8 @@ fn write_state(
     write!(out, r#""state":"{state}","parts":["#)?;
     if is_well_formed(config) {
         let entry = alone(alloc, script, config)?;
-        let mut gap = "";
         for component in entry.components() {
-            if is_told(component, before) {
-                write_part(out, script, component, config, gap)?;
-                gap = ",";
-            }
+            write_part(out, script, component, config, before)?;
         }
     }
     out.push_str("]")
