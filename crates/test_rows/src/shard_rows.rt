@@ -220,7 +220,8 @@ impl<'s> Shards<'s> {
     fn write_yes(&self, page: &mut Page) -> Answer {
         page.numbered("yes ", self.checked.states() as u64);
         page.numbered(" ", self.checked.entries() as u64);
-        page.numbered(" ", self.checked.points() as u64);
+        let points = u64::try_from(self.checked.points()).unwrap_or(u64::MAX);
+        page.numbered(" ", points);
         Answer::Told
     }
 
