@@ -3,7 +3,7 @@
 //!
 //! The way of a run: a plan is read and run on one worker, or why not is told (`told_run`). Each line of the report is written as `mgcall run` writes it
 //! (`line_text`), and behind it the steps of its call (`calls`): each in the words of its plan (`plan_words`), with what it came to (`steps`), the requests
-//! and the replies (`requests`), the numbers that the gateway gave (`numbers`), and the notes and what plays (`notes`). Lines have the names of the script
+//! and the replies (`request_facts`), the numbers that the gateway gave (`numbers`), and the notes and what plays (`notes`). Lines have the names of the script
 //! (`names`). This profile's own.
 #![tactic(auto)]
 
@@ -13,6 +13,6 @@ mod names;
 mod notes;
 mod numbers;
 mod plan_words;
-mod requests;
+mod request_facts;
 mod steps;
 pub mod told_run;

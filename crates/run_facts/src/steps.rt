@@ -1,7 +1,7 @@
 //! A step of a call: what it came to, where the call is before and behind it, its messages and what plays.
 use crate::notes::{write_note, write_notes, write_plays};
 use crate::plan_words::PlanWords;
-use crate::requests::{write_executed, write_reply, write_sent};
+use crate::request_facts::{write_executed, write_reply, write_sent};
 use call_scenes::Shown;
 use check_facts::names::state_name;
 use mg_names::identifiers::LineNo;
