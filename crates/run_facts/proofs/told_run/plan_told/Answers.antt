@@ -15,8 +15,8 @@ returns-in-Ok g c =
     (subst (λ (script : Script). ReadsPlan script c.args.plan.now (Ok c.in-Ok.steps)) c.script.ensures.table c.in-Ok.ensures.reads) c.steps_told.result
     c.steps_told.ensures
 
-pub returns-in_ok-rule-in-Err : goal.returns-in_ok-rule-in-Err
-returns-in_ok-rule-in-Err g c =
+pub returns-in-Err : goal.returns-in-Err
+returns-in-Err g c =
     let table = c.args.checked.now.table in
     told_line (AnswersPlan table 1 c.args.plan.now) c.args.asked.0 (line_of c.plan_reply.result)
     (plan_refused table 1 c.args.plan.now c.in-Err.why _
