@@ -1,4 +1,4 @@
-"""The documents that stand in files of rows (tests/rows/README.md), each with its answer, for who looks at them without the programs that answer rows."""
+"""The plans that stand in the rows of tests/mistakes, each with what the view of all mistakes tells of it. They are written as tests/documents/README.md says."""
 import re
 
 ROW = re.compile(r"^(?P<call>.*?) ?=> (?P<answer>.*)$")

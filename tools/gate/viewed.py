@@ -5,7 +5,7 @@ import json
 import re
 import time
 
-from gate import answers, row_documents, stored
+from gate import answers, document_rows, row_documents, stored
 from shared import profile, programs
 from shared.mistakes import findings, json_text, told, toml_text, words
 from shared.mistakes.nodes import Unread
@@ -13,12 +13,10 @@ from shared.mistakes.nodes import Unread
 TOP = programs.TOP
 MISTAKES = TOP / "tests" / "mistakes"
 SCHEMAS = TOP / "tests" / "schemas"
-ROWS = TOP / "tests" / "rows"
 MANY = MISTAKES / "many"
 FAULT = re.compile(r"(\w+) fault (\d+) (\w+)")
 # How many mistakes a large document has at least, and how many seconds of processor time it may take.
 LARGE, SECONDS = 10_000, 60
-ANSWER = re.compile(r"(\d+) ([A-Z]\w+)")
 # The words of the formats by what they are words for.
 WORDS = {
     "command": words.COMMANDS, "item of an events list": words.EVENTS, "signal": words.SIGNALS, "kind of a note": words.KINDS, "step of a plan": words.STEPS,
@@ -149,15 +147,10 @@ def of_schemas():
 
 
 def of_rows():
-    """Each document of the rows of scripts, certificates and plans."""
-    for name in ("scripts", "certificates", "plans"):
-        script = ""
-        for number, call, text, answer in row_documents.documents(ROWS / f"{name}.rows"):
-            document = call.split(" ")[0] if call.split(" ")[0] in told.FORMATS else name[:-1]
-            script = text if document == "script" else script
-            found = lowest(told.mistakes({"script": script.encode(), document: text.encode()}), document)
-            wanted = ANSWER.fullmatch(answer)
-            yield f"{name}.rows:{number}: {found}", found == ((int(wanted[1]), wanted[2]) if wanted else None)
+    """Each row of documents: the view has the fault of its answer, and of what is read it tells nothing."""
+    for name, _, given, _, answer in document_rows.answered():
+        faults = list(differences(given.split(b"%%\n"), answer.splitlines()[0] if answer.strip() else ""))
+        yield f"{name}: {faults}", not faults
 
 
 def placed(mistake):
