@@ -1,3 +1,11 @@
+mod Below
+mod Picked
+mod Reaching
+mod Seeing
+mod Warned
+pub mod Fields
+pub mod SameFlags
+pub mod SameKeys
 pub mod Coming
 pub mod Exploring
 pub mod Growth

@@ -1,3 +1,9 @@
+pub mod Warnings
+pub mod Candidates
+pub mod Seen
+pub mod Points
+pub mod Told
+pub mod Key
 pub mod Ways
 pub mod Search
 pub mod Reached

@@ -1,9 +1,29 @@
-//! The way on which a call comes to a configuration: the shortest from the opening through listed configurations, or that there is none; and all that calls come to.
+//! The configurations that calls come to, and what of a certificate and of its script they don't use.
+//!
+//! The shortest way from the opening through listed configurations to one of them is found, or that there is none (`find`, `way`, over `search` and
+//! `trace`), and so are all that calls come to (`reached`). Two configurations have one key exactly where they are equal (`key`), so a table of
+//! keys tells which were found.
+//!
+//! What a yes is worth: it says that nothing bad can happen; a warning tells a place at which it says so of nothing, or of a telephone that nobody
+//! can use. All that can be warned of is listed (`candidates`), each is held against the configurations that calls come to (`sights`), against the
+//! points of its entry (`points`) or against the other entries (`holders`), and what is so is kept (`warnings`). This profile's own.
 #![tactic(auto)]
 
+mod candidates;
 pub mod find;
 mod found;
+mod holders;
+pub mod key;
+mod points;
 pub mod reached;
 mod search;
+mod sights;
 mod trace;
+mod warning;
+mod warnings;
 pub mod way;
+
+pub use holders::find_holder;
+pub use points::find_unreached;
+pub use warning::Warning;
+pub use warnings::find_warnings;

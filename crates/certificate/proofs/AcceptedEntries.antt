@@ -9,20 +9,20 @@ use Rattle.script_table.specs.Table.{state_named}
 use Rattle.certificate.specs.Certificate.{listed_meant, checked_or, resolved_or, unless_old, has_empty, has_crowd, is_large}
 use Rattle.mg_model.specs.Entries.{Component}
 use Rattle.mg_model.proofs.Cases.{none_is_some, the_some}
-use Rattle.certificate_components.specs.Components.{component_meant, keys_of}
-use Rattle.certificate_components.specs.NamedRows.{are_all_named}
-use Rattle.certificate_document.specs.Document.{document_meant}
+use Rattle.certificate.specs.Components.{component_meant, keys_of}
+use Rattle.certificate.specs.NamedRows.{are_all_named}
+use Rattle.certificate.specs.Document.{document_meant}
 use Rattle.certificate.specs.Laws.{AcceptedCertificates}
 use Rattle.entry_table.specs.Listed.{Listed}
 use Rattle.typed_values.specs.Shape.{each, only_if, ◌>>=◌}
-use Rattle.certificate_document.specs.Written as written
+use Rattle.certificate.specs.Written as written
 use Rattle.certificate.specs.declared.fault.CertFault.{CertFault}
 use Rattle.certificate.specs.declared.fault.CertFault.TheVariants.{EmptySet, TooManyEntries, TooManyPoints}
-use Rattle.certificate_components.specs.declared.key.Key.{Key}
+use Rattle.certificate.specs.declared.key.Key.{Key}
 use Rattle.certificate.proofs.Members.{each_read, each_is}
 use Rattle.certificate.proofs.DeclaredKeys.{link_key, spot_key, mode_key, events_key, plays_key, context_key, remote_key, cut_key}
 use Rattle.certificate.proofs.MeantComponents.{is_of, meant_passes}
-use Rattle.certificate_components.specs.declared.key.Key.TheVariants as key
+use Rattle.certificate.specs.declared.key.Key.TheVariants as key
 
 -- ---- an entry
 

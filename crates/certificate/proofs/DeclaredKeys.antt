@@ -10,9 +10,9 @@ use Rattle.mg_model.specs.Accepted.{IsScript, IsSlot, IsContext}
 use Rattle.mg_model.specs.Configuration.{is_same}
 use Rattle.mg_model.specs.Script.{Script}
 use Rattle.mg_model.proofs.Single.{first_in, later_in}
-use Rattle.certificate_components.specs.Components.{slots, line_keys, ephemeral_keys, line_terminations, ephemeral_terminations, terminations_of, cut_keys, keys_of}
-use Rattle.certificate_components.specs.declared.key.Key.{Key}
-use Rattle.certificate_components.specs.declared.key.Key.TheVariants as key
+use Rattle.certificate.specs.Components.{slots, line_keys, ephemeral_keys, line_terminations, ephemeral_terminations, terminations_of, cut_keys, keys_of}
+use Rattle.certificate.specs.declared.key.Key.{Key}
+use Rattle.certificate.specs.declared.key.Key.TheVariants as key
 use Rattle.certificate.proofs.Members.{mapped_in, flat_mapped_in, filtered_in}
 
 abbrev four : List ℕ

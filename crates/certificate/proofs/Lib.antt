@@ -1,3 +1,10 @@
+pub mod PairLemmas
+pub mod Parts
+pub mod SlotLemmas
+pub mod Each
+pub mod Passing
+pub mod RowLemmas
+pub mod Trees
 pub mod AcceptedEntries
 pub mod DeclaredKeys
 pub mod Limits

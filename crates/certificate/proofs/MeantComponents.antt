@@ -9,10 +9,10 @@ use Rattle.mg_model.specs.Script.{Script}
 use Rattle.mg_model.specs.Entries.{Component, links, spots, modes, events, plays, contexts, remotes, cuts}
 use Rattle.mg_model.proofs.Cases.{none_is_some, the_some, same_itself}
 use Rattle.mg_model.proofs.Terminations.{is_same_self}
-use Rattle.certificate_components.specs.Components.{component_meant}
-use Rattle.certificate_document.specs.Written as written
-use Rattle.certificate_components.specs.declared.key.Key.{Key}
-use Rattle.certificate_components.specs.declared.key.Key.TheVariants as key
+use Rattle.certificate.specs.Components.{component_meant}
+use Rattle.certificate.specs.Written as written
+use Rattle.certificate.specs.declared.key.Key.{Key}
+use Rattle.certificate.specs.declared.key.Key.TheVariants as key
 
 -- the test that a component of a key passes
 abbrev pub is_of : Key → Component → Bool

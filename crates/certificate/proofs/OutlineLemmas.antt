@@ -10,7 +10,7 @@ use Rattle.certificate.specs.Outlines.{outline_of, outline_meant, limit_passed, 
 use Rattle.typed_values.specs.Shape.{Misses, each, ◌>>=◌}
 use Rattle.typed_values.specs.declared.missing.Missing.{Missing}
 use Rattle.typed_values.specs.declared.missing.Missing.TheVariants.{Nothing, Memory}
-use Rattle.certificate_document.specs.Written as written
+use Rattle.certificate.specs.Written as written
 use Rattle.certificate.specs.declared.fault.CertFault.{CertFault}
 use Rattle.certificate.specs.declared.fault.CertFault.TheVariants.{EmptySet, TooManyEntries, TooManyPoints}
 use Rattle.certificate.specs.declared.outline.Outline.{Outline}

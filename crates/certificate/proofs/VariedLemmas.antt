@@ -11,12 +11,12 @@ use Rattle.mg_model.specs.Script.{Script}
 use Rattle.entry_table.specs.Listed.{choices_of, size_of}
 use Rattle.typed_values.specs.Shape.{each, only_if, ◌>>=◌}
 use Rattle.script_table.specs.Table.{state_named}
-use Rattle.certificate_components.specs.Components.{component_meant, keys_of}
-use Rattle.certificate_components.specs.NamedRows.{are_all_named}
+use Rattle.certificate.specs.Components.{component_meant, keys_of}
+use Rattle.certificate.specs.NamedRows.{are_all_named}
 use Rattle.certificate.specs.Outlines.{is_left_out, outline_of, outline_meant, varied}
-use Rattle.certificate_document.specs.Written as written
-use Rattle.certificate_components.specs.declared.key.Key.{Key}
-use Rattle.certificate_components.specs.declared.key.Key.TheVariants as key
+use Rattle.certificate.specs.Written as written
+use Rattle.certificate.specs.declared.key.Key.{Key}
+use Rattle.certificate.specs.declared.key.Key.TheVariants as key
 use Rattle.certificate.specs.declared.outline.Outline.{Outline}
 use Rattle.configuration.proofs.NumberLemmas.{at}
 

@@ -8,11 +8,11 @@ use Rattle.serde_json.specs.Read.{read as read_text}
 use Rattle.mg_model.specs.Script.{Script}
 use Rattle.script_table.specs.Table.{state_named}
 use Rattle.typed_values.specs.Shape.{◌>>=◌, each, only_if}
-use Rattle.certificate_components.specs.NamedRows.{are_all_named}
-use Rattle.certificate_components.specs.Components.{component_meant, keys_of}
-use Rattle.certificate_document.specs.Document.{document_meant}
+use Rattle.certificate.specs.NamedRows.{are_all_named}
+use Rattle.certificate.specs.Components.{component_meant, keys_of}
+use Rattle.certificate.specs.Document.{document_meant}
 use Rattle.entry_table.specs.Listed.{Listed, choices_of, size_of}
-use Rattle.certificate_document.specs.Written as written
+use Rattle.certificate.specs.Written as written
 use Rattle.typed_values.specs.declared.missing.Missing.{Missing}
 use Rattle.typed_values.specs.declared.missing.Missing.TheVariants.{Nothing, Memory}
 use Rattle.typed_values.specs.declared.unread.Unread.{Unread}

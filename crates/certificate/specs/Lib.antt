@@ -1,3 +1,11 @@
+pub mod Components
+pub mod FoundRows
+pub mod NamedRows
+pub mod Naming
+pub mod Ranks
+pub mod Document
+pub mod Keys
+pub mod Written
 pub mod Certificate
 pub mod FaultNames
 pub mod Laws

@@ -8,15 +8,15 @@ use Rattle.mg_model.specs.declared.commands.Termination.TheVariants.{Line, Ephem
 use Rattle.mg_model.specs.Entries.{Component, cuts}
 use Rattle.entry_table.specs.Listed.{Listed, choices_of}
 use Rattle.certificate.specs.Certificate.{listed_meant, has_empty, is_large, some_below}
-use Rattle.certificate_components.specs.Components.{set_or}
-use Rattle.certificate_components.specs.Naming.{cut_named}
-use Rattle.certificate_components.specs.Ranks.{switch_rank}
-use Rattle.certificate_document.specs.Written as written
-use Rattle.certificate_document.specs.Written.{Text}
+use Rattle.certificate.specs.Components.{set_or}
+use Rattle.certificate.specs.Naming.{cut_named}
+use Rattle.certificate.specs.Ranks.{switch_rank}
+use Rattle.certificate.specs.Written as written
+use Rattle.certificate.specs.Written.{Text}
 use Rattle.certificate.specs.declared.fault.CertFault.{CertFault}
 use Rattle.certificate.specs.declared.fault.CertFault.TheVariants.{EmptySet, TooManyEntries, TooManyPoints}
-use Rattle.certificate_components.specs.declared.key.Key.{Key}
-use Rattle.certificate_components.specs.declared.key.Key.TheVariants as key
+use Rattle.certificate.specs.declared.key.Key.{Key}
+use Rattle.certificate.specs.declared.key.Key.TheVariants as key
 use Rattle.certificate.specs.declared.outline.Outline.{Outline}
 
 abbrev pub outline_of : Listed → Outline

@@ -3,14 +3,16 @@ ghost use Rattle.std.specs.Prelude.{◌≡◌, ◌==◌, length, nat_lt, false, 
 ghost use Rattle.std.specs.List.{list_any};
 ghost use Rattle.script_table.specs.Table.{state_named};
 ghost use Rattle.certificate.specs.Certificate.{has_empty, is_large, listed_meant};
-ghost use Rattle.certificate_components.specs.Components.{component_meant, keys_of};
+ghost use Rattle.certificate.specs.Components.{component_meant, keys_of};
 ghost use Rattle.entry_table.specs.Listed.{choices_of, size_of};
-ghost use Rattle.certificate_components.specs.NamedRows.{IsNamed};
+ghost use Rattle.certificate.specs.NamedRows.{IsNamed};
 ghost use Rattle.typed_values.specs.Shape.{Gives, each};
 ghost use Rattle.entry_table.specs.Shown.{shown_all};
 
-use certificate_components::{Key, NamedRows, named_rows, read_component};
-use certificate_document::WrittenEntry;
+use crate::component::read_component;
+use crate::entry_rows::{NamedRows, named_rows};
+use crate::key::Key;
+use crate::written::WrittenEntry;
 use entry_table::{Component, Entry, product_of};
 use script_table::Script;
 use std::alloc::{AllocError, Global};

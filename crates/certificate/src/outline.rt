@@ -3,15 +3,16 @@
 ghost use Rattle.std.specs.Prelude.{◌≡◌, map, option_map};
 ghost use Rattle.std.specs.List.{list_any};
 ghost use Rattle.certificate.specs.Certificate.{listed_meant};
-ghost use Rattle.certificate_components.specs.Components.{keys_of};
+ghost use Rattle.certificate.specs.Components.{keys_of};
 ghost use Rattle.certificate.specs.Outlines.{has_crowd_in, limit_passed, outline_meant, outline_of, outlined_for};
 ghost use Rattle.typed_values.specs.Shape.{Gives, each};
 
 use crate::draft::{self, are_large, state_of};
+use crate::entry_rows::named_rows;
 use crate::fault::CertFault;
+use crate::key::Key;
 use crate::varied::varied;
-use certificate_components::{Key, named_rows};
-use certificate_document::WrittenEntry;
+use crate::written::WrittenEntry;
 use script_table::Script;
 use std::alloc::Global;
 use typed_values::Missing;

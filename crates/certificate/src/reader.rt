@@ -5,11 +5,12 @@ ghost use Rattle.typed_values.specs.Shape.{each};
 ghost use Rattle.typed_values.specs.Unread.{OrNoMemory};
 ghost use Rattle.certificate.specs.Certificate.{Answers, Parses, ReadsCertificate, checked_or, document_read, listed_meant, resolved_or, unread_by};
 
+use crate::document::read_document;
 use crate::draft::{drafts, entries};
 use crate::fault::CertFault;
+use crate::key::keys;
 use crate::outline::{limit_passed, outlines};
-use certificate_components::keys;
-use certificate_document::{WrittenDocument, WrittenEntry, read_document};
+use crate::written::{WrittenDocument, WrittenEntry};
 use entry_table::{Cert, Entry};
 use script_table::Script;
 use serde_json::Value;

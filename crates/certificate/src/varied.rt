@@ -2,15 +2,19 @@
 //! value empties no entry and makes none larger. For most keys of an entry nothing is written, and then nothing is made for them.
 ghost use Rattle.std.specs.Prelude.{◌≡◌, ◌==◌, ◌++◌, length, map, option_map, OnOk};
 ghost use Rattle.std.specs.List.{flat_map};
-ghost use Rattle.certificate_components.specs.Components.{component_meant};
-ghost use Rattle.certificate_components.specs.FoundRows.{at_pair};
-ghost use Rattle.certificate_components.specs.NamedRows.{IsNamed};
+ghost use Rattle.certificate.specs.Components.{component_meant};
+ghost use Rattle.certificate.specs.FoundRows.{at_pair};
+ghost use Rattle.certificate.specs.NamedRows.{IsNamed};
 ghost use Rattle.certificate.specs.Outlines.{cuts_meant, has_none_like, is_left_out, varied};
 ghost use Rattle.entry_table.specs.Shown.{shown, shown_all};
 ghost use Rattle.typed_values.specs.Shape.{Gives, each};
 
-use certificate_components::{Cuts, Key, NamedRows, read_component, read_set};
-use certificate_document::{Row, WrittenEntry};
+use crate::component::read_component;
+use crate::entry_rows::NamedRows;
+use crate::key::Key;
+use crate::reads::Row;
+use crate::vocabulary::{Cuts, read_set};
+use crate::written::WrittenEntry;
 use entry_table::Component;
 use mg_model::commands::Termination;
 use script_table::Script;

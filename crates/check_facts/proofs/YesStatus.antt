@@ -4,9 +4,9 @@ use Rattle.program_rim.specs.declared.status.Status.{Status}
 use Rattle.program_rim.specs.Statuses.{code_of}
 use Rattle.mg_model.specs.Script.{Script}
 use Rattle.mg_model.specs.Entries.{Entry}
-use Rattle.check_warnings.specs.Candidates.{candidates_of}
-use Rattle.check_warnings.specs.Warnings.{ArePicked}
-use Rattle.check_warnings.specs.declared.warning.Warning.{Warning}
+use Rattle.call_ways.specs.Candidates.{candidates_of}
+use Rattle.call_ways.specs.Warnings.{ArePicked}
+use Rattle.call_ways.specs.declared.warning.Warning.{Warning}
 use Rattle.check_facts.specs.Worth.{IsWorth, IsYesStatus, strict_status, yes_status}
 use Rattle.check_facts.specs.declared.worth.Worth.{Worth}
 

@@ -6,9 +6,9 @@ use Rattle.mg_model.specs.Script.{Script}
 use Rattle.mg_model.specs.Entries.{Entry}
 use Rattle.composition.specs.Verdict.{AreRead}
 use Rattle.call_ways.specs.Ways.{ComeToMany}
-use Rattle.check_warnings.specs.Candidates.{candidates_of}
-use Rattle.check_warnings.specs.Warnings.{ArePicked}
-use Rattle.check_warnings.specs.declared.warning.Warning.{Warning}
+use Rattle.call_ways.specs.Candidates.{candidates_of}
+use Rattle.call_ways.specs.Warnings.{ArePicked}
+use Rattle.call_ways.specs.declared.warning.Warning.{Warning}
 use Rattle.check_lines.specs.Output.{Text, Line, text_of, line_status, yes}
 use Rattle.check_lines.specs.VerdictLines.{IsLineOfSections}
 use Rattle.program_rim.specs.Statuses.{code_of}

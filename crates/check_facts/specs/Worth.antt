@@ -5,9 +5,9 @@ use Rattle.program_rim.specs.declared.status.Status.TheVariants as status
 use Rattle.mg_model.specs.Script.{Script}
 use Rattle.mg_model.specs.Entries.{Entry}
 use Rattle.call_ways.specs.Ways.{ComeToMany}
-use Rattle.check_warnings.specs.Candidates.{candidates_of}
-use Rattle.check_warnings.specs.Warnings.{ArePicked}
-use Rattle.check_warnings.specs.declared.warning.Warning.{Warning}
+use Rattle.call_ways.specs.Candidates.{candidates_of}
+use Rattle.call_ways.specs.Warnings.{ArePicked}
+use Rattle.call_ways.specs.declared.warning.Warning.{Warning}
 use Rattle.program_rim.specs.Statuses.{code_of}
 use Rattle.check_facts.specs.Saying.{IsInDoubt, IsWithoutWarning}
 use Rattle.check_facts.specs.declared.worth.Worth.{Worth}

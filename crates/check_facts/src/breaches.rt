@@ -2,7 +2,7 @@
 //! command that left it so. What breaks it is found by `explanation`, and what brought it about by `breach_causes`.
 use crate::command_text::CommandText;
 use crate::names::{context_name, ephemeral_name, line_name, state_name, termination_name};
-use breach_causes::{Cause, find_cause};
+use explanation::{Cause, find_cause};
 use call_ways::way::WayStep;
 use configuration::config::Config;
 use explanation::{Breach, Crossing, find_breaches, find_path};

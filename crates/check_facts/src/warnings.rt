@@ -3,7 +3,7 @@
 use crate::documents::Documents;
 use crate::names::{line_name, state_name};
 use call_ways::reached::Reached;
-use check_warnings::{Warning, find_holder, find_unreached};
+use call_ways::{Warning, find_holder, find_unreached};
 use mg_names::slots::Slot;
 use script_table::Script;
 use std::alloc::{AllocError, Global};

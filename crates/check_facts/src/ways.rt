@@ -2,7 +2,7 @@
 //! calls come to.
 use crate::configurations::{write_change, write_configuration, write_entry};
 use crate::documents::Documents;
-use call_parts::part::{Part, find_part};
+use explanation::part::{Part, find_part};
 use call_ways::way::{Move, Way, WayStep};
 use closure::steps::opening;
 use configuration::config::Config;

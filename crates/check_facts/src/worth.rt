@@ -4,7 +4,7 @@ ghost use Rattle.check_facts.specs.Worth.{IsWorth, yes_status};
 
 use call_ways::find::find_all;
 use call_ways::reached::Reached;
-use check_warnings::{Warning, find_warnings};
+use call_ways::{Warning, find_warnings};
 use entry_table::Cert;
 use program_rim::status::Status;
 use script_table::Script;

@@ -10,7 +10,7 @@ use Rattle.mg_model.specs.Entries.{Entry, HavePoints}
 use Rattle.mg_model.specs.Obligations.{NoneBroken}
 use Rattle.mg_model.specs.declared.faults.Fault.{Fault}
 use Rattle.mg_safety.specs.Headline.{RunsAreGood}
-use Rattle.script_faults.specs.declared.fault.ScriptFault.{ScriptFault}
+use Rattle.scriptreader.specs.declared.fault.ScriptFault.{ScriptFault}
 use Rattle.scriptreader.specs.Laws.{HasFewCommands}
 use Rattle.scriptreader.specs.Reading.{ReadsScript}
 use Rattle.certificate.specs.declared.fault.CertFault.{CertFault}

@@ -6,7 +6,7 @@ use Rattle.mg_model.specs.Script.{Script}
 use Rattle.mg_model.specs.Entries.{Entry}
 use Rattle.mg_model.specs.Obligations.{IsFirstFault, NoneBroken}
 use Rattle.mg_safety.specs.Headline.{RunsAreGood}
-use Rattle.script_faults.specs.declared.fault.ScriptFault.{ScriptFault}
+use Rattle.scriptreader.specs.declared.fault.ScriptFault.{ScriptFault}
 use Rattle.certificate.specs.declared.fault.CertFault.{CertFault}
 use Rattle.typed_values.specs.declared.unread.Unread.{Unread}
 use Rattle.typed_values.specs.declared.unread.Unread.TheVariants as unread

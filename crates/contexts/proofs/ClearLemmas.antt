@@ -8,15 +8,15 @@ use Rattle.mg_names.specs.declared.identifiers.TermId.TheVariants.{Line, Eph}
 use Rattle.mg_model.specs.declared.rows.Row.{Row}
 use Rattle.mg_model.specs.Board.{same_term, place_in}
 use Rattle.mg_model.specs.Items.{without_cuts, subtracted}
-use Rattle.terminations.specs.Table.{cleared}
+use Rattle.contexts.specs.Table.{cleared}
 use Rattle.mg_model.specs.Board.{row_with}
 use Rattle.mg_model.proofs.Terminations.{same_term_is}
-use Rattle.context_tables.specs.declared.cuts.Cut.{Cut}
-use Rattle.context_tables.specs.Groups.{listed, has_cut}
+use Rattle.contexts.specs.declared.cuts.Cut.{Cut}
+use Rattle.contexts.specs.Groups.{listed, has_cut}
 use Rattle.contexts.specs.BoardValue.{cut_of, stands_in, IsTied}
-use Rattle.context_tables.proofs.TermLemmas.{by_value, not_both}
-use Rattle.context_tables.proofs.OnceLemmas.{once_none}
-use Rattle.context_tables.proofs.TieLemmas.{not_cut, stands_splits}
+use Rattle.contexts.proofs.TermLemmas.{by_value, not_both}
+use Rattle.contexts.proofs.OnceLemmas.{once_none}
+use Rattle.contexts.proofs.TieLemmas.{not_cut, stands_splits}
 use Rattle.contexts.proofs.RowLemmas.{cleared_place}
 use Rattle.contexts.proofs.MoveLemmas.{is_not}
 

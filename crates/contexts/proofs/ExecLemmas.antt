@@ -9,7 +9,7 @@ use Rattle.mg_model.specs.Board.{Board, exists, ContextExists}
 use Rattle.mg_model.specs.Items.{Done, Lists, IsLegal, IsExecuted, Chosen, creates_context, creates_ephemeral, subtracts, effect, remote_refused}
 use Rattle.contexts.specs.Rows.{fits}
 use Rattle.contexts.specs.Steps.{created}
-use Rattle.context_tables.proofs.TermLemmas.{by_value, not_both}
+use Rattle.contexts.proofs.TermLemmas.{by_value, not_both}
 
 pub none_chosen : Chosen
 none_chosen = record { context = 0; ephemeral = 0 }

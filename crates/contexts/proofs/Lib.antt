@@ -1,3 +1,14 @@
+pub mod PathLemmas
+pub mod FoundLemmas
+pub mod TermLemmas
+pub mod OnceLemmas
+pub mod TieLemmas
+pub mod StockLemmas
+pub mod CountLemmas
+pub mod CutLemmas
+pub mod CopyLemmas
+pub mod TermRowLemmas
+pub mod KeyLemmas
 pub mod RowLemmas
 pub mod MoveLemmas
 pub mod ClearLemmas

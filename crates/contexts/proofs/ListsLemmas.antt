@@ -14,7 +14,7 @@ use Rattle.mg_model.specs.Board.{Board, same_term, exists, place_of, place_in}
 use Rattle.mg_model.specs.Items.{IsRising, Lists}
 use Rattle.mg_model.proofs.Terminations.{same_term_is as same_is}
 use Rattle.contexts.specs.BoardValue.{stands_in}
-use Rattle.context_tables.proofs.TermLemmas.{by_value}
+use Rattle.contexts.proofs.TermLemmas.{by_value}
 use Rattle.contexts.proofs.MoveLemmas.{is_not}
 
 above_all : (x : ℕ) (xs : List ℕ) → AllByRecursion (λ y. nat_cmp x y ≡ Less) xs → (y : ℕ) → Contains xs y → x < y

@@ -8,16 +8,16 @@ use Rattle.mg_model.specs.declared.items.Settings.{Settings}
 use Rattle.mg_model.specs.declared.rows.Row.{Row}
 use Rattle.mg_model.specs.Board.{same_term, place_in}
 use Rattle.mg_model.specs.Items.{without_cuts, is_ephemeral_number, given}
-use Rattle.terminations.specs.Table.{Table, row_of, used_of, class_of, left, IsCreated}
+use Rattle.contexts.specs.Table.{Table, row_of, used_of, class_of, left, IsCreated}
 use Rattle.mg_model.specs.Board.{row_with, null_row}
 use Rattle.mg_model.proofs.Terminations.{same_term_is, same_term_turned}
 use Rattle.mg_model.proofs.Cases.{same_itself}
-use Rattle.context_tables.specs.declared.cuts.Cut.{Cut}
-use Rattle.context_tables.specs.Groups.{with_member, without_member, without_cuts_of}
+use Rattle.contexts.specs.declared.cuts.Cut.{Cut}
+use Rattle.contexts.specs.Groups.{with_member, without_member, without_cuts_of}
 use Rattle.contexts.specs.Rows.{row_in}
 use Rattle.contexts.specs.BoardValue.{cut_of, IsTied}
-use Rattle.context_tables.proofs.TermLemmas.{by_value}
-use Rattle.context_tables.proofs.TieLemmas.{Leaves, tied_left, cut_left, Enters, tied_entered, cut_entered}
+use Rattle.contexts.proofs.TermLemmas.{by_value}
+use Rattle.contexts.proofs.TieLemmas.{Leaves, tied_left, cut_left, Enters, tied_entered, cut_entered}
 use Rattle.contexts.proofs.RowLemmas.{row_with_here, changes_twice}
 
 pub left_exists : (row : Option Row) → IsTrue (is_some row) → IsTrue (is_some (left row))

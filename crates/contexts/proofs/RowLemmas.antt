@@ -9,11 +9,11 @@ use Rattle.mg_model.specs.declared.items.Settings.{Settings}
 use Rattle.mg_model.specs.declared.rows.Row.{Row}
 use Rattle.mg_model.specs.Board.{same_term, place_in}
 use Rattle.mg_model.specs.Items.{subtracted}
-use Rattle.terminations.specs.Table.{cleared}
+use Rattle.contexts.specs.Table.{cleared}
 use Rattle.mg_model.specs.Board.{row_with}
 use Rattle.mg_model.proofs.Terminations.{same_term_is, same_term_self}
 use Rattle.contexts.specs.Rows.{mode_applied, remote_applied, fits, row_in}
-use Rattle.context_tables.proofs.TermLemmas.{by_value}
+use Rattle.contexts.proofs.TermLemmas.{by_value}
 
 pub row_with_same : (rows : TermId → Option Row) (t : TermId) → rows ≡ row_with rows t (rows t)
 row_with_same rows t = λ i u. at u i

@@ -7,8 +7,8 @@ use Rattle.mg_names.specs.declared.identifiers.TermId.{TermId}
 use Rattle.mg_names.specs.declared.identifiers.TermId.TheVariants.{Line, Eph}
 use Rattle.mg_model.specs.declared.rows.Row.{Row}
 use Rattle.mg_model.specs.Board.{Board, null_row}
-pub use Rattle.context_tables.specs.BoardValue.{BoardValue, cuts_at, cut_of, stands_in, IsTied, IsOneClass, CanEnter}
-unfoldable pub use Rattle.context_tables.specs.BoardValue.{board_of}
+pub use Rattle.contexts.specs.TiedBoard.{BoardValue, cuts_at, cut_of, stands_in, IsTied, IsOneClass, CanEnter}
+unfoldable pub use Rattle.contexts.specs.TiedBoard.{board_of}
 
 -- ---- a gateway that starts
 

@@ -9,7 +9,7 @@ use Rattle.mg_model.specs.declared.items.Settings.{Settings}
 use Rattle.mg_model.specs.declared.rows.Row.{Row}
 use Rattle.mg_model.specs.Board.{mode_in, remote_in}
 use Rattle.mg_model.specs.Items.{row_at}
-use Rattle.terminations.specs.Table.{with_mode, with_remote}
+use Rattle.contexts.specs.Table.{with_mode, with_remote}
 
 abbrev pub mode_applied : Option Mode → Option Row → Option Row
 mode_applied None row = row

@@ -8,8 +8,7 @@ ghost use Rattle.contexts.specs.BoardValue.{board_of, CanEnter};
 ghost use Rattle.contexts.specs.Steps.{IsEntered, entered};
 
 use crate::board::Board;
-use crate::rows;
-use context_tables::members;
+use crate::{members, rows};
 use mg_model::items::Settings;
 use mg_names::identifiers::{ContextId, TermId};
 use std::alloc::AllocError;

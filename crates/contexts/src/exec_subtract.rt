@@ -12,7 +12,7 @@ ghost use Rattle.contexts.specs.Steps.{IsTakenOut, IsEmptied};
 
 use crate::board::Board;
 use crate::done::Done;
-use context_tables::members;
+use crate::members;
 use mg_names::identifiers::{ContextId, LineNo, TermId};
 use std::alloc::{AllocError, Global};
 use std::collections::BTreeSet;
@@ -64,7 +64,7 @@ fn taken_out(alloc: Global, group: &[TermId]) -> Result<Done, AllocError>
     ensures { IfOk result (IsTakenOut group.now) }
 {
     let numbers = listed(alloc, &line_set(alloc, group)?)?;
-    let lines: Vec<LineNo> = rising_keys::named(alloc, numbers.as_slice())?;
+    let lines: Vec<LineNo> = crate::keys::named(alloc, numbers.as_slice())?;
     let ephemerals = listed(alloc, &ephemeral_set(alloc, group)?)?;
     Ok(Done {
         context: None,

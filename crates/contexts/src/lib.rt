@@ -1,25 +1,51 @@
 //! The connection model of a gateway (H.248.1 section 6): which terminations stand in which contexts, between which of them media
-//! is cut. `Board::exec` carries out a command or refuses it with the first code that applies: `refusal` asks for each code in its order,
-//! and where none applies the command goes over the rows, the members and the cuts. `path` asks the wiring of the board.
+//! is cut.
+//!
+//! The way of a command: `Board::exec` carries it out or refuses it with the first code that applies. `refusals` asks for each code in its
+//! order; where none applies the command goes over three tables: the rows of the terminations (`terms`, H.248.1 section 6.2: the context in
+//! which each stands, its mode and its Remote), the members of each context (`members`) and the pairs between which media is cut (`cuts`).
+//! `specs/TiedBoard.antt` reads the board off these three and says how they are tied.
+//!
+//! The way of media: a `Wiring` reads the tables and changes nothing. `media` says where it goes in one step, `reach` goes on from each
+//! ephemeral that it finds, and where there are more of them than can be noted `trail` follows each way by itself. `keys` gives the numbers
+//! under which a map keeps something, in rising order, as names of lines, contexts and calls.
 #![tactic(auto)]
 
 mod add;
 mod board;
+pub mod cuts;
 mod done;
 mod exec;
 mod exec_add;
 mod exec_subtract;
 mod fault;
+mod faults;
+mod found;
+mod keys;
+mod media;
+pub mod members;
 mod modify;
 mod move_to;
+mod numbered;
 mod opening;
+mod paths;
+mod reach;
 mod refusals;
 mod rows;
+mod same;
 mod subtract;
 mod subtract_all;
+mod term_rows;
+mod terms;
 mod topology;
+mod trail;
 mod wired;
+mod wiring;
 
 pub use board::Board;
 pub use done::Done;
 pub use fault::ExecFault;
+pub use faults::AddLineFault;
+pub use identifiers::CreateFault;
+pub use keys::names;
+pub use terms::Terms;

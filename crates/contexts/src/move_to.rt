@@ -6,8 +6,7 @@ ghost use Rattle.contexts.specs.Rows.{fits};
 ghost use Rattle.contexts.specs.BoardValue.{board_of};
 
 use crate::board::Board;
-use crate::rows;
-use context_tables::{cuts, members};
+use crate::{cuts, members, rows};
 use mg_model::items::Settings;
 use mg_names::identifiers::{ContextId, TermId};
 use std::alloc::AllocError;

@@ -6,7 +6,7 @@ ghost use Rattle.contexts.specs.BoardValue.{board_of};
 ghost use Rattle.contexts.specs.Steps.{IsUnknown, IsUnknownBut, NoneLeftFor};
 
 use crate::board::Board;
-use context_tables::is_same;
+use crate::same::is_same;
 use mg_model::items::{Added, Item, RemoteSetting};
 use mg_names::codes::Code;
 use mg_names::identifiers::{ContextId, TermId};

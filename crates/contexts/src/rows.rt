@@ -2,14 +2,14 @@
 ghost use Rattle.std.specs.Prelude.{◌≡◌, ℕ, ◌<◌, true, false, Some, None, IsTrue, is_some};
 ghost use Rattle.mg_model.specs.Numbers.{null};
 ghost use Rattle.mg_model.specs.Board.{place_in};
-ghost use Rattle.terminations.specs.Table.{row_of, SameNumbers, cleared};
+ghost use Rattle.contexts.specs.Table.{row_of, SameNumbers, cleared};
 ghost use Rattle.mg_model.specs.Board.{row_with};
 ghost use Rattle.contexts.specs.Rows.{mode_applied, remote_number, remote_applied, fits, row_in, IsLine};
 
+use crate::terms::Terms;
 use mg_model::items::{RemoteSetting, Settings};
 use mg_names::identifiers::{ContextId, TermId};
 use mg_names::modes::Mode;
-use terminations::Terms;
 
 /// Sets the mode, where a command sets one.
 fn apply_mode(terms: &mut Terms, t: TermId, mode: Option<Mode>)

@@ -5,8 +5,7 @@ ghost use Rattle.mg_model.specs.Items.{without};
 ghost use Rattle.contexts.specs.BoardValue.{board_of};
 
 use crate::board::Board;
-use crate::rows;
-use context_tables::{cuts, members};
+use crate::{cuts, members, rows};
 use mg_names::identifiers::TermId;
 
 impl Board {

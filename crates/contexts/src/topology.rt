@@ -6,7 +6,7 @@ ghost use Rattle.mg_model.specs.Items.{first_receives, second_receives, with_top
 ghost use Rattle.contexts.specs.BoardValue.{board_of};
 
 use crate::board::Board;
-use context_tables::cuts::{self, CutPair};
+use crate::cuts::{self, CutPair};
 use mg_names::identifiers::TermId;
 use mg_names::topologies::Topology;
 use std::alloc::AllocError;

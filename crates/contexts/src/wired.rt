@@ -4,7 +4,7 @@ ghost use Rattle.mg_model.specs.Media.{HasPath, AreJoined};
 ghost use Rattle.contexts.specs.BoardValue.{board_of};
 
 use crate::board::Board;
-use media_paths::Wiring;
+use crate::wiring::Wiring;
 use mg_names::identifiers::{LineNo, TermId};
 
 impl Board {

@@ -5,7 +5,7 @@ use Rattle.std.proofs.lemmas.Bool.{and_parts, and_from, ltb-true, lt-ltb, trueâ‰
 use Rattle.std.proofs.lemmas.Option.{same_Some, slice_get_within}
 use Rattle.configuration.specs.Config.{configuration_of}
 use Rattle.configuration.specs.Packed.{Words, IsPacked}
-use Rattle.entry_index.specs.Sieves.{Sieves, IsFirstLeftForEach, is_left, is_left_for_each}
+use Rattle.entry_table.specs.Sieves.{Sieves, IsFirstLeftForEach, is_left, is_left_for_each}
 use Rattle.entry_table.specs.Index.{places_of}
 use Rattle.entry_table.specs.Listed.{Listed, Allows}
 use Rattle.entry_table.specs.Sieved.{AllowsAt, AreSieved}

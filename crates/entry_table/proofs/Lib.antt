@@ -1,3 +1,6 @@
+pub mod RowLemmas
+pub mod SieveLemmas
+pub mod LeftLemmas
 pub mod Products
 pub mod ChoiceLemmas
 pub mod TurnedLemmas

@@ -9,7 +9,7 @@ use Rattle.mg_model.specs.Entries.{Component, IsCovered}
 use Rattle.configuration.specs.Config.{configuration_of}
 use Rattle.configuration.specs.Packed.{Words, IsPacked}
 use Rattle.configuration.specs.Regions.{ValueSet, is_in}
-use Rattle.entry_index.specs.Sieves.{Sieves, IsFirstLeft, is_left}
+use Rattle.entry_table.specs.Sieves.{Sieves, IsFirstLeft, is_left}
 use Rattle.entry_table.specs.Index.{places_of}
 use Rattle.entry_table.specs.Listed.{Listed, Allows}
 use Rattle.entry_table.specs.Places.{PlaceIncludes}

@@ -1,3 +1,4 @@
+pub mod Sieves
 pub mod Index
 pub mod Listed
 pub mod Shown

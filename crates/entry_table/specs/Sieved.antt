@@ -5,7 +5,7 @@ use Rattle.std.specs.List.{All, slice_get, slice_index_or}
 use Rattle.mg_model.specs.Configuration.{Configuration}
 use Rattle.configuration.specs.Config.{configuration_of}
 use Rattle.configuration.specs.Packed.{Words, IsPacked}
-use Rattle.entry_index.specs.Sieves.{Sieves, is_left}
+use Rattle.entry_table.specs.Sieves.{Sieves, is_left}
 use Rattle.entry_table.specs.Index.{places_of}
 use Rattle.entry_table.specs.Listed.{Listed, Allows}
 

@@ -13,9 +13,9 @@ ghost use Rattle.entry_table.specs.WithAll.{AllowsEach, IsFirstWithAll, PlaceAll
 
 use crate::entry::Entry;
 use crate::sieved::all_sieves;
+use crate::sieves::Sieves;
 use configuration::config::Config;
 use configuration::value_set::config_word;
-use entry_index::Sieves;
 use std::alloc::{AllocError, Global};
 use std::marker::Model;
 

@@ -3,14 +3,14 @@ ghost use Rattle.std.specs.Prelude.{◌≡◌, ◌↔◌, ◌<◌, ℕ, IsTrue, 
 ghost use Rattle.std.specs.List.{All};
 ghost use Rattle.configuration.specs.Config.{configuration_of};
 ghost use Rattle.configuration.specs.Packed.{Words, IsPacked};
-ghost use Rattle.entry_index.specs.Sieves.{is_left};
+ghost use Rattle.entry_table.specs.Sieves.{is_left};
 ghost use Rattle.entry_table.specs.Index.{IsIndex};
 ghost use Rattle.entry_table.specs.Listed.{Allows};
 ghost use Rattle.entry_table.specs.Sieved.{AreSieved, IsSieved};
 
 use crate::entry::Entry;
 use crate::regions::set_of;
-use entry_index::Sieves;
+use crate::sieves::Sieves;
 use std::alloc::{AllocError, Global};
 
 /// Narrows the list with a number by the components of an entry. The only error is running out of memory.

@@ -1,3 +1,6 @@
+pub mod Narrowing
+pub mod LastSoFar
+pub mod Causes
 pub mod Added
 pub mod Bared
 pub mod Lacks

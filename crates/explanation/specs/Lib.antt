@@ -1,3 +1,6 @@
+pub mod Parts
+pub mod Causes
+pub mod Shown
 pub mod Located
 pub mod Uncovered
 pub mod Nearest

@@ -20,7 +20,7 @@ use Rattle.mg_model.specs.Messages.{RequestCommand}
 use Rattle.mg_model.specs.RequestRun.{Running, RunsFrom, Succeeds, item_at}
 use Rattle.mg_model.proofs.Terminations.{same_term_is}
 use Rattle.contexts.proofs.ExecLemmas.{both_known}
-use Rattle.context_tables.proofs.TermLemmas.{by_value}
+use Rattle.contexts.proofs.TermLemmas.{by_value}
 use Rattle.gateway.specs.Creators.{creator_at, creator_on, is_that, is_created, any_created, IsKeptOrNoted}
 
 -- ---- one command

@@ -38,7 +38,7 @@ pub(crate) fn is_taken(calls: &Calls, number: u32) -> bool
 fn taken_calls(alloc: Global, calls: &Calls) -> Result<Vec<CallNo>, AllocError>
     ensures { IfOk result (λ found. Lists (is_taken_in calls.now.entries) (map (λ c. c.0) found.items)) }
 {
-    rising_keys::names(alloc, calls)
+    contexts::names(alloc, calls)
 }
 
 /// The open calls, in rising order. It looks at each call that was opened.

@@ -36,7 +36,7 @@ pub(crate) fn new(alloc: Global, lines: &[LineNo]) -> Result<Holders, AllocError
 pub(crate) fn lines(alloc: Global, holders: &Holders) -> Result<Vec<LineNo>, AllocError>
     ensures { IfOk result (λ found. Lists (λ n. is_some (line_entry holders.now.entries n)) (map (λ l. l.0) found.items)) }
 {
-    rising_keys::names(alloc, holders)
+    contexts::names(alloc, holders)
 }
 
 /// The call that holds a line.

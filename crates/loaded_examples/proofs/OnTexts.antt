@@ -13,10 +13,10 @@ use Rattle.mg_model.proofs.Cases.{none_is_some, the_some}
 use Rattle.mg_model.specs.Entries.{Entry}
 use Rattle.mg_model.specs.Script.{Script}
 use Rattle.certificate.specs.Certificate.{ReadsCertificate, document_read}
-use Rattle.script_document.specs.Documents.{events_in, kinds_of, line_of, lines_of, state_in, document_in}
-use Rattle.script_document.specs.Texts.{parts_at, item_of, pair_of, with_option, options_from, add_of, modify_of, subtract_of, command_of}
-use Rattle.script_faults.specs.Faults.{has_bad_name, is_loop, state_repeats, has_duplicate, command_known, item_known, state_known, has_unknown, has_bad_map, subtracts_made, makes_and_subtracts, state_fault_of, use_fault_of, fault_of}
-use Rattle.script_meaning.specs.Meaning.{add_line_for, modify_line_for, subtract_for, subtract_all_for, command_for, pair_for, transition_for, state_for, item_for, events_list_for, script_in}
+use Rattle.scriptreader.specs.Documents.{events_in, kinds_of, line_of, lines_of, state_in, document_in}
+use Rattle.scriptreader.specs.Texts.{parts_at, item_of, pair_of, with_option, options_from, add_of, modify_of, subtract_of, command_of}
+use Rattle.scriptreader.specs.Faults.{has_bad_name, is_loop, state_repeats, has_duplicate, command_known, item_known, state_known, has_unknown, has_bad_map, subtracts_made, makes_and_subtracts, state_fault_of, use_fault_of, fault_of}
+use Rattle.scriptreader.specs.Meaning.{add_line_for, modify_line_for, subtract_for, subtract_all_for, command_for, pair_for, transition_for, state_for, item_for, events_list_for, script_in}
 use Rattle.scriptreader.specs.Reading.{ReadsScript, tree_read}
 use Rattle.typed_values.specs.Names.{is_name}
 

@@ -7,12 +7,12 @@ use Rattle.certificate.specs.Certificate.{ReadsCertificate, IsText, document_rea
 use Rattle.certificate.specs.declared.fault.CertFault.{CertFault}
 use Rattle.certificate.specs.declared.fault.CertFault.TheVariants as certificates
 use Rattle.composition.specs.Verdict.{AreRead, HasCertificateFault, HasScriptFault}
-use Rattle.script_faults.specs.declared.fault.ScriptFault.{ScriptFault}
-use Rattle.script_faults.specs.declared.fault.ScriptFault.TheVariants as scripts
+use Rattle.scriptreader.specs.declared.fault.ScriptFault.{ScriptFault}
+use Rattle.scriptreader.specs.declared.fault.ScriptFault.TheVariants as scripts
 use Rattle.scriptreader.specs.Reading.{ReadsScript, tree_read}
 use Rattle.serde_json.specs.Data.{Data}
 use Rattle.toml.specs.Data.{Members}
-use Rattle.toml_values.specs.Text as toml
+use Rattle.typed_values.specs.Text as toml
 
 -- what was read, and whether anything was
 abbrev ok_of : {X F : Type 0} → X → Result X F → X

@@ -1,3 +1,15 @@
+pub mod Keys
+pub mod Only
+pub mod Meanings
+pub mod Lines
+pub mod Beside
+pub mod Steps
+pub mod Along
+pub mod Openings
+pub mod Runs
+pub mod Plans
+pub mod Among
+pub mod Logs
 pub mod Placings
 pub mod PlanRows
 pub mod SameRequests

@@ -1,2 +1,5 @@
+pub mod OneReport
+pub mod Among
+pub mod Logs
 pub mod Laws
 pub mod Sums

@@ -8,7 +8,7 @@ use Rattle.mg_model.specs.declared.plans.PlanStep.TheVariants.{Begins}
 use Rattle.mg_model.specs.Reports.{ReportLine}
 use Rattle.mg_model.specs.Script.{Script}
 use Rattle.mg_model.specs.Tables.{state_of}
-use Rattle.mg_one_report.specs.Logs.{Counted, count_step}
+use Rattle.mg_reports.specs.Logs.{Counted, count_step}
 use Rattle.planned_calls.specs.Counts.{IsRenewed, counts_of}
 use Rattle.planned_calls.specs.ReportLines.{gone_line}
 use Rattle.planned_calls.specs.declared.call_count.CallCount.{CallCount}

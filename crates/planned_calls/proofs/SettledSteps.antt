@@ -15,7 +15,7 @@ use Rattle.mg_model.specs.Reports.{Means}
 use Rattle.mg_model.specs.Script.{Script}
 use Rattle.mg_model.specs.World.{Occurs, World}
 use Rattle.mg_reports.proofs.Placings.{one_event}
-use Rattle.mg_one_report.specs.Logs.{ComesTo, StepTaken}
+use Rattle.mg_reports.specs.Logs.{ComesTo, StepTaken}
 use Rattle.agent.specs.declared.call.Next.{Next}
 use Rattle.agent.specs.declared.refusal.Refusal.{Refusal}
 use Rattle.agent.specs.declared.refusal.Refusal.TheVariants as refusal

@@ -1,7 +1,7 @@
 -- What is counted of a call of the plan, as a log counts it. This profile's own.
 use Rattle.std.specs.Prelude.{◌≡◌, ℕ, [], ◌∷◌, ◌++◌, map}
 use Rattle.mg_model.specs.Script.{Script}
-use Rattle.mg_one_report.specs.Logs.{Counted}
+use Rattle.mg_reports.specs.Logs.{Counted}
 use Rattle.planned_calls.specs.ReportLines.{gone_line}
 use Rattle.planned_calls.specs.declared.call_count.CallCount.{CallCount}
 use Rattle.planned_calls.specs.declared.call_count.RetiredCall.{RetiredCall}

@@ -6,7 +6,7 @@ use Rattle.mg_model.specs.declared.events.Event.{Event}
 use Rattle.mg_model.specs.declared.plans.PlanStep.{PlanStep}
 use Rattle.mg_model.specs.Numbers.{plan_calls}
 use Rattle.mg_model.specs.World.{World}
-use Rattle.mg_one_report.specs.Logs.{StepTaken}
+use Rattle.mg_reports.specs.Logs.{StepTaken}
 use Rattle.agent.specs.Calls.{value_of}
 use Rattle.agent.specs.declared.refusal.Refusal.{Refusal}
 use Rattle.agent.specs.declared.refusal.Refusal.TheVariants.{NotEnabled}

@@ -1,7 +1,7 @@
 //! What is counted of a call of the plan, with all that begin within it, step after step.
 ghost use Rattle.std.specs.Prelude.{◌≡◌, ◌+◌, ◌≤◌, ◌⊎◌, IfErr, OnOk};
 ghost use Rattle.mg_model.specs.Script.{Script};
-ghost use Rattle.mg_one_report.specs.Logs.{count_step, none_counted};
+ghost use Rattle.mg_reports.specs.Logs.{count_step, none_counted};
 ghost use Rattle.planned_calls.specs.Counts.{IsRenewed, counts_of};
 ghost use Rattle.planned_calls.specs.Disagreements.{IsBecause, last_count};
 

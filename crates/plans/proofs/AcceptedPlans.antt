@@ -7,7 +7,7 @@ use Rattle.toml.specs.Data.{Data, Items, no_items, item, Members, get_member, as
 use Rattle.mg_model.specs.Plans.{PlanCall, Plan}
 use Rattle.mg_model.specs.Script.{Script}
 use Rattle.mg_model.proofs.Cases.{none_is_some}
-use Rattle.toml_values.specs.Keys.{items_of, list_of, needed, optional, listed, has_only}
+use Rattle.typed_values.specs.Keys.{items_of, list_of, needed, optional, listed, has_only}
 use Rattle.typed_values.specs.Shape.{◌>>=◌, only_if, listed_at, optional_at}
 use Rattle.plans.specs.declared.fault.PlanFault.{PlanFault}
 use Rattle.plans.specs.declared.fault.PlanFault.TheVariants.{BadStep, TooMany}

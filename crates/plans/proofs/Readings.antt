@@ -4,7 +4,7 @@ use Rattle.std.specs.Prelude.{IfOk}
 use Rattle.toml.specs.Data.{Members}
 use Rattle.mg_model.specs.Plans.{Plan}
 use Rattle.mg_model.specs.Script.{Script}
-use Rattle.toml_values.specs.Text.{IsText}
+use Rattle.typed_values.specs.Text.{IsText}
 use Rattle.typed_values.specs.Unread.{OrNoMemory}
 use Rattle.typed_values.specs.declared.unread.Unread.{Unread}
 use Rattle.typed_values.specs.declared.unread.Unread.TheVariants.{Fault, NoMemory}

@@ -4,7 +4,7 @@ use Rattle.std.specs.Prelude.{◌≡◌, ℕ, List, Option, Some, None, if◌the
 use Rattle.toml.specs.Data.{Members}
 use Rattle.mg_model.specs.Plans.{Plan}
 use Rattle.mg_model.specs.Script.{Script}
-use Rattle.toml_values.specs.Text.{IsText}
+use Rattle.typed_values.specs.Text.{IsText}
 use Rattle.plans.specs.declared.fault.PlanFault.{PlanFault}
 use Rattle.plans.specs.declared.fault.PlanFault.TheVariants.{NotToml, BadStep, TooMany}
 use Rattle.plans.specs.PlanValue.{is_too_large}

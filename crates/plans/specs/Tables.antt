@@ -7,7 +7,7 @@ use Rattle.mg_model.specs.declared.plans.PlanStep.{PlanStep}
 use Rattle.mg_model.specs.Plans.{PlanCall, Plan}
 use Rattle.mg_model.specs.Script.{Script}
 use Rattle.mg_model.specs.Members.{is_among}
-use Rattle.toml_values.specs.Keys.{list_of, needed, optional, listed, has_only}
+use Rattle.typed_values.specs.Keys.{list_of, needed, optional, listed, has_only}
 use Rattle.typed_values.specs.Shape.{◌>>=◌, only_if}
 use Rattle.typed_values.specs.Texts.{words_of}
 use Rattle.plans.specs.Texts.{step_of}

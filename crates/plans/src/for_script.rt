@@ -4,12 +4,12 @@ ghost use Rattle.toml.specs.View.{view, table_view};
 ghost use Rattle.toml.specs.Data.{Data};
 ghost use Rattle.mg_model.specs.Script as table;
 ghost use Rattle.typed_values.specs.Shape.{Gives};
-ghost use Rattle.toml_values.specs.Keys.{list_of, needed, listed};
+ghost use Rattle.typed_values.specs.Keys.{list_of, needed, listed};
 
 use script_table::Script;
 use std::alloc::Global;
 use toml::{Table, Value};
-use toml_values::member;
+use typed_values::member;
 use typed_values::Missing;
 
 /// How many places a list has from the start, if it comes to so many.

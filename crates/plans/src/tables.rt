@@ -2,7 +2,7 @@
 ghost use Rattle.std.specs.Prelude.{◌≡◌, ◌≤◌, codes, map, option_map, IfOk};
 ghost use Rattle.toml.specs.View.{view, table_view};
 ghost use Rattle.typed_values.specs.Shape.{Gives};
-ghost use Rattle.toml_values.specs.Keys.{optional};
+ghost use Rattle.typed_values.specs.Keys.{optional};
 ghost use Rattle.plans.specs.Tables.{whole_meant, shards_meant, call_in, plan_in};
 
 use crate::for_script::{ReadsFor, items, listed_items, needed_items};
@@ -14,7 +14,7 @@ use mg_names::identifiers::LineNo;
 use script_table::Script;
 use std::alloc::Global;
 use toml::{Table, Value};
-use toml_values::{has_only, member, table, text};
+use typed_values::{has_only, member, table, text};
 use typed_values::{Missing, words};
 
 /// How many shards a plan may have.

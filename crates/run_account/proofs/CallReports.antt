@@ -12,7 +12,7 @@ use Rattle.mg_model.specs.Plans.{Plan, PlanCall, epochs_of, opened_as, restarts_
 use Rattle.mg_model.specs.Reports.{AreReported, IsReported}
 use Rattle.mg_model.specs.Entries.{Entry}
 use Rattle.mg_model.specs.Script.{Script}
-use Rattle.mg_one_report.specs.Logs.{LogsTellReports}
+use Rattle.mg_reports.specs.Logs.{LogsTellReports}
 use Rattle.composition.specs.Verdict.{IsChecked}
 use Rattle.run_shards.specs.Shards.{ShardValue}
 use Rattle.run_shards.proofs.Faults.{because}

@@ -14,7 +14,7 @@ use Rattle.mg_model.specs.Reports.{IsReported, ReportLine}
 use Rattle.mg_model.specs.Script.{Script}
 use Rattle.mg_model.specs.Tables.{state_of}
 use Rattle.mg_model.specs.World.{Opened, World}
-use Rattle.mg_one_report.specs.Logs.{Counted, LogEntry, LogRuns, LogsTellReports, counted, line_counted, none_counted, restarts_logged, steps_logged}
+use Rattle.mg_reports.specs.Logs.{Counted, LogEntry, LogRuns, LogsTellReports, counted, line_counted, none_counted, restarts_logged, steps_logged}
 use Rattle.composition.specs.Verdict.{IsChecked}
 use Rattle.run_shards.specs.Shards.{IsWorldOf, ShardValue}
 use Rattle.run_shards.specs.Standings.{StandsAs}

@@ -12,7 +12,7 @@ ghost use Rattle.run_account.specs.FinalState.{HaveLines, IsLeftAmong};
 use crate::final_state::are_left;
 use composition::Checked;
 use mg_names::identifiers::CallNo;
-use mg_one_report::laws::logs_tell_reports;
+use mg_reports::one_report::logs_tell_reports;
 use mg_reports::laws;
 use rayon::prelude::*;
 use run_shards::{

@@ -1,6 +1,6 @@
 //! Notes, and the signals that play.
 use crate::names::name_of;
-use call_scenes::NoteSent;
+use taken_steps::NoteSent;
 use check_facts::names::line_name;
 use gateway::{Method, SignalSet};
 use mg_names::identifiers::LineNo;

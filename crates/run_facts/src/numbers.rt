@@ -1,6 +1,6 @@
 //! The numbers that a gateway gave: to the names of a script, as a call knows them, and to what a command of a request did.
 use crate::names::name_of;
-use call_scenes::{CommandResult, NamesBound};
+use taken_steps::{CommandResult, NamesBound};
 use check_facts::names::{context_name, ephemeral_name};
 use mg_names::identifiers::LineNo;
 use mg_names::slots::Slot;

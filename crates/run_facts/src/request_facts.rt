@@ -1,6 +1,6 @@
 //! Requests and replies: commands with what becomes of each, and the numbers that the gateway gave.
 use crate::numbers::{write_bound, write_results};
-use call_scenes::{Executed, Fate, Sent, TakenReply};
+use taken_steps::{Executed, Fate, Sent, TakenReply};
 use check_facts::command_text::CommandText;
 use check_facts::names::state_name;
 use gateway::Failure;

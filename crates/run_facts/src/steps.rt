@@ -2,7 +2,7 @@
 use crate::notes::{write_note, write_notes, write_plays};
 use crate::plan_words::PlanWords;
 use crate::request_facts::{write_executed, write_reply, write_sent};
-use call_scenes::Shown;
+use taken_steps::Shown;
 use check_facts::names::state_name;
 use mg_names::identifiers::LineNo;
 use run_steps::{Came, Idle, Position, ToldStep};

@@ -4,7 +4,7 @@ use Rattle.std.specs.Prelude.{◌≡◌, ◌≢◌, ◌⊎◌, ℕ, List, map, O
 use Rattle.mg_model.specs.Entries.{Entry}
 use Rattle.mg_model.specs.Plans.{Plan}
 use Rattle.mg_model.specs.Script.{Script}
-use Rattle.mg_one_report.specs.Laws.{HaveNoRestartsOfOthers}
+use Rattle.mg_reports.specs.OneReport.{HaveNoRestartsOfOthers}
 use Rattle.composition.specs.Verdict.{AreRead, IsChecked}
 use Rattle.plans.specs.FaultNames as plan_names
 use Rattle.plans.specs.Reading.{ReadsPlan}

@@ -12,7 +12,7 @@ use Rattle.mg_model.specs.Script.{Script}
 use Rattle.mg_model.specs.Shards.{HasIdentifiersLeft}
 use Rattle.mg_model.specs.World.{World, IsOpening, Occurs, Opened, Runs}
 use Rattle.mg_merge.specs.Identifiers.{executes_in, executes_of, most_executes}
-use Rattle.mg_one_report.specs.Logs.{Counted, LogEntry, LogRuns, StepTaken, count_step, counted, epoch_ended, none_counted, restarted, steps_logged, took}
+use Rattle.mg_reports.specs.Logs.{Counted, LogEntry, LogRuns, StepTaken, count_step, counted, epoch_ended, none_counted, restarted, steps_logged, took}
 use Rattle.planned_calls.specs.Lasting.{IdentifiersAreLeft}
 use Rattle.planned_calls.specs.Shards.{HasHappened, HasSameOpening, IsShard, IsWorldOf, ShardValue, opened_as}
 use Rattle.planned_calls.specs.Counts.{counts_of}

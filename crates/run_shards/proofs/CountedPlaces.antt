@@ -8,7 +8,7 @@ use Rattle.std.proofs.lemmas.Bool.{eqb-true, eqb-false}
 use Rattle.mg_model.specs.declared.plans.PlanStep.{PlanStep}
 use Rattle.mg_model.specs.Script.{Script}
 use Rattle.mg_model.proofs.Cases.{the_some}
-use Rattle.mg_one_report.specs.Logs.{count_step}
+use Rattle.mg_reports.specs.Logs.{count_step}
 use Rattle.planned_calls.specs.Counts.{counts_of}
 use Rattle.planned_calls.specs.declared.call_count.CallCount.{CallCount}
 use Rattle.planned_calls.specs.declared.planned_call.TakenStep.{TakenStep}

@@ -6,7 +6,7 @@ use Rattle.mg_model.specs.declared.plans.PlanStep.TheVariants.{Restarts}
 use Rattle.mg_model.specs.Plans.{restarts_among}
 use Rattle.mg_model.specs.Script.{Script}
 use Rattle.mg_model.specs.World.{World}
-use Rattle.mg_one_report.specs.Logs.{Counted, LogEntry, LogRuns, count_step, counted, epoch_ended, restarted, restarts_logged, steps_logged, took}
+use Rattle.mg_reports.specs.Logs.{Counted, LogEntry, LogRuns, count_step, counted, epoch_ended, restarted, restarts_logged, steps_logged, took}
 use Rattle.run_shards.specs.Counting.{all_restarts_logged, epochs_logged}
 
 -- ---- one entry more

@@ -9,7 +9,7 @@ use Rattle.mg_model.specs.Plans.{PlanCall, steps_first, steps_later}
 use Rattle.mg_model.specs.Script.{Script}
 use Rattle.mg_model.specs.World.{World, IsOpening}
 use Rattle.mg_merge.specs.Identifiers.{executes_in, most_executes}
-use Rattle.mg_one_report.specs.Logs.{LogEntry, LogRuns, count_step, counted, epoch_ended, none_counted, restarted, steps_logged, took}
+use Rattle.mg_reports.specs.Logs.{LogEntry, LogRuns, count_step, counted, epoch_ended, none_counted, restarted, steps_logged, took}
 use Rattle.planned_calls.specs.Lasting.{IdentifiersAreLeft}
 use Rattle.planned_calls.specs.Shards.{HasHappened, IsWorldOf, ShardValue}
 use Rattle.planned_calls.specs.Counts.{counts_of}

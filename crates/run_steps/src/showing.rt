@@ -1,6 +1,6 @@
 //! What a step of a call shows, by the scene that goes along.
 use agent::Next;
-use call_scenes::{Scene, SceneFault, Shown};
+use taken_steps::{Scene, SceneFault, Shown};
 use mg_model::events::Event;
 use mg_names::identifiers::{CallNo, LineNo};
 use runner::RunFault;

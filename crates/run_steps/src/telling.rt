@@ -7,7 +7,7 @@ ghost use Rattle.run_steps.specs.Telling.{IsOfRestart, IsToldLast, TellsOn, endi
 use crate::showing::show;
 use crate::told_step::ToldStep;
 use agent::Next;
-use call_scenes::Scene;
+use taken_steps::Scene;
 use mg_model::plans::PlanStep;
 use mg_names::identifiers::{Assoc, CallNo};
 use plans::Epoch;

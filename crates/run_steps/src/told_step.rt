@@ -1,5 +1,5 @@
 //! A step of a plan as it is told.
-use call_scenes::Shown;
+use taken_steps::Shown;
 use mg_model::plans::PlanStep;
 use mg_names::identifiers::CallNo;
 use taken_steps::{Came, Position};

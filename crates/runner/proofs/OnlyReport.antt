@@ -8,7 +8,7 @@ use Rattle.mg_model.specs.Obligations.{NoneBroken}
 use Rattle.mg_model.specs.Plans.{Plan, PlanCall, epochs_of, opened_as, restarts_asked, restarts_of_all, steps_in}
 use Rattle.mg_model.specs.Reports.{AreReported, IsReported, ReportLine}
 use Rattle.mg_model.specs.Script.{Script}
-use Rattle.mg_one_report.specs.Laws.{OneReport}
+use Rattle.mg_reports.specs.OneReport.{OneReport}
 use Rattle.composition.specs.Verdict.{IsChecked}
 use Rattle.run_account.specs.ReportLines.{AreAllNumbered, AreNumbered, IsReportOf, line_of, number_of, numbers_from}
 use Rattle.run_account.specs.Line.{Line}

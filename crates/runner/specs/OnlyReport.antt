@@ -4,7 +4,7 @@ use Rattle.std.specs.Prelude.{◌≡◌, ℕ, List, map}
 use Rattle.mg_model.specs.Plans.{Plan}
 use Rattle.mg_model.specs.Reports.{ReportLine}
 use Rattle.mg_model.specs.Script.{Script}
-use Rattle.mg_one_report.specs.Laws.{HaveNoRestartsOfOthers}
+use Rattle.mg_reports.specs.OneReport.{HaveNoRestartsOfOthers}
 use Rattle.run_account.specs.ReportLines.{IsReportOf, line_of, number_of}
 use Rattle.run_account.specs.Line.{Line}
 

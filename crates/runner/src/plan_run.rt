@@ -6,7 +6,7 @@ ghost use Rattle.run_account.specs.Runs.{HasRun, IsRunOf};
 ghost use Rattle.runner.specs.OnlyReport.{IsOnlyReport};
 
 use composition::Checked;
-use mg_one_report::laws::one_report;
+use mg_reports::one_report::one_report;
 use plans::Plan;
 use run_account::{CountedShards, Outcome, PlannedRun, RunFault, finish};
 use std::alloc::Global;

@@ -8,22 +8,22 @@ use Rattle.mg_model.specs.Accepted.{IsCommandOf, IsStateOf, IsScript}
 use Rattle.mg_model.specs.Script.{Script, State}
 use Rattle.mg_model.specs.declared.commands.Command.{Command}
 use Rattle.mg_names.specs.Words.{signal_text}
-use Rattle.script_faults.specs.declared.fault.ScriptFault.{ScriptFault}
-use Rattle.script_document.specs.declared.syntax.WrittenCommand.{WrittenCommand}
-use Rattle.script_document.specs.Documents.{document_in}
-use Rattle.script_document.specs.Limits.{is_too_large}
-use Rattle.script_names.specs.DeclaredNames.{Scope, scope_of, event_text, repeats}
-use Rattle.script_faults.specs.Faults.{is_one_line, is_loop, created_by, state_repeats, has_duplicate, fault_of}
+use Rattle.scriptreader.specs.declared.fault.ScriptFault.{ScriptFault}
+use Rattle.scriptreader.specs.declared.syntax.WrittenCommand.{WrittenCommand}
+use Rattle.scriptreader.specs.Documents.{document_in}
+use Rattle.scriptreader.specs.Limits.{is_too_large}
+use Rattle.scriptreader.specs.DeclaredNames.{Scope, scope_of, event_text, repeats}
+use Rattle.scriptreader.specs.Faults.{is_one_line, is_loop, created_by, state_repeats, has_duplicate, fault_of}
 use Rattle.typed_values.specs.Shape.{each, optional_at}
-use Rattle.script_meaning.specs.Meaning.{number_for, command_for, pair_for, transition_for, state_for, events_list_for, signals_list_for, named_map_for, state_at, script_in, script_meant}
+use Rattle.scriptreader.specs.Meaning.{number_for, command_for, pair_for, transition_for, state_for, events_list_for, signals_list_for, named_map_for, state_at, script_in, script_meant}
 use Rattle.scriptreader.specs.Reading.{ReadsScript, document_read, fault_or_table, tree_read}
-use Rattle.script_document.specs.Written as document
+use Rattle.scriptreader.specs.Written as document
 use Rattle.scriptreader.proofs.Created.{created_once}
-use Rattle.script_meaning.proofs.Declared.{Declares, carried, command_within}
-use Rattle.script_document.proofs.SmallDocuments.{small}
-use Rattle.script_faults.proofs.Faultless.{IsFaultless, faultless}
-use Rattle.script_document.proofs.BooleanTests.{or_left, or_right}
-use Rattle.script_meaning.proofs.Slots.{bound, kept}
+use Rattle.scriptreader.proofs.Declared.{Declares, carried, command_within}
+use Rattle.scriptreader.proofs.SmallDocuments.{small}
+use Rattle.scriptreader.proofs.Faultless.{IsFaultless, faultless}
+use Rattle.scriptreader.proofs.BooleanTests.{or_left, or_right}
+use Rattle.scriptreader.proofs.Slots.{bound, kept}
 
 -- what holds of the meaning of each element that a test lets through holds of all meanings
 pub each_has : {A B : Type 0} (f : A → Option B) (test : A → Bool) (P : B → Type 0) → ((x : A) (y : B) → test x ≡ false → f x ≡ Some y → P y)

@@ -9,18 +9,18 @@ use Rattle.mg_model.specs.Accepted.{is_apart, creates_apart, create_once}
 use Rattle.mg_model.specs.Request.{created_context, created_ephemeral}
 use Rattle.mg_model.specs.declared.commands.Command.{Command}
 use Rattle.mg_model.specs.declared.commands.Command.TheVariants.{AddLine, AddEphemeral, ModifyLine, ModifyEphemeral, MoveLine, MoveEphemeral, Subtract, SubtractAll, SetTopology}
-use Rattle.script_document.specs.declared.syntax.Options.{Options}
-use Rattle.script_document.specs.declared.syntax.WrittenCommand.{WrittenCommand}
-use Rattle.script_document.specs.declared.syntax.WrittenCommand.TheVariants as written
+use Rattle.scriptreader.specs.declared.syntax.Options.{Options}
+use Rattle.scriptreader.specs.declared.syntax.WrittenCommand.{WrittenCommand}
+use Rattle.scriptreader.specs.declared.syntax.WrittenCommand.TheVariants as written
 use Rattle.typed_values.specs.Names.{is_among, repeats_after}
-use Rattle.script_names.specs.DeclaredNames.{Scope}
-use Rattle.script_faults.specs.Faults.{created_by, text_if}
+use Rattle.scriptreader.specs.DeclaredNames.{Scope}
+use Rattle.scriptreader.specs.Faults.{created_by, text_if}
 use Rattle.typed_values.specs.Shape.{each}
-use Rattle.script_meaning.specs.Meaning.{slot_for, termination_for, place_for, line_options_for, ephemeral_options_for, add_line_for, add_ephemeral_for, modify_line_for, modify_ephemeral_for, move_line_for, move_ephemeral_for, subtract_for, subtract_all_for, topology_for, command_for}
-use Rattle.script_meaning.proofs.Declared.{either_way, carried}
-use Rattle.script_document.proofs.BooleanTests.{or_left, or_right}
-use Rattle.script_names.proofs.RepeatedNames.{repeats_of_both, fewer_alone}
-use Rattle.script_meaning.proofs.Slots.{bound, slots_apart}
+use Rattle.scriptreader.specs.Meaning.{slot_for, termination_for, place_for, line_options_for, ephemeral_options_for, add_line_for, add_ephemeral_for, modify_line_for, modify_ephemeral_for, move_line_for, move_ephemeral_for, subtract_for, subtract_all_for, topology_for, command_for}
+use Rattle.scriptreader.proofs.Declared.{either_way, carried}
+use Rattle.scriptreader.proofs.BooleanTests.{or_left, or_right}
+use Rattle.scriptreader.proofs.RepeatedNames.{repeats_of_both, fewer_alone}
+use Rattle.scriptreader.proofs.Slots.{bound, slots_apart}
 
 -- ---- texts
 

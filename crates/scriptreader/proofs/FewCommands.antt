@@ -3,19 +3,19 @@
 use Rattle.std.proofs.Common.{◌≡◌, ◌≤◌, ℕ, List, [], ◌∷◌, length, false, nat_lt, sym, subst, Some, None}
 use Rattle.std.specs.Prelude.{Ok}
 use Rattle.mg_model.specs.Script.{Script, State}
-use Rattle.script_names.specs.DeclaredNames.{Scope, scope_of}
-use Rattle.script_faults.specs.Faults.{fault_of}
+use Rattle.scriptreader.specs.DeclaredNames.{Scope, scope_of}
+use Rattle.scriptreader.specs.Faults.{fault_of}
 use Rattle.scriptreader.specs.Laws.{HasFewCommands}
-use Rattle.script_meaning.specs.Meaning.{number_for, command_for, pair_for, transition_for, state_for, events_list_for, named_map_for, state_at, script_in, script_meant}
+use Rattle.scriptreader.specs.Meaning.{number_for, command_for, pair_for, transition_for, state_for, events_list_for, named_map_for, state_at, script_in, script_meant}
 use Rattle.scriptreader.specs.Reading.{ReadsScript}
-use Rattle.script_document.specs.Written as document
+use Rattle.scriptreader.specs.Written as document
 use Rattle.typed_values.specs.Shape.{each, optional_at}
 use Rattle.scriptreader.proofs.Accepted.{each_has, read_has}
-use Rattle.script_meaning.proofs.Declared.{carried}
-use Rattle.script_document.proofs.SmallDocuments.{at_most, small}
-use Rattle.script_faults.proofs.Faultless.{faultless}
-use Rattle.script_meaning.proofs.Lengths.{each_length}
-use Rattle.script_meaning.proofs.Slots.{bound, kept}
+use Rattle.scriptreader.proofs.Declared.{carried}
+use Rattle.scriptreader.proofs.SmallDocuments.{at_most, small}
+use Rattle.scriptreader.proofs.Faultless.{faultless}
+use Rattle.scriptreader.proofs.Lengths.{each_length}
+use Rattle.scriptreader.proofs.Slots.{bound, kept}
 
 state_few : (k : Scope) (s : document.State) (state : State) → nat_lt 16 (length s.commands) ≡ false → state_for k s ≡ Some state → length state.commands ≤ 16
 unfolding state_for

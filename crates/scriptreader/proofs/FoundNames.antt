@@ -4,13 +4,13 @@ use Rattle.std.specs.Prelude.{◌||◌, ◌+◌, is_some, if◌then◌else◌, c
 use Rattle.std.specs.List.{list_all, list_any, position_or_len}
 use Rattle.std.specs.Str.{bytes_eq}
 use Rattle.mg_model.specs.declared.commands.EventsName.TheVariants.{Empty, Armed, Own}
-use Rattle.script_document.specs.declared.syntax.Options.{Options}
+use Rattle.scriptreader.specs.declared.syntax.Options.{Options}
 use Rattle.typed_values.specs.Names.{is_among}
 use Rattle.typed_values.specs.Shape.{◌>>=◌, each, optional_at}
-use Rattle.script_names.specs.DeclaredNames.{Scope}
-use Rattle.script_faults.specs.Faults.{is_known, option_passes, is_events_list, is_signals_list, is_remote, line_options_known, ephemeral_options_known, termination_known}
-use Rattle.script_meaning.specs.Meaning.{slot_for, number_for, list_place_for, events_for, signals_for, remote_for, termination_for, place_for, line_options_for, ephemeral_options_for}
-use Rattle.script_document.proofs.BooleanTests.{and_left, and_right}
+use Rattle.scriptreader.specs.DeclaredNames.{Scope}
+use Rattle.scriptreader.specs.Faults.{is_known, option_passes, is_events_list, is_signals_list, is_remote, line_options_known, ephemeral_options_known, termination_known}
+use Rattle.scriptreader.specs.Meaning.{slot_for, number_for, list_place_for, events_for, signals_for, remote_for, termination_for, place_for, line_options_for, ephemeral_options_for}
+use Rattle.scriptreader.proofs.BooleanTests.{and_left, and_right}
 
 -- ---- options that are there
 

@@ -1,3 +1,12 @@
+pub mod Slots
+pub mod Declared
+pub mod Lengths
+pub mod Faultless
+pub mod RepeatedNames
+pub mod FoundPlaces
+pub mod BooleanTests
+mod Signs
+pub mod SmallDocuments
 pub mod Scopes
 pub mod FoundNames
 pub mod Meanings

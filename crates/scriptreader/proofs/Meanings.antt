@@ -5,25 +5,25 @@ use Rattle.std.specs.List.{list_all, list_any}
 use Rattle.std.proofs.lemmas.List.{length-map}
 use Rattle.digits.specs.declared.fault.MapFault.{MapFault}
 use Rattle.digits.specs.Reading.{map_of}
-use Rattle.script_document.specs.declared.syntax.WrittenItem.{WrittenItem}
-use Rattle.script_document.specs.declared.syntax.WrittenItem.TheVariants.{OnHook, OffHook, Flash, Digits}
-use Rattle.script_document.specs.declared.syntax.WrittenMap.{WrittenMap}
-use Rattle.script_document.specs.declared.syntax.WrittenPair.{WrittenPair}
-use Rattle.script_document.specs.declared.syntax.WrittenTransition.{WrittenTransition}
-use Rattle.script_document.specs.declared.syntax.WrittenCommand.{WrittenCommand}
-use Rattle.script_document.specs.declared.syntax.WrittenCommand.TheVariants.{Add, Modify, Move, Subtract, SubtractAll, SetTopology}
-use Rattle.script_document.specs.Written.{Events, State, Document}
+use Rattle.scriptreader.specs.declared.syntax.WrittenItem.{WrittenItem}
+use Rattle.scriptreader.specs.declared.syntax.WrittenItem.TheVariants.{OnHook, OffHook, Flash, Digits}
+use Rattle.scriptreader.specs.declared.syntax.WrittenMap.{WrittenMap}
+use Rattle.scriptreader.specs.declared.syntax.WrittenPair.{WrittenPair}
+use Rattle.scriptreader.specs.declared.syntax.WrittenTransition.{WrittenTransition}
+use Rattle.scriptreader.specs.declared.syntax.WrittenCommand.{WrittenCommand}
+use Rattle.scriptreader.specs.declared.syntax.WrittenCommand.TheVariants.{Add, Modify, Move, Subtract, SubtractAll, SetTopology}
+use Rattle.scriptreader.specs.Written.{Events, State, Document}
 use Rattle.typed_values.specs.Names.{is_among}
 use Rattle.typed_values.specs.Shape.{◌>>=◌, only_if, each, optional_at, Misses}
-use Rattle.script_document.specs.Limits.{is_too_large}
-use Rattle.script_names.specs.DeclaredNames.{Scope, scope_of}
-use Rattle.script_faults.specs.Faults.{fault_of, has_unknown, has_bad_map, is_bad_map, names_state, is_known, termination_known, command_known, item_known, pair_known, transition_known, state_known}
+use Rattle.scriptreader.specs.Limits.{is_too_large}
+use Rattle.scriptreader.specs.DeclaredNames.{Scope, scope_of}
+use Rattle.scriptreader.specs.Faults.{fault_of, has_unknown, has_bad_map, is_bad_map, names_state, is_known, termination_known, command_known, item_known, pair_known, transition_known, state_known}
 use Rattle.typed_values.specs.declared.missing.Missing.{Missing}
 use Rattle.typed_values.specs.declared.missing.Missing.TheVariants.{Nothing}
-use Rattle.script_meaning.specs.Meaning.{if_read, slot_for, number_for, termination_for, place_for, line_options_for, ephemeral_options_for, add_line_for, add_ephemeral_for, modify_line_for, modify_ephemeral_for, move_line_for, move_ephemeral_for, subtract_for, subtract_all_for, topology_for, command_for, pair_for, transition_for, state_for, item_for, events_list_for, named_map_for, state_at, script_in, script_meant}
-use Rattle.script_document.proofs.BooleanTests.{or_left, or_right, and_left, and_right, holds}
-use Rattle.script_document.proofs.SmallDocuments.{IsSmall, small}
-use Rattle.script_faults.proofs.Faultless.{faultless}
+use Rattle.scriptreader.specs.Meaning.{if_read, slot_for, number_for, termination_for, place_for, line_options_for, ephemeral_options_for, add_line_for, add_ephemeral_for, modify_line_for, modify_ephemeral_for, move_line_for, move_ephemeral_for, subtract_for, subtract_all_for, topology_for, command_for, pair_for, transition_for, state_for, item_for, events_list_for, named_map_for, state_at, script_in, script_meant}
+use Rattle.scriptreader.proofs.BooleanTests.{or_left, or_right, and_left, and_right, holds}
+use Rattle.scriptreader.proofs.SmallDocuments.{IsSmall, small}
+use Rattle.scriptreader.proofs.Faultless.{faultless}
 use Rattle.scriptreader.proofs.FoundNames.{Fits, number_found, given, first_with, both_ways, each_found, line_found, context_found, ephemeral_found, termination_found, place_found, target_found, line_options_found, ephemeral_options_found}
 
 -- ---- commands and states

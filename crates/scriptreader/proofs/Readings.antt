@@ -3,15 +3,15 @@ use Rattle.std.proofs.Common.{◌≡◌, ℕ, List, Bool, true, false, not, refl
 use Rattle.std.specs.Prelude.{if◌then◌else◌, is_some, Result, Ok, Err}
 use Rattle.toml.specs.Data.{Members}
 use Rattle.mg_model.specs.Script.{Script}
-use Rattle.script_faults.specs.declared.fault.ScriptFault.{ScriptFault}
-use Rattle.script_faults.specs.declared.fault.ScriptFault.TheVariants.{NotToml, BadKey, BadName, Duplicate, Unknown, BadMap, NoStart, NoRestart, NoFault, OkWithoutActions, EndWithTransitions, MadeAndSubtracted, TooMany}
-use Rattle.script_document.specs.Written.{Document}
+use Rattle.scriptreader.specs.declared.fault.ScriptFault.{ScriptFault}
+use Rattle.scriptreader.specs.declared.fault.ScriptFault.TheVariants.{NotToml, BadKey, BadName, Duplicate, Unknown, BadMap, NoStart, NoRestart, NoFault, OkWithoutActions, EndWithTransitions, MadeAndSubtracted, TooMany}
+use Rattle.scriptreader.specs.Written.{Document}
 use Rattle.std.specs.List.{list_any}
-use Rattle.script_document.specs.Limits.{is_too_large}
-use Rattle.script_faults.specs.Faults.{fault_of, use_fault_of, state_fault_of, has_bad_name, has_duplicate, has_unknown, has_bad_map, names_state, lacks_fault, has_outcome_without_commands, is_end_that_goes_on, makes_and_subtracts}
-use Rattle.script_meaning.specs.Meaning.{script_meant}
-use Rattle.script_document.specs.Documents.{document_in}
-use Rattle.toml_values.specs.Text.{IsText}
+use Rattle.scriptreader.specs.Limits.{is_too_large}
+use Rattle.scriptreader.specs.Faults.{fault_of, use_fault_of, state_fault_of, has_bad_name, has_duplicate, has_unknown, has_bad_map, names_state, lacks_fault, has_outcome_without_commands, is_end_that_goes_on, makes_and_subtracts}
+use Rattle.scriptreader.specs.Meaning.{script_meant}
+use Rattle.scriptreader.specs.Documents.{document_in}
+use Rattle.typed_values.specs.Text.{IsText}
 use Rattle.typed_values.specs.Unread.{OrNoMemory}
 use Rattle.typed_values.specs.declared.unread.Unread.{Unread}
 use Rattle.typed_values.specs.declared.unread.Unread.TheVariants.{Fault, NoMemory}

@@ -2,11 +2,11 @@
 use Rattle.std.proofs.Common.{◌≡◌, ℕ, List, [], ◌++◌, map, false, sym, ap, ◌∙◌}
 use Rattle.std.specs.Prelude.{◌||◌}
 use Rattle.typed_values.specs.Names.{repeats_after}
-use Rattle.script_document.specs.Written.{Document}
-use Rattle.script_names.specs.DeclaredNames.{Scope, IsScopeOf, scope_of}
-use Rattle.script_faults.specs.Faults.{has_duplicate}
-use Rattle.script_document.proofs.BooleanTests.{or_left, or_right}
-use Rattle.script_names.proofs.RepeatedNames.{all_three, fewer_alone, same}
+use Rattle.scriptreader.specs.Written.{Document}
+use Rattle.scriptreader.specs.DeclaredNames.{Scope, IsScopeOf, scope_of}
+use Rattle.scriptreader.specs.Faults.{has_duplicate}
+use Rattle.scriptreader.proofs.BooleanTests.{or_left, or_right}
+use Rattle.scriptreader.proofs.RepeatedNames.{all_three, fewer_alone, same}
 
 mapped : (xs : List (List ℕ)) → repeats_after [] xs ≡ false → repeats_after [] (map (λ w. w) xs) ≡ false
 mapped xs e = ap (λ (p : List (List ℕ)). repeats_after [] p) (same xs) ∙ e

@@ -1,2 +1,11 @@
+pub mod Meaning
+pub mod FaultNames
+pub mod Faults
+pub mod DeclaredNames
+pub mod Places
+pub mod Written
+pub mod Texts
+pub mod Documents
+pub mod Limits
 pub mod Reading
 pub mod Laws

@@ -3,13 +3,13 @@
 use Rattle.std.specs.Prelude.{◌≡◌, ℕ, List, Option, Some, None, option_map, Result, Ok, Err}
 use Rattle.toml.specs.Data.{Members}
 use Rattle.mg_model.specs.Script.{Script}
-use Rattle.toml_values.specs.Text.{IsText}
-use Rattle.script_faults.specs.declared.fault.ScriptFault.{ScriptFault}
-use Rattle.script_faults.specs.declared.fault.ScriptFault.TheVariants.{NotToml, BadKey}
-use Rattle.script_document.specs.Written.{Document}
-use Rattle.script_document.specs.Documents.{document_in}
-use Rattle.script_faults.specs.Faults.{fault_of}
-use Rattle.script_meaning.specs.Meaning.{script_meant}
+use Rattle.typed_values.specs.Text.{IsText}
+use Rattle.scriptreader.specs.declared.fault.ScriptFault.{ScriptFault}
+use Rattle.scriptreader.specs.declared.fault.ScriptFault.TheVariants.{NotToml, BadKey}
+use Rattle.scriptreader.specs.Written.{Document}
+use Rattle.scriptreader.specs.Documents.{document_in}
+use Rattle.scriptreader.specs.Faults.{fault_of}
+use Rattle.scriptreader.specs.Meaning.{script_meant}
 
 -- the fault, or where there is none the table
 abbrev pub fault_or_table : Option ScriptFault → Option Script → Option (Result Script ScriptFault)

@@ -1,12 +1,12 @@
 //! What is made of a document whose declared names, or all that it says, have no fault.
 ghost use Rattle.std.specs.Prelude.{◌≡◌, Some, None, IfOk, false};
-ghost use Rattle.script_names.specs.DeclaredNames.{scope_of};
-ghost use Rattle.script_faults.specs.Faults.{fault_of, has_duplicate};
-ghost use Rattle.script_meaning.specs.Meaning.{script_meant};
+ghost use Rattle.scriptreader.specs.DeclaredNames.{scope_of};
+ghost use Rattle.scriptreader.specs.Faults.{fault_of, has_duplicate};
+ghost use Rattle.scriptreader.specs.Meaning.{script_meant};
 
-use script_document::Document;
-use script_meaning::script_in;
-use script_names::Scope;
+use crate::build::script_in;
+use crate::scope::Scope;
+use crate::syntax::Document;
 use script_table::Script;
 use std::alloc::{AllocError, Global};
 use typed_values::Missing;

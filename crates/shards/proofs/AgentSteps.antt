@@ -24,14 +24,14 @@ use Rattle.agent.specs.Preparing.{stepped_by}
 use Rattle.agent.specs.Steps.{outstanding}
 use Rattle.agent.specs.declared.delivered.Delivery.{Delivery}
 use Rattle.agent.specs.declared.delivered.Delivery.TheVariants as delivery
-use Rattle.call_messages.specs.Messages.{AreNumberedFrom, Messages, fits, listed, reply_for, request_numbers, sending}
+use Rattle.shards.specs.Messages.{AreNumberedFrom, Messages, fits, listed, reply_for, request_numbers, sending}
 use Rattle.shards.specs.Shows.{IsTold, ShowsCall}
 use Rattle.shards.specs.Slots.{AreSettled, IsDelivered, IsTied, request_in}
 use Rattle.shards.specs.declared.call_record.CallRecord.{CallRecord}
 use Rattle.shards.proofs.MessageLemmas.{found_in, is_own, length_over, length_places, over_first, own_message, places_for, same_found, same_replies}
 use Rattle.shards.proofs.SettledNotes.{settled_after}
 use Rattle.shards.proofs.SlotLemmas.{next_over}
-use Rattle.call_messages.proofs.NumberLemmas.{numbered_on}
+use Rattle.shards.proofs.NumberLemmas.{numbered_on}
 
 pub stepped_next : (script : Script) (a : Agent) (brought : Delivery) → GivesNext a.call a.next a.lines (stepped_by script a brought)
 stepped_next script a (delivery.Reply reply) = replied_next script a reply.now

@@ -3,7 +3,7 @@ use Rattle.std.proofs.Common.{◌≡◌, ◌-◌, ◌<◌, ◌≤◌, ◌==◌, 
 use Rattle.std.specs.Prelude.{nat_le, slice_get, slice_set}
 use Rattle.std.proofs.lemmas.Bool.{eqb-true, eqb-false, leb-true, le-leb}
 use Rattle.mg_model.specs.Messages.{Reply, SentNote}
-use Rattle.call_messages.specs.Messages.{Messages, WasSent, answering, fits, joined, raising, reply_for, reply_to}
+use Rattle.shards.specs.Messages.{Messages, WasSent, answering, fits, joined, raising, reply_for, reply_to}
 
 -- ---- a list of which one place is set
 

@@ -7,7 +7,7 @@ use Rattle.mg_model.specs.Messages.{Request, Reply, SentNote}
 use Rattle.mg_model.specs.Reports.{is_of}
 use Rattle.mg_model.specs.World.{World, sent_in}
 use Rattle.agent.specs.AgentValue.{AgentValue, agent_of}
-use Rattle.call_messages.specs.Messages.{AreNumberedFrom, Messages, fits, reply_for, request_numbers}
+use Rattle.shards.specs.Messages.{AreNumberedFrom, Messages, fits, reply_for, request_numbers}
 use Rattle.shards.specs.Shows.{ShowsCall}
 use Rattle.shards.proofs.SettledNotes.{settled_before}
 use Rattle.shards.specs.Slots.{AreSettled, IsCounted, IsTied, request_in}

@@ -8,7 +8,7 @@ use Rattle.mg_model.specs.declared.events.CallEvent.TheVariants as to_call
 use Rattle.mg_model.specs.Messages.{Reply, SentNote}
 use Rattle.agent.specs.declared.delivered.Delivery.{Delivery}
 use Rattle.agent.specs.declared.delivered.Delivery.TheVariants as delivery
-use Rattle.call_messages.specs.Messages.{Messages, reply_for}
+use Rattle.shards.specs.Messages.{Messages, reply_for}
 use Rattle.shards.specs.Slots.{IsDelivered}
 
 -- what holds of each of the five holds of whatever is brought

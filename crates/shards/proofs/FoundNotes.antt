@@ -5,7 +5,7 @@ use Rattle.std.specs.List.{find}
 use Rattle.mg_model.proofs.Cases.{not_both, some_is_none, the_some}
 use Rattle.mg_model.proofs.Single.{none_in, first_or_later}
 use Rattle.mg_model.specs.Messages.{SentNote}
-use Rattle.call_messages.specs.Messages.{AreNumberedFrom, note_numbers}
+use Rattle.shards.specs.Messages.{AreNumberedFrom, note_numbers}
 
 -- where none is found, none passes
 pub none_passes : {A : Type 0} (p : A → Bool) (xs : List A) → find p xs ≡ None → (x : A) → Contains xs x → p x ≡ true → ⊥

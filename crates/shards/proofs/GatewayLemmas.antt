@@ -13,7 +13,7 @@ use Rattle.mg_model.specs.LineEvents.{Note}
 use Rattle.mg_model.specs.Messages.{Request, Reply, SentNote}
 use Rattle.mg_model.specs.RequestRun.{RaisedNote}
 use Rattle.gateway.proofs.NoteLemmas.{notes_at_most}
-use Rattle.call_messages.specs.Messages.{AreNumberedFrom, note_numbers}
+use Rattle.shards.specs.Messages.{AreNumberedFrom, note_numbers}
 
 -- ---- a line
 

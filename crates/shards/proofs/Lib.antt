@@ -1,3 +1,4 @@
+pub mod NumberLemmas
 pub mod AgentSteps
 pub mod AnsweredReplies
 pub mod CountedSlots

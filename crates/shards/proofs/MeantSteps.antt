@@ -14,7 +14,7 @@ use Rattle.mg_model.specs.Reports.{is_of, is_waiting, refusal_at}
 use Rattle.mg_model.specs.World.{World, execute, hear, note, reply}
 use Rattle.gateway.specs.GatewayValue.{gateway_of}
 use Rattle.agent.specs.AgentValue.{agent_of}
-use Rattle.call_messages.specs.Messages.{AreNumberedFrom, note_numbers, reply_for}
+use Rattle.shards.specs.Messages.{AreNumberedFrom, note_numbers, reply_for}
 use Rattle.shards.proofs.FoundNotes.{lowest_found, none_passes}
 use Rattle.shards.proofs.MessageLemmas.{found_in}
 use Rattle.shards.proofs.ShardLemmas.{world_numbered}

@@ -11,7 +11,7 @@ use Rattle.mg_model.specs.Agent.{Phase, awaits_reply, awaits_pass, resting}
 use Rattle.mg_model.specs.Messages.{Request, Reply}
 use Rattle.mg_model.specs.World.{sent_in}
 use Rattle.agent.specs.Steps.{outstanding}
-use Rattle.call_messages.specs.Messages.{Messages, fits, joined, listed, reply_at, reply_for, sending}
+use Rattle.shards.specs.Messages.{Messages, fits, joined, listed, reply_at, reply_for, sending}
 
 -- ---- what a test finds
 

@@ -22,7 +22,7 @@ use Rattle.gateway.specs.Openings.{first_gateway}
 use Rattle.agent.specs.AgentValue.{agent_of}
 use Rattle.agent.specs.CallValue.{CallValue}
 use Rattle.agent.specs.declared.call.Next.{Next}
-use Rattle.call_messages.specs.Messages.{AreNumberedFrom, Messages, fits, none_sent, reply_for, request_numbers}
+use Rattle.shards.specs.Messages.{AreNumberedFrom, Messages, fits, none_sent, reply_for, request_numbers}
 use Rattle.systems.specs.Openings.{Opens}
 use Rattle.systems.specs.Systems.{System, agent_in, with_call, world_of}
 use Rattle.systems.proofs.OpenedCalls.{IsOpened, calls_opened}

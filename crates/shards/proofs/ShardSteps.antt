@@ -19,7 +19,7 @@ use Rattle.scriptreader.specs.Laws.{HasFewCommands}
 use Rattle.gateway.specs.Answers.{IsSame, SameOpen}
 use Rattle.gateway.specs.GatewayValue.{GatewayValue, gateway_of, is_open}
 use Rattle.agent.specs.AgentValue.{agent_of}
-use Rattle.call_messages.specs.Messages.{AreNumberedFrom, Messages, fits, reply_for, request_numbers}
+use Rattle.shards.specs.Messages.{AreNumberedFrom, Messages, fits, reply_for, request_numbers}
 use Rattle.shards.proofs.ShardLemmas.{led_on, one_more, still_within}
 use Rattle.shards.specs.Shards.{CountsEvents, HasHappened, IsShard, IsUnchanged, IsWorldOf, ShardValue, events_of}
 use Rattle.shards.specs.Shows.{LeadsOn, Shows, ShowsCall, with_slot}

@@ -23,7 +23,7 @@ use Rattle.gateway.specs.Calls.{OpenCall, call_entry, is_retired_entry, open_ent
 use Rattle.gateway.specs.GatewayValue.{GatewayValue, gateway_of, is_open, is_taken}
 use Rattle.gateway.proofs.Entries.{no_entry}
 use Rattle.agent.specs.AgentValue.{agent_of}
-use Rattle.call_messages.specs.Messages.{AreNumberedFrom, Messages, request_numbers, fits, joined, none_sent, placed, reply_for}
+use Rattle.shards.specs.Messages.{AreNumberedFrom, Messages, request_numbers, fits, joined, none_sent, placed, reply_for}
 use Rattle.shards.proofs.MessageLemmas.{is_anothers, same_found}
 use Rattle.shards.proofs.OtherCalls.{none_found, stays_shown}
 use Rattle.shards.proofs.SettledNotes.{none_settled}

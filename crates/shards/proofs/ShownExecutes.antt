@@ -19,7 +19,7 @@ use Rattle.gateway.specs.declared.answer.Answer.{Answer}
 use Rattle.gateway.specs.declared.answer.Answer.TheVariants as answer
 use Rattle.gateway.specs.Answers.{IsAddressed, IsAnswered, SameOpen}
 use Rattle.gateway.specs.GatewayValue.{GatewayValue, gateway_of, is_open}
-use Rattle.call_messages.specs.Messages.{WasSent, answering, fits, raising, reply_for}
+use Rattle.shards.specs.Messages.{WasSent, answering, fits, raising, reply_for}
 use Rattle.shards.proofs.AnsweredReplies.{length_set, raising_replies, replies_answered}
 use Rattle.shards.proofs.CountedSlots.{HasSameRequests, counted_shown, notes_in_slot, notes_in_world}
 use Rattle.shards.proofs.GatewayLemmas.{length_sent, reply_kept, reply_number}

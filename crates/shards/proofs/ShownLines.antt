@@ -13,7 +13,7 @@ use Rattle.mg_model.specs.World.{World, on_a_line, with_gateway}
 use Rattle.mg_safety.proofs.Messages.Numbered.{line_on}
 use Rattle.gateway.specs.Answers.{note_listed}
 use Rattle.gateway.specs.GatewayValue.{GatewayValue, gateway_of}
-use Rattle.call_messages.specs.Messages.{raising}
+use Rattle.shards.specs.Messages.{raising}
 use Rattle.shards.proofs.AnsweredReplies.{raising_replies}
 use Rattle.shards.proofs.CountedSlots.{counted_shown, notes_in_slot, notes_in_world}
 use Rattle.shards.proofs.OtherCalls.{stays_shown}

@@ -11,8 +11,8 @@ use Rattle.mg_model.specs.World.{sent_in}
 use Rattle.agent.specs.PreparedValue.{PreparedValue, cancelled, without_note, finished}
 use Rattle.agent.specs.Steps.{outstanding}
 use Rattle.agent.specs.AgentValue.{agent_of}
-use Rattle.call_messages.proofs.NumberLemmas.{request_found}
-use Rattle.call_messages.specs.Messages.{IsNextOver, Messages, MessagesValue, WasSent, placed}
+use Rattle.shards.proofs.NumberLemmas.{request_found}
+use Rattle.shards.specs.Messages.{IsNextOver, Messages, MessagesValue, WasSent, placed}
 use Rattle.shards.specs.Slots.{IsTied, request_in, requests_of}
 use Rattle.shards.specs.declared.call_record.CallRecord.{CallRecord}
 

@@ -12,7 +12,7 @@ use Rattle.agent.specs.Calls.{IsBegun, IsNext, IsRetired, value_of}
 use Rattle.agent.specs.declared.call.Next.{Next}
 use Rattle.agent.specs.declared.refusal.Refusal.{Refusal}
 use Rattle.agent.specs.declared.refusal.Refusal.TheVariants.{NotEnabled, NoMemory}
-use Rattle.call_messages.specs.Messages.{none_sent}
+use Rattle.shards.specs.Messages.{none_sent}
 use Rattle.shards.specs.SlotTable.{slot_in}
 use Rattle.shards.specs.declared.call_record.CallRecord.{CallRecord}
 use Rattle.shards.specs.declared.stepped.Stepped.{Stepped}

@@ -1,3 +1,4 @@
+pub mod Messages
 pub mod Slots
 pub mod SlotTable
 pub mod Shows

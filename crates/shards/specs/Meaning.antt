@@ -14,7 +14,7 @@ use Rattle.mg_model.specs.Messages.{Request, Reply, SentNote}
 use Rattle.mg_model.specs.Reports.{Means, is_waiting, refusal_at}
 use Rattle.mg_model.specs.World.{World, on_a_line, execute, reply, pass, note, timer, begin, hear}
 use Rattle.agent.specs.AgentValue.{agent_of}
-use Rattle.call_messages.specs.Messages.{AreNumberedFrom, note_numbers, reply_for}
+use Rattle.shards.specs.Messages.{AreNumberedFrom, note_numbers, reply_for}
 use Rattle.shards.specs.Shards.{IsWorldOf, ShardValue}
 use Rattle.shards.specs.Slots.{IsSameSlot, IsTied, request_in}
 use Rattle.shards.specs.declared.call_record.CallRecord.{CallRecord}

@@ -16,7 +16,7 @@ use Rattle.agent.specs.AgentValue.{agent_of}
 use Rattle.agent.specs.CallValue.{CallValue}
 use Rattle.agent.specs.Calls.{IsNext, value_of}
 use Rattle.agent.specs.declared.call.Next.{Next}
-use Rattle.call_messages.specs.Messages.{none_sent}
+use Rattle.shards.specs.Messages.{none_sent}
 use Rattle.systems.specs.Openings.{AreOpened, line_at}
 use Rattle.systems.specs.Systems.{System}
 use Rattle.shards.specs.Shards.{ShardValue, opened_as}

@@ -11,7 +11,7 @@ use Rattle.mg_model.specs.Script.{Script}
 use Rattle.mg_model.specs.World.{World, Occurs}
 use Rattle.gateway.specs.GatewayValue.{GatewayValue, gateway_of, is_open}
 use Rattle.agent.specs.AgentValue.{agent_of}
-use Rattle.call_messages.specs.Messages.{reply_for}
+use Rattle.shards.specs.Messages.{reply_for}
 use Rattle.shards.specs.Slots.{IsTied, request_in}
 use Rattle.shards.specs.declared.call_record.CallRecord.{CallRecord}
 

@@ -25,7 +25,7 @@ use Rattle.agent.specs.declared.delivered.Delivery.{Delivery}
 use Rattle.agent.specs.declared.delivered.Delivery.TheVariants as delivery
 use Rattle.mg_model.specs.declared.events.CallEvent.{CallEvent}
 use Rattle.mg_model.specs.declared.events.CallEvent.TheVariants as to_call
-use Rattle.call_messages.specs.Messages.{AreNumberedFrom, Messages, fits, answering, raising, reply_for, request_numbers, sending}
+use Rattle.shards.specs.Messages.{AreNumberedFrom, Messages, fits, answering, raising, reply_for, request_numbers, sending}
 use Rattle.agent.specs.Advancing.{IsAdvanced, advancing}
 use Rattle.shards.specs.declared.call_record.CallRecord.{CallRecord}
 

@@ -4,8 +4,8 @@ ghost use Rattle.agent.specs.Calls.{refusal_of};
 ghost use Rattle.shards.specs.Slots.{IsDelivered, IsStepped, IsTied};
 
 use crate::call_record::CallRecord;
+use crate::messages::Messages;
 use agent::{Delivery, Next, PlainFault, Refusal};
-use call_messages::Messages;
 use mg_model::events::CallEvent;
 use script_table::Script;
 

@@ -1,6 +1,6 @@
 //! What a shard keeps of a call.
+use crate::messages::Messages;
 use agent::Plain;
-use call_messages::Messages;
 
 /// What a shard keeps of a call: its agent, how many events happened to it, all that was sent to it and by it, and up to where its notes are settled.
 #[derive(Drop)]

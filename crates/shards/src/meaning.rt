@@ -6,7 +6,7 @@ ghost use Rattle.mg_model.specs.declared.plans.PlanStep.TheVariants as steps;
 ghost use Rattle.mg_model.specs.Reports as reports;
 ghost use Rattle.mg_model.specs.World as world;
 ghost use Rattle.agent.specs.AgentValue.{agent_of};
-ghost use Rattle.call_messages.specs.Messages.{AreNumberedFrom, note_numbers};
+ghost use Rattle.shards.specs.Messages.{AreNumberedFrom, note_numbers};
 ghost use Rattle.shards.specs.Meaning.{HasNumberedNotes, IsMeant, IsSameEntry, IsTiedEntry, event_in, event_of_entry, note_in, on_slot};
 ghost use Rattle.shards.specs.Shards.{IsUnchanged};
 ghost use Rattle.shards.specs.Slots.{AreSettled, IsSameSlot, IsTied, is_settled, request_in};

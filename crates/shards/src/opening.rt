@@ -5,11 +5,11 @@ ghost use Rattle.shards.specs.Opening.{AreOpenedSlots, IsOpenedOne, IsShardOpene
 
 use crate::call_record::CallRecord;
 use crate::fault::OpenFault;
+use crate::messages::Messages;
 use crate::opened::OpenedCall;
 use crate::shard::Shard;
 use crate::slots::{self, Slots};
 use agent::{Call, Next, Plain};
-use call_messages::Messages;
 use composition::Checked;
 use gateway::Gateway;
 use mg_names::identifiers::LineNo;

@@ -6,9 +6,9 @@ ghost use Rattle.shards.specs.Beginnings.{HandsOver, IsBegunSlot};
 ghost use Rattle.shards.specs.SlotTable.{slot_in, CountsNotes, ExecutesIn, HappensIn, IsReady, OthersStay, StepsIn};
 
 use crate::call_record::CallRecord;
+use crate::messages::Messages;
 use crate::{at_agent, at_gateway};
 use agent::{Next, Refusal};
-use call_messages::Messages;
 use gateway::Gateway;
 use mg_model::events::CallEvent;
 use mg_model::failures::ChosenRefusal;

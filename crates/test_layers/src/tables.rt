@@ -10,7 +10,7 @@ use mg_names::identifiers::{LineNo, TermId};
 use mg_names::modes::Mode;
 use std::alloc::Global;
 use std::mem;
-use terminations::{AddLineFault, Terms};
+use contexts::{AddLineFault, Terms};
 
 /// A table of terminations, with another one that is kept beside it.
 #[derive(Drop)]

@@ -1,3 +1,5 @@
+pub mod Keys
+pub mod Text
 pub mod Names
 pub mod Shape
 pub mod Texts

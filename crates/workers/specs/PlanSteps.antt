@@ -1,5 +1,5 @@
 -- Where a call is at the beginning of an epoch. This profile's own.
-use Rattle.call_workers.specs.PlannedCall.{PlannedCall}
+use Rattle.workers.specs.PlannedCall.{PlannedCall}
 
 -- at the first step of an epoch
 abbrev pub at_first_step : PlannedCall → PlannedCall

@@ -5,8 +5,11 @@ ghost use Rattle.mg_model.specs.Numbers.{plan_calls};
 ghost use Rattle.call_queues.specs.Passing.{IsOwner, IsWorkersAt};
 ghost use Rattle.workers.specs.PlanSteps.{at_first_step};
 
+use crate::gate::Gate;
+use crate::worker::{Job, Worked, work};
+use crate::workplace::Workplace;
+use crate::{Places, PlannedCall, RunFault, Running};
 use call_queues::{QueueFault, QueueOwner, absorb_all, open_queues, settle, worker_queues};
-use call_workers::{Gate, Job, Places, PlannedCall, RunFault, Running, Worked, Workplace, work};
 use handover::Queue;
 use std::alloc::Global;
 use std::sync::Wait;

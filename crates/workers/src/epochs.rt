@@ -2,13 +2,15 @@
 ghost use Rattle.std.specs.Prelude.{◌≡◌, ◌≤◌, IfOk, length, vec_len};
 ghost use Rattle.mg_model.specs.Numbers.{plan_calls};
 ghost use Rattle.plans.specs.Accepted.{IsPlanFor};
-ghost use Rattle.call_workers.specs.RunShards.{AreOfRun};
-ghost use Rattle.call_workers.specs.Counting.{AreCounted};
+ghost use Rattle.workers.specs.RunShards.{AreOfRun};
+ghost use Rattle.workers.specs.Counting.{AreCounted};
 
 use crate::epoch::pass;
-use call_workers::{
-    Gate, LockedShard, Places, PlannedCall, PlayedShards, RunFault, RunPlan, Running, Workplace,
-    all_planned, epochs_of, open_all, unlocked,
+use crate::gate::Gate;
+use crate::workplace::Workplace;
+use crate::{
+    LockedShard, Places, PlannedCall, PlayedShards, RunFault, RunPlan, Running, all_planned,
+    epochs_of, open_all, unlocked,
 };
 use composition::Checked;
 use plans::Plan;

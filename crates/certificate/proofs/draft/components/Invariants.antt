@@ -1,7 +1,7 @@
 -- What was read so far is what the keys so far mean.
-use Rattle.certificate_components.specs.Components.{component_meant}
+use Rattle.certificate.specs.Components.{component_meant}
 use Rattle.entry_table.specs.Shown.{shown_all}
-use Rattle.certificate_document.proofs.Each.{IsReadTo}
+use Rattle.certificate.proofs.Each.{IsReadTo}
 use Rattle.certificate.proofs.draft.components.Given as goal
 
 abbrev pub invariant-loop-key : goal.invariant-loop-key

@@ -1,6 +1,6 @@
 -- What was read so far is what the entries so far mean.
 use Rattle.certificate.specs.Certificate.{listed_meant}
-use Rattle.certificate_document.proofs.Each.{IsReadTo}
+use Rattle.certificate.proofs.Each.{IsReadTo}
 use Rattle.certificate.proofs.draft.drafts.Given as goal
 
 abbrev pub invariant-loop-entry : goal.invariant-loop-entry

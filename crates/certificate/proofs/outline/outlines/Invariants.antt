@@ -1,6 +1,6 @@
 -- What was read so far is the outlines of the entries so far.
 use Rattle.certificate.specs.Outlines.{outline_meant}
-use Rattle.certificate_document.proofs.Each.{IsReadTo}
+use Rattle.certificate.proofs.Each.{IsReadTo}
 use Rattle.certificate.proofs.outline.outlines.Given as goal
 
 abbrev pub invariant-loop-entry : goal.invariant-loop-entry

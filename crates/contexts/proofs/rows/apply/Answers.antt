@@ -1,5 +1,5 @@
 use Rattle.std.proofs.Common.{◌∙◌, ap}
-use Rattle.terminations.specs.Table.{row_of}
+use Rattle.contexts.specs.Table.{row_of}
 use Rattle.mg_model.specs.Board.{row_with}
 use Rattle.contexts.specs.Rows.{mode_applied, remote_applied}
 use Rattle.contexts.proofs.RowLemmas.{changes_twice, applied_is}

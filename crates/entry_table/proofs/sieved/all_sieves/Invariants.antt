@@ -1,7 +1,7 @@
 -- The sieves of the states so far.
 use Rattle.std.proofs.Common.{◌≡◌, ◌<◌, ℕ, length}
 use Rattle.std.specs.List.{slice_index_or}
-use Rattle.entry_index.specs.Sieves.{Sieves}
+use Rattle.entry_table.specs.Sieves.{Sieves}
 use Rattle.entry_table.specs.Index.{places_of}
 use Rattle.entry_table.specs.Sieved.{AreSieved}
 use Rattle.entry_table.proofs.sieved.all_sieves.Given as goal

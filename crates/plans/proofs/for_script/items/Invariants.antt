@@ -1,6 +1,6 @@
 use Rattle.std.proofs.Common.{◌≡◌, map, drop}
 use Rattle.toml.specs.View.{items_view}
-use Rattle.toml_values.specs.Keys.{items_of}
+use Rattle.typed_values.specs.Keys.{items_of}
 use Rattle.typed_values.proofs.Fronts.{with_front}
 use Rattle.plans.proofs.for_script.items.Given as goal
 

@@ -4,7 +4,7 @@ use Rattle.std.specs.Prelude.{is_some, option_map}
 use Rattle.mg_model.specs.Agent.{Agent}
 use Rattle.agent.specs.AgentValue.{agent_of}
 use Rattle.agent.specs.Steps.{outstanding}
-use Rattle.call_messages.specs.Messages.{IsNextOver, Messages, sending}
+use Rattle.shards.specs.Messages.{IsNextOver, Messages, sending}
 use Rattle.shards.specs.Slots.{IsDelivered}
 use Rattle.agent.specs.Advancing.{IsAdvanced}
 use Rattle.shards.proofs.SlotLemmas.{next_over, same_phase, finished_phase}

@@ -5,7 +5,7 @@ use Rattle.requests.specs.Views.{command_of}
 use Rattle.mg_model.proofs.Cases.{the_some}
 use Rattle.mg_model.specs.Gateway.{IsExecutedBy, IsKept}
 use Rattle.mg_model.specs.Messages.{Request}
-use Rattle.call_messages.specs.Messages.{AreNumberedFrom, Messages, Places, WasSent, note_numbers}
+use Rattle.shards.specs.Messages.{AreNumberedFrom, Messages, Places, WasSent, note_numbers}
 use Rattle.gateway.specs.declared.answer.Answer.TheVariants.{Executed}
 use Rattle.gateway.specs.Answers.{IsAnswered}
 use Rattle.gateway.specs.GatewayValue.{gateway_of}

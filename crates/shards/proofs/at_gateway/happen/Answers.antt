@@ -2,7 +2,7 @@
 use Rattle.std.proofs.Common.{◌∙◌, ◌+◌, length, Option, sym, ap, subst}
 use Rattle.mg_model.specs.Gateway.{Happens}
 use Rattle.mg_model.specs.Messages.{SentNote}
-use Rattle.call_messages.specs.Messages.{Messages}
+use Rattle.shards.specs.Messages.{Messages}
 use Rattle.gateway.specs.Answers.{note_listed}
 use Rattle.gateway.specs.GatewayValue.{gateway_of}
 use Rattle.shards.proofs.GatewayLemmas.{held, note_number}

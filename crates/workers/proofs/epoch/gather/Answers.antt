@@ -3,7 +3,7 @@ use Rattle.std.specs.List.{All}
 use Rattle.std.specs.Vec.Iter.{into_iter_items}
 use Rattle.std.proofs.lemmas.List.Elements.{All-rest}
 use Rattle.call_queues.specs.Passing.{IsWorkersAt}
-use Rattle.call_workers.specs.declared.worker.Worked.{Worked}
+use Rattle.workers.specs.declared.worker.Worked.{Worked}
 use Rattle.workers.proofs.epoch.gather.Goals as goal
 
 pub loop-worked-preserved : goal.loop-worked-preserved

@@ -3,7 +3,7 @@ use Rattle.std.proofs.Common.{◌≡◌, refl, arith}
 use Rattle.std.specs.List.{All}
 use Rattle.std.proofs.lemmas.List.Elements.{All-push, All-same}
 use Rattle.call_queues.specs.Passing.{IsWorkersAt}
-use Rattle.call_workers.specs.declared.worker.Job.{Job}
+use Rattle.workers.specs.declared.worker.Job.{Job}
 use Rattle.workers.proofs.GivenValues.{given_ok}
 use Rattle.workers.proofs.epoch.jobs.Goals as goal
 

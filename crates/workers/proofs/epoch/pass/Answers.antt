@@ -3,7 +3,7 @@ use Rattle.std.proofs.Common.{List, subst, sym}
 use Rattle.std.specs.List.{All}
 use Rattle.handover.specs.declared.queue.Queue.{Queue}
 use Rattle.call_queues.specs.Passing.{IsOwner}
-use Rattle.call_workers.specs.PlannedCall.{PlannedCall}
+use Rattle.workers.specs.PlannedCall.{PlannedCall}
 use Rattle.workers.proofs.GivenValues.{given_ok}
 use Rattle.workers.proofs.epoch.pass.Goals as goal
 

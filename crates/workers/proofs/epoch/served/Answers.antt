@@ -4,7 +4,7 @@ use Rattle.std.specs.Prelude.{slice_index_or}
 use Rattle.std.specs.List.{All}
 use Rattle.handover.specs.declared.queue.Queue.{Queue}
 use Rattle.call_queues.specs.Passing.{IsWorkersAt}
-use Rattle.call_workers.specs.PlannedCall.{PlannedCall}
+use Rattle.workers.specs.PlannedCall.{PlannedCall}
 use Rattle.workers.proofs.epoch.served.Goals as goal
 
 pub gather-requires-clause-workers : goal.gather-requires-clause-workers

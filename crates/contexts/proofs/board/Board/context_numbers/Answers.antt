@@ -1,7 +1,7 @@
 use Rattle.std.proofs.Common.{◌≡◌, ◌∙◌, map}
 use Rattle.mg_names.specs.declared.identifiers.ContextId.{ContextId}
 use Rattle.contexts.specs.BoardValue.{board_of}
-use Rattle.context_tables.proofs.StockLemmas.{held_iff}
+use Rattle.contexts.proofs.StockLemmas.{held_iff}
 use Rattle.contexts.proofs.board.Board.context_numbers.Goals as goal
 
 pub returns-clause-exactly : goal.returns-clause-exactly

@@ -1,5 +1,5 @@
 use Rattle.contexts.specs.BoardValue.{board_of}
-use Rattle.context_tables.proofs.CountLemmas.{counts}
+use Rattle.contexts.proofs.CountLemmas.{counts}
 use Rattle.contexts.proofs.board.Board.contexts.Goals as goal
 
 pub returns : goal.returns

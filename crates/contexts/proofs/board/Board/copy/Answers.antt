@@ -2,12 +2,12 @@ use Rattle.std.proofs.Common.{◌≡◌, ◌∙◌, ℕ, List, Option, sym, subs
 use Rattle.mg_names.specs.declared.identifiers.TermId.{TermId}
 use Rattle.mg_model.specs.declared.rows.Row.{Row}
 use Rattle.identifiers.specs.declared.class.Class.{Class}
-use Rattle.terminations.specs.Table.{row_of}
-use Rattle.context_tables.specs.Groups.{group_at, members_at}
-use Rattle.context_tables.specs.declared.cuts.Cut.{Cut}
+use Rattle.contexts.specs.Table.{row_of}
+use Rattle.contexts.specs.Groups.{group_at, members_at}
+use Rattle.contexts.specs.declared.cuts.Cut.{Cut}
 use Rattle.contexts.specs.BoardValue.{IsOneClass, IsTied, board_of, cuts_at, cut_of}
-use Rattle.context_tables.proofs.StockLemmas.{class_still, same_used}
-use Rattle.context_tables.proofs.TieLemmas.{same_boards, cut_of_same, cuts_viewed}
+use Rattle.contexts.proofs.StockLemmas.{class_still, same_used}
+use Rattle.contexts.proofs.TieLemmas.{same_boards, cut_of_same, cuts_viewed}
 use Rattle.contexts.proofs.board.Board.copy.Goals as goal
 
 -- rows, members and cuts are tied as those that they were copied from

@@ -1,10 +1,10 @@
 use Rattle.std.proofs.Common.{◌∙◌, sym, refl}
-use Rattle.terminations.specs.Table.{row_of}
-use Rattle.context_tables.specs.Groups.{group_at, members_at}
+use Rattle.contexts.specs.Table.{row_of}
+use Rattle.contexts.specs.Groups.{group_at, members_at}
 use Rattle.contexts.specs.Rows.{row_in}
 use Rattle.contexts.specs.BoardValue.{board_of}
-use Rattle.context_tables.proofs.StockLemmas.{can_enter, one_class_still, class_still, same_used, one_used}
-use Rattle.context_tables.proofs.TieLemmas.{Enters, tied_entered, cut_entered, same_boards, cut_of_same, cuts_viewed}
+use Rattle.contexts.proofs.StockLemmas.{can_enter, one_class_still, class_still, same_used, one_used}
+use Rattle.contexts.proofs.TieLemmas.{Enters, tied_entered, cut_entered, same_boards, cut_of_same, cuts_viewed}
 use Rattle.contexts.proofs.board.Board.enter.Goals as goal
 
 pub enter-requires : goal.enter-requires

@@ -2,13 +2,13 @@ use Rattle.std.proofs.Common.{◌≡◌, ◌∙◌, Some, sym, ap, refl, map}
 use Rattle.mg_names.specs.declared.identifiers.TermId.TheVariants.{Eph}
 use Rattle.mg_model.specs.Board.{same_term, row_with, null_row}
 use Rattle.mg_model.specs.Items.{without_cuts}
-use Rattle.terminations.specs.Table.{row_of, used_of}
-use Rattle.context_tables.specs.Groups.{group_at, members_at}
+use Rattle.contexts.specs.Table.{row_of, used_of}
+use Rattle.contexts.specs.Groups.{group_at, members_at}
 use Rattle.contexts.specs.Rows.{row_in}
 use Rattle.contexts.specs.BoardValue.{board_of, cuts_at, cut_of}
-use Rattle.context_tables.proofs.StockLemmas.{can_enter, one_class_still, class_still, same_used, one_used}
-use Rattle.context_tables.proofs.TieLemmas.{Enters, tied_entered, cut_entered, same_boards, cut_of_same, cuts_viewed}
-use Rattle.context_tables.proofs.CutLemmas.{cut_of_none}
+use Rattle.contexts.proofs.StockLemmas.{can_enter, one_class_still, class_still, same_used, one_used}
+use Rattle.contexts.proofs.TieLemmas.{Enters, tied_entered, cut_entered, same_boards, cut_of_same, cuts_viewed}
+use Rattle.contexts.proofs.CutLemmas.{cut_of_none}
 use Rattle.contexts.proofs.MoveLemmas.{CreatedAt, created_at, changed_new, rows_back, used_back}
 use Rattle.contexts.proofs.board.Board.enter_new.Goals as goal
 

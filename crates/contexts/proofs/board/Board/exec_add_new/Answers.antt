@@ -1,8 +1,8 @@
 use Rattle.std.proofs.Common.{true, inr}
 use Rattle.identifiers.specs.Stock.{IsGiven}
-use Rattle.context_tables.specs.Groups.{items_of}
+use Rattle.contexts.specs.Groups.{items_of}
 use Rattle.contexts.specs.BoardValue.{board_of}
-use Rattle.context_tables.proofs.StockLemmas.{given_to_show, is_new}
+use Rattle.contexts.proofs.StockLemmas.{given_to_show, is_new}
 use Rattle.contexts.proofs.AddLemmas.{IsNew, can_be_added, executed_add, is_choose}
 use Rattle.contexts.proofs.board.Board.exec_add_new.Goals as goal
 

@@ -2,7 +2,7 @@ use Rattle.std.proofs.Common.{refl}
 use Rattle.mg_names.specs.declared.codes.Code.TheVariants.{UnknownContext, UnknownTermination, NotInContext}
 use Rattle.contexts.specs.BoardValue.{board_of}
 use Rattle.contexts.proofs.ExecLemmas.{executed_plain, both_known, fits_from, either_known, number_not, not_null}
-use Rattle.context_tables.proofs.StockLemmas.{not_missing}
+use Rattle.contexts.proofs.StockLemmas.{not_missing}
 use Rattle.contexts.proofs.board.Board.exec_move.Goals as goal
 
 pub move_to-requires-clause-exists : goal.move_to-requires-clause-exists

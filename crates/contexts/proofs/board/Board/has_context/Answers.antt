@@ -1,5 +1,5 @@
 use Rattle.contexts.specs.BoardValue.{board_of}
-use Rattle.context_tables.proofs.TieLemmas.{exists_iff}
+use Rattle.contexts.proofs.TieLemmas.{exists_iff}
 use Rattle.contexts.proofs.board.Board.has_context.Goals as goal
 
 pub returns : goal.returns

@@ -1,5 +1,5 @@
 use Rattle.contexts.specs.BoardValue.{board_of}
-use Rattle.context_tables.proofs.StockLemmas.{none_left_iff, used_at}
+use Rattle.contexts.proofs.StockLemmas.{none_left_iff, used_at}
 use Rattle.contexts.proofs.board.Board.has_no_context_left.Goals as goal
 
 pub returns : goal.returns

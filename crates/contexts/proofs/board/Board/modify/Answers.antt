@@ -1,11 +1,11 @@
 use Rattle.std.proofs.Common.{◌≡◌, ◌∙◌, sym, refl}
-use Rattle.terminations.specs.Table.{row_of}
-use Rattle.context_tables.specs.Groups.{group_at}
+use Rattle.contexts.specs.Table.{row_of}
+use Rattle.contexts.specs.Groups.{group_at}
 use Rattle.contexts.specs.BoardValue.{board_of}
 use Rattle.mg_model.specs.Board.{place_in}
 use Rattle.mg_names.specs.declared.identifiers.TermId.{TermId}
-use Rattle.context_tables.proofs.TieLemmas.{tied_within, cut_within, same_boards, place_kept, cut_of_same, cuts_viewed}
-use Rattle.context_tables.proofs.StockLemmas.{one_class_still, class_still}
+use Rattle.contexts.proofs.TieLemmas.{tied_within, cut_within, same_boards, place_kept, cut_of_same, cuts_viewed}
+use Rattle.contexts.proofs.StockLemmas.{one_class_still, class_still}
 use Rattle.contexts.proofs.board.Board.modify.Goals as goal
 
 pub apply-requires-clause-exists : goal.apply-requires-clause-exists

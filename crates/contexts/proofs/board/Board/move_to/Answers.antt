@@ -4,15 +4,15 @@ use Rattle.mg_model.specs.declared.rows.Row.{Row}
 use Rattle.mg_model.specs.Items.{without_cuts}
 use Rattle.mg_model.specs.Board.{same_term}
 use Rattle.identifiers.specs.Stock.{is_held}
-use Rattle.terminations.specs.Table.{row_of, left}
+use Rattle.contexts.specs.Table.{row_of, left}
 use Rattle.mg_model.specs.Board.{row_with}
-use Rattle.context_tables.specs.Groups.{group_at, members_at}
+use Rattle.contexts.specs.Groups.{group_at, members_at}
 use Rattle.contexts.specs.Rows.{row_in}
 use Rattle.contexts.specs.BoardValue.{board_of}
-use Rattle.context_tables.proofs.TieLemmas.{same_boards, cut_of_same, cuts_viewed}
+use Rattle.contexts.proofs.TieLemmas.{same_boards, cut_of_same, cuts_viewed}
 use Rattle.contexts.proofs.RowLemmas.{row_with_here, changes_twice}
 use Rattle.contexts.proofs.MoveLemmas.{Moves, tied_moved, cut_moved, left_exists, left_place, left_row_in}
-use Rattle.context_tables.proofs.StockLemmas.{one_class_still, class_still, same_used, one_used, used_already, held_iff}
+use Rattle.contexts.proofs.StockLemmas.{one_class_still, class_still, same_used, one_used, used_already, held_iff}
 use Rattle.contexts.proofs.board.Board.move_to.Goals as goal
 
 pub place-requires-clause-exists : goal.place-requires-clause-exists

@@ -1,10 +1,10 @@
 use Rattle.std.proofs.Common.{refl, ap, ◌∙◌}
-use Rattle.context_tables.specs.Groups.{items_in}
+use Rattle.contexts.specs.Groups.{items_in}
 use Rattle.contexts.specs.BoardValue.{board_of}
-use Rattle.context_tables.proofs.StockLemmas.{one_class_still, class_still, used_shown}
-use Rattle.context_tables.proofs.TieLemmas.{same_boards, tied_none}
+use Rattle.contexts.proofs.StockLemmas.{one_class_still, class_still, used_shown}
+use Rattle.contexts.proofs.TieLemmas.{same_boards, tied_none}
 use Rattle.contexts.proofs.RowLemmas.{cleared_place}
-use Rattle.terminations.specs.Table.{row_of}
+use Rattle.contexts.specs.Table.{row_of}
 use Rattle.contexts.proofs.board.Board.reset.Goals as goal
 
 pub returns : goal.returns

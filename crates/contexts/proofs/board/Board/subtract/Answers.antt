@@ -1,12 +1,12 @@
 use Rattle.std.proofs.Common.{◌∙◌, sym, ap}
 use Rattle.mg_model.specs.Board.{same_term}
 use Rattle.mg_model.specs.Items.{without_cuts}
-use Rattle.terminations.specs.Table.{row_of, cleared}
-use Rattle.context_tables.specs.Groups.{group_at, members_at}
+use Rattle.contexts.specs.Table.{row_of, cleared}
+use Rattle.contexts.specs.Groups.{group_at, members_at}
 use Rattle.contexts.specs.BoardValue.{board_of}
-use Rattle.context_tables.proofs.TieLemmas.{Leaves, tied_left, cut_left, same_boards, cut_of_same, cuts_viewed}
+use Rattle.contexts.proofs.TieLemmas.{Leaves, tied_left, cut_left, same_boards, cut_of_same, cuts_viewed}
 use Rattle.contexts.proofs.RowLemmas.{cleared_place, subtracted_one}
-use Rattle.context_tables.proofs.StockLemmas.{one_class_still, class_still, same_used}
+use Rattle.contexts.proofs.StockLemmas.{one_class_still, class_still, same_used}
 use Rattle.contexts.proofs.board.Board.subtract.Goals as goal
 
 leaves : (c : goal.After-release) → Leaves (row_of c.self.inside.terms) (row_of c.release.new.terms) (members_at c.self.inside.members) (members_at c.leave.new.members)

@@ -1,12 +1,12 @@
 use Rattle.std.proofs.Common.{◌==◌, ◌∙◌, sym, ap}
 use Rattle.mg_model.specs.Board.{place_in}
 use Rattle.mg_model.specs.Items.{without_cuts}
-use Rattle.terminations.specs.Table.{row_of}
-use Rattle.context_tables.specs.Groups.{group_at, members_at}
+use Rattle.contexts.specs.Table.{row_of}
+use Rattle.contexts.specs.Groups.{group_at, members_at}
 use Rattle.contexts.specs.BoardValue.{board_of}
-use Rattle.context_tables.proofs.TieLemmas.{same_boards, cut_of_same, cuts_viewed}
+use Rattle.contexts.proofs.TieLemmas.{same_boards, cut_of_same, cuts_viewed}
 use Rattle.contexts.proofs.ClearLemmas.{Clears, clears_rows, subtracted_all, tied_cleared, cut_cleared, cleared_by}
-use Rattle.context_tables.proofs.StockLemmas.{one_class_still, class_still, same_used}
+use Rattle.contexts.proofs.StockLemmas.{one_class_still, class_still, same_used}
 use Rattle.contexts.proofs.board.Board.subtract_all.Goals as goal
 
 clears : (c : goal.After-clear-2) → Clears (row_of c.self.inside.terms) (row_of c.release_all.new.terms) (members_at c.self.inside.members) (members_at c.clear.new.members)

@@ -6,10 +6,10 @@ use Rattle.mg_model.specs.declared.rows.Row.{Row}
 use Rattle.mg_model.specs.Board.{place_in}
 use Rattle.std.proofs.Common.{List}
 use Rattle.contexts.specs.BoardValue.{board_of, started, filled, names_line}
-use Rattle.context_tables.specs.Groups.{items_in}
-use Rattle.context_tables.proofs.StockLemmas.{one_class_still, class_still, used_shown}
-use Rattle.context_tables.proofs.TieLemmas.{same_boards, tied_none}
-use Rattle.context_tables.proofs.TermLemmas.{by_value}
+use Rattle.contexts.specs.Groups.{items_in}
+use Rattle.contexts.proofs.StockLemmas.{one_class_still, class_still, used_shown}
+use Rattle.contexts.proofs.TieLemmas.{same_boards, tied_none}
+use Rattle.contexts.proofs.TermLemmas.{by_value}
 use Rattle.contexts.proofs.board.Board.with_ids.Goals as goal
 
 from_nothing : (lines : List LineNo) (t : TermId) → filled lines (λ u. None) t ≡ started lines t

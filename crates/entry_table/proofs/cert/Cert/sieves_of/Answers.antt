@@ -1,6 +1,6 @@
 -- The state's sieves are at its place in the index.
 use Rattle.std.proofs.Common.{◌<◌, List, subst, sym, arith}
-use Rattle.entry_index.specs.Sieves.{Sieves}
+use Rattle.entry_table.specs.Sieves.{Sieves}
 use Rattle.entry_table.specs.Index.{places_of}
 use Rattle.entry_table.specs.Listed.{Listed}
 use Rattle.entry_table.specs.Sieved.{AreSieved}

@@ -1,2 +1,0 @@
-pub mod LastSoFar
-pub mod Causes

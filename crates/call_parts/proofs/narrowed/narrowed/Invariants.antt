@@ -1,6 +1,0 @@
--- The part has each configuration so far that the entry has.
-use Rattle.call_parts.proofs.Narrowing.{HoldsBelow}
-use Rattle.call_parts.proofs.narrowed.narrowed.Given as goal
-
-abbrev pub invariant-loop-config : goal.invariant-loop-config
-invariant-loop-config l = HoldsBelow l.entry l.configs l.part l.config-index

@@ -1,5 +1,0 @@
--- What was come to is all that calls come to.
-use Rattle.call_parts.proofs.part.find_part.Goals as goal
-
-pub part_of-requires : goal.part_of-requires
-part_of-requires c = record { all = rw c.in-Some.is at c.in_ok-reached.ensures.all }

@@ -1,0 +1,113 @@
+//! All that can be warned of.
+ghost use Rattle.std.specs.Prelude.{◌≡◌, ◌∷◌, ◌++◌, [], IfOk, OnOk, length, map};
+ghost use Rattle.std.specs.List.{flat_map};
+ghost use Rattle.mg_model.specs.Tables.{state_of};
+ghost use Rattle.call_ways.specs.declared.warning.Warning.TheVariants as Warning;
+ghost use Rattle.call_ways.specs.Candidates.{candidates_of, numbers, of_entry, of_line, of_state};
+
+use crate::warning::Warning;
+use entry_table::Cert;
+use mg_model::transitions::Pair;
+use mg_names::kinds::Kind;
+use mg_names::slots::Slot;
+use script_table::Script;
+use std::alloc::{AllocError, Global};
+
+/// Adds what can be warned of a line in a state.
+fn add_line(list: &mut Vec<Warning>, state: u8, line: Slot) -> Result<(), AllocError>
+    ensures { OnOk result (list.new.items ≡ list.old.items ++ of_line state line) }
+{
+    list.extend_from_slice(&[
+        Warning::ArrowUnused(state, line, Kind::On),
+        Warning::ArrowUnused(state, line, Kind::Of),
+        Warning::ArrowUnused(state, line, Kind::Fl),
+        Warning::ArrowUnused(state, line, Kind::Full),
+        Warning::ArrowUnused(state, line, Kind::Part),
+        Warning::LineDeaf(state, line),
+    ])
+}
+
+/// Adds what can be warned of the lines in a state.
+fn add_lines(list: &mut Vec<Warning>, state: u8) -> Result<(), AllocError>
+    ensures { OnOk result (list.new.items ≡ list.old.items ++ flat_map (of_line state) (0 ∷ 1 ∷ 2 ∷ 3 ∷ [])) }
+{
+    let [first, second, third, fourth] = Slot::all();
+    add_line(list, state, first)?;
+    add_line(list, state, second)?;
+    add_line(list, state, third)?;
+    add_line(list, state, fourth)
+}
+
+/// Adds one warning.
+pub(crate) fn push(list: &mut Vec<Warning>, warning: Warning) -> Result<(), AllocError>
+    ensures { OnOk result (list.new.items ≡ list.old.items ++ warning ∷ []) }
+{
+    list.extend_from_slice(&[warning])
+}
+
+/// Adds what can be warned of a state's marks.
+fn add_marks(list: &mut Vec<Warning>, state: u8, talk: &[Pair]) -> Result<(), AllocError>
+    ensures { OnOk result (list.new.items ≡ list.old.items ++ map (λ pair. Warning.MarkUnneeded state pair) talk.now) }
+{
+    for pair in talk {
+        push(list, Warning::MarkUnneeded(state, *pair))?;
+    }
+    Ok(())
+}
+
+/// Adds what can be warned of a state.
+fn add_state(list: &mut Vec<Warning>, script: &Script, state: u8) -> Result<(), AllocError>
+    ensures { OnOk result (list.new.items ≡ list.old.items ++ of_state script.now state) }
+{
+    list.extend_from_slice(&[
+        Warning::StateUnlisted(state),
+        Warning::StateNeverLeft(state),
+    ])?;
+    add_lines(list, state)?;
+    add_marks(list, state, script.talk_of(state))
+}
+
+/// Adds what can be warned of the states.
+fn add_states(list: &mut Vec<Warning>, script: &Script) -> Result<(), AllocError>
+    ensures { OnOk result (list.new.items ≡ list.old.items ++ flat_map (of_state script.now) (numbers (length script.now.states))) }
+{
+    for state in 0..script.states() {
+        add_state(list, script, state as u8)?;
+    }
+    Ok(())
+}
+
+/// Adds what can be warned of an entry.
+fn add_entry(list: &mut Vec<Warning>, place: usize) -> Result<(), AllocError>
+    ensures { OnOk result (list.new.items ≡ list.old.items ++ of_entry place) }
+{
+    list.extend_from_slice(&[
+        Warning::EntryUnreached(place),
+        Warning::EntryHeld(place),
+        Warning::PointUnreached(place),
+    ])
+}
+
+/// Adds what can be warned of so many entries.
+fn add_entries(list: &mut Vec<Warning>, count: usize) -> Result<(), AllocError>
+    ensures { OnOk result (list.new.items ≡ list.old.items ++ flat_map of_entry (numbers count)) }
+{
+    for place in 0..count {
+        add_entry(list, place)?;
+    }
+    Ok(())
+}
+
+/// All that can be warned of, state by state and entry by entry. The only error is running out of memory.
+pub(crate) fn candidates(
+    alloc: Global,
+    script: &Script,
+    cert: &Cert,
+) -> Result<Vec<Warning>, AllocError>
+    ensures { IfOk result (λ list. list.items ≡ candidates_of script.now cert.now) }
+{
+    let mut list = Vec::new(alloc);
+    add_states(&mut list, script)?;
+    add_entries(&mut list, cert.entries().len())?;
+    Ok(list)
+}

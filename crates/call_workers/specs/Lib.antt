@@ -1,3 +1,0 @@
-pub use Rattle.run_shards.specs.Counting
-pub use Rattle.run_shards.specs.PlannedCall
-pub use Rattle.run_shards.specs.RunShards

@@ -1,3 +1,0 @@
-pub mod PairLemmas
-pub mod Parts
-pub mod SlotLemmas

@@ -1,7 +1,0 @@
--- What was found so far is what the rows so far name.
-use Rattle.certificate_components.specs.FoundRows.{cut_row}
-use Rattle.certificate_document.proofs.Each.{IsReadTo}
-use Rattle.certificate_components.proofs.named_cuts.named_cuts.Given as goal
-
-abbrev pub invariant-loop-row : goal.invariant-loop-row
-invariant-loop-row l = IsReadTo (cut_row l.script) l.rows l.row-index l.found.items

@@ -1,7 +1,0 @@
--- The first `>` divides the text.
-use Rattle.std.proofs.Common.{lit<}
-use Rattle.certificate_components.proofs.Parts.{parts_found}
-use Rattle.certificate_components.proofs.names.parts.Goals as goal
-
-pub returns : goal.returns
-returns c = parts_found c.args.text.now c.split_once.result (c.split_once.ensures.byte (lit< tt) (λ w o h. h))

@@ -1,4 +1,0 @@
-pub mod Each
-pub mod Passing
-pub mod RowLemmas
-pub mod Trees

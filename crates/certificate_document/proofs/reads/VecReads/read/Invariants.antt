@@ -1,9 +1,0 @@
--- What was read so far is the meaning of the items so far.
-use Rattle.std.proofs.Common.{map}
-use Rattle.serde_json.specs.View.{view}
-use Rattle.certificate_document.proofs.Each.{IsReadTo}
-use Rattle.certificate_document.proofs.reads.VecReads.read.Given as goal
-
-abbrev pub invariant-loop-item : goal.invariant-loop-item
-invariant-loop-item g l =
-    IsReadTo (λ v. g.T.Reads.meaning (view v)) l.item-items l.item-index (map g.T.Reads.seen l.found.items)

@@ -1,5 +1,0 @@
-mod Below
-mod Picked
-mod Reaching
-mod Seeing
-mod Warned

@@ -1,8 +1,0 @@
--- What can be warned of the states so far was added.
-use Rattle.std.proofs.Common.{◌≡◌, ◌++◌}
-use Rattle.std.specs.List.{flat_map}
-use Rattle.check_warnings.specs.Candidates.{numbers, of_state}
-use Rattle.check_warnings.proofs.candidates.add_states.Given as goal
-
-abbrev pub invariant-loop-state : goal.invariant-loop-state
-invariant-loop-state l = l.list.items ≡ l.fn.list.items ++ flat_map (of_state l.script) (numbers l.state)

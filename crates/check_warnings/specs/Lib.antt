@@ -1,5 +1,0 @@
-pub mod Warnings
-pub mod Candidates
-pub mod Seen
-pub mod Points
-pub mod Told

@@ -1,6 +1,0 @@
-use Rattle.std.proofs.lemmas.List.Elements.{same_from_all_zip}
-use Rattle.context_tables.proofs.CopyLemmas.{groups_copied}
-use Rattle.context_tables.proofs.cuts.copy.Goals as goal
-
-pub returns : goal.returns
-returns c = groups_copied _ _ (λ x y e. e) (λ v w h. same_from_all_zip _ _ _ h.0 (λ x y e. e)) _ _ c.in_ok-copied.ensures.cases

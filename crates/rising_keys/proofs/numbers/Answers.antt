@@ -1,5 +1,0 @@
-use Rattle.rising_keys.proofs.KeyLemmas.{lists_keys}
-use Rattle.rising_keys.proofs.numbers.Goals as goal
-
-pub returns : goal.returns
-returns g c = lists_keys c.args.from.now c.in_ok-found.found.items c.in_ok-found.ensures.unique c.in_ok-found.ensures.keys c.in_ok-found.ensures.sorted

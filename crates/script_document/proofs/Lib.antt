@@ -1,3 +1,0 @@
-pub mod BooleanTests
-mod Signs
-pub mod SmallDocuments

@@ -1,4 +1,0 @@
-pub mod Written
-pub mod Texts
-pub mod Documents
-pub mod Limits

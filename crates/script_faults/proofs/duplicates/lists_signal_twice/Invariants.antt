@@ -1,9 +1,0 @@
-use Rattle.std.proofs.Common.{◌≡◌, [], map, drop}
-use Rattle.std.specs.List.{list_any}
-use Rattle.typed_values.specs.Names.{repeats_after}
-use Rattle.mg_names.specs.Words.{signal_text}
-use Rattle.script_faults.proofs.duplicates.lists_signal_twice.Given as goal
-
-abbrev pub invariant-loop-list : goal.invariant-loop-list
-invariant-loop-list l =
-    list_any (λ list. repeats_after [] (map signal_text list.items)) (drop l.list-index l.lists) ≡ list_any (λ list. repeats_after [] (map signal_text list.items)) l.lists

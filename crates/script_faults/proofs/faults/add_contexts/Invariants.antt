@@ -1,8 +1,0 @@
-use Rattle.std.proofs.Common.{◌≡◌, drop}
-use Rattle.std.specs.List.{flat_map}
-use Rattle.typed_values.specs.Names.{each_once}
-use Rattle.script_faults.specs.Faults.{contexts_made}
-use Rattle.script_faults.proofs.faults.add_contexts.Given as goal
-
-abbrev pub invariant-loop-command : goal.invariant-loop-command
-invariant-loop-command l = each_once l.names (flat_map contexts_made (drop l.command-index l.commands)) ≡ each_once l.initial.names (flat_map contexts_made l.commands)

@@ -1,7 +1,0 @@
-use Rattle.std.proofs.Common.{◌≡◌, drop}
-use Rattle.std.specs.List.{list_any}
-use Rattle.script_faults.specs.Faults.{subtracts_made}
-use Rattle.script_faults.proofs.faults.one_subtracts_made.Given as goal
-
-abbrev pub invariant-loop-command : goal.invariant-loop-command
-invariant-loop-command l = list_any (λ c. subtracts_made l.contexts l.ephemerals c) (drop l.command-index l.commands) ≡ list_any (λ c. subtracts_made l.contexts l.ephemerals c) l.commands

@@ -1,2 +1,0 @@
-pub mod FaultNames
-pub mod Faults

@@ -1,6 +1,0 @@
-use Rattle.std.proofs.Common.{◌≡◌, ◌++◌, map, drop}
-use Rattle.script_meaning.specs.Meaning.{signals_list_for}
-use Rattle.script_meaning.proofs.build.signals_lists.Given as goal
-
-abbrev pub invariant-loop-one : goal.invariant-loop-one
-invariant-loop-one l = l.found.items ++ map signals_list_for (drop l.one-index l.written) ≡ map signals_list_for l.written

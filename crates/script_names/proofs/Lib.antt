@@ -1,2 +1,0 @@
-pub mod RepeatedNames
-pub mod FoundPlaces

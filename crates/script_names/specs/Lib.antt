@@ -1,2 +1,0 @@
-pub mod DeclaredNames
-pub mod Places
