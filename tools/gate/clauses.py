@@ -97,10 +97,12 @@ def clauses(crate):
 
 
 def named(crate, function, name):
-    """The clauses of this name, or where it is nothing the lone clauses without one, of the functions of a crate that have this name, with or without
-    what has them. `Type::*` are all public functions of a type."""
+    """The clauses of this name, or where it is nothing the lone clauses without one, of the functions of a crate that have this name. A name by itself is
+    that of functions of no type, or where there is none of a type's. `Type::*` are all public functions of a type."""
     owner, _, bare = function.rpartition("::")
     of = [one for one in clauses(crate) if (not owner or one.owner == owner) and (one.is_public if bare == "*" else one.function == bare)]
+    if not owner:
+        of = [one for one in of if one.owner is None] or of
     if name:
         return [one for one in of if one.name == name]
     return [one for one in of if one.kind == "ensures" and one.name is None]

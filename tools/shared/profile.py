@@ -12,7 +12,7 @@ DECLARED = {
         ("mg_model/src/items.rt", "Item"),
         ("mg_model/src/commands.rt", "Command"),
         ("requests/src/command.rt", "RequestCommand"),
-        ("script_document/src/syntax.rt", "WrittenCommand"),
+        ("scriptreader/src/syntax.rt", "WrittenCommand"),
     ),
     "event of a line": (("mg_model/src/line_events.rt", "LineEvent"),),
     "item of an events list": (("mg_model/src/transitions.rt", "EventItem"),),
