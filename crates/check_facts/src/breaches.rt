@@ -1,5 +1,5 @@
 //! What of a point breaks an obligation: for joined lines with the way that media takes between them, hop by hop, and where a call comes there with the
-//! command that left it so. What breaks it is found by `explanation`, and what brought it about by `breach_causes`.
+//! command that left it so. What breaks it and what brought it about is found by `explanation`.
 use crate::command_text::CommandText;
 use crate::names::{context_name, ephemeral_name, line_name, state_name, termination_name};
 use explanation::{Cause, find_cause};

@@ -1,5 +1,5 @@
 //! What a yes is worth: what of the script and of its certificate no call uses, and lines that no call hears. What there is to warn of is found by
-//! `check_warnings`.
+//! `call_ways`.
 use crate::documents::Documents;
 use crate::names::{line_name, state_name};
 use call_ways::reached::Reached;

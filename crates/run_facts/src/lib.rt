@@ -1,5 +1,5 @@
 //! The facts of a run: the report of a plan, with what each step of its calls came to, as one JSON value whose fields are values. Nothing is decided here:
-//! the facts are those of `run_steps` and `call_scenes`.
+//! the facts are those of `run_steps` and of the scenes of `taken_steps`.
 //!
 //! The way of a run: a plan is read and run on one worker, or why not is told (`told_run`). Each line of the report is written as `mgcall run` writes it
 //! (`line_text`), and behind it the steps of its call (`calls`): each in the words of its plan (`plan_words`), with what it came to (`steps`), the requests

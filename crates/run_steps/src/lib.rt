@@ -3,7 +3,7 @@
 //!
 //! The way of a call: the run passes its steps at a gate that keeps their order (`passed_steps`), which tells between which of its steps the restarts of other
 //! calls were. Its steps are taken once more (`telling`, over `taken_steps`) with the call alone on a gateway of its own, and the restarts where the run had
-//! them. A second gateway goes along and shows what was sent and what plays (`showing`, over `call_scenes`). At the end all of it has to be what the run's own
+//! them. A second gateway goes along and shows what was sent and what plays (`showing`, over a `Scene`). At the end all of it has to be what the run's own
 //! history and report have (`call_steps`).
 #![tactic(auto)]
 
