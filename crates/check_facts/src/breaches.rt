@@ -2,10 +2,9 @@
 //! command that left it so. What breaks it and what brought it about is found by `explanation`.
 use crate::command_text::CommandText;
 use crate::names::{context_name, ephemeral_name, line_name, state_name, termination_name};
-use explanation::{Cause, find_cause};
 use call_ways::way::WayStep;
 use configuration::config::Config;
-use explanation::{Breach, Crossing, find_breaches, find_path};
+use explanation::{Breach, Cause, Crossing, find_breaches, find_cause, find_path};
 use mg_model::commands::Termination;
 use mg_model::components::Spot;
 use mg_model::transitions::Pair;

@@ -2,11 +2,11 @@
 //! calls come to.
 use crate::configurations::{write_change, write_configuration, write_entry};
 use crate::documents::Documents;
-use explanation::part::{Part, find_part};
 use call_ways::way::{Move, Way, WayStep};
 use closure::steps::opening;
 use configuration::config::Config;
 use explanation::Located;
+use explanation::part::{Part, find_part};
 use script_table::Script;
 use std::alloc::{AllocError, Global};
 

@@ -32,7 +32,7 @@ fn sends(mode: Mode) -> bool
 
 impl Wiring<'_> {
     /// The mode of a termination; Inactive where it doesn't exist.
-    #[tactic(auto, unfolding(contexts::specs::BoardValue::board_of))]
+    #[tactic(auto, unfolding(crate::specs::TiedBoard::board_of))]
     fn mode_of(&self, t: TermId) -> Mode
         ensures { result ≡ mode_of (board_of self.now) t }
     {
@@ -43,7 +43,7 @@ impl Wiring<'_> {
     }
 
     /// The number of the ephemeral that the Remote of a termination names.
-    #[tactic(auto, unfolding(contexts::specs::BoardValue::board_of))]
+    #[tactic(auto, unfolding(crate::specs::TiedBoard::board_of))]
     pub(crate) fn remote_of(&self, t: TermId) -> Option<u32>
         ensures { result ≡ remote_of (board_of self.now) t }
     {

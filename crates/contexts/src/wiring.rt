@@ -49,7 +49,7 @@ impl<'a> Wiring<'a> {
     }
 
     /// The row of a termination; `None` where it doesn't exist.
-    #[tactic(auto, unfolding(contexts::specs::BoardValue::board_of))]
+    #[tactic(auto, unfolding(crate::specs::TiedBoard::board_of))]
     pub(crate) fn get(&self, t: TermId) -> Option<Row>
         ensures { result ≡ (board_of self.now).row t }
     {
@@ -57,7 +57,7 @@ impl<'a> Wiring<'a> {
     }
 
     /// Whether a termination exists.
-    #[tactic(auto, unfolding(contexts::specs::BoardValue::board_of))]
+    #[tactic(auto, unfolding(crate::specs::TiedBoard::board_of))]
     pub(crate) fn exists(&self, t: TermId) -> bool
         ensures { result ≡ exists (board_of self.now) t }
     {
@@ -65,7 +65,7 @@ impl<'a> Wiring<'a> {
     }
 
     /// The number of the context of a termination; 0 where it doesn't exist.
-    #[tactic(auto, unfolding(contexts::specs::BoardValue::board_of))]
+    #[tactic(auto, unfolding(crate::specs::TiedBoard::board_of))]
     pub(crate) fn place_of(&self, t: TermId) -> u32
         ensures { result ≡ place_of (board_of self.now) t }
     {

@@ -9,8 +9,7 @@ ghost use Rattle.typed_values.specs.Keys.{list_of, needed, listed};
 use script_table::Script;
 use std::alloc::Global;
 use toml::{Table, Value};
-use typed_values::member;
-use typed_values::Missing;
+use typed_values::{Missing, member};
 
 /// How many places a list has from the start, if it comes to so many.
 const FIRST_ROOM: usize = 4;

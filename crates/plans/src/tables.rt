@@ -14,8 +14,7 @@ use mg_names::identifiers::LineNo;
 use script_table::Script;
 use std::alloc::Global;
 use toml::{Table, Value};
-use typed_values::{has_only, member, table, text};
-use typed_values::{Missing, words};
+use typed_values::{Missing, has_only, member, table, text, words};
 
 /// How many shards a plan may have.
 const MOST_SHARDS: u32 = 16;

@@ -12,8 +12,8 @@ ghost use Rattle.run_account.specs.FinalState.{HaveLines, IsLeftAmong};
 use crate::final_state::are_left;
 use composition::Checked;
 use mg_names::identifiers::CallNo;
-use mg_reports::one_report::logs_tell_reports;
 use mg_reports::laws;
+use mg_reports::one_report::logs_tell_reports;
 use rayon::prelude::*;
 use run_shards::{
     CallCount, Line, PLAN_CALLS, PlanTotals, PlannedCall, RunFault, Shard, ShardCount, lines_of,

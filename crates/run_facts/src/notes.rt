@@ -1,6 +1,5 @@
 //! Notes, and the signals that play.
 use crate::names::name_of;
-use taken_steps::NoteSent;
 use check_facts::names::line_name;
 use gateway::{Method, SignalSet};
 use mg_names::identifiers::LineNo;
@@ -8,6 +7,7 @@ use mg_names::signals::Signal;
 use mg_names::slots::Slot;
 use script_table::Script;
 use std::alloc::AllocError;
+use taken_steps::NoteSent;
 
 /// The word of a method.
 fn method_word(method: Method) -> &'static str {

@@ -1,11 +1,11 @@
 //! The numbers that a gateway gave: to the names of a script, as a call knows them, and to what a command of a request did.
 use crate::names::name_of;
-use taken_steps::{CommandResult, NamesBound};
 use check_facts::names::{context_name, ephemeral_name};
 use mg_names::identifiers::LineNo;
 use mg_names::slots::Slot;
 use script_table::Script;
 use std::alloc::AllocError;
+use taken_steps::{CommandResult, NamesBound};
 
 /// Adds the contexts of the script that a call knows the number of.
 fn write_contexts(out: &mut String, script: &Script, bound: &NamesBound) -> Result<(), AllocError> {

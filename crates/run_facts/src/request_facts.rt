@@ -1,6 +1,5 @@
 //! Requests and replies: commands with what becomes of each, and the numbers that the gateway gave.
 use crate::numbers::{write_bound, write_results};
-use taken_steps::{Executed, Fate, Sent, TakenReply};
 use check_facts::command_text::CommandText;
 use check_facts::names::state_name;
 use gateway::Failure;
@@ -8,6 +7,7 @@ use mg_model::commands::Command;
 use mg_names::identifiers::LineNo;
 use script_table::Script;
 use std::alloc::AllocError;
+use taken_steps::{Executed, Fate, Sent, TakenReply};
 
 /// What became of the command at a place of a request.
 fn mark(fate: Fate, failure: Option<Failure>, place: usize) -> &'static str {

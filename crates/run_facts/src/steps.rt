@@ -2,12 +2,12 @@
 use crate::notes::{write_note, write_notes, write_plays};
 use crate::plan_words::PlanWords;
 use crate::request_facts::{write_executed, write_reply, write_sent};
-use taken_steps::Shown;
 use check_facts::names::state_name;
 use mg_names::identifiers::LineNo;
 use run_steps::{Came, Idle, Position, ToldStep};
 use script_table::Script;
 use std::alloc::AllocError;
+use taken_steps::Shown;
 
 /// The word of what a step came to.
 fn came_word(came: Came) -> &'static str {

@@ -1,12 +1,11 @@
 //! What a step of a call shows, by the scene that goes along.
 use agent::Next;
-use taken_steps::{Scene, SceneFault, Shown};
 use mg_model::events::Event;
 use mg_names::identifiers::{CallNo, LineNo};
 use runner::RunFault;
 use script_table::Script;
 use std::alloc::Global;
-use taken_steps::Came;
+use taken_steps::{Came, Scene, SceneFault, Shown};
 
 /// Why a call isn't told where its scene has a fault.
 fn fault_of(fault: SceneFault) -> RunFault {

@@ -7,12 +7,11 @@ ghost use Rattle.run_steps.specs.Telling.{IsOfRestart, IsToldLast, TellsOn, endi
 use crate::showing::show;
 use crate::told_step::ToldStep;
 use agent::Next;
-use taken_steps::Scene;
 use mg_model::plans::PlanStep;
 use mg_names::identifiers::{Assoc, CallNo};
 use plans::Epoch;
 use runner::{RunFault, is_restart};
-use taken_steps::{Came, Position, Shard, Taken, position_of, take};
+use taken_steps::{Came, Position, Scene, Shard, Taken, position_of, take};
 
 /// How far a call of the plan is told.
 #[derive(Drop)]

@@ -1,8 +1,7 @@
 //! A step of a plan as it is told.
-use taken_steps::Shown;
 use mg_model::plans::PlanStep;
 use mg_names::identifiers::CallNo;
-use taken_steps::{Came, Position};
+use taken_steps::{Came, Position, Shown};
 
 /// A step of a call of a plan as it is told. This profile's own.
 #[derive(Drop)]

@@ -21,7 +21,7 @@ use Rattle.scriptreader.specs.Written as document
 use Rattle.scriptreader.proofs.Created.{created_once}
 use Rattle.scriptreader.proofs.Declared.{Declares, carried, command_within}
 use Rattle.scriptreader.proofs.SmallDocuments.{small}
-use Rattle.scriptreader.proofs.Faultless.{IsFaultless, faultless}
+use Rattle.scriptreader.proofs.FaultlessDocuments.{IsFaultless, faultless}
 use Rattle.scriptreader.proofs.BooleanTests.{or_left, or_right}
 use Rattle.scriptreader.proofs.Slots.{bound, kept}
 

@@ -13,7 +13,7 @@ use Rattle.typed_values.specs.Shape.{each, optional_at}
 use Rattle.scriptreader.proofs.Accepted.{each_has, read_has}
 use Rattle.scriptreader.proofs.Declared.{carried}
 use Rattle.scriptreader.proofs.SmallDocuments.{at_most, small}
-use Rattle.scriptreader.proofs.Faultless.{faultless}
+use Rattle.scriptreader.proofs.FaultlessDocuments.{faultless}
 use Rattle.scriptreader.proofs.Lengths.{each_length}
 use Rattle.scriptreader.proofs.Slots.{bound, kept}
 

@@ -1,7 +1,7 @@
 pub mod Slots
 pub mod Declared
 pub mod Lengths
-pub mod Faultless
+pub mod FaultlessDocuments
 pub mod RepeatedNames
 pub mod FoundPlaces
 pub mod BooleanTests

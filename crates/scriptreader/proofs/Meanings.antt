@@ -23,7 +23,7 @@ use Rattle.typed_values.specs.declared.missing.Missing.TheVariants.{Nothing}
 use Rattle.scriptreader.specs.Meaning.{if_read, slot_for, number_for, termination_for, place_for, line_options_for, ephemeral_options_for, add_line_for, add_ephemeral_for, modify_line_for, modify_ephemeral_for, move_line_for, move_ephemeral_for, subtract_for, subtract_all_for, topology_for, command_for, pair_for, transition_for, state_for, item_for, events_list_for, named_map_for, state_at, script_in, script_meant}
 use Rattle.scriptreader.proofs.BooleanTests.{or_left, or_right, and_left, and_right, holds}
 use Rattle.scriptreader.proofs.SmallDocuments.{IsSmall, small}
-use Rattle.scriptreader.proofs.Faultless.{faultless}
+use Rattle.scriptreader.proofs.FaultlessDocuments.{faultless}
 use Rattle.scriptreader.proofs.FoundNames.{Fits, number_found, given, first_with, both_ways, each_found, line_found, context_found, ephemeral_found, termination_found, place_found, target_found, line_options_found, ephemeral_options_found}
 
 -- ---- commands and states

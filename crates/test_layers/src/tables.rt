@@ -5,12 +5,12 @@ use crate::pages::{Answer, Page};
 use crate::sheets::{End, Layer, Sheet};
 use crate::words::Words;
 use crate::{numbers, results};
+use contexts::{AddLineFault, Terms};
 use mg_names::codes::Code;
 use mg_names::identifiers::{LineNo, TermId};
 use mg_names::modes::Mode;
 use std::alloc::Global;
 use std::mem;
-use contexts::{AddLineFault, Terms};
 
 /// A table of terminations, with another one that is kept beside it.
 #[derive(Drop)]

@@ -1,7 +1,7 @@
 use Rattle.std.proofs.Common.{◌≡◌, Some, None, ap, refl, sym, ◌∙◌}
 use Rattle.scriptreader.specs.declared.fault.ScriptFault.{ScriptFault}
 use Rattle.scriptreader.specs.Faults.{fault_of}
-use Rattle.scriptreader.proofs.Faultless.{uses_next}
+use Rattle.scriptreader.proofs.FaultlessDocuments.{uses_next}
 use Rattle.scriptreader.proofs.Readings.{is_toml, fault_answers}
 use Rattle.scriptreader.proofs.reader.in_scope.Goals as goal
 

@@ -1,7 +1,7 @@
 use Rattle.std.proofs.Common.{◌≡◌, Some, ap, refl, sym, ◌∙◌}
 use Rattle.scriptreader.specs.declared.fault.ScriptFault.{ScriptFault}
 use Rattle.scriptreader.specs.Faults.{fault_of}
-use Rattle.scriptreader.proofs.Faultless.{names_first, none_twice}
+use Rattle.scriptreader.proofs.FaultlessDocuments.{names_first, none_twice}
 use Rattle.scriptreader.proofs.Readings.{is_toml, fault_answers}
 use Rattle.scriptreader.proofs.reader.of_document.Goals as goal
 
