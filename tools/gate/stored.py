@@ -6,8 +6,9 @@ from collections import namedtuple
 from shared import programs
 
 TOP = programs.TOP
-FORMATS = ("script", "certificate", "plan")
-ENDINGS = {"script": "toml", "certificate": "json", "plan": "toml"}
+# The name that a document of each format has in a folder.
+FILES = {"script": "script.toml", "certificate": "certificate.json", "plan": "plan.toml"}
+FORMATS = tuple(FILES)
 # An input that is stored: its name, its sections, and its line, or its report.
 Stored = namedtuple("Stored", "name sections line")
 
@@ -22,7 +23,7 @@ def of_folder(folder):
     line = (folder / "expected").read_text()
     if (folder / "input").is_file():
         yield Stored(folder / "input", divided((folder / "input").read_bytes()), line)
-    files = [folder / f"{name}.{ENDINGS[name]}" for name in FORMATS]
+    files = [folder / name for name in FILES.values()]
     if all(path.is_file() for path in files[:2]):
         yield Stored(folder, [path.read_bytes() for path in files[:2]], line)
     if files[2].is_file():

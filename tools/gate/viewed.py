@@ -82,8 +82,7 @@ def vocabularies():
 def explained():
     """Each mistake of the table of what is said in words: it is told at its place, with the word that may have been meant."""
     for document, folder, old, new, line, word, _, meant in table(MISTAKES / "mistakes.tsv"):
-        files = {name: TOP / folder / f"{name}.{stored.ENDINGS[name]}" for name in told.FORMATS}
-        texts = {name: path.read_bytes() for name, path in files.items()}
+        texts = {name: (TOP / folder / file).read_bytes() for name, file in stored.FILES.items()}
         start = texts[document].index(old.encode())
         texts[document] = texts[document].replace(old.encode(), new.encode())
         found = [one for one in told.mistakes(texts) if one.document == document and faults_of(line) == (one.of, (one.fault_number, one.fault_name))]
@@ -173,7 +172,7 @@ def of_plans():
 
 def of_many():
     """Documents with many mistakes: all are told, in the order of the files; as JSON they are the same."""
-    names = {"script": "script.toml", "certificate": "certificate.json", "plan": "plan.toml"}
+    names = stored.FILES
     found = told.mistakes({document: (MANY / name).read_bytes() for document, name in names.items()})
     lines, wanted = [told.line(names[mistake.document], mistake) for mistake in found], (MANY / "told").read_text().splitlines()
     for place in range(max(len(lines), len(wanted))):
