@@ -7,6 +7,7 @@ from shared import asking
 from shared.mistakes import certificate_rules, json_text, plan_rules, script_rules, script_shape, toml_text
 from shared.mistakes.findings import Findings, sentence
 from shared.mistakes.nodes import Unread
+from shared.mistakes.reading import MARK
 
 FORMATS = ("script", "certificate", "plan")
 MOST_BYTES = 16_777_216
@@ -26,7 +27,7 @@ def more_of(of, text):
     """What is said of a whole text that can't be read."""
     if of == "certificate":
         return "" if text.strip() else "; a certificate is an object with `version` and `entries`"
-    if not text.removeprefix(toml_text.MARK).lstrip().startswith(b"{"):
+    if not text.removeprefix(MARK).lstrip().startswith(b"{"):
         return ""
     return "; it begins as a certificate does" + (", and no plan begins so" if of == "plan" else ": the two documents may be exchanged")
 

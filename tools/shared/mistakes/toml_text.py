@@ -1,79 +1,41 @@
 """Reading a document of TOML with the places of its keys and values: its lines, arrays and inline tables, and the rules by which keys and headers make
 tables. It is installed too, so it knows nothing of this repository."""
-from shared.mistakes import toml_values
-from shared.mistakes.nodes import LIST, TABLE, TEXT, Node, Unread
+from shared.mistakes import reading, toml_values
+from shared.mistakes.nodes import LIST, TABLE, Node, Unread
+from shared.mistakes.reading import MARK, shown
 from shared.mistakes.toml_values import BLANK, GAP, MOST_DEEP
 
 # What made a table: a header that passed through it, a dotted key, its own header, or braces. An array of tables is made by headers too.
 IMPLICIT, DOTTED, HEADER, BRACES, TABLES = "implicit", "dotted", "header", "braces", "tables"
-MARK = b"\xef\xbb\xbf"
 
 
-def line_of(text, at):
-    """The line of a byte, from 1."""
-    return text.count(b"\n", 0, at) + 1
+class Reader(reading.Reader):
+    """A text of TOML that is read."""
 
+    gaps, quotes, most_deep, nested = GAP, (b'"', b"'"), MOST_DEEP, "arrays and tables"
 
-class Reader:
-    """A text that is read."""
+    def quoted(self, at):
+        """The text that is quoted at a byte, and where it ends."""
+        return toml_values.quoted(self.text, at)
 
-    def __init__(self, text):
-        self.text = text
-
-    def sign(self, at):
-        """The byte at a place, as bytes; none at the end."""
-        return self.text[at : at + 1]
-
-    def value(self, at, depth):
-        """The value at a byte, and where it ends. Arrays and tables in it may stand so deep."""
-        sign = self.sign(at)
-        if sign in (b"[", b"{"):
-            if depth == 0:
-                raise Unread(at, f"arrays and tables stand more than {MOST_DEEP} deep in one another")
-            return self.array(at, depth - 1) if sign == b"[" else self.braces(at, depth - 1)
-        if sign in (b'"', b"'"):
-            found, end = toml_values.quoted(self.text, at)
-            return Node(TEXT, found, at), end
+    def bare(self, at):
+        """A value without quotes or brackets, and where it ends."""
         return toml_values.bare_value(self.text, at)
 
-    def gap(self, at):
-        """Where the next sign is, on whichever line."""
-        return GAP.match(self.text, at).end()
-
-    def behind(self, at, closing, what):
-        """Where the next item or the closing bracket is."""
-        place = self.gap(at)
-        if self.sign(place) == b",":
-            return self.gap(place + 1)
-        if self.sign(place) == closing:
-            return place
-        raise Unread(place, f"{what}: a comma or `{closing.decode()}` has to stand here")
-
-    def open(self, at, end, what, closing):
-        """Says where an array or a table begins that has no end."""
-        if end >= len(self.text):
-            raise Unread(at, f"{what} has no `{closing}` at its end")
-
-    def array(self, at, depth):
-        """The array at a byte, and where it ends."""
-        items, place = [], self.gap(at + 1)
-        while self.sign(place) != b"]":
-            self.open(at, place, "an array", "]")
-            item, end = self.value(place, depth)
-            items.append(item)
-            self.open(at, self.gap(end), "an array", "]")
-            place = self.behind(end, b"]", "in an array")
-        return Node(LIST, items, at), place + 1
+    def parted(self, place, closing, what, begun):
+        """Where the next item or the closing bracket is. A comma may stand behind the last item."""
+        if self.sign(place) != b",":
+            raise Unread(place, f"in {what}: a comma or `{closing.decode()}` has to stand here")
+        return self.gap(place + 1)
 
     def braces(self, at, depth):
         """The table in braces at a byte, and where it ends."""
         table, place = Node(TABLE, {}, at, DOTTED), self.gap(at + 1)
         while self.sign(place) != b"}":
-            self.open(at, place, "a table in braces", "}")
+            self.goes_on(place, b"}", "a table in braces", at)
             parts, value, end = self.pair(place, depth)
             self.dotted(table, parts, value)
-            self.open(at, self.gap(end), "a table in braces", "}")
-            place = self.behind(end, b"}", "in a table in braces")
+            place = self.behind(end, b"}", "a table in braces", at)
         close(table)
         return table, place + 1
 
@@ -81,13 +43,13 @@ class Reader:
         """A key and its value, and where that ends."""
         parts, end = toml_values.key(self.text, at)
         if self.sign(end) != b"=":
-            raise Unread(end, f"`=` has to stand behind the key `{toml_values.shown(parts[-1][0].encode())}`")
+            raise Unread(end, f"`=` has to stand behind the key `{shown(parts[-1][0].encode())}`")
         value, end = self.value(BLANK.match(self.text, end + 1).end(), depth)
         return parts, value, end
 
     def twice(self, part, first, at):
         """Why a key can't stand at a byte: it stands before."""
-        raise Unread(at, f"the key `{toml_values.shown(part.encode())}` stands here for the second time; the first is on line {line_of(self.text, first)}")
+        raise Unread(at, f"the key `{shown(part.encode())}` stands here for the second time; the first is on line {self.line(first)}")
 
     def dotted(self, table, parts, value):
         """Puts a value at the parts of a key into a table."""
@@ -147,7 +109,7 @@ class Reader:
 
     def document(self):
         """The whole text."""
-        place = self.gap(3 if self.text.startswith(MARK) else 0)
+        place = self.gap(len(MARK) if self.text.startswith(MARK) else 0)
         root = table = Node(TABLE, {}, place, HEADER)
         while place < len(self.text):
             if self.sign(place) == b"[":
@@ -172,8 +134,4 @@ def close(table):
 
 def read(text):
     """The table that a document is; `Unread` where it is no TOML."""
-    try:
-        text.decode()
-    except UnicodeDecodeError as error:
-        raise Unread(error.start, "a byte that isn't of UTF-8") from None
-    return Reader(text).document()
+    return Reader(reading.decodable(text)).document()

@@ -6,6 +6,7 @@ import math
 import re
 
 from shared.mistakes.nodes import DATE, NUMBER, TRUTH, WHOLE, Node, Unread, content, unescaped
+from shared.mistakes.reading import escape_fault, shown, unclosed
 
 MOST_DEEP = 80
 BLANK = re.compile(rb"[ \t]*+")
@@ -35,37 +36,11 @@ LIKE_A_DATE = re.compile(rb"[0-9]++[-:]")
 LONG = 400
 
 
-def shown(text):
-    """Some bytes as a sentence shows them."""
-    return text[:40].decode(errors="replace") + (".." if len(text) > 40 else "")
-
-
-def escape_fault(text, start, end):
-    """Where a text with escapes has one that TOML doesn't have; none where each is one."""
-    at = text.find(b"\\", start, end)
-    while at >= 0:
-        found = ESCAPE.match(text, at, end)
-        if not found:
-            return at
-        at = text.find(b"\\", found.end(), end)
-    return None
-
-
-def unclosed(text, at, end, quotes):
-    """Why a quoted text that begins at a byte has no end: what stands at its first byte that it can't have."""
-    byte = text[end : end + 1]
-    if byte == text[at : at + 1]:
-        return Unread(end, "more quotes stand side by side than a text has at its end")
-    if not byte or byte in b"\r\n":
-        return Unread(at, f"a text has no {quotes} at its end: {'its line' if byte else 'the file'} ends before")
-    return Unread(end, f"a text can't have the control character {byte[0]:#04x}; an escape stands for it")
-
-
 def taken(text, at, start, end):
     """The text that stands between the quotes of which the first begins at a byte."""
     if text[at : at + 1] == b"'" or text.find(b"\\", start, end) < 0:
         return text[start:end].decode()
-    fault = escape_fault(text, start, end)
+    fault = escape_fault(ESCAPE, text, start, end)
     if fault is not None:
         escape = shown(text[fault : fault + 2])
         raise Unread(fault, f"`{escape}` is no escape: a backslash that stands for itself is written twice, or between single quotes")
