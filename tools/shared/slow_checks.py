@@ -228,6 +228,13 @@ class Placed:
             entries += [self.entry(f"s{state}", link, apart[n % len(apart)]) for n in range(wide)]
         return json.dumps({"version": 2, "entries": entries}, separators=(",", ":")) + "\n"
 
+    def behind_all(self, states, wide, link, apart):
+        """The same with these entries behind those of all states for results, told apart by these, one after the other."""
+        document = json.loads(Placed.certificate(self, states, 0, link))
+        for state in range(states):
+            document["entries"] += [self.entry(f"s{state}", link, apart[n % len(apart)]) for n in range(wide)]
+        return json.dumps(document, separators=(",", ":")) + "\n"
+
     def most(self):
         """How many such entries the limits allow in all states, beside those for results."""
         return STATES * (ENTRIES - 3 * len(self.results()))
@@ -285,11 +292,7 @@ class Parted(Placed):
         return super().line(name, mode) if name not in "bg" else {"at": [*(one if name == "b" else other)]}
 
     def certificate(self, states, wide, link="sent"):
-        document = json.loads(super().certificate(states, 0, link))
-        whole = [(mode, CONTEXTS, CONTEXTS) for mode in MODES]
-        for state in range(states):
-            document["entries"] += [self.entry(f"s{state}", link, whole[n % len(whole)]) for n in range(wide)]
-        return json.dumps(document, separators=(",", ":")) + "\n"
+        return self.behind_all(states, wide, link, [(mode, CONTEXTS, CONTEXTS) for mode in MODES])
 
 
 class Shattered(Placed):
@@ -307,10 +310,7 @@ class Shattered(Placed):
         return super().line(name, ALWAYS[0]) if name == "a" else {"at": [*apart[OTHERS.index(name)]]}
 
     def certificate(self, states, wide, link="sent"):
-        document = json.loads(super().certificate(states, 0, link))
-        for state in range(states):
-            document["entries"] += [self.entry(f"s{state}", link, (CONTEXTS, CONTEXTS, CONTEXTS)) for _ in range(wide)]
-        return json.dumps(document, separators=(",", ":")) + "\n"
+        return self.behind_all(states, wide, link, [(CONTEXTS, CONTEXTS, CONTEXTS)])
 
 
 class Few(Placed):
@@ -345,10 +345,7 @@ class Moved(Placed):
         return occupied([4] * 6) * 4 ** len(self.with_remotes)
 
     def certificate(self, states, wide, link="sent"):
-        document = json.loads(super().certificate(states, 0, link))
-        for state in range(states):
-            document["entries"] += [self.entry(f"s{state}", link, "c") for _ in range(wide)]
-        return json.dumps(document, separators=(",", ":")) + "\n"
+        return self.behind_all(states, wide, link, ["c"])
 
 
 class Added(Moved):
@@ -396,10 +393,7 @@ class Emptied(Placed):
         return occupied([4] * (len(OTHERS) + len(EPHEMERALS)))
 
     def certificate(self, states, wide, link="sent"):
-        document = json.loads(super().certificate(states, 0, link))
-        for state in range(states):
-            document["entries"] += [self.entry(f"s{state}", link, 0) for _ in range(wide)]
-        return json.dumps(document, separators=(",", ":")) + "\n"
+        return self.behind_all(states, wide, link, [0])
 
 
 class Sought(Placed):
