@@ -191,12 +191,7 @@ def size_pairs():
 def check_by_size():
     """The processor time of a check with its half and its whole of points, entries and states, and the ratio, which is to be at most 2.2."""
     for name, *pair in size_pairs():
-        taken = []
-        for script, certificate in pair:
-            with tempfile.NamedTemporaryFile("w") as text:
-                text.write(f"{script}%%\n{certificate}")
-                text.flush()
-                taken.append(measuring.used(text.name, checks.PROGRAM, "check")[0])
+        taken = [seconds_of_whole(script, certificate) for script, certificate in pair]
         print(f"{name}: {taken[0]:.3f} s and {taken[1]:.3f} s, ratio {taken[1] / taken[0]:.2f}")
 
 
