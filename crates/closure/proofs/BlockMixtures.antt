@@ -13,7 +13,7 @@ use Rattle.mg_model.specs.declared.components.Remote.{Remote}
 use Rattle.mg_model.specs.Configuration.{Configuration, is_same}
 use Rattle.mg_model.specs.Entries.{Choice, Component, chosen, choices_of, same_choice, size_of, links, spots, modes, events, plays, contexts, remotes, cuts, link_choice, spot_choice, mode_choice, events_choice, plays_choice, context_choice, remote_choice, cut_choice}
 use Rattle.closure.specs.Mixtures.{AreMixed, HasOne, HaveEach, IsGiven, IsMixed, first_of}
-use Rattle.closure.proofs.ClassMembers.{both_true, given_here, same_number, same_termination, value_at}
+use Rattle.closure.proofs.GivenValues.{both_true, given_here, same_number, same_termination, value_at}
 
 module _ (all : List Component) where
   -- one is as it is itself

@@ -19,7 +19,7 @@ use Rattle.mg_model.specs.Configuration.{Configuration, IsWellFormed, is_in, is_
 use Rattle.mg_model.specs.Effects.{cuts_backward, cuts_forward, effect, is_elsewhere, is_legal, place_exists, remote_legal, remote_set, stands_at}
 use Rattle.mg_model.proofs.Cases.{and_first, and_second}
 use Rattle.closure.specs.Placing.{AddsAbsent}
-use Rattle.closure.proofs.ClassMembers.{both_true, same_termination}
+use Rattle.closure.proofs.GivenValues.{both_true, same_termination}
 use Rattle.closure.proofs.FormedPlaces.{emptied_live, left_cut, left_live, left_mode, left_named, left_unset, moved_cut, null_nowhere, put_absent, put_cut, put_live, put_present, to_same}
 
 absent_nowhere : (place : Place) → stands_at Absent place ≡ false

@@ -102,7 +102,7 @@ unfolding configuration_of
 in_four w (Line i) j here = line_below (field_of w.lines (8 + 11 * i) 3) j (if_there (nat_lt i 4) _ j here)
 in_four w (Ephemeral k) j here = ephemeral_below (field_of w.ephemerals (8 * k) 3) j (if_there (nat_lt k 4) _ j here)
 
-shared_in : (spot other : Spot) → is_shared spot other ≡ true → (j : ℕ) × ((is_in spot j ≡ true) × (is_in other j ≡ true))
+pub shared_in : (spot other : Spot) → is_shared spot other ≡ true → (j : ℕ) × ((is_in spot j ≡ true) × (is_in other j ≡ true))
 shared_in Absent other e = absurd (cc (e))
 shared_in Null other e = absurd (cc (e))
 shared_in (In j) other e = (j, (same_itself j, e))

@@ -18,7 +18,7 @@ use Rattle.mg_model.proofs.Built.{same_names}
 use Rattle.mg_model.proofs.Terminations.{is_same_is}
 use Rattle.configuration.specs.Config.{configuration_of}
 use Rattle.configuration.specs.Packed.{Words}
-use Rattle.closure.proofs.ClassLists.{all_of_few, few_and_one}
+use Rattle.closure.proofs.ListsSoFar.{all_of_few, few_and_one}
 use Rattle.closure.specs.Mixtures.{HasOne, IsMixed, AreAlike}
 
 pub contains_map : {X Y : Type 0} (f : X → Y) (xs : List X) (x : X) → Contains xs x → Contains (map f xs) (f x)

@@ -7,7 +7,7 @@ use Rattle.mg_model.specs.Configuration.{Configuration}
 use Rattle.mg_model.specs.Paths.{AreJoined, HasPath}
 use Rattle.closure.specs.Mixtures.{AreLinesMixedMarked, AreMixedMarked, AreOfState}
 use Rattle.closure.specs.Tests.{marks_pair}
-use Rattle.closure.proofs.ClassRest.{of_lines}
+use Rattle.closure.proofs.StepLists.{of_lines}
 use Rattle.closure.proofs.MarkLemmas.{apart_of, marked_pair}
 
 -- two lines that the test of marks takes for marked are so where they are joined

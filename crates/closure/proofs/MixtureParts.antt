@@ -5,7 +5,7 @@ use Rattle.mg_model.specs.Configuration.{Configuration, is_same}
 use Rattle.mg_model.specs.Entries.{Component, Entry, Allows, links, spots, modes, events, plays, contexts, remotes, cuts}
 use Rattle.closure.specs.Mixtures.{AreMixedCovered, HasOne, IsMixed}
 use Rattle.closure.specs.Parts.{HasPart, IsAllowed, with_component_of}
-use Rattle.closure.proofs.ClassMembers.{both_true, same_number, same_termination}
+use Rattle.closure.proofs.GivenValues.{both_true, same_number, same_termination}
 
 -- ---- a component asks for one value
 

@@ -25,7 +25,7 @@ use Rattle.closure.specs.Mixtures.{HasOne, IsMixed}
 use Rattle.closure.specs.Emptying.{AreMade}
 use Rattle.closure.specs.Placing.{AddsAbsent, AreLed, IsNowhere, IsSettledAt, IsUniform, LeavesAlone, unsettled, valued_at}
 use Rattle.closure.proofs.ByComponent.{mixed_by, valued_by}
-use Rattle.closure.proofs.ClassMembers.{same_number}
+use Rattle.closure.proofs.GivenValues.{same_number}
 use Rattle.closure.proofs.FormedPlaces.{left_nowhere, null_nowhere, settles_itself, stands_alike}
 use Rattle.closure.proofs.NamedMixtures.{each_config, stays_past}
 use Rattle.closure.proofs.SettleLemmas.{settled_all}

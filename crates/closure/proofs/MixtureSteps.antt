@@ -20,7 +20,7 @@ use Rattle.mg_model.specs.Request.{Names, built}
 use Rattle.mg_model.specs.Steps.{Step, all_kinds, bound_names, entering, executed, execution, names_unbound, observation, observations, refusals, reply_step, request_in, steps_by_link, with_link, with_state}
 use Rattle.closure.specs.Findings.{AreCovered}
 use Rattle.closure.specs.Mixtures.{AreAlike, AreMixedCovered, AreMixedEntered, AreMixedLineCovered, AreMixedLinked, AreMixedNotesCovered, AreMixedRepliesCovered, AreMixedRestsCovered, AreMixedStepsCovered, IsMixed}
-use Rattle.closure.proofs.ClassRest.{below_covered, both_covered, each_covered, none_covered, of_kinds, of_lines}
+use Rattle.closure.proofs.StepLists.{below_covered, both_covered, each_covered, none_covered, of_kinds, of_lines}
 use Rattle.closure.specs.Placing.{AreLed, AreMixedRequestsCovered}
 use Rattle.closure.specs.Found.{AreFound}
 use Rattle.closure.specs.Refusals.{SuitsNone}

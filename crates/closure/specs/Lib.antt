@@ -8,8 +8,7 @@ pub mod Tests
 pub mod Elementwise
 pub mod Visits
 pub mod Walk
-pub mod Settings
-pub mod Classes
+pub mod Counting
 pub mod Mixtures
 pub mod Ways
 pub mod Naming

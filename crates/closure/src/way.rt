@@ -1,5 +1,5 @@
-//! How the points that some components make of a configuration are passed: counted, class by class or where all obligations are known to hold of all of them;
-//! looked at one after the other; or taken in parts.
+//! How the points that some components make of a configuration are passed: counted, where all obligations are known to hold of all of them; looked at one after
+//! the other; or taken in parts.
 ghost use Rattle.std.specs.Prelude.{◌<◌, ◌^◌, IsTrue};
 ghost use Rattle.mg_model.specs.Entries.{size_of};
 ghost use Rattle.configuration.specs.Config.{configuration_of};
@@ -7,7 +7,6 @@ ghost use Rattle.entry_table.specs.Shown.{shown_all};
 ghost use Rattle.closure.specs.Mixtures.{IsBlockKept};
 ghost use Rattle.closure.specs.Ways.{IsWay};
 
-use crate::class_walk::decide;
 use crate::formed_count::count_formed;
 use crate::kept_block::{NUMBERS_A_MIXTURE, is_block_kept, is_block_marked};
 use crate::looks::Looks;
@@ -54,9 +53,6 @@ pub(crate) fn way_of(
     }
     let lent = looks.lend(script, components, config);
     let mut left = lent;
-    if let Some(points) = decide(script, cert, components, config, &mut left) {
-        return Way::Counted(points);
-    }
     if !is_block_kept(script, cert, components, config, &mut left) {
         looks.pay(&lent, &left);
         return Way::Split;

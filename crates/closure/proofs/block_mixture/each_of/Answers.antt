@@ -4,7 +4,7 @@ use Rattle.std.specs.List.{slice_index_or}
 use Rattle.mg_model.specs.Entries.{Component, choices_of, same_choice}
 use Rattle.configuration.specs.Config.{configuration_of}
 use Rattle.entry_table.specs.Shown.{shown, shown_all}
-use Rattle.closure.proofs.ClassLists.{all_of_few, as_many, few_and_one, none_of_few, shown_at}
+use Rattle.closure.proofs.ListsSoFar.{all_of_few, as_many, few_and_one, none_of_few, shown_at}
 use Rattle.closure.proofs.MixtureLemmas.{added_there}
 use Rattle.closure.proofs.block_mixture.each_of.Goals as goal
 

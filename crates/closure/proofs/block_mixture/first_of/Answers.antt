@@ -7,7 +7,7 @@ use Rattle.configuration.specs.Config.{configuration_of}
 use Rattle.configuration.proofs.NumberLemmas.{at}
 use Rattle.entry_table.specs.Shown.{shown, shown_all}
 use Rattle.closure.specs.Mixtures.{first_of}
-use Rattle.closure.proofs.ClassLists.{as_many, shown_at}
+use Rattle.closure.proofs.ListsSoFar.{as_many, shown_at}
 use Rattle.closure.proofs.block_mixture.first_of.Goals as goal
 
 pub loop-component-preserved : goal.loop-component-preserved

@@ -1,19 +1,31 @@
--- The one number is a point or none; or the points of each value of the first component are counted in turn.
-use Rattle.std.proofs.Common.{◌<◌, List, length, sym, subst, arith}
+-- The one number is a point or none; or the points of each value of the first component are counted in turn, or once for all.
+use Rattle.std.proofs.Common.{◌<◌, List, length, subst, arith}
 use Rattle.mg_model.specs.Configuration.{Configuration}
-use Rattle.mg_model.specs.Entries.{Component, choices_of, size_of}
+use Rattle.mg_model.specs.Entries.{Component, choices_of}
 use Rattle.configuration.specs.Config.{configuration_of}
 use Rattle.entry_table.specs.Shown.{shown, shown_all}
-use Rattle.closure.specs.Mixtures.{IsBlockKept, IsBlockMarked}
-use Rattle.closure.specs.Ways.{ArePassed}
-use Rattle.closure.proofs.CountedBlocks.{all_counted, counted_here, marked_inside, more_counted}
-use Rattle.closure.proofs.WalkLemmas.{kept_inside}
+use Rattle.closure.specs.Counting.{AreAllCounted}
+use Rattle.closure.proofs.FormedCounts.{all_counted, counted_here, free_counted, more_counted, none_counted}
 use Rattle.closure.proofs.formed_count.+count_formed.Goals as goal
 
 pub returns-in_default-clause-counted : goal.returns-in_default-clause-counted
 returns-in_default-clause-counted t c script entries =
     counted_here script entries c.args.components.now (configuration_of c.args.config.now) c.is_well_formed.result c.from.result c.in_default.ensures.cases
     c.from.ensures c.is_well_formed.ensures
+
+pub returns-then-keeps_form-clause-counted : goal.returns-then-keeps_form-clause-counted
+returns-then-keeps_form-clause-counted t c script entries =
+    free_counted script entries c.args.components.now c.in-Some.first.now c.in-Some.rest.now c.in-Some.ensures.cases.0 (configuration_of c.args.config.now)
+    c.count-then-keeps_form.result c.count-then-keeps_form.ensures c.count_formed.result (c.keeps_form.ensures c.if-keeps_form.true)
+    (subst (λ (d : Configuration). AreAllCounted (shown_all c.in-Some.rest.now) d script entries c.count_formed.result) c.choose.ensures
+    (c.count_formed.ensures.counted script entries))
+
+pub loop-place-init : goal.loop-place-init
+loop-place-init t c = record {
+  few = omega arith;
+  counted = λ script entries.
+      none_counted script entries (shown c.in-Some.first.now) (shown_all c.in-Some.rest.now) (configuration_of c.args.config.now);
+}
 
 pub loop-place-preserved : goal.loop-place-preserved
 loop-place-preserved t c =
@@ -23,19 +35,15 @@ loop-place-preserved t c =
     let lt : c.loop-place.place < length (choices_of first) = rw c.count-place-end.ensures at c.loop-place-test.true in
     record {
       few = omega (arith, c.loop-place.invariant.few, c.count_formed-points.ensures.few);
-      counted = λ script entries kept marked.
+      counted = λ script entries.
           more_counted script entries first rest config c.loop-place.place c.loop-place.points c.count_formed-points.result lt
-          (c.loop-place.invariant.counted script entries kept marked)
-          (subst (λ (d : Configuration). ArePassed script entries rest d (size_of rest) c.count_formed-points.result) c.choose.ensures
-          (c.count_formed-points.ensures.counted script entries
-          (subst (λ (d : Configuration). IsBlockKept script entries rest d) (sym c.choose.ensures)
-          (kept_inside script entries first rest config c.loop-place.place lt kept))
-          (subst (λ (d : Configuration). IsBlockMarked script rest d) (sym c.choose.ensures)
-          (marked_inside script first rest config c.loop-place.place lt marked))));
+          (c.loop-place.invariant.counted script entries)
+          (subst (λ (d : Configuration). AreAllCounted rest d script entries c.count_formed-points.result) c.choose-in-loop-place.ensures
+          (c.count_formed-points.ensures.counted script entries));
     }
 
 pub returns-clause-counted : goal.returns-clause-counted
 returns-clause-counted t c script entries =
     all_counted script entries c.args.components.now c.in-Some.first.now c.in-Some.rest.now c.in-Some.ensures.cases.0 (configuration_of c.args.config.now)
-    c.loop-place.place c.loop-place.points (rw c.count-place-end.ensures at c.loop-place.auto.place-end)
-    (rw c.count-place-end.ensures at c.loop-place-test.false) (c.loop-place.invariant.counted script entries)
+    c.count-place-end.result c.count-place-end.ensures c.loop-place.place c.loop-place.points c.loop-place.auto.place-end c.loop-place-test.false
+    (c.loop-place.invariant.counted script entries)

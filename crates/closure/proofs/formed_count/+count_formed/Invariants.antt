@@ -4,8 +4,7 @@ use Rattle.mg_model.specs.Entries.{Entry, size_of}
 use Rattle.mg_model.specs.Script.{Script}
 use Rattle.configuration.specs.Config.{configuration_of}
 use Rattle.entry_table.specs.Shown.{shown, shown_all}
-use Rattle.closure.specs.Mixtures.{IsBlockKept, IsBlockMarked}
-use Rattle.closure.specs.Ways.{ArePassed}
+use Rattle.closure.specs.Counting.{AreCounted}
 use Rattle.closure.proofs.formed_count.+count_formed.Given as goal
 
 -- the components that are left turn below
@@ -15,7 +14,6 @@ decreases-count_formed l = length l.components.now
 abbrev pub invariant-loop-place : goal.invariant-loop-place
 invariant-loop-place l = record {
   few : l.points ≤ l.place * size_of (shown_all l.rest);
-  counted : (script : Script) (entries : List Entry) → IsBlockKept script entries (shown l.first ∷ shown_all l.rest) (configuration_of l.config)
-      → IsBlockMarked script (shown l.first ∷ shown_all l.rest) (configuration_of l.config)
-      → ArePassed script entries (shown l.first ∷ shown_all l.rest) (configuration_of l.config) (l.place * size_of (shown_all l.rest)) l.points;
+  counted : (script : Script) (entries : List Entry)
+      → AreCounted (shown l.first ∷ shown_all l.rest) (configuration_of l.config) script entries (l.place * size_of (shown_all l.rest)) l.points;
 }

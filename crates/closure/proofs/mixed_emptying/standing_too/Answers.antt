@@ -3,7 +3,7 @@ use Rattle.std.proofs.Common.{◌≡◌, ◌∙◌, List, length, map, Contains,
 use Rattle.mg_model.specs.declared.commands.Termination.{Termination}
 use Rattle.configuration.specs.Config.{configuration_of}
 use Rattle.closure.specs.Emptying.{StandsToo}
-use Rattle.closure.proofs.ClassLists.{all_of_few, few_and_one, none_of_few}
+use Rattle.closure.proofs.ListsSoFar.{all_of_few, few_and_one, none_of_few}
 use Rattle.closure.proofs.MixtureEmptying.{all_stand_too}
 use Rattle.closure.proofs.mixed_emptying.standing_too.Goals as goal
 

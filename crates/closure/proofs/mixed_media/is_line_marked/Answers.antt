@@ -5,7 +5,7 @@ use Rattle.mg_model.specs.Paths.{AreJoined}
 use Rattle.mg_model.specs.Tables.{is_marked}
 use Rattle.configuration.specs.Config.{configuration_of}
 use Rattle.closure.specs.Mixtures.{IsMixed}
-use Rattle.closure.proofs.ClassRest.{of_lines}
+use Rattle.closure.proofs.StepLists.{of_lines}
 use Rattle.closure.proofs.mixed_media.is_line_marked.Goals as goal
 
 pub returns : goal.returns

@@ -4,7 +4,7 @@ use Rattle.mg_model.specs.Configuration.{Configuration}
 use Rattle.configuration.specs.Config.{configuration_of}
 use Rattle.entry_table.specs.Shown.{shown}
 use Rattle.closure.specs.Parts.{IsPart}
-use Rattle.closure.proofs.ClassLists.{none_of_few}
+use Rattle.closure.proofs.ListsSoFar.{none_of_few}
 use Rattle.closure.proofs.MixtureLemmas.{added_there, each_and_one, each_of_all, still_there}
 use Rattle.closure.proofs.mixed_parts.part_each.Goals as goal
 

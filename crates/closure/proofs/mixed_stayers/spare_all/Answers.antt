@@ -3,7 +3,7 @@ use Rattle.std.proofs.Common.{List, map, Contains, sym, subst}
 use Rattle.mg_model.specs.declared.commands.Command.{Command}
 use Rattle.configuration.specs.Config.{configuration_of}
 use Rattle.closure.specs.Stayers.{SparesAll}
-use Rattle.closure.proofs.ClassLists.{all_of_few, few_and_one, none_of_few}
+use Rattle.closure.proofs.ListsSoFar.{all_of_few, few_and_one, none_of_few}
 use Rattle.closure.proofs.MixtureStayers.{all_from}
 use Rattle.closure.proofs.mixed_stayers.spare_all.Goals as goal
 
