@@ -215,7 +215,7 @@ def seconds_of_whole(script, certificate):
 
 class Slow:
     """A slow input whose points differ in settings, and whose requests are sent. Near: the entries of results come first among those of their state; far: they
-    come last, and the plain checker asks all before them. Parted: what a step makes of a class lies in four entries."""
+    come last, and the plain checker asks all before them. Parted: what a step makes of an entry lies in four."""
 
     def __init__(self, lines, has_contexts, is_far, is_parted=False):
         self.lines, self.has_contexts, self.is_far, self.is_parted = lines, has_contexts, is_far, is_parted
@@ -251,7 +251,7 @@ class SlowAtRest:
 
 
 def slow_inputs():
-    """Those that are decided in classes: of each shape one near and one far, results in parts of each number of lines, and calls at rest."""
+    """Those whose points differ in settings alone: of each shape one near and one far, results in parts of each number of lines, and calls at rest."""
     for lines in slow_checks.SHAPES:
         for has_contexts in (False, True):
             yield Slow(lines, has_contexts, False)
@@ -274,7 +274,7 @@ def placed_inputs():
 
 
 def slowest():
-    """The slowest inputs within the limits. Those whose points are decided in classes are checked whole; those whose points differ in places, and the plain
+    """The slowest inputs within the limits. Those whose points differ in settings alone are checked whole; those whose points differ in places, and the plain
     checker's, are scaled from two inputs of a state, since a walk is linear in entries that are alike."""
     with tempfile.TemporaryDirectory() as folder:
         plain = build(folder)

@@ -1,5 +1,5 @@
 """Inputs of `mgcall check` that are answered `yes` and hold many points in few bytes, each with as many steps as a state can have: those of `script`, and of
-`resting_script` at rest, differ in what no command asks for, and are decided in classes; those of `Placed` differ in places."""
+`resting_script` at rest, differ in what no command asks for; those of `Placed` differ in places."""
 import itertools
 import json
 
@@ -57,7 +57,7 @@ def entry(lines, has_contexts, state, link, modes, is_wide=True):
 
 def in_parts(whole):
     """A wide entry in four that have its points between them: by halves of the second line's modes, and by its signals. So none has all that a step makes of
-    a class."""
+    it."""
     for modes, plays in itertools.product((MODES[:2], MODES[2:]), ("no", "may")):
         yield {**whole, "lines": {**whole["lines"], "b": {**whole["lines"]["b"], "mode": modes, "plays": [plays]}}}
 

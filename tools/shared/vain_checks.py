@@ -266,8 +266,8 @@ def vain():
 
 
 def settled():
-    """Points that differ in settings alone, which are decided in classes: what a step makes of a class lies in so many parts that a class of any size is looked
-    for in vain, of requests that are sent and of calls at rest."""
+    """Points that differ in settings alone: what a step makes of an entry lies in so many parts that they are asked for in vain, of requests that are sent and of
+    calls at rest."""
     turned = {f"lines.{line}.{key}": values for line in "bgh" for key, values in (("mode", MODES), ("events", LISTS[:4]), ("plays", ["no", "may"]))}
     turned["lines.a.plays"] = ["no", "may"]
     shattered = [[f"lines.b.{key}" for key in ("mode", "events", "plays")], *([f"lines.{line}.{key}" for key in ("mode", "events")] for line in "gh")]
