@@ -3,8 +3,12 @@ import functools
 import re
 from collections import namedtuple
 
+from gate import sentences
 from shared import crates
 
+# A function: what has it (a type or a trait, or nothing), its name, whether a user of the crate can call it, the first sentence of what stands above it, its
+# clauses, and the file.
+Function = namedtuple("Function", "owner name is_public said clauses path")
 # A clause: what has the function (a type or a trait, or nothing), the function, whether a user of the crate can call it, `requires` or `ensures`, the
 # clause's name (or nothing), its text, and the file.
 Clause = namedtuple("Clause", "owner function is_public kind name text path")
@@ -13,6 +17,7 @@ OWNER = re.compile(r"(?:pub(?:\([^)]*\))? )?(impl|trait)\b\s*(.* for )?&?(\w+)")
 CLAUSE = re.compile(r"\s*(requires|ensures)\*? (?:(\w+) )?\{")
 DEFINITION = re.compile(r"\s*(?:(?:abbrev|unfoldable|opaque) pub|pub (?:record|data)) ([^\s:]+)")
 IMPORT = re.compile(r"Rattle\.(\w+)\.specs\.([A-Z]\w*(?:\.[A-Z]\w*)*)")
+NAMES = re.compile(IMPORT.pattern + r"\.\{([^}]*)\}")
 
 
 def depth(text):
@@ -74,9 +79,19 @@ def exported(root):
     return frozenset(name for use in re.findall(r"^pub use ([^;]*);", text, re.MULTILINE) for name in re.findall(r"\w+", use))
 
 
+def said_above(lines):
+    """The first sentence of the remark that these lines end with; attributes may stand behind it."""
+    found = []
+    for line in (line.strip() for line in reversed(lines)):
+        if not line.startswith(("///", "#[")):
+            break
+        found += [line.removeprefix("///").strip()] if line.startswith("///") else []
+    return sentences.END.split(" ".join(reversed(found)).strip())[0]
+
+
 @functools.cache
-def clauses(crate):
-    """All clauses of a crate's functions."""
+def functions(crate):
+    """All functions of a crate."""
     root, found = crates.folder(crate) / "src", []
     files = sorted(root.rglob("*.rt"))
     open_files = {path for path in files if is_open(root, path)}
@@ -92,8 +107,15 @@ def clauses(crate):
                 own = owner if head[1] else None
                 is_pub = head[2] == "pub " or of_trait and own is not None
                 is_public = is_pub and (own in seen if own else path in open_files or head[3] in seen)
-                found += [Clause(own, head[3], is_public, *one, path) for one in split(contract(lines[place + 1 :], head[1]))]
+                of = [Clause(own, head[3], is_public, *one, path) for one in split(contract(lines[place + 1 :], head[1]))]
+                found.append(Function(own, head[3], is_public, said_above(lines[:place]), of, path))
     return found
+
+
+@functools.cache
+def clauses(crate):
+    """All clauses of a crate's functions."""
+    return [clause for function in functions(crate) for clause in function.clauses]
 
 
 def named(crate, function, name):
@@ -169,3 +191,15 @@ def reached(text, files):
 def reached_by(clause):
     """The definitions that a clause comes to."""
     return reached(clause.text, imports(clause.path.read_text()))
+
+
+def cited_by(clause):
+    """The definitions that a clause names, each as crate, path and name, in the order in which they stand there."""
+    files_of = {}
+    for crate, module, names in NAMES.findall(clause.path.read_text()):
+        for name in re.split(r",\s*", names.strip()):
+            files_of.setdefault(name, set()).add((crate, module.replace(".", "/")))
+    found = []
+    for word in dict.fromkeys(re.findall(r"[^\W\d][\w']*", clause.text)):
+        found += [(*file, word) for file in sorted(handed_on(files_of.get(word, ()))) if word in definitions(*file)[0]]
+    return found
