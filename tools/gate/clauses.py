@@ -18,6 +18,7 @@ CLAUSE = re.compile(r"\s*(requires|ensures)\*? (?:(\w+) )?\{")
 DEFINITION = re.compile(r"\s*(?:(?:abbrev|unfoldable|opaque) pub|pub (?:record|data)) ([^\s:]+)")
 IMPORT = re.compile(r"Rattle\.(\w+)\.specs\.([A-Z]\w*(?:\.[A-Z]\w*)*)")
 NAMES = re.compile(IMPORT.pattern + r"\.\{([^}]*)\}")
+ALIAS = re.compile(IMPORT.pattern + r" as (\w+)")
 
 
 def depth(text):
@@ -193,13 +194,23 @@ def reached_by(clause):
     return reached(clause.text, imports(clause.path.read_text()))
 
 
+@functools.cache
+def words(path):
+    """What words of a file stand for: names of definitions, each with crate, path and name; and names of whole files of definitions, with crate and path."""
+    text, of_names, of_files = path.read_text(), {}, {}
+    for crate, module, names in NAMES.findall(text):
+        for name, _, other in (one.strip().partition(" as ") for one in names.split(",")):
+            of_names.setdefault(other or name, set()).add((crate, module.replace(".", "/"), name))
+    for crate, module, other in ALIAS.findall(text):
+        of_files.setdefault(other, set()).add((crate, module.replace(".", "/")))
+    return of_names, of_files
+
+
 def cited_by(clause):
     """The definitions that a clause names, each as crate, path and name, in the order in which they stand there."""
-    files_of = {}
-    for crate, module, names in NAMES.findall(clause.path.read_text()):
-        for name in re.split(r",\s*", names.strip()):
-            files_of.setdefault(name, set()).add((crate, module.replace(".", "/")))
+    of_names, of_files = words(clause.path)
     found = []
-    for word in dict.fromkeys(re.findall(r"[^\W\d][\w']*", clause.text)):
-        found += [(*file, word) for file in sorted(handed_on(files_of.get(word, ()))) if word in definitions(*file)[0]]
+    for first, second in dict.fromkeys(re.findall(r"([^\W\d][\w']*)(?:\.([^\W\d][\w']*))?(?:\.[\w']+)*", clause.text)):
+        named = sorted({*of_names.get(first, ()), *((*file, second) for file in of_files.get(first, ()))})
+        found += [(*file, name) for *file, name in named for file in sorted(handed_on({tuple(file)})) if name in definitions(*file)[0]]
     return found
