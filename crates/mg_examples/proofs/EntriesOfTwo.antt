@@ -5,7 +5,7 @@ use Rattle.std.proofs.lemmas.List.Elements.{All-append, All-cons, All-nil, All-f
 use Rattle.std.specs.Prelude.{◌||◌, Contains}
 use Rattle.std.specs.List.{All}
 use Rattle.mg_names.specs.declared.context_values.ContextValue.{ContextValue}
-use Rattle.mg_names.specs.declared.context_values.ContextValue.TheVariants.{Free, Live}
+use Rattle.mg_names.specs.declared.context_values.ContextValue.TheVariants.{Free, Live, Stale}
 use Rattle.mg_names.specs.declared.modes.Mode.{Mode}
 use Rattle.mg_names.specs.declared.phases.LinkPhase.{LinkPhase}
 use Rattle.mg_model.specs.declared.commands.EventsName.{EventsName}
@@ -122,7 +122,7 @@ pub record LineValues : Type 0 where
   pub event : EventsName
   pub play : Bool
 
-abbrev values_at : ℕ → Configuration → LineValues
+abbrev pub values_at : ℕ → Configuration → LineValues
 values_at i c = record { spot = c.spot (Line i); mode = c.mode (Line i); event = c.events i; play = c.plays i }
 
 abbrev pub LineReads : ℕ → EventsName → Place → Configuration → Type 0
@@ -196,33 +196,32 @@ pub is_free_live : (test : Bool) → is_live (if test then Free else Free) ≡ f
 is_free_live true = refl
 is_free_live false = refl
 
+-- where its context is gone
+pub is_stale_live : (test : Bool) → is_live (if test then Stale else Free) ≡ false
+is_stale_live true = refl
+is_stale_live false = refl
+
+-- a number is the first one, or it isn't, whichever way that is asked
+pub either_way : (P : Bool → Bool → Type 0) → P true true → P false false → (j : ℕ) → P (j == 0) (0 == j)
+either_way P is other j = subst (P (j == 0)) (same_turned j 0) (both (j == 0))
+  where
+    both : (test : Bool) → P test test
+    both true = is
+    both false = other
+
 -- where the first line stands in the first context
 pub is_first_live : (j : ℕ) → is_live (if j == 0 then Live else Free) ≡ ((0 == j) || false)
-is_first_live j = at_once (j == 0) (0 == j) (same_turned 0 j)
-  where
-    at_once : (test turned : Bool) → turned ≡ test → is_live (if test then Live else Free) ≡ (turned || false)
-    at_once true turned same = sym (ap (λ x. x || false) same)
-    at_once false turned same = sym (ap (λ x. x || false) same)
+is_first_live = either_way (λ test turned. is_live (if test then Live else Free) ≡ (turned || false)) refl refl
 
 -- where the first line was put into the first context, which was free
 pub is_first_settled : (j : ℕ)
     → is_live (value_of (if j == 0 then Live else (if j == 0 then Free else Free)) ((0 == j) || false)) ≡ ((0 == j) || false)
-is_first_settled j = at_once (j == 0) (0 == j) (same_turned 0 j)
-  where
-    at_once : (test turned : Bool) → turned ≡ test
-        → is_live (value_of (if test then Live else (if test then Free else Free)) (turned || false)) ≡ (turned || false)
-    at_once true true same = refl
-    at_once true false same = absurd (true≢false (sym same))
-    at_once false true same = absurd (true≢false same)
-    at_once false false same = refl
+is_first_settled =
+    either_way (λ test turned. is_live (value_of (if test then Live else (if test then Free else Free)) (turned || false)) ≡ (turned || false)) refl refl
 
 -- where both lines stand in the first context
 pub is_both_live : (j : ℕ) → is_live (if j == 0 then Live else Free) ≡ ((0 == j) || ((0 == j) || false))
-is_both_live j = at_once (j == 0) (0 == j) (same_turned 0 j)
-  where
-    at_once : (test turned : Bool) → turned ≡ test → is_live (if test then Live else Free) ≡ (turned || (turned || false))
-    at_once true turned same = sym (ap (λ x. x || (x || false)) same)
-    at_once false turned same = sym (ap (λ x. x || (x || false)) same)
+is_both_live = either_way (λ test turned. is_live (if test then Live else Free) ≡ (turned || (turned || false))) refl refl
 
 pub point_formed : (state : ℕ) (link : LinkPhase) (list : EventsName) (first second : Place) (value : Option ContextValue)
     → LiveWhereStood (point_of state link list first second value) → IsWellFormed (point_of state link list first second value)
@@ -263,10 +262,13 @@ point_covered entries state linked link list first second value among in_them li
     (subst (Contains linked) (sym at.1) in_them) (point_formed state link list first second value live) (point_reads state link list first second value)
 
 -- so is what a call opens in, and what it is in after a restart: no name is in use
+pub unused_formed : (state : ℕ) (link : LinkPhase) (list : EventsName) → IsWellFormed (unused 2 state link list)
+unused_formed state link list = plain_formed (unused 2 state link list) (λ j. refl) (record { mode = λ k. refl; remote = λ k. refl; uncut = λ t u. refl })
+
 pub unused_covered : (entries : List Entry) (state : ℕ) (linked : List LinkPhase) (link : LinkPhase) (list : EventsName) (value : Option ContextValue)
     → HasValue value (unused 2 state link list) → Contains entries (entry_of state linked list null null value) → Contains linked link
     → IsCovered entries (unused 2 state link list)
 unused_covered entries state linked link list value has among in_them =
     is_covered state linked list null null value (unused 2 state link list) entries among refl in_them
-    (plain_formed (unused 2 state link list) (λ j. refl) (record { mode = λ k. refl; remote = λ k. refl; uncut = λ t u. refl }))
+    (unused_formed state link list)
     (record { first_line = refl; second_line = refl; context = has; cut_to = refl; cut_from = refl })

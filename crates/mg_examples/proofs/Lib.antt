@@ -10,6 +10,8 @@ pub mod QuietStates
 pub mod PointFacts
 pub mod FirstFaults
 pub mod EntriesOfTwo
+pub mod EntryRows
+pub mod Duties
 pub mod TwoLines
 pub mod TwoLinesOpening
 pub mod Creations
@@ -18,7 +20,6 @@ pub mod TalkExecuted
 pub mod TalkRun
 pub mod CallingRun
 pub mod RecoveringRun
-pub mod IdleEntries
 pub mod TalkEntries
 pub mod TalkUnbroken
 pub mod TwoTalksRun

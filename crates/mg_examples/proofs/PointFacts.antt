@@ -1,6 +1,7 @@
 -- From facts of each number of each entry to facts of each point and of each step; and small laws of configurations: when one is well
 -- formed, and that no two of two lines are joined where the second stands in the null context.
 use Rattle.std.proofs.Common.{eqb-true, ◌≡◌, ◌∙◌, ◌<◌, ◌==◌, ℕ, zero, suc, Bool, true, false, if◌then◌else◌, List, [], ◌∷◌, length, Option, Some, is_some, refl, sym, ap, subst, arith, true≢false, inl, inr}
+use Rattle.std.proofs.lemmas.Bool.{and_parts}
 use Rattle.std.proofs.lemmas.Grind.{common_steps}
 use Rattle.std.specs.Prelude.{◌⊎◌, slice_get, not, ◌&&◌, IsTrue, unwrap_or}
 use Rattle.mg_names.specs.declared.context_values.ContextValue.{ContextValue}
@@ -13,12 +14,13 @@ use Rattle.mg_model.specs.declared.components.Remote.{Remote}
 use Rattle.mg_model.specs.declared.components.Remote.TheVariants.{Unset, Gone, To}
 use Rattle.mg_model.specs.declared.components.Spot.{Spot}
 use Rattle.mg_model.specs.declared.components.Spot.TheVariants.{Absent, Null, In}
+use Rattle.mg_model.specs.declared.transitions.Pair.{Pair}
 use Rattle.mg_model.specs.Configuration.{Configuration, IsWellFormed, is_same, is_live, is_in, stands_in}
 use Rattle.mg_model.specs.Entries.{Entry, IsCovered, numbered, size_of}
 use Rattle.mg_model.specs.Effects.{with_pair}
 use Rattle.mg_model.specs.Obligations.{AtPoint, JoinedAreMarked, NamesAreLive, Holds, OfPoint, EndedCleared, StepCovered}
 use Rattle.mg_model.specs.Steps.{Step, steps_of}
-use Rattle.mg_model.specs.Tables.{state_of}
+use Rattle.mg_model.specs.Tables.{is_marked, state_of}
 use Rattle.mg_model.specs.Paths.{hops, goes_over, is_shared, passes_in, passes_out, crosses, HasPath}
 use Rattle.mg_model.specs.Script.{Script}
 use Rattle.mg_model.proofs.Cases.{three_parts}
@@ -43,6 +45,17 @@ Below P entry (suc n) = (IsWellFormed (numbered entry n) → P (numbered entry n
 unfoldable pub EachPoint : (Configuration → Type 0) → List Entry → Type 0
 EachPoint P [] = Unit {0}
 EachPoint P (entry ∷ more) = Below P entry (size_of entry.components) × EachPoint P more
+
+-- a fact of the one point of an entry and of its two points, the last number first, whether they are well formed or not; and then those of more entries
+pub one_point : {A B : Type 0} → B → (A → B) × Unit {0}
+one_point first = ((λ formed. first), tt)
+
+pub two_points : {A B C D : Type 0} → B → D → (C → D) × ((A → B) × Unit {0})
+two_points first second = ((λ formed. second), one_point first)
+
+infixr 5 ◌▹◌
+pub ◌▹◌ : {A B : Type 0} → A → B → A × B
+its ▹ others = (its, others)
 
 lies_before : (n size : ℕ) → n < suc size → (n == size) ≡ false → n < size
 lies_before n size within other = grind (arith, common_steps)
@@ -146,6 +159,25 @@ none_joined script c two null i j first second joined =
     either (inl path) one = no_path c (Line i) (Line j) path.crossings one path.goes
     either (inr path) (inl e) = no_path c (Line j) (Line i) path.crossings (inr e) path.goes
     either (inr path) (inr e) = no_path c (Line j) (Line i) path.crossings (inl e) path.goes
+
+-- two lines that differ are the first and the second
+pair_marked : (talk : List Pair) → IsTrue (is_marked talk 0 1 && is_marked talk 1 0) → (i j : ℕ) → i < 2 → j < 2 → (i ≡ j → ⊥) → IsTrue (is_marked talk i j)
+pair_marked talk both zero zero first second differ = absurd (differ refl)
+pair_marked talk both zero (suc zero) first second differ = (and_parts (is_marked talk 0 1) (is_marked talk 1 0) both).0
+pair_marked talk both (suc zero) zero first second differ = (and_parts (is_marked talk 0 1) (is_marked talk 1 0) both).1
+pair_marked talk both (suc zero) (suc zero) first second differ = absurd (differ refl)
+pair_marked talk both (suc (suc i)) j first second differ = absurd (let out : suc (suc i) < 2 = first in omega (arith, out))
+pair_marked talk both i (suc (suc j)) first second differ = absurd (let out : suc (suc j) < 2 = second in omega (arith, out))
+
+-- so a state that marks them, either way round, marks all that can be joined in a script of two lines
+pub two_marked : (script : Script) (c : Configuration) → length script.lines ≡ 2
+    → IsTrue (is_marked (state_of script c.state).talk 0 1 && is_marked (state_of script c.state).talk 1 0) → JoinedAreMarked script c
+two_marked script c two both i j first second joined =
+    pair_marked (state_of script c.state).talk both i j (subst (λ n. i < n) two first) (subst (λ n. j < n) two second) (differ joined)
+  where
+    differ : HasPath c i j ⊎ HasPath c j i → i ≡ j → ⊥
+    differ (inl path) e = path.another e
+    differ (inr path) e = path.another (sym e)
 
 -- ---- names
 
