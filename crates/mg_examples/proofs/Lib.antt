@@ -14,6 +14,7 @@ pub mod EntryRows
 pub mod Duties
 pub mod TwoLines
 pub mod TwoLinesOpening
+pub mod RunSteps
 pub mod Creations
 pub mod TwoLinesJoined
 pub mod TalkExecuted

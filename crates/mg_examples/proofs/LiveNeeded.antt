@@ -10,7 +10,7 @@ use Rattle.mg_model.specs.declared.line_events.LineEvent.TheVariants as event
 use Rattle.mg_model.specs.Agent.{Agent, noted, replied}
 use Rattle.mg_model.specs.Tables.{line_places}
 use Rattle.mg_model.specs.declared.events.Event.{Event}
-use Rattle.mg_model.specs.World.{World, on_a_line, execute, reply, note, AgentSteps, agent_steps, Opened, IsFirst, IsGood, Runs}
+use Rattle.mg_model.specs.World.{World, on_a_line, execute, reply, note, agent_steps, Opened, IsFirst, IsGood, Runs}
 use Rattle.mg_examples.specs.Needed.{IsNeeded, fault_at}
 use Rattle.mg_examples.specs.Talk.{call, off_hook}
 use Rattle.mg_examples.specs.TwoTalks.{other_call}
@@ -20,8 +20,9 @@ use Rattle.mg_examples.specs.NamesKept.{name_kept, name_kept_entries}
 use Rattle.mg_examples.proofs.NumberReused.{puts, takes_out, puts_back, taken_out, put_back, with_one, emptied, freed, with_other, with_both, one_put, one_settled, one_taken_out, one_freed, other_put, other_settled, one_put_back, both_settled}
 use Rattle.mg_examples.proofs.OneCommand.{asks, answer, world_after, executes}
 use Rattle.mg_examples.proofs.TwoLinesJoined.{not_good}
-use Rattle.mg_examples.proofs.TwoLinesOpening.{agent, opened_world, opens, IsWaiting, off_hook_world, goes_off}
+use Rattle.mg_examples.proofs.TwoLinesOpening.{agent, opened_world, opens, off_hook_world, goes_off}
 use Rattle.mg_examples.proofs.TwoTalksRun.{calls, distinct}
+use Rattle.mg_examples.proofs.RunSteps.{◌after◌▹◌}
 
 -- ---- the agents: of a call in `make`, and of the first call in `leave` and in `again`
 
@@ -71,18 +72,6 @@ w10 = world_after w9 7 3 puts_back with_both with_both put_back
 
 -- ---- the first call: its line is put into a context and subtracted, and the request to add it again is sent
 
-waits : IsWaiting w0.gateway call
-waits = record { association = refl; held = refl; is_armed = refl; none_sent = refl }
-
-makes : AgentSteps w1 7 (λ a. noted name_kept a (line_places name_kept) (off_hook call)) w2
-makes = record { before = agent name_kept call; agent = making call; open_call = refl; steps = refl; after_is = refl }
-
-leaves : AgentSteps w3 7 (λ a. replied name_kept a (answer 7 1 (made 1))) w4
-leaves = record { before = making call; agent = leaving; open_call = refl; steps = refl; after_is = refl }
-
-returns : AgentSteps w5 7 (λ a. replied name_kept a (answer 7 2 taken_out)) w6
-returns = record { before = leaving; agent = returning; open_call = refl; steps = refl; after_is = refl }
-
 first_put : IsFirst w2 (asks 7 1 (puts 1)) None w3
 first_put = executes w2 7 1 (puts 1) with_one with_one (made 1) one_put one_settled refl (omega (arith))
 
@@ -90,12 +79,6 @@ first_taken_out : IsFirst w4 (asks 7 2 takes_out) None w5
 first_taken_out = executes w4 7 2 takes_out emptied freed taken_out one_taken_out one_freed refl (omega (arith))
 
 -- ---- the other call: its line is put into a context
-
-also_waits : IsWaiting w6.gateway other_call
-also_waits = record { association = refl; held = refl; is_armed = refl; none_sent = refl }
-
-also_makes : AgentSteps w7 8 (λ a. noted name_kept a (line_places name_kept) (off_hook other_call)) w8
-also_makes = record { before = agent name_kept other_call; agent = making other_call; open_call = refl; steps = refl; after_is = refl }
 
 other_is_put : IsFirst w8 (asks 8 1 (puts 3)) None w9
 other_is_put = executes w8 8 1 (puts 3) with_other with_other (made 1) other_put other_settled refl (omega (arith))
@@ -107,68 +90,46 @@ put_beside = executes w9 7 3 puts_back with_both with_both put_back one_put_back
 
 -- ---- the run
 
-abbrev last_events : List Event
-last_events = on_a_line 8 3 (event.Hook hooks.Off) ∷ note 8 1 ∷ execute 8 1 None ∷ execute 7 3 None ∷ []
-
-abbrev middle_events : List Event
-middle_events = execute 7 2 None ∷ reply 7 2 ∷ last_events
-
 abbrev events : List Event
-events = on_a_line 7 1 (event.Hook hooks.Off) ∷ note 7 1 ∷ execute 7 1 None ∷ reply 7 1 ∷ middle_events
+events =
+    on_a_line 7 1 (event.Hook hooks.Off) ∷ note 7 1 ∷ execute 7 1 None ∷ reply 7 1 ∷ execute 7 2 None ∷ reply 7 2
+    ∷ on_a_line 8 3 (event.Hook hooks.Off) ∷ note 8 1 ∷ execute 8 1 None ∷ execute 7 3 None ∷ []
 
-other_runs : Runs name_kept last_events w6 w10
+other_runs : Runs name_kept (on_a_line 8 3 (event.Hook hooks.Off) ∷ note 8 1 ∷ execute 8 1 None ∷ execute 7 3 None ∷ []) w6 w10
 unfolding Runs
-other_runs = (
-  w7,
-  (
-    goes_off w6 other_call also_waits,
-    (
-      w8,
-      (
-        (off_hook other_call, ((0, omega (arith), refl), refl, refl), also_makes),
-        (
-          w9,
-          (
-            (asks 8 1 (puts 3), ((0, omega (arith), refl), refl, refl), inl other_is_put),
-            (w10, ((asks 7 3 puts_back, ((1, omega (arith), refl), refl, refl), inl put_beside), refl)),
-          ),
-        ),
-      ),
-    ),
-  ),
-)
-
-leaves_and_on : Runs name_kept middle_events w4 w10
-unfolding Runs
-leaves_and_on = (
-  w5,
-  (
-    (asks 7 2 takes_out, ((0, omega (arith), refl), refl, refl), inl first_taken_out),
-    (w6, ((answer 7 2 taken_out, ((0, omega (arith), refl), refl, refl), returns), other_runs)),
-  ),
-)
+other_runs =
+    w7 after goes_off w6 other_call (record { association = refl; held = refl; is_armed = refl; none_sent = refl })
+    ▹ w8 after (
+      off_hook other_call,
+      ((0, omega (arith), refl), refl, refl),
+      record { before = agent name_kept other_call; agent = making other_call; open_call = refl; steps = refl; after_is = refl },
+    )
+    ▹ w9 after (asks 8 1 (puts 3), ((0, omega (arith), refl), refl, refl), inl other_is_put)
+    ▹ w10 after (asks 7 3 puts_back, ((1, omega (arith), refl), refl, refl), inl put_beside)
+    ▹ refl
 
 run : Runs name_kept events w0 w10
 unfolding Runs
-run = (
-  w1,
-  (
-    goes_off w0 call waits,
-    (
-      w2,
-      (
-        (off_hook call, ((0, omega (arith), refl), refl, refl), makes),
-        (
-          w3,
-          (
-            (asks 7 1 (puts 1), ((0, omega (arith), refl), refl, refl), inl first_put),
-            (w4, ((answer 7 1 (made 1), ((0, omega (arith), refl), refl, refl), leaves), leaves_and_on)),
-          ),
-        ),
-      ),
-    ),
-  ),
-)
+run =
+    w1 after goes_off w0 call (record { association = refl; held = refl; is_armed = refl; none_sent = refl })
+    ▹ w2 after (
+      off_hook call,
+      ((0, omega (arith), refl), refl, refl),
+      record { before = agent name_kept call; agent = making call; open_call = refl; steps = refl; after_is = refl },
+    )
+    ▹ w3 after (asks 7 1 (puts 1), ((0, omega (arith), refl), refl, refl), inl first_put)
+    ▹ w4 after (
+      answer 7 1 (made 1),
+      ((0, omega (arith), refl), refl, refl),
+      record { before = making call; agent = leaving; open_call = refl; steps = refl; after_is = refl },
+    )
+    ▹ w5 after (asks 7 2 takes_out, ((0, omega (arith), refl), refl, refl), inl first_taken_out)
+    ▹ w6 after (
+      answer 7 2 taken_out,
+      ((0, omega (arith), refl), refl, refl),
+      record { before = leaving; agent = returning; open_call = refl; steps = refl; after_is = refl },
+    )
+    ▹ other_runs
 
 -- ---- lines of two calls are joined
 

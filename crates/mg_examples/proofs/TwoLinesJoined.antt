@@ -59,6 +59,12 @@ pub record IsReady (b : Board) (one : Opened) (context : ℕ) : Type 0 where
   -- no number is barred but those of what stands
   pub exact : IsSettled b b
 
+pub is_ready : (b : Board) (one : Opened) (context : ℕ) → (one.lines 0 ≡ one.lines 1 → ⊥) → is_context_number context
+    → (b.row (line_at one 0) ≡ Some null_row) × (b.row (line_at one 1) ≡ Some null_row) × (b.cut (line_at one 0) (line_at one 1) ≡ false)
+    × (b.used_context context ≡ false) × IsTrue (b.class context) → IsSettled b b → IsReady b one context
+is_ready b one context differ is_number is exact =
+    record { differ = differ; first_row = is.0; second_row = is.1; uncut = is.2; is_number = is_number; not_given = is.3; in_class = is.4; exact = exact }
+
 abbrev pub with_first : Board → Opened → ℕ → Board
 with_first b one context = created b (one.lines 0) (Some SendReceive) None context
 

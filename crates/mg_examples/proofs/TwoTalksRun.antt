@@ -2,23 +2,21 @@
 -- both replies are taken.
 use Rattle.std.proofs.Common.{◌≡◌, ◌+◌, ◌<◌, ℕ, List, [], ◌∷◌, length, None, refl, arith, inl}
 use Rattle.std.specs.Prelude.{unwrap_or, Contains}
-use Rattle.mg_model.specs.declared.line_events.Hook.TheVariants as hooks
-use Rattle.mg_model.specs.declared.line_events.LineEvent.TheVariants as event
 use Rattle.mg_model.specs.Agent.{Agent, noted, replied}
 use Rattle.mg_model.specs.Script.{Script}
 use Rattle.mg_model.specs.Tables.{line_places}
-use Rattle.mg_model.specs.declared.events.Event.{Event}
-use Rattle.mg_model.specs.World.{World, on_a_line, note, execute, reply, AgentSteps, agent_steps, Opened, AreDistinct, Runs}
+use Rattle.mg_model.specs.World.{World, execute, reply, agent_steps, Opened, AreDistinct, Runs}
 use Rattle.mg_examples.specs.Talk.{call, off_hook, to_talk, all_done}
 use Rattle.mg_examples.specs.TwoLines.{to_talk_off_hook, calling}
 use Rattle.mg_examples.specs.TwoTalks.{both_lines, other_call, to_two_talks, TwoCallsTalk}
 use Rattle.mg_examples.proofs.Finding.{of_both}
-use Rattle.mg_examples.proofs.TalkEntries.{all_listed}
+use Rattle.mg_examples.proofs.TalkEntries.{all_listed, two}
 use Rattle.mg_examples.proofs.TalkUnbroken.{none_broken}
 use Rattle.mg_examples.proofs.TwoLines.{is_script}
 use Rattle.mg_examples.proofs.TalkExecuted.{executes}
-use Rattle.mg_examples.proofs.TwoLinesJoined.{IsReady, talking_world, joined, both_settled}
-use Rattle.mg_examples.proofs.TwoLinesOpening.{agent, opened_world, opens, IsWaiting, off_hook_world, goes_off, opening_settled}
+use Rattle.mg_examples.proofs.TwoLinesJoined.{IsReady, talking_world, joined, both_settled, is_ready}
+use Rattle.mg_examples.proofs.TwoLinesOpening.{agent, opened_world, opens, off_hook_world, goes_off, opening_settled}
+use Rattle.mg_examples.proofs.RunSteps.{◌after◌▹◌}
 
 abbrev script : Script
 script = calling both_lines
@@ -79,31 +77,14 @@ abbrev w4 : World
 w4 = agent_steps w3 8 (asking other_call)
 
 ready : IsReady w4.gateway.board call 1
-ready = record {
-  differ = λ e. omega (arith, e);
-  first_row = refl;
-  second_row = refl;
-  uncut = refl;
-  is_number = (omega (arith), omega (arith));
-  not_given = refl;
-  in_class = refl;
-  exact = opening_settled (call ∷ other_call ∷ []);
-}
+ready = is_ready w4.gateway.board call 1 (λ e. omega (arith, e)) (omega (arith), omega (arith)) (refl, refl, refl, refl, refl) (opening_settled calls)
 
 abbrev w5 : World
 w5 = talking_world w4 call 1 ready
 
 also_ready : IsReady w5.gateway.board other_call 2
-also_ready = record {
-  differ = λ e. omega (arith, e);
-  first_row = refl;
-  second_row = refl;
-  uncut = refl;
-  is_number = (omega (arith), omega (arith));
-  not_given = refl;
-  in_class = refl;
-  exact = both_settled w4.gateway.board call 1 ready;
-}
+also_ready = is_ready w5.gateway.board other_call 2 (λ e. omega (arith, e)) (omega (arith), omega (arith)) (refl, refl, refl, refl, refl)
+    (both_settled w4.gateway.board call 1 ready)
 
 abbrev w6 : World
 w6 = talking_world w5 other_call 2 also_ready
@@ -114,61 +95,41 @@ w7 = agent_steps w6 8 (at_rest other_call 2)
 abbrev w8 : World
 w8 = agent_steps w7 7 (at_rest call 1)
 
--- ---- lines 1 and 3 go off hook
+-- ---- the run: lines 1 and 3 go off hook, both calls enter `talk`, and so on
 
-waits : IsWaiting w0.gateway call
-waits = record { association = refl; held = refl; is_armed = refl; none_sent = refl }
-
-also_waits : IsWaiting w1.gateway other_call
-also_waits = record { association = refl; held = refl; is_armed = refl; none_sent = refl }
-
--- ---- the steps of the agents
-
-enters : AgentSteps w2 7 (λ a. noted script a (line_places script) (off_hook call)) w3
-enters = record { before = agent script call; agent = asking call; open_call = refl; steps = refl; after_is = refl }
-
-other_enters : AgentSteps w3 8 (λ a. noted script a (line_places script) (off_hook other_call)) w4
-other_enters = record { before = agent script other_call; agent = asking other_call; open_call = refl; steps = refl; after_is = refl }
-
-other_rests : AgentSteps w6 8 (λ a. replied script a (all_done other_call 2)) w7
-other_rests = record { before = asking other_call; agent = at_rest other_call 2; open_call = refl; steps = refl; after_is = refl }
-
-rests : AgentSteps w7 7 (λ a. replied script a (all_done call 1)) w8
-rests = record { before = asking call; agent = at_rest call 1; open_call = refl; steps = refl; after_is = refl }
-
--- ---- the run
-
-module _ (more : List Event) (end : World) where
-  off_hook_twice : Runs script more w2 end → Runs script (on_a_line 7 1 (event.Hook hooks.Off) ∷ on_a_line 8 3 (event.Hook hooks.Off) ∷ more) w0 end
-  unfolding Runs
-  off_hook_twice goes_on = (w1, (goes_off w0 call waits, (w2, (goes_off w1 other_call also_waits, goes_on))))
-
-  both_enter : Runs script more w4 end → Runs script (note 7 1 ∷ note 8 1 ∷ more) w2 end
-  unfolding Runs
-  both_enter goes_on = (w3, ((off_hook call, ((1, omega (arith), refl), refl, refl), enters), (w4, ((off_hook other_call, ((0, omega (arith), refl), refl, refl), other_enters), goes_on))))
-
-  both_executed : Runs script more w6 end → Runs script (execute 7 1 None ∷ execute 8 1 None ∷ more) w4 end
-  unfolding Runs
-  both_executed goes_on = (
-    w5,
-    (
-      (to_talk call None, ((1, omega (arith), refl), refl, refl), inl (executes w4 call 1 ready refl refl (omega (arith)))),
-      (w6, ((to_talk other_call None, ((0, omega (arith), refl), refl, refl), inl (executes w5 other_call 2 also_ready refl refl (omega (arith)))), goes_on)),
-    ),
-  )
-
-both_taken : Runs script (reply 8 1 ∷ reply 7 1 ∷ []) w6 w8
+executed_and_taken : Runs script (execute 7 1 None ∷ execute 8 1 None ∷ reply 8 1 ∷ reply 7 1 ∷ []) w4 w8
 unfolding Runs
-both_taken = (w7, ((all_done other_call 2, ((0, omega (arith), refl), refl, refl), other_rests), (w8, ((all_done call 1, ((1, omega (arith), refl), refl, refl), rests), refl))))
+executed_and_taken =
+    w5 after (to_talk call None, ((1, omega (arith), refl), refl, refl), inl (executes w4 call 1 ready refl refl (omega (arith))))
+    ▹ w6 after (to_talk other_call None, ((0, omega (arith), refl), refl, refl), inl (executes w5 other_call 2 also_ready refl refl (omega (arith))))
+    ▹ w7 after (
+      all_done other_call 2,
+      ((0, omega (arith), refl), refl, refl),
+      record { before = asking other_call; agent = at_rest other_call 2; open_call = refl; steps = refl; after_is = refl },
+    )
+    ▹ w8 after (
+      all_done call 1,
+      ((1, omega (arith), refl), refl, refl),
+      record { before = asking call; agent = at_rest call 1; open_call = refl; steps = refl; after_is = refl },
+    )
+    ▹ refl
 
 run : Runs script to_two_talks w0 w8
+unfolding Runs
 run =
-    off_hook_twice
-    (note 7 1 ∷ note 8 1 ∷ execute 7 1 None ∷ execute 8 1 None ∷ answers) w8
-    (both_enter (execute 7 1 None ∷ execute 8 1 None ∷ answers) w8 (both_executed answers w8 both_taken))
-  where
-    answers : List Event
-    answers = reply 8 1 ∷ reply 7 1 ∷ []
+    w1 after goes_off w0 call (record { association = refl; held = refl; is_armed = refl; none_sent = refl })
+    ▹ w2 after goes_off w1 other_call (record { association = refl; held = refl; is_armed = refl; none_sent = refl })
+    ▹ w3 after (
+      off_hook call,
+      ((1, omega (arith), refl), refl, refl),
+      record { before = agent script call; agent = asking call; open_call = refl; steps = refl; after_is = refl },
+    )
+    ▹ w4 after (
+      off_hook other_call,
+      ((0, omega (arith), refl), refl, refl),
+      record { before = agent script other_call; agent = asking other_call; open_call = refl; steps = refl; after_is = refl },
+    )
+    ▹ executed_and_taken
 
 pub two_calls_talk : TwoCallsTalk
 two_calls_talk = record {
