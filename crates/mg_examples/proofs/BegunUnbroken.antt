@@ -3,12 +3,8 @@
 use Rattle.std.proofs.Common.{◌≡◌, refl, arith}
 use Rattle.std.proofs.lemmas.List.Elements.{All-from_recursion}
 use Rattle.std.specs.List.{All}
-use Rattle.mg_names.specs.declared.phases.LinkPhase.TheVariants.{Answered, Failed, Resting}
-use Rattle.mg_model.specs.declared.commands.EventsName.TheVariants.{Empty, Armed}
-use Rattle.mg_model.specs.Accepted.{IsScript, IsStateOf, IsCommandOf, IsEntryOf}
-use Rattle.mg_model.specs.Entries.{IsCovered}
-use Rattle.mg_model.specs.Obligations.{NoneBroken}
-use Rattle.mg_model.specs.Steps.{opening, reset, with_link}
+use Rattle.mg_examples.proofs.Words.{Answered, Failed, Resting, Empty, Armed, IsScript, IsStateOf, IsCommandOf, IsEntryOf, IsCovered, NoneBroken, opening}
+use Rattle.mg_examples.proofs.Words.{reset, with_link}
 use Rattle.mg_examples.specs.BegunTalk.{renewing, renewing_entries}
 use Rattle.mg_examples.specs.TwoLines.{talk}
 use Rattle.mg_examples.specs.TwoTalks.{both_lines}

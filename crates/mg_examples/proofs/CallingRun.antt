@@ -3,12 +3,9 @@
 use Rattle.std.proofs.Common.{List, [], ◌∷◌, None, refl, arith, inl}
 use Rattle.std.specs.Prelude.{unwrap_or}
 use Rattle.mg_model.specs.declared.line_events.Hook.TheVariants as hooks
-use Rattle.mg_model.specs.Agent.{Agent, noted}
+use Rattle.mg_examples.proofs.Words.{Agent, noted, Script, line_places, Event, World, on_a_line, note, execute, AgentSteps, agent_steps}
 use Rattle.mg_model.specs.declared.line_events.LineEvent.TheVariants as event
-use Rattle.mg_model.specs.Script.{Script}
-use Rattle.mg_model.specs.Tables.{line_places}
-use Rattle.mg_model.specs.declared.events.Event.{Event}
-use Rattle.mg_model.specs.World.{World, on_a_line, note, execute, AgentSteps, agent_steps, Runs}
+use Rattle.mg_model.specs.World.{Runs}
 use Rattle.mg_examples.specs.Needed.{EndsBadly}
 use Rattle.mg_examples.specs.Talk.{call, off_hook}
 use Rattle.mg_model.proofs.Single.{first_in}

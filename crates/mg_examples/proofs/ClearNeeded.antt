@@ -4,21 +4,14 @@ use Rattle.std.proofs.Common.{◌≡◌, List, [], ◌∷◌, refl, sym, ap, ari
 use Rattle.std.proofs.lemmas.List.Elements.{All-from_recursion}
 use Rattle.std.specs.Prelude.{unwrap_or, ◌⊎◌}
 use Rattle.std.specs.List.{All}
-use Rattle.mg_names.specs.declared.phases.LinkPhase.TheVariants.{Answered, Resting}
-use Rattle.mg_model.specs.declared.commands.EventsName.TheVariants.{Empty, Armed}
-use Rattle.mg_model.specs.Agent.{Agent, heard, passed}
-use Rattle.mg_model.specs.Entries.{numbered}
-use Rattle.mg_model.specs.Gateway.{restarted}
-use Rattle.mg_model.specs.LineEvents.{ListItem}
+use Rattle.mg_examples.proofs.Words.{Answered, Resting, Empty, Armed, Agent, heard, passed, numbered, restarted, ListItem, Claim, OpeningCovered, ResetCovered}
+use Rattle.mg_examples.proofs.Words.{OfPoint, JoinedMarked, EndedCleared, CreatedUnbound, NamesLive, StepCovered, Holds, obligation_of, ComesBefore, opening}
+use Rattle.mg_examples.proofs.Words.{reset, Event, Restart, World, hear, pass, IsGood, with_gateway, agent_steps, IsScript, IsStateOf, IsEntryOf}
 use Rattle.mg_names.specs.declared.obligations.Obligation.TheVariants as obligation
-use Rattle.mg_model.specs.Obligations.{Claim, OpeningCovered, ResetCovered, OfPoint, JoinedMarked, EndedCleared, CreatedUnbound, NamesLive, StepCovered, Holds, obligation_of, ComesBefore, EndedIsCleared}
-use Rattle.mg_model.specs.Steps.{opening, reset}
+use Rattle.mg_model.specs.Obligations.{EndedIsCleared}
 use Rattle.mg_model.specs.Tables.{is_empty}
-use Rattle.mg_model.specs.declared.events.Event.{Event}
-use Rattle.mg_model.specs.declared.events.Event.TheVariants.{Restart}
-use Rattle.mg_model.specs.World.{World, hear, pass, Runs, IsGood, with_gateway, agent_steps}
+use Rattle.mg_model.specs.World.{Runs}
 use Rattle.mg_examples.specs.Needed.{IsNeeded, fault_at}
-use Rattle.mg_model.specs.Accepted.{IsScript, IsStateOf, IsEntryOf}
 use Rattle.mg_examples.proofs.PointFacts.{Below, EachPoint, EachCovered, steps_covered, one_point, two_points, ◌▹◌}
 use Rattle.mg_examples.proofs.EntriesOfTwo.{HasTwoLines, unused_formed}
 use Rattle.mg_examples.specs.Unarmed.{unarmed, ended, resting_idle, unarmed_entries}

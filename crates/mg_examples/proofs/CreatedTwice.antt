@@ -4,16 +4,12 @@ use Rattle.std.proofs.Common.{◌≡◌, ◌<◌, ℕ, true, [], ◌∷◌, refl
 use Rattle.std.proofs.lemmas.List.Elements.{All-from_recursion}
 use Rattle.std.specs.Prelude.{◌⊎◌}
 use Rattle.std.specs.List.{All}
-use Rattle.mg_names.specs.declared.phases.LinkPhase.TheVariants.{Sent, Answered, Resting}
-use Rattle.mg_model.specs.declared.commands.EventsName.TheVariants.{Empty, Armed}
-use Rattle.mg_model.specs.Configuration.{Configuration}
+use Rattle.mg_examples.proofs.Words.{Sent, Answered, Resting, Empty, Armed, Configuration, numbered, IsCovered, Claim, OpeningCovered, ResetCovered, OfPoint}
+use Rattle.mg_examples.proofs.Words.{JoinedMarked, EndedCleared, CreatedUnbound, NamesLive, StepCovered, Holds, obligation_of, ComesBefore, CreatedAreUnbound}
+use Rattle.mg_examples.proofs.Words.{opening, reset, with_link, IsScript, IsStateOf, IsCommandOf, IsEntryOf}
 use Rattle.mg_model.specs.Effects as effects
-use Rattle.mg_model.specs.Entries.{numbered, IsCovered}
 use Rattle.mg_names.specs.declared.obligations.Obligation.TheVariants as obligation
-use Rattle.mg_model.specs.Obligations.{Claim, OpeningCovered, ResetCovered, OfPoint, JoinedMarked, EndedCleared, CreatedUnbound, NamesLive, StepCovered, Holds, obligation_of, ComesBefore, CreatedAreUnbound}
-use Rattle.mg_model.specs.Steps.{opening, reset, with_link}
 use Rattle.mg_examples.specs.Needed.{BreaksOnly, fault_at}
-use Rattle.mg_model.specs.Accepted.{IsScript, IsStateOf, IsCommandOf, IsEntryOf}
 use Rattle.mg_examples.proofs.PointFacts.{Below, EachPoint, EachCovered, steps_covered, plain_formed, one_point, two_points, ◌▹◌}
 use Rattle.mg_examples.specs.CreatedTwice.{created_twice, add, at_idle, before_first, after_first, before_second, at_lost, created_twice_entries}
 use Rattle.mg_examples.proofs.QuietStates.{no_command}

@@ -3,18 +3,11 @@
 use Rattle.std.proofs.Common.{◌≡◌, ◌∙◌, ◌==◌, ◌<◌, arith, true, ℕ, Bool, false, List, [], Option, Some, None, is_some, refl, sym, ap, true≢false, inl, inr}
 use Rattle.std.specs.Prelude.{◌||◌, not, IsTrue}
 use Rattle.std.proofs.lemmas.Bool.{eq-eqb}
-use Rattle.mg_names.specs.declared.codes.Code.TheVariants.{UnknownContext, UnknownTermination, AlreadyInContext, NotInContext, InternalFailure, InsufficientResources}
+use Rattle.mg_examples.proofs.Words.{UnknownContext, UnknownTermination, AlreadyInContext, NotInContext, InternalFailure, InsufficientResources, Mode, Row}
+use Rattle.mg_examples.proofs.Words.{Board, place_in, mode_of, remote_of, same_term, IsSettled, choose, null, Done, Lists, IsExecuted, IsLegal, row_at}
+use Rattle.mg_examples.proofs.Words.{is_context_number, ListItem, Number, RequestCommand, add_line, item_at, null_row}
 use Rattle.mg_names.specs.declared.identifiers.TermId.TheVariants.{Line}
-use Rattle.mg_names.specs.declared.modes.Mode.{Mode}
-use Rattle.mg_model.specs.declared.rows.Row.{Row}
-use Rattle.mg_model.specs.Board.{Board, place_in, mode_of, remote_of, same_term, IsSettled}
-use Rattle.mg_model.specs.Numbers.{choose, null}
-use Rattle.mg_model.specs.Items.{Chosen, Done, Lists, IsExecuted, IsLegal, effect, row_at, is_context_number}
-use Rattle.mg_model.specs.LineEvents.{ListItem}
-use Rattle.mg_model.specs.declared.references.ContextRef.TheVariants.{Number}
-use Rattle.mg_model.specs.Messages.{RequestCommand, add_line}
-use Rattle.mg_model.specs.RequestRun.{item_at}
-use Rattle.mg_model.specs.Board.{null_row}
+use Rattle.mg_model.specs.Items.{Chosen, effect}
 use Rattle.mg_model.proofs.Cases.{false_not_true, where_true, where_false}
 use Rattle.mg_model.proofs.Single.{none_in}
 use Rattle.mg_examples.proofs.Settled.{still_settled, given_or, given_still, given_here}

@@ -3,22 +3,16 @@
 use Rattle.std.proofs.Common.{◌≡◌, ◌∙◌, ◌<◌, ◌==◌, ℕ, Bool, true, false, if◌then◌else◌, List, [], length, Option, Some, None, refl, sym, ap, subst, true≢false, inl, inr}
 use Rattle.std.proofs.lemmas.Bool.{and_from, and_parts}
 use Rattle.std.specs.Prelude.{◌⊎◌, ◌&&◌, ◌||◌, not, IsTrue, unwrap_or}
-use Rattle.mg_names.specs.declared.context_values.ContextValue.{ContextValue}
-use Rattle.mg_names.specs.declared.context_values.ContextValue.TheVariants.{Free, Stale}
-use Rattle.mg_names.specs.declared.phases.LinkPhase.{LinkPhase}
-use Rattle.mg_names.specs.declared.phases.LinkPhase.TheVariants.{Sent, Answered, Failed, Resting}
-use Rattle.mg_model.specs.declared.commands.EventsName.{EventsName}
-use Rattle.mg_model.specs.declared.commands.Termination.TheVariants.{Line, Ephemeral}
-use Rattle.mg_model.specs.declared.components.Remote.TheVariants.{Unset}
-use Rattle.mg_model.specs.declared.components.Spot.{Spot}
-use Rattle.mg_model.specs.declared.components.Spot.TheVariants.{Absent, Null, In}
+use Rattle.mg_examples.proofs.Words.{ContextValue, Free, Stale, LinkPhase, Sent, Answered, Failed, Resting, EventsName, Ephemeral, Unset, Spot, Absent, Null}
+use Rattle.mg_examples.proofs.Words.{In, Configuration, Entry, IsCovered, Claim, ComesBefore, CreatedUnbound, EndedCleared, Holds, JoinedMarked, NamesLive}
+use Rattle.mg_examples.proofs.Words.{NoneBroken, OfPoint, OpeningCovered, ResetCovered, StepCovered, obligation_of, Script, opening, reset, steps_of, is_marked}
+use Rattle.mg_examples.proofs.Words.{state_of}
+use Rattle.mg_model.specs.declared.commands.Termination.TheVariants.{Line}
 use Rattle.mg_model.specs.declared.faults.Fault.{Fault}
-use Rattle.mg_model.specs.Configuration.{Configuration, is_null}
-use Rattle.mg_model.specs.Entries.{Entry, IsCovered}
-use Rattle.mg_model.specs.Obligations.{Asks, Claim, ComesBefore, CreatedUnbound, Duty, EndedCleared, Holds, IsCleared, JoinedMarked, NamesLive, NoneBroken, OfPoint, OpeningCovered, ResetCovered, StepCovered, NamesStep, entry_named, obligation_of, point_named}
-use Rattle.mg_model.specs.Script.{Script}
-use Rattle.mg_model.specs.Steps.{names_unbound, opening, reset, steps_of}
-use Rattle.mg_model.specs.Tables.{is_armed_list, is_marked, items_of, state_of}
+use Rattle.mg_model.specs.Configuration.{is_null}
+use Rattle.mg_model.specs.Obligations.{Asks, Duty, IsCleared, NamesStep, entry_named, point_named}
+use Rattle.mg_model.specs.Steps.{names_unbound}
+use Rattle.mg_model.specs.Tables.{is_armed_list, items_of}
 use Rattle.mg_model.proofs.Cases.{denied, false_not_true}
 use Rattle.mg_examples.specs.EntriesOfTwo.{Place, list_at}
 use Rattle.mg_examples.specs.Needed.{BreaksOnly}

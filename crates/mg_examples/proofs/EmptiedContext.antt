@@ -4,22 +4,15 @@
 use Rattle.std.proofs.Common.{◌≡◌, ◌∙◌, ◌≤◌, ◌<◌, ℕ, Bool, true, false, if◌then◌else◌, [], ◌∷◌, Option, Some, None, refl, sym, subst, arith, inl, inr}
 use Rattle.std.proofs.lemmas.Bool.{eqb-true}
 use Rattle.std.specs.Prelude.{◌==◌, ◌&&◌, Contains, IsTrue}
-use Rattle.mg_names.specs.declared.codes.Code.TheVariants.{UnknownContext, UnknownTermination, AlreadyInContext, NotInContext, InternalFailure, InsufficientResources}
-use Rattle.mg_names.specs.declared.identifiers.TermId.{TermId}
-use Rattle.mg_names.specs.declared.identifiers.TermId.TheVariants.{Line, Eph}
+use Rattle.mg_examples.proofs.Words.{UnknownContext, UnknownTermination, AlreadyInContext, NotInContext, InternalFailure, InsufficientResources, TermId, Eph}
+use Rattle.mg_examples.proofs.Words.{ContextRef, Number, Row, Board, exists, null_row, mode_of, remote_of, place_in, place_of, IsSettled, fresh, Gateway}
+use Rattle.mg_examples.proofs.Words.{after_request, offer_to, start_of, Done, IsExecuted, IsLegal, Lists, row_at, Request, Reply, RequestCommand, subtract}
+use Rattle.mg_examples.proofs.Words.{null, Running, after_command, item_at, World, IsFirst, with_gateway}
+use Rattle.mg_names.specs.declared.identifiers.TermId.TheVariants.{Line}
 use Rattle.mg_model.specs.declared.failures.Failure.{Failure}
-use Rattle.mg_model.specs.declared.references.ContextRef.{ContextRef}
-use Rattle.mg_model.specs.declared.references.ContextRef.TheVariants.{Number}
 use Rattle.mg_model.specs.declared.references.TerminationRef.TheVariants as on
-use Rattle.mg_model.specs.declared.rows.Row.{Row}
-use Rattle.mg_model.specs.Board.{Board, exists, null_row, mode_of, remote_of, place_in, place_of, IsSettled}
-use Rattle.mg_model.specs.Delivery.{fresh}
-use Rattle.mg_model.specs.Gateway.{Gateway, after_request, offer_to, start_of}
-use Rattle.mg_model.specs.Items.{Done, IsExecuted, IsLegal, Lists, effect, rank, row_at}
-use Rattle.mg_model.specs.Messages.{Request, Reply, RequestCommand, subtract}
-use Rattle.mg_model.specs.Numbers.{null}
-use Rattle.mg_model.specs.RequestRun.{Fails, Running, RunsFrom, Succeeds, after_command, item_at}
-use Rattle.mg_model.specs.World.{World, IsFirst, with_gateway}
+use Rattle.mg_model.specs.Items.{effect, rank}
+use Rattle.mg_model.specs.RequestRun.{Fails, RunsFrom, Succeeds}
 use Rattle.mg_model.proofs.Cases.{and_first, false_not_true}
 use Rattle.mg_model.proofs.Single.{none_in, only_one, only_here}
 use Rattle.mg_examples.proofs.Creations.{CanCreate, creates, created, creation_executed, created_settled, made, none_listed, picks}

@@ -4,20 +4,12 @@ use Rattle.std.proofs.Common.{◌≡◌, ◌<◌, ◌==◌, ◌++◌, ℕ, zero,
 use Rattle.std.proofs.lemmas.List.Elements.{All-append, All-cons, All-nil, All-from_recursion}
 use Rattle.std.specs.Prelude.{◌||◌, Contains}
 use Rattle.std.specs.List.{All}
-use Rattle.mg_names.specs.declared.context_values.ContextValue.{ContextValue}
-use Rattle.mg_names.specs.declared.context_values.ContextValue.TheVariants.{Free, Live, Stale}
-use Rattle.mg_names.specs.declared.modes.Mode.{Mode}
-use Rattle.mg_names.specs.declared.phases.LinkPhase.{LinkPhase}
-use Rattle.mg_model.specs.declared.commands.EventsName.{EventsName}
-use Rattle.mg_model.specs.declared.commands.Termination.{Termination}
-use Rattle.mg_model.specs.declared.commands.Termination.TheVariants.{Line, Ephemeral}
-use Rattle.mg_model.specs.declared.components.Spot.{Spot}
-use Rattle.mg_model.specs.Configuration.{Configuration, IsWellFormed, is_live, is_same, stands_in, value_of}
-use Rattle.mg_model.specs.Effects.{with_pair}
-use Rattle.mg_model.specs.Entries.{Entry, Allows, IsCovered, numbered, links, spots, modes, events, plays, contexts, cuts}
-use Rattle.mg_model.specs.Script.{Script}
-use Rattle.mg_model.specs.Steps.{unused}
-use Rattle.mg_model.specs.Accepted.{IsEntryOf, HasOne, IsSlot, IsContext, is_spots, is_modes, is_events, is_plays, is_contexts, is_cuts}
+use Rattle.mg_examples.proofs.Words.{ContextValue, Free, Live, Stale, Mode, LinkPhase, EventsName, Termination, Ephemeral, Spot, Configuration, IsWellFormed}
+use Rattle.mg_examples.proofs.Words.{is_live, is_same, stands_in, value_of, with_pair, Entry, IsCovered, numbered, links, Script, unused, IsEntryOf, HasOne}
+use Rattle.mg_examples.proofs.Words.{IsContext, is_contexts}
+use Rattle.mg_model.specs.declared.commands.Termination.TheVariants.{Line}
+use Rattle.mg_model.specs.Entries.{Allows, spots, modes, events, plays, contexts, cuts}
+use Rattle.mg_model.specs.Accepted.{IsSlot, is_spots, is_modes, is_events, is_plays, is_cuts}
 use Rattle.mg_model.proofs.Cases.{same_turned}
 use Rattle.mg_examples.specs.EntriesOfTwo.{Place, null, contexts_of, list_at, line_of, no_cuts, entry_of}
 use Rattle.mg_examples.proofs.PointFacts.{below_one, below_two, plain_formed, pair_uncut}

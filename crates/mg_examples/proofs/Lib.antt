@@ -1,4 +1,5 @@
 -- worked rows of the definitions
+pub mod Words
 pub mod BasicRows
 pub mod BegunTalkRun
 pub mod BegunUnbroken

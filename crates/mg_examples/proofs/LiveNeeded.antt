@@ -7,10 +7,8 @@ use Rattle.std.specs.Prelude.{unwrap_or}
 use Rattle.mg_names.specs.declared.obligations.Obligation.TheVariants as obligation
 use Rattle.mg_model.specs.declared.line_events.Hook.TheVariants as hooks
 use Rattle.mg_model.specs.declared.line_events.LineEvent.TheVariants as event
-use Rattle.mg_model.specs.Agent.{Agent, noted, replied}
-use Rattle.mg_model.specs.Tables.{line_places}
-use Rattle.mg_model.specs.declared.events.Event.{Event}
-use Rattle.mg_model.specs.World.{World, on_a_line, execute, reply, note, agent_steps, Opened, IsFirst, IsGood, Runs}
+use Rattle.mg_examples.proofs.Words.{Agent, noted, replied, line_places, Event, World, on_a_line, execute, reply, note, agent_steps, Opened, IsFirst, IsGood}
+use Rattle.mg_model.specs.World.{Runs}
 use Rattle.mg_examples.specs.Needed.{IsNeeded, fault_at}
 use Rattle.mg_examples.specs.Talk.{call, off_hook}
 use Rattle.mg_examples.specs.TwoTalks.{other_call}

@@ -3,9 +3,9 @@
 -- line 1 goes off hook.
 use Rattle.std.proofs.Common.{◌≡◌, [], refl, sym, ap, arith, true≢false, inl, inr, None, ◌∷◌}
 use Rattle.std.specs.Prelude.{◌==◌, ◌⊎◌}
-use Rattle.mg_model.specs.Entries.{numbered}
+use Rattle.mg_examples.proofs.Words.{numbered, Claim, OpeningCovered, ResetCovered, OfPoint, JoinedMarked, EndedCleared, CreatedUnbound, NamesLive, StepCovered}
+use Rattle.mg_examples.proofs.Words.{Holds, obligation_of, ComesBefore, JoinedAreMarked, Answered}
 use Rattle.mg_names.specs.declared.obligations.Obligation.TheVariants as obligation
-use Rattle.mg_model.specs.Obligations.{Claim, OpeningCovered, ResetCovered, OfPoint, JoinedMarked, EndedCleared, CreatedUnbound, NamesLive, StepCovered, Holds, obligation_of, ComesBefore, JoinedAreMarked}
 use Rattle.mg_examples.specs.Needed.{IsNeeded, fault_at}
 use Rattle.mg_examples.specs.TwoLines.{to_talk_off_hook, calling}
 use Rattle.mg_examples.proofs.CallingRun.{calling_ends_badly}
@@ -14,7 +14,6 @@ use Rattle.mg_examples.proofs.TalkEntries.{all_listed, all_stepped, reads, two, 
 use Rattle.mg_examples.specs.TalkEntries.{both, reachable, idle_unarmed, idle_armed, sent, half, stopped_at_once, stopped_half}
 use Rattle.mg_examples.proofs.TwoLines.{is_script}
 use Rattle.mg_examples.proofs.FirstFaults.{holds_before, place_before}
-use Rattle.mg_names.specs.declared.phases.LinkPhase.TheVariants.{Answered}
 use Rattle.mg_examples.proofs.Duties.{each_meets, holds, breaks_only}
 use Rattle.mg_examples.proofs.EntryRows.{row_formed, row_in}
 

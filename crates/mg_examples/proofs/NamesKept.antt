@@ -4,20 +4,14 @@ use Rattle.std.proofs.Common.{◌≡◌, ℕ, zero, suc, Bool, true, false, if�
 use Rattle.std.proofs.lemmas.List.Elements.{All-from_recursion}
 use Rattle.std.specs.Prelude.{◌==◌, ◌||◌, ◌⊎◌}
 use Rattle.std.specs.List.{All}
-use Rattle.mg_names.specs.declared.context_values.ContextValue.TheVariants.{Free}
+use Rattle.mg_examples.proofs.Words.{Free, Sent, Answered, Resting, Subtract, Empty, Armed, IsScript, IsStateOf, IsCommandOf, IsEntryOf, Configuration, is_live}
+use Rattle.mg_examples.proofs.Words.{is_same, value_of, numbered, IsCovered, Claim, OpeningCovered, ResetCovered, OfPoint, JoinedMarked, EndedCleared}
+use Rattle.mg_examples.proofs.Words.{CreatedUnbound, NamesLive, StepCovered, Holds, obligation_of, ComesBefore, NamesAreLive, opening, reset, with_link}
+use Rattle.mg_examples.proofs.Words.{state_of}
 use Rattle.mg_names.specs.declared.context_values.ContextValue.TheVariants as value
 use Rattle.mg_names.specs.declared.obligations.Obligation.TheVariants as obligation
-use Rattle.mg_names.specs.declared.phases.LinkPhase.TheVariants.{Sent, Answered, Resting}
-use Rattle.mg_model.specs.declared.commands.Command.TheVariants.{Subtract}
-use Rattle.mg_model.specs.declared.commands.EventsName.TheVariants.{Empty, Armed}
 use Rattle.mg_model.specs.declared.commands.Termination.TheVariants.{Line}
-use Rattle.mg_model.specs.Accepted.{IsScript, IsStateOf, IsCommandOf, IsEntryOf}
-use Rattle.mg_model.specs.Configuration.{Configuration, is_live, is_same, value_of}
 use Rattle.mg_model.specs.Effects as effects
-use Rattle.mg_model.specs.Entries.{numbered, IsCovered}
-use Rattle.mg_model.specs.Obligations.{Claim, OpeningCovered, ResetCovered, OfPoint, JoinedMarked, EndedCleared, CreatedUnbound, NamesLive, StepCovered, Holds, obligation_of, ComesBefore, NamesAreLive}
-use Rattle.mg_model.specs.Steps.{opening, reset, with_link}
-use Rattle.mg_model.specs.Tables.{state_of}
 use Rattle.mg_examples.specs.Needed.{BreaksOnly, fault_at}
 use Rattle.mg_examples.specs.NamesKept.{name_kept, add, at_idle, before_make, after_make, before_leave, after_leave, before_again, at_lost, name_kept_entries}
 use Rattle.mg_examples.proofs.QuietStates.{no_command}

@@ -3,18 +3,12 @@
 use Rattle.std.proofs.Common.{◌≡◌, ◌∙◌, ℕ, Bool, true, false, if◌then◌else◌, [], ◌∷◌, Option, Some, None, refl, sym, subst, arith, inl, inr}
 use Rattle.std.proofs.lemmas.Bool.{eqb-true}
 use Rattle.std.specs.Prelude.{◌==◌, ◌&&◌, Contains, IsTrue}
-use Rattle.mg_names.specs.declared.codes.Code.TheVariants.{UnknownContext, UnknownTermination, AlreadyInContext, NotInContext, InternalFailure, InsufficientResources}
-use Rattle.mg_names.specs.declared.identifiers.TermId.{TermId}
-use Rattle.mg_names.specs.declared.identifiers.TermId.TheVariants.{Line, Eph}
-use Rattle.mg_names.specs.declared.modes.Mode.TheVariants.{SendReceive}
-use Rattle.mg_model.specs.declared.references.ContextRef.TheVariants.{Number}
+use Rattle.mg_examples.proofs.Words.{UnknownContext, UnknownTermination, AlreadyInContext, NotInContext, InternalFailure, InsufficientResources, TermId, Eph}
+use Rattle.mg_examples.proofs.Words.{SendReceive, Number, Row, Board, exists, null_row, place_in, place_of, same_term, IsSettled, Done, IsExecuted, IsLegal}
+use Rattle.mg_examples.proofs.Words.{Lists, RequestCommand, add_line, subtract, choose, null, item_at}
+use Rattle.mg_names.specs.declared.identifiers.TermId.TheVariants.{Line}
 use Rattle.mg_model.specs.declared.references.TerminationRef.TheVariants as on
-use Rattle.mg_model.specs.declared.rows.Row.{Row}
-use Rattle.mg_model.specs.Board.{Board, exists, null_row, place_in, place_of, same_term, IsSettled}
-use Rattle.mg_model.specs.Items.{Done, IsExecuted, IsLegal, Lists, effect}
-use Rattle.mg_model.specs.Messages.{RequestCommand, add_line, subtract}
-use Rattle.mg_model.specs.Numbers.{choose, null}
-use Rattle.mg_model.specs.RequestRun.{item_at}
+use Rattle.mg_model.specs.Items.{effect}
 use Rattle.mg_model.proofs.Cases.{and_first, false_not_true, where_false}
 use Rattle.mg_model.proofs.Single.{none_in, only_one, only_here}
 use Rattle.mg_examples.proofs.Creations.{CanCreate, creates, created, creation_executed, created_settled, made, none_listed, picks}

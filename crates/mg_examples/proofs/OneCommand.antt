@@ -1,13 +1,11 @@
 -- A request of one command is executed in any world where its command is, its number is fresh, and the call was sent few notes: with the
 -- message that asks for it, the reply, and the world after it.
 use Rattle.std.proofs.Common.{◌≡◌, ◌≤◌, ℕ, List, [], ◌∷◌, ◌++◌, None, refl, arith, inl}
-use Rattle.mg_model.specs.Board.{Board, IsSettled}
-use Rattle.mg_model.specs.Delivery.{fresh}
-use Rattle.mg_model.specs.Gateway.{Gateway, after_request, offer_to, sent_notes, start_of}
-use Rattle.mg_model.specs.Items.{Done, IsExecuted}
-use Rattle.mg_model.specs.Messages.{Request, Reply, RequestCommand, SentNote}
-use Rattle.mg_model.specs.RequestRun.{Running, after_command, item_at, RunsFrom}
-use Rattle.mg_model.specs.World.{World, IsFirst, with_gateway}
+use Rattle.mg_examples.proofs.Words.{Board, IsSettled, fresh, Gateway, after_request, offer_to, start_of, Done, IsExecuted, Request, Reply, RequestCommand}
+use Rattle.mg_examples.proofs.Words.{Running, after_command, item_at, World, IsFirst, with_gateway}
+use Rattle.mg_model.specs.Gateway.{sent_notes}
+use Rattle.mg_model.specs.Messages.{SentNote}
+use Rattle.mg_model.specs.RequestRun.{RunsFrom}
 
 -- the request of a call with a number, in the first association, and the reply where the command was done
 abbrev pub asks : ℕ → ℕ → RequestCommand → Request

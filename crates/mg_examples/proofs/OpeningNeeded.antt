@@ -2,13 +2,10 @@
 -- in a context and marks no pair. The one entry has `idle` with empty events lists, which is what a call is in after a restart, so it
 -- leaves out the configuration that a call opens in. In the run line 1 goes off hook.
 use Rattle.std.proofs.Common.{◌≡◌, [], Bool, true, false, refl, ap, arith, true≢false, inl, inr}
-use Rattle.mg_names.specs.declared.phases.LinkPhase.TheVariants.{Answered}
-use Rattle.mg_model.specs.declared.commands.EventsName.{EventsName}
-use Rattle.mg_model.specs.declared.commands.EventsName.TheVariants.{Empty, Armed, Own}
-use Rattle.mg_model.specs.Entries.{links, IsCovered}
+use Rattle.mg_examples.proofs.Words.{Answered, EventsName, Empty, Armed, links, IsCovered, Claim, OpeningCovered, ResetCovered, OfPoint, JoinedMarked}
+use Rattle.mg_examples.proofs.Words.{EndedCleared, CreatedUnbound, NamesLive, StepCovered, Holds, obligation_of, ComesBefore, key_of, opening, reset}
+use Rattle.mg_model.specs.declared.commands.EventsName.TheVariants.{Own}
 use Rattle.mg_names.specs.declared.obligations.Obligation.TheVariants as obligation
-use Rattle.mg_model.specs.Obligations.{Claim, OpeningCovered, ResetCovered, OfPoint, JoinedMarked, EndedCleared, CreatedUnbound, NamesLive, StepCovered, Holds, obligation_of, ComesBefore, key_of}
-use Rattle.mg_model.specs.Steps.{opening, reset}
 use Rattle.mg_examples.specs.Needed.{IsNeeded, whole_fault}
 use Rattle.mg_model.proofs.Single.{only_one}
 use Rattle.mg_model.proofs.Claims.{not_before_itself}

@@ -4,25 +4,13 @@ use Rattle.std.proofs.Common.{eqb-true, ◌≡◌, ◌∙◌, ◌<◌, ◌==◌,
 use Rattle.std.proofs.lemmas.Bool.{and_parts}
 use Rattle.std.proofs.lemmas.Grind.{common_steps}
 use Rattle.std.specs.Prelude.{◌⊎◌, slice_get, not, ◌&&◌, IsTrue, unwrap_or}
-use Rattle.mg_names.specs.declared.context_values.ContextValue.{ContextValue}
-use Rattle.mg_names.specs.declared.context_values.ContextValue.TheVariants.{Free, Live, Stale}
-use Rattle.mg_names.specs.declared.modes.Mode.TheVariants.{Inactive}
-use Rattle.mg_names.specs.declared.phases.LinkPhase.{LinkPhase}
-use Rattle.mg_model.specs.declared.commands.Termination.{Termination}
-use Rattle.mg_model.specs.declared.commands.Termination.TheVariants.{Line, Ephemeral}
+use Rattle.mg_examples.proofs.Words.{ContextValue, Free, Live, Stale, Inactive, LinkPhase, Termination, Ephemeral, Unset, Spot, Absent, Null, In, Pair}
+use Rattle.mg_examples.proofs.Words.{Configuration, IsWellFormed, is_same, is_live, is_in, stands_in, Entry, IsCovered, numbered, size_of, with_pair, AtPoint}
+use Rattle.mg_examples.proofs.Words.{JoinedAreMarked, NamesAreLive, Holds, OfPoint, EndedCleared, StepCovered, Step, steps_of, is_marked, state_of, Script}
+use Rattle.mg_model.specs.declared.commands.Termination.TheVariants.{Line}
 use Rattle.mg_model.specs.declared.components.Remote.{Remote}
-use Rattle.mg_model.specs.declared.components.Remote.TheVariants.{Unset, Gone, To}
-use Rattle.mg_model.specs.declared.components.Spot.{Spot}
-use Rattle.mg_model.specs.declared.components.Spot.TheVariants.{Absent, Null, In}
-use Rattle.mg_model.specs.declared.transitions.Pair.{Pair}
-use Rattle.mg_model.specs.Configuration.{Configuration, IsWellFormed, is_same, is_live, is_in, stands_in}
-use Rattle.mg_model.specs.Entries.{Entry, IsCovered, numbered, size_of}
-use Rattle.mg_model.specs.Effects.{with_pair}
-use Rattle.mg_model.specs.Obligations.{AtPoint, JoinedAreMarked, NamesAreLive, Holds, OfPoint, EndedCleared, StepCovered}
-use Rattle.mg_model.specs.Steps.{Step, steps_of}
-use Rattle.mg_model.specs.Tables.{is_marked, state_of}
+use Rattle.mg_model.specs.declared.components.Remote.TheVariants.{Gone, To}
 use Rattle.mg_model.specs.Paths.{hops, goes_over, is_shared, passes_in, passes_out, crosses, HasPath}
-use Rattle.mg_model.specs.Script.{Script}
 use Rattle.mg_model.proofs.Cases.{three_parts}
 
 -- ---- points

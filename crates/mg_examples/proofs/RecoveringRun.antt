@@ -2,11 +2,8 @@
 -- request of `talk` is executed. Then the lines 1 and 2 are joined.
 use Rattle.std.proofs.Common.{List, [], ◌∷◌, None, refl, arith, inl}
 use Rattle.std.specs.Prelude.{unwrap_or}
-use Rattle.mg_model.specs.Agent.{Agent, heard}
-use Rattle.mg_model.specs.Gateway.{restarted}
-use Rattle.mg_model.specs.declared.events.Event.{Event}
-use Rattle.mg_model.specs.declared.events.Event.TheVariants.{Restart}
-use Rattle.mg_model.specs.World.{World, execute, hear, AgentSteps, agent_steps, Runs, with_gateway}
+use Rattle.mg_examples.proofs.Words.{Agent, heard, restarted, Event, Restart, World, execute, hear, AgentSteps, agent_steps, with_gateway}
+use Rattle.mg_model.specs.World.{Runs}
 use Rattle.mg_examples.specs.Needed.{EndsBadly}
 use Rattle.mg_examples.specs.Talk.{call}
 use Rattle.mg_examples.specs.TwoLines.{recovering}

@@ -6,18 +6,13 @@ use Rattle.std.proofs.Common.{◌≡◌, ℕ, true, List, [], ◌∷◌, length,
 use Rattle.std.proofs.lemmas.List.Elements.{All-from_recursion}
 use Rattle.std.specs.Prelude.{◌≤◌, codes, unwrap_or}
 use Rattle.std.specs.List.{All}
-use Rattle.mg_model.specs.declared.commands.Command.{Command}
-use Rattle.mg_model.specs.declared.commands.Command.TheVariants.{AddLine, Subtract}
+use Rattle.mg_examples.proofs.Words.{Command, AddLine, Subtract, ContextRef, Number, MadeAt, IsScript, IsStateOf, IsCommandOf, Agent, replied, timed, Script}
+use Rattle.mg_examples.proofs.Words.{World, IsFirst, agent_steps, execute, reply, timer}
 use Rattle.mg_model.specs.declared.commands.Termination.TheVariants.{Line}
 use Rattle.mg_model.specs.declared.plans.PlanStep.{PlanStep}
 use Rattle.mg_model.specs.declared.plans.PlanStep.TheVariants.{Executes, TakesReply, TimesOut}
-use Rattle.mg_model.specs.declared.references.ContextRef.{ContextRef}
-use Rattle.mg_model.specs.declared.references.ContextRef.TheVariants.{Number, MadeAt}
-use Rattle.mg_model.specs.Accepted.{IsScript, IsStateOf, IsCommandOf}
-use Rattle.mg_model.specs.Agent.{Agent, replied, timed}
 use Rattle.mg_model.specs.Reports.{IsPlacing, IsReported, Progress, ReportLine, StepHappens, StepsRun, start_as}
-use Rattle.mg_model.specs.Script.{Script, State}
-use Rattle.mg_model.specs.World.{World, IsFirst, agent_steps, execute, reply, timer}
+use Rattle.mg_model.specs.Script.{State}
 use Rattle.mg_model.proofs.Single.{first_in}
 use Rattle.mg_examples.specs.ReportsCanDiffer.{ReportsCanDiffer}
 use Rattle.mg_examples.specs.Talk.{call}

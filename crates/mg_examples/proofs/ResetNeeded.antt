@@ -3,12 +3,9 @@
 -- out the configuration after a restart. In the run the gateway restarts.
 use Rattle.std.proofs.Common.{◌≡◌, [], refl, ap, true≢false, inl, inr}
 use Rattle.std.specs.Prelude.{◌==◌, ◌⊎◌}
-use Rattle.mg_names.specs.declared.phases.LinkPhase.TheVariants.{Resting}
-use Rattle.mg_model.specs.declared.commands.EventsName.TheVariants.{Armed}
-use Rattle.mg_model.specs.Entries.{IsCovered}
+use Rattle.mg_examples.proofs.Words.{Resting, Armed, IsCovered, Claim, OpeningCovered, ResetCovered, OfPoint, JoinedMarked, EndedCleared, CreatedUnbound}
+use Rattle.mg_examples.proofs.Words.{NamesLive, StepCovered, Holds, obligation_of, ComesBefore, key_of, reset, opening}
 use Rattle.mg_names.specs.declared.obligations.Obligation.TheVariants as obligation
-use Rattle.mg_model.specs.Obligations.{Claim, OpeningCovered, ResetCovered, OfPoint, JoinedMarked, EndedCleared, CreatedUnbound, NamesLive, StepCovered, Holds, obligation_of, ComesBefore, key_of}
-use Rattle.mg_model.specs.Steps.{reset, opening}
 use Rattle.mg_examples.specs.Needed.{IsNeeded, whole_fault}
 use Rattle.mg_model.proofs.Claims.{not_before_itself}
 use Rattle.mg_examples.specs.TalkEntries.{idle_armed, at_rest}

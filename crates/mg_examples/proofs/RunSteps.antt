@@ -1,5 +1,5 @@
 -- A run, written world by world.
-use Rattle.mg_model.specs.World.{World}
+use Rattle.mg_examples.proofs.Words.{World}
 
 infixr 5 ◌after◌▹◌
 -- the next world, what led to it, and what follows

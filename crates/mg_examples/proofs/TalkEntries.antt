@@ -3,20 +3,9 @@
 use Rattle.std.proofs.Common.{◌≡◌, ◌∙◌, ℕ, List, [], Some, None, true, false, refl, sym, ap, true≢false}
 use Rattle.std.specs.List.{All}
 use Rattle.std.specs.Prelude.{◌==◌, ◌||◌, if◌then◌else◌}
-use Rattle.mg_names.specs.declared.context_values.ContextValue.TheVariants.{Free, Live}
-use Rattle.mg_names.specs.declared.modes.Mode.TheVariants.{SendReceive}
-use Rattle.mg_names.specs.declared.phases.LinkPhase.TheVariants.{Answered, Failed, Resting}
-use Rattle.mg_model.specs.declared.commands.Command.{Command}
-use Rattle.mg_model.specs.declared.commands.Command.TheVariants.{AddLine}
-use Rattle.mg_model.specs.declared.commands.EventsName.TheVariants.{Empty, Armed}
-use Rattle.mg_model.specs.Accepted.{IsEntryOf}
-use Rattle.mg_model.specs.Configuration.{Configuration, IsWellFormed, is_live, value_of}
+use Rattle.mg_examples.proofs.Words.{Free, Live, SendReceive, Answered, Failed, Resting, Command, AddLine, Empty, Armed, IsEntryOf, Configuration, IsWellFormed}
+use Rattle.mg_examples.proofs.Words.{is_live, value_of, IsCovered, numbered, CreatedAreUnbound, Script, with_link, opening, reset, Pair}
 use Rattle.mg_model.specs.Effects.{effect}
-use Rattle.mg_model.specs.Entries.{IsCovered, numbered}
-use Rattle.mg_model.specs.Obligations.{CreatedAreUnbound}
-use Rattle.mg_model.specs.Script.{Script}
-use Rattle.mg_model.specs.Steps.{with_link, opening, reset}
-use Rattle.mg_model.specs.declared.transitions.Pair.{Pair}
 use Rattle.mg_examples.specs.TwoLines.{calling}
 use Rattle.mg_examples.specs.TalkEntries.{sent, reachable}
 use Rattle.mg_examples.proofs.EntriesOfTwo.{pairs_uncut, is_first_settled, HasTwoLines, either_way, unused_formed}

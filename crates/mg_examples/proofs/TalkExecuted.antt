@@ -1,7 +1,7 @@
 -- The request of the state `talk` is executed in any world where the call can be joined and sent no request before.
 use Rattle.std.proofs.Common.{◌≡◌, ◌≤◌, ℕ, false, [], None, refl, ap, arith}
 use Rattle.mg_model.proofs.Offered.{is_fresh_at, number_of}
-use Rattle.mg_model.specs.World.{World, IsFirst, Opened}
+use Rattle.mg_examples.proofs.Words.{World, IsFirst, Opened}
 use Rattle.mg_examples.proofs.TwoLinesJoined.{IsReady, with_both, both_settled, to_talk, r2, runs_through, all_done, talking_gateway, talking_world}
 
 module _ (w : World) (one : Opened) (context : ℕ) (ready : IsReady w.gateway.board one context) where

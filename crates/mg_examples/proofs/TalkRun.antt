@@ -2,12 +2,9 @@
 -- reply is taken.
 use Rattle.std.proofs.Common.{◌≡◌, List, [], ◌∷◌, None, refl, arith, inl}
 use Rattle.std.specs.Prelude.{unwrap_or}
-use Rattle.mg_model.specs.declared.transitions.Pair.{Pair}
-use Rattle.mg_model.specs.Agent.{Agent, noted, replied}
-use Rattle.mg_model.specs.Gateway.{Gateway, after_request}
-use Rattle.mg_model.specs.RequestRun.{Running}
-use Rattle.mg_model.specs.Tables.{line_places}
-use Rattle.mg_model.specs.World.{World, AgentSteps, agent_steps, IsFirst, Runs, with_gateway}
+use Rattle.mg_examples.proofs.Words.{Pair, Agent, noted, replied, Gateway, after_request, Running, line_places, World, AgentSteps, agent_steps, IsFirst}
+use Rattle.mg_examples.proofs.Words.{with_gateway}
+use Rattle.mg_model.specs.World.{Runs}
 use Rattle.mg_examples.specs.Basic.{basic}
 use Rattle.mg_examples.specs.Talk.{call, off_hook, to_talk, all_done, hang, to_a_talk, LeadsToATalk}
 use Rattle.mg_model.proofs.Single.{first_in}

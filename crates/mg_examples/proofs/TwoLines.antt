@@ -1,12 +1,10 @@
 -- The scripts of two lines with the states `idle`, `talk` and `stopped` are accepted, and no pair is marked where `talk` marks none.
 use Rattle.std.proofs.Common.{◌≡◌, ℕ, zero, suc, List, [], refl, arith}
 use Rattle.std.proofs.lemmas.List.Elements.{All-from_recursion}
-use Rattle.mg_model.specs.declared.transitions.Pair.{Pair}
+use Rattle.mg_examples.proofs.Words.{Pair, state_of, IsScript, IsStateOf, IsCommandOf}
 use Rattle.mg_model.specs.declared.transitions.Transition.{Transition}
-use Rattle.mg_model.specs.Tables.{state_of}
 use Rattle.mg_examples.specs.TwoLines.{talk, two_lines}
 use Rattle.mg_examples.proofs.QuietStates.{no_command}
-use Rattle.mg_model.specs.Accepted.{IsScript, IsStateOf, IsCommandOf}
 
 -- ---- scripts
 

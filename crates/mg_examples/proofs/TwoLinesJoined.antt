@@ -2,27 +2,19 @@
 -- context that it creates wasn't given yet; and a world where two lines are joined isn't good if the script marks no pair.
 use Rattle.std.proofs.Common.{eqb-true, eq-eqb, ◌≡◌, ◌∙◌, ◌<◌, ◌==◌, ℕ, Bool, true, false, if◌then◌else◌, List, [], ◌∷◌, Option, Some, None, refl, sym, ap, arith, true≢false, inl, inr}
 use Rattle.std.specs.Prelude.{not, ◌&&◌, IsTrue}
-use Rattle.mg_names.specs.declared.codes.Code.TheVariants.{UnknownContext, UnknownTermination, AlreadyInContext, NotInContext, InternalFailure, InsufficientResources}
-use Rattle.mg_names.specs.declared.identifiers.TermId.{TermId}
+use Rattle.mg_examples.proofs.Words.{UnknownContext, UnknownTermination, AlreadyInContext, NotInContext, InternalFailure, InsufficientResources, TermId}
+use Rattle.mg_examples.proofs.Words.{SendReceive, Row, Pair, Board, null_row, place_in, remote_of, same_term, IsSettled, Gateway, after_request, start_of}
+use Rattle.mg_examples.proofs.Words.{choose, null, Done, IsExecuted, IsLegal, is_context_number, ListItem, MadeAt, RequestCommand, add_line, Request, Reply}
+use Rattle.mg_examples.proofs.Words.{Running, after_command, item_at, Script, state_of, is_marked, World, IsGood, Opened, with_gateway}
 use Rattle.mg_names.specs.declared.identifiers.TermId.TheVariants.{Line}
-use Rattle.mg_names.specs.declared.modes.Mode.TheVariants.{SendReceive}
-use Rattle.mg_model.specs.declared.rows.Row.{Row}
-use Rattle.mg_model.specs.declared.transitions.Pair.{Pair}
-use Rattle.mg_model.specs.Board.{Board, null_row, mode_in, place_in, remote_of, row_with, same_term, IsSettled}
+use Rattle.mg_model.specs.Board.{mode_in, row_with}
 use Rattle.mg_examples.proofs.Settled.{still_settled, given_or, given_still, given_here}
-use Rattle.mg_model.specs.Gateway.{Gateway, after_request, start_of}
-use Rattle.mg_model.specs.Numbers.{choose, null}
-use Rattle.mg_model.specs.Items.{Done, IsExecuted, IsLegal, effect, is_context_number}
-use Rattle.mg_model.specs.LineEvents.{ListItem}
+use Rattle.mg_model.specs.Items.{effect}
 use Rattle.mg_model.specs.Media.{AreJoined, receives, sends}
-use Rattle.mg_model.specs.declared.references.ContextRef.TheVariants.{MadeAt}
 use Rattle.mg_model.proofs.Cases.{different, where_true, where_false}
-use Rattle.mg_model.specs.Messages.{Descriptors, RequestCommand, add_line, Request, Reply}
-use Rattle.mg_model.specs.RequestRun.{Running, after_command, item_at, RunsFrom}
-use Rattle.mg_model.specs.Script.{Script}
-use Rattle.mg_model.specs.Tables.{state_of, is_marked}
+use Rattle.mg_model.specs.Messages.{Descriptors}
+use Rattle.mg_model.specs.RequestRun.{RunsFrom}
 use Rattle.mg_examples.proofs.Creations.{creates, picks, made, created, none_listed, is_unknown, is_taken, creation_executed}
-use Rattle.mg_model.specs.World.{World, IsGood, Opened, with_gateway}
 
 -- ---- the request
 

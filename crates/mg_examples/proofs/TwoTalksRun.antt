@@ -2,10 +2,8 @@
 -- both replies are taken.
 use Rattle.std.proofs.Common.{◌≡◌, ◌+◌, ◌<◌, ℕ, List, [], ◌∷◌, length, None, refl, arith, inl}
 use Rattle.std.specs.Prelude.{unwrap_or, Contains}
-use Rattle.mg_model.specs.Agent.{Agent, noted, replied}
-use Rattle.mg_model.specs.Script.{Script}
-use Rattle.mg_model.specs.Tables.{line_places}
-use Rattle.mg_model.specs.World.{World, execute, reply, agent_steps, Opened, AreDistinct, Runs}
+use Rattle.mg_examples.proofs.Words.{Agent, noted, replied, Script, line_places, World, execute, reply, agent_steps, Opened, AreDistinct}
+use Rattle.mg_model.specs.World.{Runs}
 use Rattle.mg_examples.specs.Talk.{call, off_hook, to_talk, all_done}
 use Rattle.mg_examples.specs.TwoLines.{to_talk_off_hook, calling}
 use Rattle.mg_examples.specs.TwoTalks.{both_lines, other_call, to_two_talks, TwoCallsTalk}

@@ -3,13 +3,10 @@
 use Rattle.std.proofs.Common.{◌≡◌, ◌∙◌, ℕ, List, [], ◌∷◌, Some, None, refl, ap, arith, inl}
 use Rattle.std.specs.Prelude.{unwrap_or}
 use Rattle.mg_names.specs.declared.identifiers.TermId.TheVariants.{Line}
-use Rattle.mg_names.specs.declared.modes.Mode.TheVariants.{Inactive}
+use Rattle.mg_examples.proofs.Words.{Inactive, Agent, timed, replied, passed, Board, place_in, IsSettled, RequestCommand, Event, World, execute, reply, pass}
+use Rattle.mg_examples.proofs.Words.{timer, IsFirst, IsGood, agent_steps}
 use Rattle.mg_names.specs.declared.obligations.Obligation.TheVariants as obligation
-use Rattle.mg_model.specs.Agent.{Agent, timed, replied, passed}
-use Rattle.mg_model.specs.Board.{Board, place_in, IsSettled}
-use Rattle.mg_model.specs.Messages.{RequestCommand}
-use Rattle.mg_model.specs.declared.events.Event.{Event}
-use Rattle.mg_model.specs.World.{World, execute, reply, pass, timer, IsFirst, Runs, IsGood, agent_steps}
+use Rattle.mg_model.specs.World.{Runs}
 use Rattle.mg_examples.specs.Needed.{IsNeeded, fault_at}
 use Rattle.mg_examples.proofs.CreatedTwice.{accepted, listed, breaks}
 use Rattle.mg_examples.specs.CreatedTwice.{created_twice, created_twice_entries}
