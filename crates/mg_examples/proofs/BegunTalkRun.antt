@@ -3,10 +3,8 @@
 use Rattle.std.proofs.Common.{◌≡◌, ◌==◌, [], ◌∷◌, Some, None, if◌then◌else◌, refl, ap, arith, inl}
 use Rattle.std.specs.Prelude.{unwrap_or}
 use Rattle.mg_model.specs.Agent as agents
-use Rattle.mg_examples.proofs.Words.{Agent, noted, passed, timed, replied, LineRow, line_places, World, agent_steps}
-use Rattle.mg_model.specs.Gateway.{MayBegin, begun}
-use Rattle.mg_model.specs.LineEvents.{silent}
-use Rattle.mg_model.specs.World.{Begins, Runs}
+use Rattle.mg_examples.proofs.Words.{Agent, noted, passed, timed, replied, LineRow, line_places, World, agent_steps, MayBegin, begun, silent, Begins}
+use Rattle.mg_model.specs.World.{Runs}
 use Rattle.mg_model.proofs.Cases.{by_test, none_is_some}
 use Rattle.mg_model.proofs.Single.{first_in}
 use Rattle.mg_examples.specs.BegunTalk.{renewing, next_call, to_a_begun_talk, BegunCallTalks}

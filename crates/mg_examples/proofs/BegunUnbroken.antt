@@ -1,39 +1,23 @@
 -- The script in which a call ends where its line goes off hook, and talks where its timer ends first: it is accepted, and its entries break no
 -- obligation.
 use Rattle.std.proofs.Common.{◌≡◌, refl, arith}
-use Rattle.std.proofs.lemmas.List.Elements.{All-from_recursion}
 use Rattle.std.specs.List.{All}
-use Rattle.mg_examples.proofs.Words.{Answered, Failed, Resting, Empty, Armed, IsScript, IsStateOf, IsCommandOf, IsEntryOf, IsCovered, NoneBroken, opening}
-use Rattle.mg_examples.proofs.Words.{reset, with_link}
+use Rattle.mg_examples.proofs.Words.{Answered, Failed, Resting, Empty, Armed, IsScript, IsEntryOf, IsCovered, NoneBroken, opening, reset, with_link}
 use Rattle.mg_examples.specs.BegunTalk.{renewing, renewing_entries}
-use Rattle.mg_examples.specs.TwoLines.{talk}
-use Rattle.mg_examples.specs.TwoTalks.{both_lines}
 use Rattle.mg_examples.proofs.EntriesOfTwo.{HasTwoLines, unused_formed}
 use Rattle.mg_examples.proofs.PointFacts.{EachCovered, still_formed, one_point, two_points, ◌▹◌, Below, EachPoint}
-use Rattle.mg_examples.proofs.QuietStates.{no_command}
 use Rattle.mg_examples.proofs.TalkEntries.{after_first, after_second, first_formed, second_formed}
 use Rattle.mg_examples.proofs.Duties.{Stepped, all_hold}
 use Rattle.mg_examples.proofs.EntryRows.{reread, all_entries, covered_by, lands}
+use Rattle.mg_examples.proofs.QuietStates.{is_accepted}
 
 -- ---- the script
 
 two : HasTwoLines renewing
 two = record { lines = refl; ephemerals = refl }
 
-talk_accepted : IsStateOf renewing (talk both_lines)
-talk_accepted = (
-  All-from_recursion (IsCommandOf renewing) (talk both_lines).commands ((omega (arith), omega (arith)), ((omega (arith), omega (arith)), tt)),
-  refl,
-)
-
 pub accepted : IsScript renewing
-accepted = record {
-  lines = omega (arith);
-  ephemerals = omega (arith);
-  contexts = omega (arith);
-  states = All-from_recursion (IsStateOf renewing) renewing.states
-      (no_command renewing, (talk_accepted, (no_command renewing, (no_command renewing, tt))));
-}
+accepted = is_accepted renewing (omega (arith)) (omega (arith)) (omega (arith)) refl
 
 -- ---- the entries
 

@@ -1,26 +1,23 @@
 -- The obligation that ended calls are cleared is needed: under the script and the entries of `specs/Unarmed` only that at rest in `done` a line
 -- isn't armed is wrong. The run: the gateway restarts, the call hears of it, and ends with lines that report nothing.
 use Rattle.std.proofs.Common.{◌≡◌, List, [], ◌∷◌, refl, sym, ap, arith, true≢false, None, inl, inr}
-use Rattle.std.proofs.lemmas.List.Elements.{All-from_recursion}
 use Rattle.std.specs.Prelude.{unwrap_or, ◌⊎◌}
 use Rattle.std.specs.List.{All}
 use Rattle.mg_examples.proofs.Words.{Answered, Resting, Empty, Armed, Agent, heard, passed, numbered, restarted, ListItem, Claim, OpeningCovered, ResetCovered}
 use Rattle.mg_examples.proofs.Words.{OfPoint, JoinedMarked, EndedCleared, CreatedUnbound, NamesLive, StepCovered, Holds, obligation_of, ComesBefore, opening}
-use Rattle.mg_examples.proofs.Words.{reset, Event, Restart, World, hear, pass, IsGood, with_gateway, agent_steps, IsScript, IsStateOf, IsEntryOf}
+use Rattle.mg_examples.proofs.Words.{reset, Event, Restart, World, hear, pass, IsGood, with_gateway, agent_steps, IsScript, IsEntryOf, EndedIsCleared, is_empty}
 use Rattle.mg_names.specs.declared.obligations.Obligation.TheVariants as obligation
-use Rattle.mg_model.specs.Obligations.{EndedIsCleared}
-use Rattle.mg_model.specs.Tables.{is_empty}
 use Rattle.mg_model.specs.World.{Runs}
 use Rattle.mg_examples.specs.Needed.{IsNeeded, fault_at}
 use Rattle.mg_examples.proofs.PointFacts.{Below, EachPoint, EachCovered, steps_covered, one_point, two_points, ◌▹◌}
 use Rattle.mg_examples.proofs.EntriesOfTwo.{HasTwoLines, unused_formed}
 use Rattle.mg_examples.specs.Unarmed.{unarmed, ended, resting_idle, unarmed_entries}
-use Rattle.mg_examples.proofs.QuietStates.{no_command}
 use Rattle.mg_examples.specs.Talk.{call}
 use Rattle.mg_examples.proofs.TwoLinesOpening.{gateway, agent, opened_world, opens, one_call}
 use Rattle.mg_examples.proofs.FirstFaults.{holds_before, place_before}
 use Rattle.mg_examples.proofs.Duties.{is_resting, Stepped, each_meets, holds, breaks_only}
 use Rattle.mg_examples.proofs.EntryRows.{reread, all_entries, row_formed, row_in, covered_by, lands}
+use Rattle.mg_examples.proofs.QuietStates.{is_accepted}
 
 -- ---- the script and the entries are accepted
 
@@ -28,12 +25,7 @@ two : HasTwoLines unarmed
 two = record { lines = refl; ephemerals = refl }
 
 accepted : IsScript unarmed
-accepted = record {
-  lines = omega (arith);
-  ephemerals = omega (arith);
-  contexts = omega (arith);
-  states = All-from_recursion (IsStateOf unarmed) unarmed.states (no_command unarmed, (no_command unarmed, tt));
-}
+accepted = is_accepted unarmed (omega (arith)) (omega (arith)) (omega (arith)) refl
 
 reads : reread unarmed_entries ≡ unarmed_entries
 reads = refl

@@ -1,22 +1,21 @@
 -- Of the script that creates a context twice and its entries (`specs/CreatedTwice`): both are accepted, and they break the obligation on created
 -- names alone.
-use Rattle.std.proofs.Common.{◌≡◌, ◌<◌, ℕ, true, [], ◌∷◌, refl, sym, arith, true≢false, inl, inr, None}
-use Rattle.std.proofs.lemmas.List.Elements.{All-from_recursion}
+use Rattle.std.proofs.Common.{◌≡◌, [], ◌∷◌, refl, sym, arith, true≢false, inl, inr, None}
 use Rattle.std.specs.Prelude.{◌⊎◌}
 use Rattle.std.specs.List.{All}
 use Rattle.mg_examples.proofs.Words.{Sent, Answered, Resting, Empty, Armed, Configuration, numbered, IsCovered, Claim, OpeningCovered, ResetCovered, OfPoint}
 use Rattle.mg_examples.proofs.Words.{JoinedMarked, EndedCleared, CreatedUnbound, NamesLive, StepCovered, Holds, obligation_of, ComesBefore, CreatedAreUnbound}
-use Rattle.mg_examples.proofs.Words.{opening, reset, with_link, IsScript, IsStateOf, IsCommandOf, IsEntryOf}
+use Rattle.mg_examples.proofs.Words.{opening, reset, with_link, IsScript, IsEntryOf}
 use Rattle.mg_model.specs.Effects as effects
 use Rattle.mg_names.specs.declared.obligations.Obligation.TheVariants as obligation
 use Rattle.mg_examples.specs.Needed.{BreaksOnly, fault_at}
 use Rattle.mg_examples.proofs.PointFacts.{Below, EachPoint, EachCovered, steps_covered, plain_formed, one_point, two_points, ◌▹◌}
 use Rattle.mg_examples.specs.CreatedTwice.{created_twice, add, at_idle, before_first, after_first, before_second, at_lost, created_twice_entries}
-use Rattle.mg_examples.proofs.QuietStates.{no_command}
 use Rattle.mg_examples.proofs.EntriesOfTwo.{HasTwoLines, pairs_uncut, is_first_settled, unused_formed}
 use Rattle.mg_examples.proofs.FirstFaults.{holds_before, place_before}
 use Rattle.mg_examples.proofs.Duties.{Stepped, each_meets, holds, breaks_only}
 use Rattle.mg_examples.proofs.EntryRows.{reread, all_entries, row_formed, row_in, lands, covered_by}
+use Rattle.mg_examples.proofs.QuietStates.{is_accepted}
 
 -- ---- the script and the entries are accepted
 
@@ -24,19 +23,7 @@ two : HasTwoLines created_twice
 two = record { lines = refl; ephemerals = refl }
 
 pub accepted : IsScript created_twice
-accepted = record {
-  lines = omega (arith);
-  ephemerals = omega (arith);
-  contexts = omega (arith);
-  states = All-from_recursion (IsStateOf created_twice) created_twice.states
-      (none, (one_command 0 (omega (arith)), (one_command 1 (omega (arith)), (none, (none, tt)))));
-}
-  where
-    none : All (IsCommandOf created_twice) [] × (true ≡ true)
-    none = no_command created_twice
-
-    one_command : (i : ℕ) → i < 2 → All (IsCommandOf created_twice) (add i ∷ []) × (true ≡ true)
-    one_command i within = (All-from_recursion (IsCommandOf created_twice) (add i ∷ []) ((omega (arith), within), tt), refl)
+accepted = is_accepted created_twice (omega (arith)) (omega (arith)) (omega (arith)) refl
 
 reads : reread created_twice_entries ≡ created_twice_entries
 reads = refl

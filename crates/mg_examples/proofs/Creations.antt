@@ -5,9 +5,9 @@ use Rattle.std.specs.Prelude.{◌||◌, not, IsTrue}
 use Rattle.std.proofs.lemmas.Bool.{eq-eqb}
 use Rattle.mg_examples.proofs.Words.{UnknownContext, UnknownTermination, AlreadyInContext, NotInContext, InternalFailure, InsufficientResources, Mode, Row}
 use Rattle.mg_examples.proofs.Words.{Board, place_in, mode_of, remote_of, same_term, IsSettled, choose, null, Done, Lists, IsExecuted, IsLegal, row_at}
-use Rattle.mg_examples.proofs.Words.{is_context_number, ListItem, Number, RequestCommand, add_line, item_at, null_row}
+use Rattle.mg_examples.proofs.Words.{is_context_number, ListItem, Number, RequestCommand, add_line, item_at, null_row, Chosen}
 use Rattle.mg_names.specs.declared.identifiers.TermId.TheVariants.{Line}
-use Rattle.mg_model.specs.Items.{Chosen, effect}
+use Rattle.mg_model.specs.Items.{effect}
 use Rattle.mg_model.proofs.Cases.{false_not_true, where_true, where_false}
 use Rattle.mg_model.proofs.Single.{none_in}
 use Rattle.mg_examples.proofs.Settled.{still_settled, given_or, given_still, given_here}

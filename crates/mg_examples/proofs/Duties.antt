@@ -1,22 +1,18 @@
 -- What an obligation asks of the points of entries of two lines is computed: a test of a row and a link for each duty but that of the steps, and that the
 -- duty is met where the test passes.
-use Rattle.std.proofs.Common.{◌≡◌, ◌∙◌, ◌<◌, ◌==◌, ℕ, Bool, true, false, if◌then◌else◌, List, [], length, Option, Some, None, refl, sym, ap, subst, true≢false, inl, inr}
+use Rattle.std.proofs.Common.{◌≡◌, ◌∙◌, ◌<◌, ◌==◌, ℕ, Bool, true, false, if◌then◌else◌, List, [], length, Option, Some, None, refl, sym, ap, subst, inl, inr}
 use Rattle.std.proofs.lemmas.Bool.{and_from, and_parts}
 use Rattle.std.specs.Prelude.{◌⊎◌, ◌&&◌, ◌||◌, not, IsTrue, unwrap_or}
-use Rattle.mg_examples.proofs.Words.{ContextValue, Free, Stale, LinkPhase, Sent, Answered, Failed, Resting, EventsName, Ephemeral, Unset, Spot, Absent, Null}
+use Rattle.mg_examples.proofs.Words.{ContextValue, Free, LinkPhase, Sent, Answered, Failed, Resting, EventsName, Ephemeral, Unset, Spot, Absent, Null}
 use Rattle.mg_examples.proofs.Words.{In, Configuration, Entry, IsCovered, Claim, ComesBefore, CreatedUnbound, EndedCleared, Holds, JoinedMarked, NamesLive}
 use Rattle.mg_examples.proofs.Words.{NoneBroken, OfPoint, OpeningCovered, ResetCovered, StepCovered, obligation_of, Script, opening, reset, steps_of, is_marked}
-use Rattle.mg_examples.proofs.Words.{state_of}
+use Rattle.mg_examples.proofs.Words.{state_of, is_null, Asks, Duty, IsCleared, NamesStep, entry_named, point_named, names_unbound, is_armed_list, items_of}
 use Rattle.mg_model.specs.declared.commands.Termination.TheVariants.{Line}
 use Rattle.mg_model.specs.declared.faults.Fault.{Fault}
-use Rattle.mg_model.specs.Configuration.{is_null}
-use Rattle.mg_model.specs.Obligations.{Asks, Duty, IsCleared, NamesStep, entry_named, point_named}
-use Rattle.mg_model.specs.Steps.{names_unbound}
-use Rattle.mg_model.specs.Tables.{is_armed_list, items_of}
 use Rattle.mg_model.proofs.Cases.{denied, false_not_true}
 use Rattle.mg_examples.specs.EntriesOfTwo.{Place, list_at}
 use Rattle.mg_examples.specs.Needed.{BreaksOnly}
-use Rattle.mg_examples.proofs.EntriesOfTwo.{HasTwoLines, point_of}
+use Rattle.mg_examples.proofs.EntriesOfTwo.{HasTwoLines}
 use Rattle.mg_examples.proofs.EntryRows.{EntryRow, by_rows, point_at, reread, rows_pass}
 use Rattle.mg_examples.proofs.PointFacts.{EachCovered, EachPoint, at_points, below_two, first_stands, is_stale, none_joined, steps_covered, two_marked}
 

@@ -7,28 +7,30 @@ use Rattle.std.specs.Prelude.{◌==◌, ◌&&◌, Contains, IsTrue}
 use Rattle.mg_examples.proofs.Words.{UnknownContext, UnknownTermination, AlreadyInContext, NotInContext, InternalFailure, InsufficientResources, TermId, Eph}
 use Rattle.mg_examples.proofs.Words.{ContextRef, Number, Row, Board, exists, null_row, mode_of, remote_of, place_in, place_of, IsSettled, fresh, Gateway}
 use Rattle.mg_examples.proofs.Words.{after_request, offer_to, start_of, Done, IsExecuted, IsLegal, Lists, row_at, Request, Reply, RequestCommand, subtract}
-use Rattle.mg_examples.proofs.Words.{null, Running, after_command, item_at, World, IsFirst, with_gateway}
+use Rattle.mg_examples.proofs.Words.{null, Running, after_command, item_at, World, IsFirst, with_gateway, rank, Fails, Succeeds, Mode}
 use Rattle.mg_names.specs.declared.identifiers.TermId.TheVariants.{Line}
 use Rattle.mg_model.specs.declared.failures.Failure.{Failure}
 use Rattle.mg_model.specs.declared.references.TerminationRef.TheVariants as on
-use Rattle.mg_model.specs.Items.{effect, rank}
-use Rattle.mg_model.specs.RequestRun.{Fails, RunsFrom, Succeeds}
+use Rattle.mg_model.specs.Items.{effect}
+use Rattle.mg_model.specs.RequestRun.{RunsFrom}
 use Rattle.mg_model.proofs.Cases.{and_first, false_not_true}
 use Rattle.mg_model.proofs.Single.{none_in, only_one, only_here}
 use Rattle.mg_examples.proofs.Creations.{CanCreate, creates, created, creation_executed, created_settled, made, none_listed, picks}
+use Rattle.mg_examples.proofs.TalkEntries.{two}
+use Rattle.mg_examples.proofs.TwoLinesJoined.{second}
 
 -- ---- the messages
 
 abbrev puts : RequestCommand
 puts = creates 1 None None
 
-abbrev takes_out : ContextRef → RequestCommand
+abbrev pub takes_out : ContextRef → RequestCommand
 takes_out context = subtract context (on.Line (record { 0 = 1 }))
 
 abbrev pub asks : ℕ → ContextRef → Request
 asks number context = record { call = 7; association = 1; number = number; commands = puts ∷ takes_out context ∷ [] }
 
-abbrev taken_out : Done
+abbrev pub taken_out : Done
 taken_out = record { context = None; ephemeral = None; lines = 1 ∷ []; ephemerals = [] }
 
 abbrev pub both_done : ℕ → Reply
@@ -45,12 +47,16 @@ one_refused number = record { call = 7; association = 1; number = number; result
 abbrev with_one : Board → ℕ → Board
 with_one b number = created b 1 None None number
 
-abbrev emptied : Board → Board
-emptied b = effect (with_one b 1) (item_at (made 1 ∷ []) (takes_out (Number (record { 0 = 1 })))) (picks 1)
+-- line 1 is put into a new context, the number 1, with this mode where it is set, and taken out of it
+abbrev pub with_mode : Board → Option Mode → Board
+with_mode b mode = created b 1 mode None 1
+
+abbrev pub emptied : Board → Option Mode → Board
+emptied b mode = effect (with_mode b mode) (item_at [] (takes_out (Number (record { 0 = 1 })))) (picks 1)
 
 -- after the request the number 1 may be given again
-abbrev pub freed : Board → Board
-freed b = record (emptied b) { used_context = λ n. false }
+abbrev pub freed : Board → Option Mode → Board
+freed b mode = record (emptied b mode) { used_context = λ n. false }
 
 -- line 1 can be put into a new context of this number, and nothing stands
 pub record IsEmpty (b : Board) (number : ℕ) : Type 0 where
@@ -58,11 +64,11 @@ pub record IsEmpty (b : Board) (number : ℕ) : Type 0 where
   pub all_null : (t : TermId) → place_of b t ≡ null
   pub exact : IsSettled b b
 
-not_null : 1 ≡ null → ⊥
+pub not_null : 1 ≡ null → ⊥
 not_null e = omega (arith, e)
 
-module _ (b : Board) (empty : IsEmpty b 1) where
-  legal_out : IsLegal (with_one b 1) (item_at (made 1 ∷ []) (takes_out (Number (record { 0 = 1 }))))
+module _ (b : Board) (mode : Option Mode) (empty : IsEmpty b 1) where
+  legal_out : IsLegal (with_mode b mode) (item_at [] (takes_out (Number (record { 0 = 1 }))))
   legal_out UnknownContext h = h (not_null, (Line (record { 0 = 1 }), refl))
   legal_out UnknownTermination h = false_not_true h
   legal_out AlreadyInContext h = false_not_true h
@@ -71,18 +77,18 @@ module _ (b : Board) (empty : IsEmpty b 1) where
   legal_out InsufficientResources h = h
 
   -- line 1 alone went to the null context
-  only_first : Lists (λ n. (n == 1) && exists (with_one b 1) (Line (record { 0 = n }))) (1 ∷ [])
+  only_first : Lists (λ n. (n == 1) && exists (with_mode b mode) (Line (record { 0 = n }))) (1 ∷ [])
   only_first = record {
     rising = ((λ y among. absurd (none_in y among)), tt);
     exactly = λ n. (
-      (λ among. subst (λ (x : ℕ). IsTrue ((x == 1) && exists (with_one b 1) (Line (record { 0 = x })))) (only_one 1 n among) refl),
+      (λ among. subst (λ (x : ℕ). IsTrue ((x == 1) && exists (with_mode b mode) (Line (record { 0 = x })))) (only_one 1 n among) refl),
       (λ h.
-          let same = eqb-true n 1 (and_first (n == 1) (exists (with_one b 1) (Line (record { 0 = n }))) h) in
+          let same = eqb-true n 1 (and_first (n == 1) (exists (with_mode b mode) (Line (record { 0 = n }))) h) in
           subst (λ (x : ℕ). Contains (1 ∷ []) x) (sym same) (only_here 1)),
     );
   }
 
-  pub one_taken_out : IsExecuted (with_one b 1) (item_at (made 1 ∷ []) (takes_out (Number (record { 0 = 1 })))) (emptied b) taken_out
+  pub one_taken_out : IsExecuted (with_mode b mode) (item_at [] (takes_out (Number (record { 0 = 1 })))) (emptied b mode) taken_out
   one_taken_out = record {
     chosen = picks 1;
     fresh = record { context = λ h. absurd (false_not_true h); ephemeral = λ h. absurd (false_not_true h) };
@@ -92,15 +98,15 @@ module _ (b : Board) (empty : IsEmpty b 1) where
   }
 
   -- everything is in the null context again
-  pub emptied_null : (t : TermId) → place_of (emptied b) t ≡ null
-  emptied_null (Line l) = either (l.0 == 1) ((with_one b 1).row (Line (record { 0 = 1 }))) (b.row (Line l)) (empty.all_null (Line l))
+  pub emptied_null : (t : TermId) → place_of (emptied b mode) t ≡ null
+  emptied_null (Line l) = either (l.0 == 1) ((with_mode b mode).row (Line (record { 0 = 1 }))) (b.row (Line l)) (empty.all_null (Line l))
     where
       either : (first : Bool) (row other : Option Row) → place_in other ≡ null → place_in (if first then Some null_row else (if first then row else other)) ≡ null
       either true row other e = refl
       either false row other e = e
   emptied_null (Eph k) = empty.all_null (Eph k)
 
-  pub one_freed : IsSettled (emptied b) (freed b)
+  pub one_freed : IsSettled (emptied b mode) (freed b mode)
   one_freed = record {
     row = refl;
     cut = refl;
@@ -109,7 +115,7 @@ module _ (b : Board) (empty : IsEmpty b 1) where
     ephemerals = λ k. empty.exact.ephemerals k;
   }
 
-  pub freed_settled : IsSettled (freed b) (freed b)
+  pub freed_settled : IsSettled (freed b mode) (freed b mode)
   freed_settled = record { row = refl; cut = refl; class = refl; contexts = one_freed.contexts; ephemerals = one_freed.ephemerals }
 
 -- line 1 is in the context 2, and all else in the null context
@@ -130,11 +136,11 @@ module _ (w : World) (number : ℕ) (context : ContextRef) where
   after_one given = after_command (start_of w.gateway) puts (item_at [] puts) (with_one w.gateway.board given) (made given) number
 
   abbrev after_both : Running
-  after_both = after_command (after_one 1) (takes_out context) (item_at (made 1 ∷ []) (takes_out context)) (emptied w.gateway.board) taken_out number
+  after_both = after_command (after_one 1) (takes_out context) (item_at (made 1 ∷ []) (takes_out context)) (emptied w.gateway.board None) taken_out number
 
   -- both commands are done
   abbrev emptied_gateway : Gateway
-  emptied_gateway = after_request w.gateway (asks number context) after_both (freed w.gateway.board) None
+  emptied_gateway = after_request w.gateway (asks number context) after_both (freed w.gateway.board None) None
 
   abbrev pub emptied_world : World
   emptied_world = record (with_gateway w emptied_gateway) { replies = both_done number ∷ w.replies }
@@ -159,7 +165,7 @@ module _ (w : World) (number : ℕ) (context : ContextRef) where
   unfolding RunsFrom
   at_end = (refl, refl)
 
-  both_run : CanCreate w.gateway.board 1 1 → IsExecuted (with_one w.gateway.board 1) (item_at (made 1 ∷ []) (takes_out context)) (emptied w.gateway.board) taken_out
+  both_run : CanCreate w.gateway.board 1 1 → IsExecuted (with_one w.gateway.board 1) (item_at (made 1 ∷ []) (takes_out context)) (emptied w.gateway.board None) taken_out
       → RunsFrom number None (start_of w.gateway) 0 (puts ∷ takes_out context ∷ []) after_both None
   unfolding RunsFrom
   both_run can second = inl (
@@ -167,13 +173,13 @@ module _ (w : World) (number : ℕ) (context : ContextRef) where
     first_succeeds 1 can,
     inl (
       after_both,
-      record { board = emptied w.gateway.board; done = taken_out; not_chosen = refl; executed = second; next_is = refl },
+      record { board = emptied w.gateway.board None; done = taken_out; not_chosen = refl; executed = second; next_is = refl },
       at_end,
     ),
   )
 
   pub empties : IsEmpty w.gateway.board 1 → offer_to w.gateway (asks number context) ≡ fresh → (w.gateway.link 7).notes ≤ 1
-      → IsExecuted (with_one w.gateway.board 1) (item_at (made 1 ∷ []) (takes_out context)) (emptied w.gateway.board) taken_out
+      → IsExecuted (with_one w.gateway.board 1) (item_at (made 1 ∷ []) (takes_out context)) (emptied w.gateway.board None) taken_out
       → IsFirst w (asks number context) None emptied_world
   empties empty is_fresh few second = record {
     gateway = emptied_gateway;
@@ -181,12 +187,12 @@ module _ (w : World) (number : ℕ) (context : ContextRef) where
     sent = [];
     executed = record {
       end = after_both;
-      settled = freed w.gateway.board;
+      settled = freed w.gateway.board None;
       failure = None;
       is_fresh = is_fresh;
       room = omega (arith, few);
       runs = both_run empty.can second;
-      is_settled = one_freed w.gateway.board empty;
+      is_settled = one_freed w.gateway.board None empty;
       after_is = refl;
       reply_is = refl;
       notes_are = refl;

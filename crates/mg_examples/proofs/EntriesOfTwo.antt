@@ -6,10 +6,9 @@ use Rattle.std.specs.Prelude.{◌||◌, Contains}
 use Rattle.std.specs.List.{All}
 use Rattle.mg_examples.proofs.Words.{ContextValue, Free, Live, Stale, Mode, LinkPhase, EventsName, Termination, Ephemeral, Spot, Configuration, IsWellFormed}
 use Rattle.mg_examples.proofs.Words.{is_live, is_same, stands_in, value_of, with_pair, Entry, IsCovered, numbered, links, Script, unused, IsEntryOf, HasOne}
-use Rattle.mg_examples.proofs.Words.{IsContext, is_contexts}
+use Rattle.mg_examples.proofs.Words.{IsContext, is_contexts, Allows, spots, modes, events, plays, contexts, cuts, IsSlot, is_spots, is_modes, is_events}
+use Rattle.mg_examples.proofs.Words.{is_plays, is_cuts}
 use Rattle.mg_model.specs.declared.commands.Termination.TheVariants.{Line}
-use Rattle.mg_model.specs.Entries.{Allows, spots, modes, events, plays, contexts, cuts}
-use Rattle.mg_model.specs.Accepted.{IsSlot, is_spots, is_modes, is_events, is_plays, is_cuts}
 use Rattle.mg_model.proofs.Cases.{same_turned}
 use Rattle.mg_examples.specs.EntriesOfTwo.{Place, null, contexts_of, list_at, line_of, no_cuts, entry_of}
 use Rattle.mg_examples.proofs.PointFacts.{below_one, below_two, plain_formed, pair_uncut}

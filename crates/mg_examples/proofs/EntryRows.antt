@@ -6,9 +6,9 @@ use Rattle.std.proofs.lemmas.List.Elements.{All-cons, All-nil}
 use Rattle.std.specs.List.{All, list_all}
 use Rattle.std.specs.Prelude.{◌&&◌, ◌||◌, slice_index_or, Contains, IsTrue, unwrap_or}
 use Rattle.mg_examples.proofs.Words.{ContextValue, Free, Live, Stale, LinkPhase, Resting, EventsName, Empty, Spot, Null, In, Configuration, IsWellFormed, is_in}
-use Rattle.mg_examples.proofs.Words.{is_live, Entry, IsCovered, links, numbered, size_of, HasOne, IsContext, IsEntryOf, is_contexts, Script, unused}
+use Rattle.mg_examples.proofs.Words.{is_live, Entry, IsCovered, links, numbered, size_of, HasOne, IsContext, IsEntryOf, is_contexts, Script, unused, Choice}
+use Rattle.mg_examples.proofs.Words.{Component, Includes, link_choice, same_choice, chosen, choices_of}
 use Rattle.mg_model.specs.declared.commands.Termination.TheVariants.{Line}
-use Rattle.mg_model.specs.Entries.{Choice, Component, Includes, link_choice, same_choice, chosen, choices_of}
 use Rattle.mg_model.proofs.Cases.{false_not_true}
 use Rattle.mg_model.proofs.Single.{first_in, only_one}
 use Rattle.mg_examples.specs.EntriesOfTwo.{Place, contexts_of, entry_of, line_of, no_cuts}

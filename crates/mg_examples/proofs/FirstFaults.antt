@@ -1,8 +1,7 @@
 -- What comes before the first claim that is broken: which places those are, and that a fact of each point at these places is all that has to hold.
 use Rattle.std.proofs.Common.{◌≡◌, ◌<◌, ◌++◌, ℕ, zero, suc, List, [], ◌∷◌, length, Option, sym, ap, subst, arith, inl, inr}
 use Rattle.std.specs.Prelude.{◌⊎◌, unwrap_or}
-use Rattle.mg_examples.proofs.Words.{Configuration, IsWellFormed, Entry, AtPoint}
-use Rattle.mg_model.specs.Obligations.{KeyBefore}
+use Rattle.mg_examples.proofs.Words.{Configuration, IsWellFormed, Entry, AtPoint, KeyBefore}
 use Rattle.mg_examples.proofs.PointFacts.{Below, EachPoint, at_number, at_points}
 
 -- ---- places

@@ -2,6 +2,7 @@
 -- context is gone. The run, with two calls: the first call's line a is put into a new context, the number 1, and subtracted, and the request
 -- to add it to the context 1 is sent. Before that arrives, line a of the other call is put into a new context, which is given the number 1 as
 -- well. Then the request is executed, and joins lines of two calls.
+use Rattle.mg_examples.proofs.EmptiedContext.{taken_out}
 use Rattle.std.proofs.Common.{◌∷◌, List, [], None, refl, arith, inl}
 use Rattle.std.specs.Prelude.{unwrap_or}
 use Rattle.mg_names.specs.declared.obligations.Obligation.TheVariants as obligation
@@ -15,12 +16,13 @@ use Rattle.mg_examples.specs.TwoTalks.{other_call}
 use Rattle.mg_examples.proofs.Creations.{made}
 use Rattle.mg_examples.proofs.NamesKept.{accepted, listed, breaks, none_marked}
 use Rattle.mg_examples.specs.NamesKept.{name_kept, name_kept_entries}
-use Rattle.mg_examples.proofs.NumberReused.{puts, takes_out, puts_back, taken_out, put_back, with_one, emptied, freed, with_other, with_both, one_put, one_settled, one_taken_out, one_freed, other_put, other_settled, one_put_back, both_settled}
+use Rattle.mg_examples.proofs.NumberReused.{puts, takes_out, puts_back, put_back, with_one, emptied_board, freed, with_other, with_both, one_put, one_settled, one_taken_out, one_freed, other_put, other_settled, one_put_back, both_settled}
 use Rattle.mg_examples.proofs.OneCommand.{asks, answer, world_after, executes}
 use Rattle.mg_examples.proofs.TwoLinesJoined.{not_good}
 use Rattle.mg_examples.proofs.TwoLinesOpening.{agent, opened_world, opens, off_hook_world, goes_off}
 use Rattle.mg_examples.proofs.TwoTalksRun.{calls, distinct}
 use Rattle.mg_examples.proofs.RunSteps.{◌after◌▹◌}
+use Rattle.mg_examples.proofs.PointFacts.{◌▹◌}
 
 -- ---- the agents: of a call in `make`, and of the first call in `leave` and in `again`
 
@@ -51,7 +53,7 @@ abbrev w4 : World
 w4 = agent_steps w3 7 leaving
 
 abbrev w5 : World
-w5 = world_after w4 7 2 takes_out emptied freed taken_out
+w5 = world_after w4 7 2 takes_out emptied_board freed taken_out
 
 abbrev w6 : World
 w6 = agent_steps w5 7 returning
@@ -74,7 +76,7 @@ first_put : IsFirst w2 (asks 7 1 (puts 1)) None w3
 first_put = executes w2 7 1 (puts 1) with_one with_one (made 1) one_put one_settled refl (omega (arith))
 
 first_taken_out : IsFirst w4 (asks 7 2 takes_out) None w5
-first_taken_out = executes w4 7 2 takes_out emptied freed taken_out one_taken_out one_freed refl (omega (arith))
+first_taken_out = executes w4 7 2 takes_out emptied_board freed taken_out one_taken_out one_freed refl (omega (arith))
 
 -- ---- the other call: its line is put into a context
 

@@ -1,25 +1,23 @@
 -- Of the script that uses a context's name after the context is gone and its entries (`specs/NamesKept`): both are accepted, and they break the
 -- obligation on names alone.
 use Rattle.std.proofs.Common.{◌≡◌, ℕ, zero, suc, Bool, true, false, if◌then◌else◌, [], ◌∷◌, refl, arith, inl, inr, None}
-use Rattle.std.proofs.lemmas.List.Elements.{All-from_recursion}
 use Rattle.std.specs.Prelude.{◌==◌, ◌||◌, ◌⊎◌}
 use Rattle.std.specs.List.{All}
-use Rattle.mg_examples.proofs.Words.{Free, Sent, Answered, Resting, Subtract, Empty, Armed, IsScript, IsStateOf, IsCommandOf, IsEntryOf, Configuration, is_live}
-use Rattle.mg_examples.proofs.Words.{is_same, value_of, numbered, IsCovered, Claim, OpeningCovered, ResetCovered, OfPoint, JoinedMarked, EndedCleared}
-use Rattle.mg_examples.proofs.Words.{CreatedUnbound, NamesLive, StepCovered, Holds, obligation_of, ComesBefore, NamesAreLive, opening, reset, with_link}
-use Rattle.mg_examples.proofs.Words.{state_of}
+use Rattle.mg_examples.proofs.Words.{Free, Sent, Answered, Resting, Subtract, Empty, Armed, IsScript, IsEntryOf, Configuration, is_live, is_same, value_of}
+use Rattle.mg_examples.proofs.Words.{numbered, IsCovered, Claim, OpeningCovered, ResetCovered, OfPoint, JoinedMarked, EndedCleared, CreatedUnbound, NamesLive}
+use Rattle.mg_examples.proofs.Words.{StepCovered, Holds, obligation_of, ComesBefore, NamesAreLive, opening, reset, with_link, state_of}
 use Rattle.mg_names.specs.declared.context_values.ContextValue.TheVariants as value
 use Rattle.mg_names.specs.declared.obligations.Obligation.TheVariants as obligation
 use Rattle.mg_model.specs.declared.commands.Termination.TheVariants.{Line}
 use Rattle.mg_model.specs.Effects as effects
 use Rattle.mg_examples.specs.Needed.{BreaksOnly, fault_at}
 use Rattle.mg_examples.specs.NamesKept.{name_kept, add, at_idle, before_make, after_make, before_leave, after_leave, before_again, at_lost, name_kept_entries}
-use Rattle.mg_examples.proofs.QuietStates.{no_command}
 use Rattle.mg_examples.proofs.PointFacts.{Below, EachPoint, EachCovered, steps_covered, plain_formed, one_point, two_points, ◌▹◌}
 use Rattle.mg_examples.proofs.EntriesOfTwo.{HasTwoLines, pairs_uncut, is_first_settled, unused_formed}
 use Rattle.mg_examples.proofs.FirstFaults.{holds_before, place_before}
 use Rattle.mg_examples.proofs.Duties.{Stepped, each_meets, holds, breaks_only}
 use Rattle.mg_examples.proofs.EntryRows.{reread, all_entries, row_formed, row_in, lands, covered_by}
+use Rattle.mg_examples.proofs.QuietStates.{is_accepted}
 
 -- ---- the script and the entries are accepted
 
@@ -27,19 +25,7 @@ two : HasTwoLines name_kept
 two = record { lines = refl; ephemerals = refl }
 
 pub accepted : IsScript name_kept
-accepted = record {
-  lines = omega (arith);
-  ephemerals = omega (arith);
-  contexts = omega (arith);
-  states = All-from_recursion (IsStateOf name_kept) name_kept.states
-      (no_command name_kept, (adds true, (leaves, (adds false, (no_command name_kept, tt)))));
-}
-  where
-    adds : (create : Bool) → All (IsCommandOf name_kept) (add create ∷ []) × (true ≡ true)
-    adds create = (All-from_recursion (IsCommandOf name_kept) (add create ∷ []) ((omega (arith), omega (arith)), tt), refl)
-
-    leaves : All (IsCommandOf name_kept) (Subtract 0 (Line 0) ∷ []) × (true ≡ true)
-    leaves = (All-from_recursion (IsCommandOf name_kept) (Subtract 0 (Line 0) ∷ []) ((omega (arith), omega (arith)), tt), refl)
+accepted = is_accepted name_kept (omega (arith)) (omega (arith)) (omega (arith)) refl
 
 -- no state marks a pair
 pub none_marked : (n : ℕ) → (state_of name_kept n).talk ≡ []

@@ -1,16 +1,13 @@
 -- The boards of a number that is given again: line 1 is put into a new context with the number 1 and subtracted from it, so the number is free;
 -- line 3 is put into a new context, which gets the number 1; and line 1 is put into the context 1, beside line 3.
-use Rattle.std.proofs.Common.{◌≡◌, ◌∙◌, ℕ, Bool, true, false, if◌then◌else◌, [], ◌∷◌, Option, Some, None, refl, sym, subst, arith, inl, inr}
-use Rattle.std.proofs.lemmas.Bool.{eqb-true}
-use Rattle.std.specs.Prelude.{◌==◌, ◌&&◌, Contains, IsTrue}
-use Rattle.mg_examples.proofs.Words.{UnknownContext, UnknownTermination, AlreadyInContext, NotInContext, InternalFailure, InsufficientResources, TermId, Eph}
-use Rattle.mg_examples.proofs.Words.{SendReceive, Number, Row, Board, exists, null_row, place_in, place_of, same_term, IsSettled, Done, IsExecuted, IsLegal}
-use Rattle.mg_examples.proofs.Words.{Lists, RequestCommand, add_line, subtract, choose, null, item_at}
+use Rattle.mg_examples.proofs.EmptiedContext as emptied
+use Rattle.mg_examples.proofs.EmptiedContext.{IsEmpty, not_null, taken_out}
+use Rattle.std.proofs.Common.{◌≡◌, ℕ, false, [], Option, Some, None, refl, arith, inl, inr}
+use Rattle.mg_examples.proofs.Words.{UnknownContext, UnknownTermination, AlreadyInContext, NotInContext, InternalFailure, InsufficientResources, SendReceive}
+use Rattle.mg_examples.proofs.Words.{Number, Row, Board, same_term, IsSettled, Done, IsExecuted, IsLegal, RequestCommand, add_line, choose, item_at, Mode}
 use Rattle.mg_names.specs.declared.identifiers.TermId.TheVariants.{Line}
-use Rattle.mg_model.specs.declared.references.TerminationRef.TheVariants as on
 use Rattle.mg_model.specs.Items.{effect}
-use Rattle.mg_model.proofs.Cases.{and_first, false_not_true, where_false}
-use Rattle.mg_model.proofs.Single.{none_in, only_one, only_here}
+use Rattle.mg_model.proofs.Cases.{false_not_true, where_false}
 use Rattle.mg_examples.proofs.Creations.{CanCreate, creates, created, creation_executed, created_settled, made, none_listed, picks}
 use Rattle.mg_examples.proofs.Settled.{still_settled, given_or, given_still}
 use Rattle.mg_examples.proofs.TwoLinesJoined.{receiving}
@@ -24,29 +21,28 @@ abbrev pub puts : ℕ → RequestCommand
 puts line = creates line (Some SendReceive) None
 
 abbrev pub takes_out : RequestCommand
-takes_out = subtract (Number (record { 0 = 1 })) (on.Line (record { 0 = 1 }))
+takes_out = emptied.takes_out (Number (record { 0 = 1 }))
 
 abbrev pub puts_back : RequestCommand
 puts_back = add_line (Number (record { 0 = 1 })) 1 receiving
 
--- what the second one and the last tell of themselves
-abbrev pub taken_out : Done
-taken_out = record { context = None; ephemeral = None; lines = 1 ∷ []; ephemerals = [] }
-
+-- what the last one tells of itself
 abbrev pub put_back : Done
 put_back = record { context = None; ephemeral = None; lines = []; ephemerals = [] }
 
 -- ---- the boards
 
+abbrev talks : Option Mode
+talks = Some SendReceive
+
 abbrev pub with_one : Board
-with_one = created (board calls) 1 (Some SendReceive) None 1
+with_one = emptied.with_mode (board calls) talks
 
-abbrev pub emptied : Board
-emptied = effect with_one (item_at [] takes_out) (picks 1)
+abbrev pub emptied_board : Board
+emptied_board = emptied.emptied (board calls) talks
 
--- after the request the number 1 may be given again
 abbrev pub freed : Board
-freed = record emptied { used_context = λ n. false }
+freed = emptied.freed (board calls) talks
 
 abbrev pub with_other : Board
 with_other = created freed 3 (Some SendReceive) None 1
@@ -67,58 +63,14 @@ one_settled = created_settled (board calls) 1 (Some SendReceive) None 1 can_put 
 
 -- ---- it is subtracted
 
-not_null : 1 ≡ null → ⊥
-not_null e = omega (arith, e)
+empty : IsEmpty (board calls) 1
+empty = record { can = can_put; all_null = all_null calls; exact = opening_settled calls }
 
-legal_out : IsLegal with_one (item_at [] takes_out)
-legal_out UnknownContext h = h (not_null, (Line (record { 0 = 1 }), refl))
-legal_out UnknownTermination h = false_not_true h
-legal_out AlreadyInContext h = false_not_true h
-legal_out NotInContext h = false_not_true h
-legal_out InternalFailure h = h
-legal_out InsufficientResources h = h
+pub one_taken_out : IsExecuted with_one (item_at [] takes_out) emptied_board taken_out
+one_taken_out = emptied.one_taken_out (board calls) talks empty
 
--- line 1 alone went to the null context
-only_first : Lists (λ n. (n == 1) && exists with_one (Line (record { 0 = n }))) (1 ∷ [])
-only_first = record {
-  rising = ((λ y among. absurd (none_in y among)), tt);
-  exactly = λ n. (
-    (λ among. subst (λ (x : ℕ). IsTrue ((x == 1) && exists with_one (Line (record { 0 = x })))) (only_one 1 n among) refl),
-    (λ h.
-        let same = eqb-true n 1 (and_first (n == 1) (exists with_one (Line (record { 0 = n }))) h) in
-        subst (λ (x : ℕ). Contains (1 ∷ []) x) (sym same) (only_here 1)),
-  );
-}
-
-pub one_taken_out : IsExecuted with_one (item_at [] takes_out) emptied taken_out
-one_taken_out = record {
-  chosen = picks 1;
-  fresh = record { context = λ h. absurd (false_not_true h); ephemeral = λ h. absurd (false_not_true h) };
-  legal = legal_out;
-  effect_is = refl;
-  result = record { context = refl; ephemeral = refl; lines = only_first; ephemerals = none_listed };
-}
-
--- everything is in the null context again
-emptied_null : (t : TermId) → place_of emptied t ≡ null
-emptied_null (Line l) = either (l.0 == 1) (with_one.row (Line (record { 0 = 1 }))) ((board calls).row (Line l)) (all_null calls (Line l))
-  where
-    either : (first : Bool) (row other : Option Row) → place_in other ≡ null → place_in (if first then Some null_row else (if first then row else other)) ≡ null
-    either true row other e = refl
-    either false row other e = e
-emptied_null (Eph k) = refl
-
-pub one_freed : IsSettled emptied freed
-one_freed = record {
-  row = refl;
-  cut = refl;
-  class = refl;
-  contexts = λ n. (λ h. absurd (false_not_true h), λ there. absurd (there.0 (sym there.1.1 ∙ emptied_null there.1.0)));
-  ephemerals = λ k. refl;
-}
-
-freed_settled : IsSettled freed freed
-freed_settled = record { row = refl; cut = refl; class = refl; contexts = one_freed.contexts; ephemerals = one_freed.ephemerals }
+pub one_freed : IsSettled emptied_board freed
+one_freed = emptied.one_freed (board calls) talks empty
 
 -- ---- line 3 is put into a new context, which has the number 1 once more
 
@@ -129,7 +81,7 @@ pub other_put : IsExecuted freed (item_at [] (puts 3)) with_other (made 1)
 other_put = creation_executed freed 3 (Some SendReceive) None 1 can_put_other
 
 pub other_settled : IsSettled with_other with_other
-other_settled = created_settled freed 3 (Some SendReceive) None 1 can_put_other freed_settled
+other_settled = created_settled freed 3 (Some SendReceive) None 1 can_put_other (emptied.freed_settled (board calls) talks empty)
 
 -- ---- line 1 is put into it too
 

@@ -2,9 +2,7 @@
 -- message that asks for it, the reply, and the world after it.
 use Rattle.std.proofs.Common.{◌≡◌, ◌≤◌, ℕ, List, [], ◌∷◌, ◌++◌, None, refl, arith, inl}
 use Rattle.mg_examples.proofs.Words.{Board, IsSettled, fresh, Gateway, after_request, offer_to, start_of, Done, IsExecuted, Request, Reply, RequestCommand}
-use Rattle.mg_examples.proofs.Words.{Running, after_command, item_at, World, IsFirst, with_gateway}
-use Rattle.mg_model.specs.Gateway.{sent_notes}
-use Rattle.mg_model.specs.Messages.{SentNote}
+use Rattle.mg_examples.proofs.Words.{Running, after_command, item_at, World, IsFirst, with_gateway, sent_notes, SentNote}
 use Rattle.mg_model.specs.RequestRun.{RunsFrom}
 
 -- the request of a call with a number, in the first association, and the reply where the command was done

@@ -3,8 +3,7 @@
 -- leaves out the configuration that a call opens in. In the run line 1 goes off hook.
 use Rattle.std.proofs.Common.{◌≡◌, [], Bool, true, false, refl, ap, arith, true≢false, inl, inr}
 use Rattle.mg_examples.proofs.Words.{Answered, EventsName, Empty, Armed, links, IsCovered, Claim, OpeningCovered, ResetCovered, OfPoint, JoinedMarked}
-use Rattle.mg_examples.proofs.Words.{EndedCleared, CreatedUnbound, NamesLive, StepCovered, Holds, obligation_of, ComesBefore, key_of, opening, reset}
-use Rattle.mg_model.specs.declared.commands.EventsName.TheVariants.{Own}
+use Rattle.mg_examples.proofs.Words.{EndedCleared, CreatedUnbound, NamesLive, StepCovered, Holds, obligation_of, ComesBefore, key_of, opening, reset, Own}
 use Rattle.mg_names.specs.declared.obligations.Obligation.TheVariants as obligation
 use Rattle.mg_examples.specs.Needed.{IsNeeded, whole_fault}
 use Rattle.mg_model.proofs.Single.{only_one}

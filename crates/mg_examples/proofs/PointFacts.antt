@@ -7,9 +7,9 @@ use Rattle.std.specs.Prelude.{◌⊎◌, slice_get, not, ◌&&◌, IsTrue, unwra
 use Rattle.mg_examples.proofs.Words.{ContextValue, Free, Live, Stale, Inactive, LinkPhase, Termination, Ephemeral, Unset, Spot, Absent, Null, In, Pair}
 use Rattle.mg_examples.proofs.Words.{Configuration, IsWellFormed, is_same, is_live, is_in, stands_in, Entry, IsCovered, numbered, size_of, with_pair, AtPoint}
 use Rattle.mg_examples.proofs.Words.{JoinedAreMarked, NamesAreLive, Holds, OfPoint, EndedCleared, StepCovered, Step, steps_of, is_marked, state_of, Script}
+use Rattle.mg_examples.proofs.Words.{Gone, To}
 use Rattle.mg_model.specs.declared.commands.Termination.TheVariants.{Line}
 use Rattle.mg_model.specs.declared.components.Remote.{Remote}
-use Rattle.mg_model.specs.declared.components.Remote.TheVariants.{Gone, To}
 use Rattle.mg_model.specs.Paths.{hops, goes_over, is_shared, passes_in, passes_out, crosses, HasPath}
 use Rattle.mg_model.proofs.Cases.{three_parts}
 

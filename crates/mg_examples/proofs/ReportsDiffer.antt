@@ -6,20 +6,19 @@ use Rattle.std.proofs.Common.{◌≡◌, ℕ, true, List, [], ◌∷◌, length,
 use Rattle.std.proofs.lemmas.List.Elements.{All-from_recursion}
 use Rattle.std.specs.Prelude.{◌≤◌, codes, unwrap_or}
 use Rattle.std.specs.List.{All}
-use Rattle.mg_examples.proofs.Words.{Command, AddLine, Subtract, ContextRef, Number, MadeAt, IsScript, IsStateOf, IsCommandOf, Agent, replied, timed, Script}
-use Rattle.mg_examples.proofs.Words.{World, IsFirst, agent_steps, execute, reply, timer}
+use Rattle.mg_examples.proofs.Words.{Command, AddLine, Subtract, ContextRef, Number, MadeAt, IsScript, Agent, replied, timed, Script, World, IsFirst}
+use Rattle.mg_examples.proofs.Words.{agent_steps, execute, reply, timer, State}
 use Rattle.mg_model.specs.declared.commands.Termination.TheVariants.{Line}
 use Rattle.mg_model.specs.declared.plans.PlanStep.{PlanStep}
 use Rattle.mg_model.specs.declared.plans.PlanStep.TheVariants.{Executes, TakesReply, TimesOut}
 use Rattle.mg_model.specs.Reports.{IsPlacing, IsReported, Progress, ReportLine, StepHappens, StepsRun, start_as}
-use Rattle.mg_model.specs.Script.{State}
 use Rattle.mg_model.proofs.Single.{first_in}
 use Rattle.mg_examples.specs.ReportsCanDiffer.{ReportsCanDiffer}
 use Rattle.mg_examples.specs.Talk.{call}
 use Rattle.mg_examples.specs.TwoLines.{idle}
 use Rattle.mg_examples.proofs.EmptiedContext.{IsEmpty, asks, both_done, emptied_null, emptied_world, empties, freed, freed_settled, is_refused, one_refused, one_taken_out, refused_world}
-use Rattle.mg_examples.proofs.QuietStates.{no_command}
 use Rattle.mg_examples.proofs.TwoLinesOpening.{agent, all_null, board, one_call, opened_world, opening_settled, opens}
+use Rattle.mg_examples.proofs.QuietStates.{is_accepted}
 
 -- ---- the script
 
@@ -53,18 +52,7 @@ stale = record {
 }
 
 accepted : IsScript stale
-accepted = record {
-  lines = omega (arith);
-  ephemerals = omega (arith);
-  contexts = omega (arith);
-  states = All-from_recursion (IsStateOf stale) stale.states (no_command stale, (first_accepted, (second_accepted, (no_command stale, tt))));
-}
-  where
-    first_accepted : IsStateOf stale first
-    first_accepted = (All-from_recursion (IsCommandOf stale) first.commands ((omega (arith), omega (arith)), ((omega (arith), omega (arith)), tt)), refl)
-
-    second_accepted : IsStateOf stale second
-    second_accepted = (All-from_recursion (IsCommandOf stale) second.commands ((omega (arith), omega (arith)), ((omega (arith), omega (arith)), tt)), refl)
+accepted = is_accepted stale (omega (arith)) (omega (arith)) (omega (arith)) refl
 
 few_commands : All (λ (state : State). length state.commands ≤ 16) stale.states
 few_commands =
@@ -131,24 +119,24 @@ opens_empty = record {
 }
 
 first_executed : IsFirst w1 (asks 1 created_here) None w2
-first_executed = empties w1 1 created_here opens_empty refl (omega (arith)) (one_taken_out (board (call ∷ [])) opens_empty)
+first_executed = empties w1 1 created_here opens_empty refl (omega (arith)) (one_taken_out (board (call ∷ [])) None opens_empty)
 
-empty_again : IsEmpty (freed (board (call ∷ []))) 1
+empty_again : IsEmpty (freed (board (call ∷ [])) None) 1
 empty_again = record {
   can = record { row = refl; is_number = (omega (arith), omega (arith)); not_given = refl; in_class = refl };
-  all_null = emptied_null (board (call ∷ [])) opens_empty;
-  exact = freed_settled (board (call ∷ [])) opens_empty;
+  all_null = emptied_null (board (call ∷ [])) None opens_empty;
+  exact = freed_settled (board (call ∷ [])) None opens_empty;
 }
 
-empty_for_another : IsEmpty (freed (board (call ∷ []))) 2
+empty_for_another : IsEmpty (freed (board (call ∷ [])) None) 2
 empty_for_another = record {
   can = record { row = refl; is_number = (omega (arith), omega (arith)); not_given = refl; in_class = refl };
-  all_null = emptied_null (board (call ∷ [])) opens_empty;
-  exact = freed_settled (board (call ∷ [])) opens_empty;
+  all_null = emptied_null (board (call ∷ [])) None opens_empty;
+  exact = freed_settled (board (call ∷ [])) None opens_empty;
 }
 
 second_executed : IsFirst w3 (asks 2 by_number) None again
-second_executed = empties w3 2 by_number empty_again refl (omega (arith)) (one_taken_out (freed (board (call ∷ []))) empty_again)
+second_executed = empties w3 2 by_number empty_again refl (omega (arith)) (one_taken_out (freed (board (call ∷ [])) None) None empty_again)
 
 second_refused : IsFirst w3 (asks 2 by_number) None another
 second_refused = is_refused w3 2 empty_for_another refl (omega (arith))

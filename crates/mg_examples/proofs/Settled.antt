@@ -2,10 +2,8 @@
 use Rattle.std.proofs.Common.{◌≡◌, ◌∙◌, ◌==◌, ℕ, Bool, true, false, Some, is_some, refl, sym, ap, subst, true≢false, inl, inr, ◌⊎◌}
 use Rattle.std.specs.Prelude.{IsTrue, ◌&&◌, ◌||◌}
 use Rattle.std.proofs.lemmas.Bool.{eqb-true, eq-eqb}
-use Rattle.mg_examples.proofs.Words.{TermId, Eph, Row, Board, same_term, place_of, place_in, null_row, IsSettled, null}
+use Rattle.mg_examples.proofs.Words.{TermId, Eph, Row, Board, same_term, place_of, place_in, null_row, IsSettled, null, ContextExists, given}
 use Rattle.mg_names.specs.declared.identifiers.TermId.TheVariants.{Line}
-use Rattle.mg_model.specs.Board.{ContextExists}
-use Rattle.mg_model.specs.Items.{given}
 
 -- ---- numbers
 

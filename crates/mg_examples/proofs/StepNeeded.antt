@@ -6,10 +6,9 @@ use Rattle.std.proofs.lemmas.List.Elements.{All-from_recursion, All-contains}
 use Rattle.std.specs.Prelude.{Contains, ◌==◌, ◌⊎◌}
 use Rattle.mg_names.specs.declared.kinds.Kind.TheVariants.{Of}
 use Rattle.mg_examples.proofs.Words.{Answered, Resting, Empty, Armed, Entry, numbered, Claim, OpeningCovered, ResetCovered, OfPoint, JoinedMarked, EndedCleared}
-use Rattle.mg_examples.proofs.Words.{CreatedUnbound, NamesLive, StepCovered, Holds, obligation_of, ComesBefore, Step, steps_of, opening, reset}
+use Rattle.mg_examples.proofs.Words.{CreatedUnbound, NamesLive, StepCovered, Holds, obligation_of, ComesBefore, Step, steps_of, opening, reset, with_state}
 use Rattle.mg_model.specs.declared.steps.StepName.TheVariants.{Observe}
 use Rattle.mg_names.specs.declared.obligations.Obligation.TheVariants as obligation
-use Rattle.mg_model.specs.Steps.{with_state}
 use Rattle.mg_examples.specs.Needed.{IsNeeded, fault_at}
 use Rattle.mg_examples.specs.TwoLines.{to_talk_off_hook, calling}
 use Rattle.mg_examples.proofs.CallingRun.{calling_ends_badly}

@@ -5,14 +5,13 @@ use Rattle.std.specs.Prelude.{not, ◌&&◌, IsTrue}
 use Rattle.mg_examples.proofs.Words.{UnknownContext, UnknownTermination, AlreadyInContext, NotInContext, InternalFailure, InsufficientResources, TermId}
 use Rattle.mg_examples.proofs.Words.{SendReceive, Row, Pair, Board, null_row, place_in, remote_of, same_term, IsSettled, Gateway, after_request, start_of}
 use Rattle.mg_examples.proofs.Words.{choose, null, Done, IsExecuted, IsLegal, is_context_number, ListItem, MadeAt, RequestCommand, add_line, Request, Reply}
-use Rattle.mg_examples.proofs.Words.{Running, after_command, item_at, Script, state_of, is_marked, World, IsGood, Opened, with_gateway}
+use Rattle.mg_examples.proofs.Words.{Running, after_command, item_at, Script, state_of, is_marked, World, IsGood, Opened, with_gateway, mode_in, row_with}
+use Rattle.mg_examples.proofs.Words.{Descriptors}
 use Rattle.mg_names.specs.declared.identifiers.TermId.TheVariants.{Line}
-use Rattle.mg_model.specs.Board.{mode_in, row_with}
 use Rattle.mg_examples.proofs.Settled.{still_settled, given_or, given_still, given_here}
 use Rattle.mg_model.specs.Items.{effect}
 use Rattle.mg_model.specs.Media.{AreJoined, receives, sends}
 use Rattle.mg_model.proofs.Cases.{different, where_true, where_false}
-use Rattle.mg_model.specs.Messages.{Descriptors}
 use Rattle.mg_model.specs.RequestRun.{RunsFrom}
 use Rattle.mg_examples.proofs.Creations.{creates, picks, made, created, none_listed, is_unknown, is_taken, creation_executed}
 

@@ -5,14 +5,11 @@ use Rattle.std.proofs.lemmas.Bool.{or_left, or_right}
 use Rattle.std.proofs.lemmas.Grind.{common_steps}
 use Rattle.std.specs.Prelude.{◌⊎◌, ◌||◌, Contains, find}
 use Rattle.mg_examples.proofs.Words.{TermId, Eph, Row, Agent, Board, null_row, place_in, place_of, IsSettled, null, Gateway, LineRow, Script, World, Opened}
-use Rattle.mg_examples.proofs.Words.{AreDistinct, with_gateway}
+use Rattle.mg_examples.proofs.Words.{AreDistinct, with_gateway, opened, with_line, with_notes, outcome_of, row_restarted, board_restarted, new_line, IsLineOf}
+use Rattle.mg_examples.proofs.Words.{LineOccurs, IsOpening, armed_line}
 use Rattle.mg_names.specs.declared.identifiers.TermId.TheVariants.{Line}
 use Rattle.mg_model.specs.declared.line_events.Hook.TheVariants as hooks
-use Rattle.mg_model.specs.Agent.{opened}
 use Rattle.mg_model.specs.declared.line_events.LineEvent.TheVariants as event
-use Rattle.mg_model.specs.Gateway.{with_line, with_notes, outcome_of, row_restarted, board_restarted}
-use Rattle.mg_model.specs.LineEvents.{new_line}
-use Rattle.mg_model.specs.World.{IsLineOf, LineOccurs, IsOpening, armed_line}
 use Rattle.mg_examples.specs.Talk.{call, off_hook}
 use Rattle.mg_model.proofs.Cases.{none_is_some, the_some}
 use Rattle.mg_model.proofs.Single.{only_one}

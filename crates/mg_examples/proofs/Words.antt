@@ -1,31 +1,35 @@
--- The words of the model that more than one file here cites, brought in from one place.
-pub use Rattle.mg_model.specs.Accepted.{HasOne, IsCommandOf, IsContext, IsEntryOf, IsScript, IsStateOf, is_contexts}
-pub use Rattle.mg_model.specs.Agent.{Agent, heard, noted, passed, replied, timed}
-pub use Rattle.mg_model.specs.Board.{Board, IsSettled, exists, mode_of, null_row, place_in, place_of, remote_of, same_term}
-pub use Rattle.mg_model.specs.Configuration.{Configuration, IsWellFormed, is_in, is_live, is_same, stands_in, value_of}
+-- The words of the model that the proofs here cite, brought in from one place.
+pub use Rattle.mg_model.specs.Accepted.{HasOne, IsCommandOf, IsContext, IsEntryOf, IsScript, IsSlot, IsStateOf, create_once, is_contexts, is_cuts, is_events}
+pub use Rattle.mg_model.specs.Accepted.{is_modes, is_plays, is_spots}
+pub use Rattle.mg_model.specs.Agent.{Agent, heard, noted, opened, passed, replied, timed}
+pub use Rattle.mg_model.specs.Board.{Board, ContextExists, IsSettled, exists, mode_in, mode_of, null_row, place_in, place_of, remote_of, row_with, same_term}
+pub use Rattle.mg_model.specs.Configuration.{Configuration, IsWellFormed, is_in, is_live, is_null, is_same, stands_in, value_of}
 pub use Rattle.mg_model.specs.Delivery.{fresh}
 pub use Rattle.mg_model.specs.Effects.{with_pair}
-pub use Rattle.mg_model.specs.Entries.{Entry, IsCovered, links, numbered, size_of}
-pub use Rattle.mg_model.specs.Gateway.{Gateway, after_request, offer_to, restarted, start_of}
-pub use Rattle.mg_model.specs.Items.{Done, IsExecuted, IsLegal, Lists, is_context_number, row_at}
-pub use Rattle.mg_model.specs.LineEvents.{LineRow, ListItem}
-pub use Rattle.mg_model.specs.Messages.{Reply, Request, RequestCommand, add_line, subtract}
+pub use Rattle.mg_model.specs.Entries.{Allows, Choice, Component, Entry, Includes, IsCovered, choices_of, chosen, contexts, cuts, events, link_choice, links}
+pub use Rattle.mg_model.specs.Entries.{modes, numbered, plays, same_choice, size_of, spots}
+pub use Rattle.mg_model.specs.Gateway.{Gateway, MayBegin, after_request, begun, board_restarted, offer_to, outcome_of, restarted, row_restarted, sent_notes}
+pub use Rattle.mg_model.specs.Gateway.{start_of, with_line, with_notes}
+pub use Rattle.mg_model.specs.Items.{Chosen, Done, IsExecuted, IsLegal, Lists, given, is_context_number, rank, row_at}
+pub use Rattle.mg_model.specs.LineEvents.{LineRow, ListItem, new_line, silent}
+pub use Rattle.mg_model.specs.Messages.{Descriptors, Reply, Request, RequestCommand, SentNote, add_line, subtract}
 pub use Rattle.mg_model.specs.Numbers.{choose, null}
-pub use Rattle.mg_model.specs.Obligations.{AtPoint, Claim, ComesBefore, CreatedAreUnbound, CreatedUnbound, EndedCleared, Holds, JoinedAreMarked, JoinedMarked}
-pub use Rattle.mg_model.specs.Obligations.{NamesAreLive, NamesLive, NoneBroken, OfPoint, OpeningCovered, ResetCovered, StepCovered, key_of, obligation_of}
-pub use Rattle.mg_model.specs.RequestRun.{Running, after_command, item_at}
-pub use Rattle.mg_model.specs.Script.{Script}
-pub use Rattle.mg_model.specs.Steps.{Step, opening, reset, steps_of, unused, with_link}
-pub use Rattle.mg_model.specs.Tables.{is_marked, line_places, state_of}
-pub use Rattle.mg_model.specs.World.{AgentSteps, AreDistinct, IsFirst, IsGood, Opened, World, agent_steps, execute, hear, note, on_a_line, pass, reply, timer}
-pub use Rattle.mg_model.specs.World.{with_gateway}
+pub use Rattle.mg_model.specs.Obligations.{Asks, AtPoint, Claim, ComesBefore, CreatedAreUnbound, CreatedUnbound, Duty, EndedCleared, EndedIsCleared, Holds}
+pub use Rattle.mg_model.specs.Obligations.{IsCleared, JoinedAreMarked, JoinedMarked, KeyBefore, NamesAreLive, NamesLive, NamesStep, NoneBroken, OfPoint}
+pub use Rattle.mg_model.specs.Obligations.{OpeningCovered, ResetCovered, StepCovered, entry_named, key_of, obligation_of, point_named}
+pub use Rattle.mg_model.specs.RequestRun.{Fails, Running, Succeeds, after_command, item_at}
+pub use Rattle.mg_model.specs.Script.{Script, State}
+pub use Rattle.mg_model.specs.Steps.{Step, names_unbound, opening, reset, steps_of, unused, with_link, with_state}
+pub use Rattle.mg_model.specs.Tables.{is_armed_list, is_empty, is_marked, items_of, line_places, state_of}
+pub use Rattle.mg_model.specs.World.{AgentSteps, AreDistinct, Begins, IsFirst, IsGood, IsLineOf, IsOpening, LineOccurs, Opened, World, agent_steps, armed_line}
+pub use Rattle.mg_model.specs.World.{execute, hear, note, on_a_line, pass, reply, timer, with_gateway}
 pub use Rattle.mg_model.specs.declared.commands.Command.{Command}
 pub use Rattle.mg_model.specs.declared.commands.Command.TheVariants.{AddLine, Subtract}
 pub use Rattle.mg_model.specs.declared.commands.EventsName.{EventsName}
-pub use Rattle.mg_model.specs.declared.commands.EventsName.TheVariants.{Armed, Empty}
+pub use Rattle.mg_model.specs.declared.commands.EventsName.TheVariants.{Armed, Empty, Own}
 pub use Rattle.mg_model.specs.declared.commands.Termination.{Termination}
 pub use Rattle.mg_model.specs.declared.commands.Termination.TheVariants.{Ephemeral}
-pub use Rattle.mg_model.specs.declared.components.Remote.TheVariants.{Unset}
+pub use Rattle.mg_model.specs.declared.components.Remote.TheVariants.{Gone, To, Unset}
 pub use Rattle.mg_model.specs.declared.components.Spot.{Spot}
 pub use Rattle.mg_model.specs.declared.components.Spot.TheVariants.{Absent, In, Null}
 pub use Rattle.mg_model.specs.declared.events.Event.{Event}
