@@ -12,7 +12,8 @@ use Rattle.mg_examples.specs.Talk.{call, off_hook, to_talk, all_done}
 use Rattle.mg_examples.proofs.BegunUnbroken.{accepted, listed, none_broken}
 use Rattle.mg_examples.proofs.TalkExecuted.{executes}
 use Rattle.mg_examples.proofs.TwoLinesJoined.{IsReady, talking_world, joined, is_ready}
-use Rattle.mg_examples.proofs.TwoLinesOpening.{agent, gateway, opened_world, opens, one_call, off, off_hook_world, goes_off, opening_settled, held_row, held_line}
+use Rattle.mg_examples.proofs.TwoLinesOpening.{agent, gateway, opened_world, opens, one_call, off, off_hook_world}
+use Rattle.mg_examples.proofs.TwoLinesOpening.{goes_off, opening_settled, held_row, held_line}
 use Rattle.mg_examples.proofs.RunSteps.{◌after◌▹◌}
 
 -- ---- the agents of the two calls
@@ -59,7 +60,8 @@ abbrev w5 : World
 w5 = agent_steps w4 8 asking
 
 ready : IsReady w5.gateway.board next_call 1
-ready = is_ready w5.gateway.board next_call 1 (λ e. omega (arith, e)) (omega (arith), omega (arith)) (refl, refl, refl, refl, refl) (opening_settled (call ∷ []))
+ready = is_ready w5.gateway.board next_call 1 (λ e. omega (arith, e)) (omega (arith), omega (arith)) (refl, refl, refl, refl, refl)
+    (opening_settled (call ∷ []))
 
 abbrev w6 : World
 w6 = talking_world w5 next_call 1 ready

@@ -13,7 +13,7 @@ use Rattle.mg_examples.specs.TwoLines.{to_talk_off_hook, calling}
 use Rattle.mg_examples.proofs.TwoLines.{none_marked}
 use Rattle.mg_examples.proofs.TwoLinesOpening.{agent, opened_world, opens, one_call, off_hook_world, goes_off, opening_settled}
 use Rattle.mg_examples.proofs.TalkExecuted.{executes}
-use Rattle.mg_examples.proofs.TwoLinesJoined.{IsReady, to_talk, talking_world, joined, not_good}
+use Rattle.mg_examples.proofs.TwoLinesJoined.{IsReady, is_ready, to_talk, talking_world, joined, not_good}
 
 abbrev silent : Script
 silent = calling []
@@ -37,7 +37,7 @@ enters : AgentSteps w1 7 (λ a. noted silent a (line_places silent) (off_hook ca
 enters = record { before = before; agent = talking; open_call = refl; steps = refl; after_is = refl }
 
 ready : IsReady w2.gateway.board call 1
-ready = record { differ = λ e. omega (arith, e); first_row = refl; second_row = refl; uncut = refl; is_number = (omega (arith), omega (arith)); not_given = refl; in_class = refl; exact = opening_settled (call ∷ []) }
+ready = is_ready w2.gateway.board call 1 (λ e. omega (arith, e)) (omega (arith), omega (arith)) (refl, refl, refl, refl, refl) (opening_settled (call ∷ []))
 
 abbrev w3 : World
 w3 = talking_world w2 call 1 ready

@@ -105,12 +105,15 @@ module _ (script : Script) (two : HasTwoLines script) (r : EntryRow) (link : Lin
   of_lines P first second i within = below_two P first second i (subst (λ n. i < n) two.lines within)
 
   cleared_so : IsTrue (meets script EndedCleared r link) → Asks script [] EndedCleared its
-  cleared_so h rests ends = elim (either_true (not (is_resting link && is_end r.state)) (is_waiting script r.list r.first && is_waiting script r.list r.second) h) [
+  cleared_so h rests ends = elim (either_true (not (is_resting link && is_end r.state)) both_wait h) [
     | inl goes_on ↦ absurd (denies (is_resting link && is_end r.state) goes_on
         (and_from (is_resting link) (is_end r.state) (ap is_resting (sym (says r link).at.1 ∙ rests)) (sym (ap is_end (says r link).at.0) ∙ ends)))
     | inr waits ↦ cleared (and_parts (is_waiting script r.list r.first) (is_waiting script r.list r.second) waits)
   ]
     where
+      both_wait : Bool
+      both_wait = is_waiting script r.list r.first && is_waiting script r.list r.second
+
       is_end : ℕ → Bool
       is_end state = (state_of script state).is_end
 
@@ -119,12 +122,13 @@ module _ (script : Script) (two : HasTwoLines script) (r : EntryRow) (link : Lin
 
       cleared : IsTrue (is_waiting script r.list r.first) × IsTrue (is_waiting script r.list r.second) → IsCleared script its
       cleared both =
+          let said = says r link in
           let first = and_parts (is_null r.first.spot) (is_armed_list (items_of script (list_at r.first r.list))) both.0 in
           let second = and_parts (is_null r.second.spot) (is_armed_list (items_of script (list_at r.second r.list))) both.1 in
           record {
-            in_null = of_lines (λ i. its.spot (Line i) ≡ Null) ((says r link).first.0 ∙ null_is r.first.spot first.0) ((says r link).second.0 ∙ null_is r.second.spot second.0);
-            silent = of_lines (λ i. its.plays i ≡ false) (says r link).first.2 (says r link).second.2;
-            armed = of_lines (λ i. IsTrue (is_armed_list (items_of script (its.events i)))) (ap is_armed (says r link).first.1 ∙ first.1) (ap is_armed (says r link).second.1 ∙ second.1);
+            in_null = of_lines (λ i. its.spot (Line i) ≡ Null) (said.first.0 ∙ null_is r.first.spot first.0) (said.second.0 ∙ null_is r.second.spot second.0);
+            silent = of_lines (λ i. its.plays i ≡ false) said.first.2 said.second.2;
+            armed = of_lines (λ i. IsTrue (is_armed_list (items_of script (its.events i)))) (ap is_armed said.first.1 ∙ first.1) (ap is_armed said.second.1 ∙ second.1);
             no_ephemeral = λ k. ((says r link).ephemeral k).0;
           }
 
@@ -137,7 +141,8 @@ module _ (script : Script) (two : HasTwoLines script) (r : EntryRow) (link : Lin
   live_so : IsTrue (meets script NamesLive r link) → Asks script [] NamesLive its
   live_so h asks = elim (either_true (not (is_asked link)) (not (is_stale (unwrap_or r.value Free))) h) [
     | inl other ↦ absurd (denies (is_asked link) other (asked asks))
-    | inr live ↦ first_stands its (unwrap_or r.value Free) (denied (is_stale (unwrap_or r.value Free)) live) (says r link).context (λ k. ((says r link).ephemeral k).1) asks
+    | inr live ↦ first_stands its (unwrap_or r.value Free) (denied (is_stale (unwrap_or r.value Free)) live) (says r link).context
+        (λ k. ((says r link).ephemeral k).1) asks
   ]
     where
       is_asked : LinkPhase → Bool
@@ -170,12 +175,12 @@ pub record Closed (script : Script) (entries : List Entry) : Type 0 where
   pub stepped : Stepped script entries
 
 -- a duty that the entries meet at each of their points
-pub each_meets : (script : Script) → HasTwoLines script → (every front : List Entry) (duty : Duty) → reread front ≡ front → IsTrue (rows_pass (meets script duty) front)
-    → EachPoint (Asks script every duty) front
+pub each_meets : (script : Script) → HasTwoLines script → (every front : List Entry) (duty : Duty) → reread front ≡ front
+    → IsTrue (rows_pass (meets script duty) front) → EachPoint (Asks script every duty) front
 each_meets script two every front duty reads h = by_rows (Asks script every duty) (meets script duty) (meets_so script two every duty) front reads h
 
-pub holds : (script : Script) (entries : List Entry) → HasTwoLines script → reread entries ≡ entries → (duty : Duty) → IsTrue (rows_pass (meets script duty) entries)
-    → (e p : ℕ) → Holds script entries (OfPoint e p duty)
+pub holds : (script : Script) (entries : List Entry) → HasTwoLines script → reread entries ≡ entries → (duty : Duty)
+    → IsTrue (rows_pass (meets script duty) entries) → (e p : ℕ) → Holds script entries (OfPoint e p duty)
 holds script entries two reads duty h e p = at_points (Asks script entries duty) entries (each_meets script two entries entries duty reads h) e p
 
 pub all_hold : (script : Script) (entries : List Entry) → Closed script entries → IsTrue (rows_pass (meets script JoinedMarked) entries)

@@ -1,6 +1,7 @@
 -- Entries of two lines read as rows, so that what is asked of all their points can be computed: each point of such an entry has one of its links, and
 -- else what its row says; and a configuration is covered by a row where what is seen of it is seen of a point of the row.
-use Rattle.std.proofs.Common.{◌≡◌, ◌<◌, ◌==◌, ◌%◌, ◌/◌, ◌*◌, ◌++◌, ◌∙◌, ℕ, zero, suc, Bool, true, false, if◌then◌else◌, List, [], ◌∷◌, map, length, get_or, Option, Some, None, refl, sym, ap, subst, arith}
+use Rattle.std.proofs.Common.{◌≡◌, ◌<◌, ◌==◌, ◌%◌, ◌/◌, ◌*◌, ◌++◌, ◌∙◌}
+use Rattle.std.proofs.Common.{ℕ, zero, suc, Bool, true, false, if◌then◌else◌, List, [], ◌∷◌, map, length, get_or, Option, Some, None, refl, sym, ap, subst, arith}
 use Rattle.std.proofs.lemmas.Bool.{and_parts, eqb-true}
 use Rattle.std.proofs.lemmas.List.Elements.{All-cons, All-nil}
 use Rattle.std.specs.List.{All, list_all}
@@ -12,7 +13,8 @@ use Rattle.mg_model.specs.declared.commands.Termination.TheVariants.{Line}
 use Rattle.mg_model.proofs.Cases.{false_not_true}
 use Rattle.mg_model.proofs.Single.{first_in, only_one}
 use Rattle.mg_examples.specs.EntriesOfTwo.{Place, contexts_of, entry_of, line_of, no_cuts}
-use Rattle.mg_examples.proofs.EntriesOfTwo.{HasTwoLines, LineValues, is_both_live, is_covered, is_entry, is_first_live, is_free_live, is_stale_live, none_below, of_context, point_formed, point_of, values_at}
+use Rattle.mg_examples.proofs.EntriesOfTwo.{HasTwoLines, LineValues, is_both_live, is_covered, is_entry, is_first_live}
+use Rattle.mg_examples.proofs.EntriesOfTwo.{is_free_live, is_stale_live, none_below, of_context, point_formed, point_of, values_at}
 use Rattle.mg_examples.proofs.Finding.{later_in}
 use Rattle.mg_examples.proofs.PointFacts.{Below, EachPoint}
 
@@ -76,7 +78,8 @@ module _ (script : Script) (two : HasTwoLines script) where
       let both = and_parts (has_contexts entry) (list_all has_contexts more) h in
       let r = row_of entry in
       All-cons (IsEntryOf script) (entry_at r) (reread more)
-      (is_entry script two r.state r.linked r.list r.first r.second r.value (its_context r r.value (eqb-true (length script.contexts) (contexts_in r.value) both.0)))
+      (is_entry script two r.state r.linked r.list r.first r.second r.value
+      (its_context r r.value (eqb-true (length script.contexts) (contexts_in r.value) both.0)))
       (all_reread more both.1)
 
   pub all_entries : (entries : List Entry) → reread entries ≡ entries → IsTrue (list_all has_contexts entries) → All (IsEntryOf script) entries
@@ -135,7 +138,10 @@ below_all P entry (suc size) all = ((λ formed. all size (omega arith)), below_a
 abbrev pub rows_pass : (EntryRow → LinkPhase → Bool) → List Entry → Bool
 rows_pass test entries = list_all (λ (entry : Entry). list_all (test (row_of entry)) (links_in entry.components)) entries
 
-module _ (P : Configuration → Type 0) (test : EntryRow → LinkPhase → Bool) (sound : (r : EntryRow) (link : LinkPhase) → IsTrue (test r link) → P (point_at r link)) where
+abbrev IsSound : (Configuration → Type 0) → (EntryRow → LinkPhase → Bool) → Type 0
+IsSound P test = (r : EntryRow) (link : LinkPhase) → IsTrue (test r link) → P (point_at r link)
+
+module _ (P : Configuration → Type 0) (test : EntryRow → LinkPhase → Bool) (sound : IsSound P test) where
   of_row : (r : EntryRow) → IsTrue (list_all (test r) r.linked) → Below P (entry_at r) (size_of (entry_at r).components)
   of_row r h = below_all P (entry_at r) (size_of (entry_at r).components) (λ n within.
       let it = its_point r.state r.linked r.list r.first r.second r.value n within in

@@ -44,4 +44,5 @@ state_so script state h =
 pub is_accepted : (script : Script) → length script.lines ≤ 4 → length script.ephemerals ≤ 4 → length script.contexts ≤ 4
     → IsTrue (list_all (is_state script) script.states) → IsScript script
 is_accepted script lines ephemerals contexts h =
-    record { lines = lines; ephemerals = ephemerals; contexts = contexts; states = all_so (IsStateOf script) (is_state script) (state_so script) script.states h }
+    let states = all_so (IsStateOf script) (is_state script) (state_so script) script.states h in
+    record { lines = lines; ephemerals = ephemerals; contexts = contexts; states = states }

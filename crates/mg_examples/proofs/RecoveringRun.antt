@@ -10,7 +10,7 @@ use Rattle.mg_examples.specs.TwoLines.{recovering}
 use Rattle.mg_examples.proofs.TwoLines.{none_marked}
 use Rattle.mg_examples.proofs.TwoLinesOpening.{gateway, agent, opened_world, opens, one_call, restart_settled}
 use Rattle.mg_examples.proofs.TalkExecuted.{executes}
-use Rattle.mg_examples.proofs.TwoLinesJoined.{IsReady, to_talk, talking_world, joined, not_good}
+use Rattle.mg_examples.proofs.TwoLinesJoined.{IsReady, is_ready, to_talk, talking_world, joined, not_good}
 
 abbrev w0 : World
 w0 = opened_world recovering (call ∷ [])
@@ -31,7 +31,7 @@ enters : AgentSteps w1 7 (λ a. heard recovering a 2) w2
 enters = record { before = before; agent = talking; open_call = refl; steps = refl; after_is = refl }
 
 ready : IsReady w2.gateway.board call 1
-ready = record { differ = λ e. omega (arith, e); first_row = refl; second_row = refl; uncut = refl; is_number = (omega (arith), omega (arith)); not_given = refl; in_class = refl; exact = restart_settled (call ∷ []) }
+ready = is_ready w2.gateway.board call 1 (λ e. omega (arith, e)) (omega (arith), omega (arith)) (refl, refl, refl, refl, refl) (restart_settled (call ∷ []))
 
 abbrev w3 : World
 w3 = talking_world w2 call 1 ready

@@ -8,7 +8,7 @@ use Rattle.mg_model.specs.World.{Runs}
 use Rattle.mg_examples.specs.Basic.{basic}
 use Rattle.mg_examples.specs.Talk.{call, off_hook, to_talk, all_done, hang, to_a_talk, LeadsToATalk}
 use Rattle.mg_model.proofs.Single.{first_in}
-use Rattle.mg_examples.proofs.TwoLinesJoined.{IsReady, r2, runs_through, joined, with_both, both_settled}
+use Rattle.mg_examples.proofs.TwoLinesJoined.{IsReady, is_ready, r2, runs_through, joined, with_both, both_settled}
 use Rattle.mg_examples.proofs.TwoLinesOpening.{agent, opened_world, opens, one_call, off_hook_world, goes_off, opening_settled}
 
 abbrev w0 : World
@@ -37,7 +37,7 @@ sends = refl
 -- ---- the request is executed
 
 ready : IsReady w2.gateway.board call 1
-ready = record { differ = λ e. omega (arith, e); first_row = refl; second_row = refl; uncut = refl; is_number = (omega (arith), omega (arith)); not_given = refl; in_class = refl; exact = opening_settled (call ∷ []) }
+ready = is_ready w2.gateway.board call 1 (λ e. omega (arith, e)) (omega (arith), omega (arith)) (refl, refl, refl, refl, refl) (opening_settled (call ∷ []))
 
 abbrev end : Running
 end = r2 w2 call 1 ready hang
