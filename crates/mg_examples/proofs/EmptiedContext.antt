@@ -171,11 +171,7 @@ module _ (w : World) (number : ℕ) (context : ContextRef) where
   both_run can second = inl (
     after_one 1,
     first_succeeds 1 can,
-    inl (
-      after_both,
-      record { board = emptied w.gateway.board None; done = taken_out; not_chosen = refl; executed = second; next_is = refl },
-      at_end,
-    ),
+    inl (after_both, record { board = emptied w.gateway.board None; done = taken_out; not_chosen = refl; executed = second; next_is = refl }, at_end),
   )
 
   pub empties : IsEmpty w.gateway.board 1 → offer_to w.gateway (asks number context) ≡ fresh → (w.gateway.link 7).notes ≤ 1
@@ -213,11 +209,7 @@ module _ (w : World) (number : ℕ) where
   one_runs : IsEmpty w.gateway.board 2
       → RunsFrom number None (start_of w.gateway) 0 (puts ∷ takes_out old_context ∷ []) (after_one w number old_context 2) unknown_context
   unfolding RunsFrom
-  one_runs empty = inl (
-    after_one w number old_context 2,
-    first_succeeds w number old_context 2 empty.can,
-    inr (UnknownContext, fails empty, refl, refl),
-  )
+  one_runs empty = inl (after_one w number old_context 2, first_succeeds w number old_context 2 empty.can, inr (UnknownContext, fails empty, refl, refl))
 
   pub is_refused : IsEmpty w.gateway.board 2 → offer_to w.gateway (asks number old_context) ≡ fresh → (w.gateway.link 7).notes ≤ 1
       → IsFirst w (asks number old_context) None (refused_world w number old_context)

@@ -2,21 +2,14 @@
 use Rattle.std.proofs.Common.{◌≡◌, ◌∙◌, ◌<◌, ℕ, zero, suc, get_or, Bool, true, false, List, [], ◌∷◌, length, Some, refl, sym, ap, subst, arith, true≢false, inl, inr}
 use Rattle.std.specs.Prelude.{◌⊎◌, Contains, find}
 use Rattle.mg_model.proofs.Cases.{none_is_some, the_some, where_true, where_false}
-use Rattle.mg_model.proofs.Single.{none_in, only_one, first_in}
+use Rattle.mg_model.proofs.Single.{none_in, only_one, first_in, first_or_later}
 
 pub later_in : {A : Type 0} (x y : A) (xs : List A) → Contains xs y → Contains (x ∷ xs) y
 later_in x y xs among = let below : among.0 < length xs = among.1 in (suc among.0, omega (arith, below), among.2)
 
-pub first_or_later : {A : Type 0} (x y : A) (xs : List A) → Contains (x ∷ xs) y → (x ≡ y) ⊎ Contains xs y
-first_or_later x y xs among = at among.0 among.1 among.2
-  where
-    at : (i : ℕ) → i < suc (length xs) → get_or (x ∷ xs) i y ≡ y → (x ≡ y) ⊎ Contains xs y
-    at zero within is = inl is
-    at (suc i) within is = inr (i, (let below : suc i < suc (length xs) = within in omega (arith, below)), is)
-
 -- what holds of both holds of each of them
 pub of_both : {A : Type 0} (P : A → Type 0) (x y z : A) → P x → P y → Contains (x ∷ y ∷ []) z → P z
-of_both P x y z first second among = at (first_or_later x z (y ∷ []) among)
+of_both P x y z first second among = at (first_or_later x (y ∷ []) z among)
   where
     at : (x ≡ z) ⊎ Contains (y ∷ []) z → P z
     at (inl same) = subst P same first
@@ -44,7 +37,7 @@ finds_only test y passes (x ∷ xs) among only =
   where
     at : (b : Bool) → test x ≡ b → (Contains xs y → find test xs ≡ Some y) → find test (x ∷ xs) ≡ Some y
     at true is rest = where_true (test x) (Some x) (find test xs) is ∙ ap Some (only x (first_in x xs) is)
-    at false is rest = where_false (test x) (Some x) (find test xs) is ∙ either (first_or_later x y xs among)
+    at false is rest = where_false (test x) (Some x) (find test xs) is ∙ either (first_or_later x xs y among)
       where
         either : (x ≡ y) ⊎ Contains xs y → find test xs ≡ Some y
         either (inl same) = absurd (true≢false (sym passes ∙ sym (ap test same) ∙ is))

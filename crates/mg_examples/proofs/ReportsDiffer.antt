@@ -238,11 +238,7 @@ unfolding StepsRun
 all_happen after end executed taken = (
   by w1 1,
   inl times_out,
-  (
-    by w2 2,
-    inl executes_first,
-    (by w3 3, inl takes_first, (by after 4, inl (executes_second after executed), (by end 5, inl taken, refl))),
-  ),
+  (by w2 2, inl executes_first, (by w3 3, inl takes_first, (by after 4, inl (executes_second after executed), (by end 5, inl taken, refl)))),
 )
 
 as_they_are : IsPlacing steps 0 steps
