@@ -1,4 +1,6 @@
+pub mod Words
 pub mod Invariant
+pub mod InvariantWords
 pub mod Shared
 pub mod Certificate
 pub mod Commands

@@ -1,27 +1,12 @@
 -- Parts of the steps of an agent: the configuration that it is shown by where a target is entered, and what stays of a lost call.
-use Rattle.std.proofs.Common.{◌≡◌, ◌∙◌, ◌<◌, ◌≤◌, ℕ, false, List, [], length, Option, Some, None, sym, subst, arith, inl, inr}
-use Rattle.std.specs.Prelude.{Contains, ◌⊎◌}
-use Rattle.mg_model.specs.declared.failures.Failure.{Failure}
-use Rattle.mg_names.specs.declared.identifiers.TermId.TheVariants.{Line}
+use Rattle.mg_safety.proofs.Words.{◌≡◌, ◌∙◌, ◌<◌, ◌≤◌, ℕ, false, List, [], length, Option, Some, None, sym, subst, arith, inl, inr, Contains, ◌⊎◌, Failure}
+use Rattle.mg_safety.proofs.Words.{Line, Resting, StepName, Agent, awaits_reply, resting, entered_or_rests, entered_if, leads_on, Configuration, Entry, Gateway}
+use Rattle.mg_safety.proofs.Words.{last_executed, Request, Script, Step, entering, reply_step, steps_by_link, state_of, silent, null_row, only_here}
+use Rattle.mg_safety.proofs.Words.{none_is_some, the_some}
 use Rattle.mg_names.specs.declared.phases.LinkPhase as phases
-use Rattle.mg_names.specs.declared.phases.LinkPhase.TheVariants.{Resting}
-use Rattle.mg_model.specs.declared.steps.StepName.{StepName}
 use Rattle.mg_model.specs.declared.steps.StepName.TheVariants as names
-use Rattle.mg_model.specs.Agent.{Agent, awaits_reply, resting, entered_or_rests, entered_if, leads_on}
-use Rattle.mg_model.specs.Configuration.{Configuration}
-use Rattle.mg_model.specs.Entries.{Entry}
-use Rattle.mg_model.specs.Gateway.{Gateway, last_executed}
-use Rattle.mg_model.specs.Messages.{Request}
-use Rattle.mg_model.specs.Script.{Script}
 use Rattle.mg_model.specs.Steps as steps
-use Rattle.mg_model.specs.Steps.{Step, entering, reply_step, steps_by_link, steps_of}
-use Rattle.mg_model.specs.Tables.{state_of}
-use Rattle.mg_model.specs.LineEvents.{silent}
-use Rattle.mg_model.specs.Board.{null_row}
-use Rattle.mg_model.proofs.Single.{only_here}
-use Rattle.mg_model.proofs.Cases.{none_is_some, the_some}
-use Rattle.mg_safety.proofs.Invariant.Sound.{Stands, IsCurrent, IsLost, IsSentBy}
-use Rattle.mg_safety.proofs.Invariant.Statements.{IsClosed}
+use Rattle.mg_safety.proofs.InvariantWords.{Stands, IsCurrent, IsLost, IsSentBy, IsClosed}
 use Rattle.mg_safety.proofs.Agents.Entering.{Follows, follows_resting, enters_follows, IsBetween, enters_current, rests_current}
 use Rattle.mg_safety.proofs.Agents.AgentSteps.{Goes}
 

@@ -1,25 +1,13 @@
 -- What an agent does of itself keeps the world sound: an empty request passes, and its timer ends.
-use Rattle.std.proofs.Common.{◌≡◌, ◌∙◌, ◌<◌, ℕ, Bool, true, false, List, Some, None, refl, sym, subst, arith, inl, inr}
-use Rattle.std.proofs.lemmas.List.Elements.{Contains-append_right}
-use Rattle.std.specs.Prelude.{if◌then◌else◌, Contains, ◌⊎◌}
+use Rattle.mg_safety.proofs.Words.{◌≡◌, ◌∙◌, ◌<◌, ℕ, Bool, true, false, List, Some, None, refl, sym, subst, arith, inl, inr, Contains-append_right}
+use Rattle.mg_safety.proofs.Words.{if◌then◌else◌, Contains, ◌⊎◌, Answered, Resting, Agent, Phase, awaits_reply, awaits_pass, resting, entered_or_rests}
+use Rattle.mg_safety.proofs.Words.{entered_if, passed_in, passed, is_resting, timed, Entry, Gateway, last_executed, Request, Script, entering, observations}
+use Rattle.mg_safety.proofs.Words.{flat_map, state_of, line_places, World, AgentSteps, none_is_some, is_resting_is}
 use Rattle.mg_names.specs.declared.phases.LinkPhase as phases
-use Rattle.mg_names.specs.declared.phases.LinkPhase.TheVariants.{Answered, Resting}
 use Rattle.mg_model.specs.declared.steps.StepName.TheVariants as names
-use Rattle.mg_model.specs.Agent.{Agent, Phase, awaits_reply, awaits_pass, resting, entered_or_rests, entered_if, passed_in, passed, is_resting, timed}
-use Rattle.mg_model.specs.Entries.{Entry}
-use Rattle.mg_model.specs.Gateway.{Gateway, last_executed}
-use Rattle.mg_model.specs.Messages.{Request}
-use Rattle.mg_model.specs.Script.{Script}
 use Rattle.mg_model.specs.Steps as steps
-use Rattle.mg_model.specs.Steps.{entering, observations}
-use Rattle.std.specs.List.{flat_map}
-use Rattle.mg_model.specs.Tables.{state_of, line_places}
-use Rattle.mg_model.specs.World.{World, AgentSteps}
-use Rattle.mg_model.proofs.Cases.{none_is_some}
-use Rattle.mg_model.proofs.Agents.{is_resting_is}
-use Rattle.mg_safety.proofs.Invariant.Shown.{naming, Seen, LinesShown}
-use Rattle.mg_safety.proofs.Invariant.Sound.{owned_in, IsPassing, IsResting, IsAt, IsCurrent, IsLost, CallIsSound}
-use Rattle.mg_safety.proofs.Invariant.Statements.{IsClosed, KeepsSound}
+use Rattle.mg_safety.proofs.InvariantWords.{naming, Seen, LinesShown, owned_in, IsPassing, IsResting, IsAt, IsCurrent, IsLost, CallIsSound, IsClosed}
+use Rattle.mg_safety.proofs.InvariantWords.{KeepsSound}
 use Rattle.mg_safety.proofs.Agents.Entering.{not_passing, not_resting, IsBetween}
 use Rattle.mg_safety.proofs.Agents.AgentSteps.{Goes, agent_goes}
 use Rattle.mg_safety.proofs.Agents.AgentParts.{step_of, target_entered, answer_led, rests_follows, if_follows, quiet, goes_on, lost_goes}

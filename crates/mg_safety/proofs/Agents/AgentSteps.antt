@@ -1,17 +1,8 @@
 -- A step of one agent keeps the world sound, where the agent after it goes on from the one before.
-use Rattle.std.proofs.Common.{◌≡◌, ◌∙◌, ◌<◌, ◌≤◌, ℕ, Bool, true, false, List, Option, Some, refl, sym, ap, subst, arith, inl, inr}
-use Rattle.std.proofs.lemmas.Bool.{eqb-true}
-use Rattle.std.proofs.lemmas.List.Elements.{Contains-append_cases}
-use Rattle.std.specs.Prelude.{◌==◌, if◌then◌else◌, Contains, ◌⊎◌}
-use Rattle.mg_model.specs.Agent.{Agent, Phase, awaits_reply, awaits_pass, resting}
-use Rattle.mg_model.specs.Entries.{Entry}
-use Rattle.mg_model.specs.Gateway.{Gateway, last_executed}
-use Rattle.mg_model.specs.Messages.{Request}
-use Rattle.mg_model.specs.Script.{Script}
-use Rattle.mg_model.specs.World.{World, AgentSteps, agent_steps, sent_in}
-use Rattle.mg_model.proofs.Single.{none_in, only_one}
-use Rattle.mg_model.proofs.Cases.{the_some}
-use Rattle.mg_safety.proofs.Invariant.Sound.{IsSentBy, IsCurrent, IsLost, CallIsSound, IsKnown, IsOpen, IsAboveFloor, GatewayIsSound, IsSound}
+use Rattle.mg_safety.proofs.Words.{◌≡◌, ◌∙◌, ◌<◌, ◌≤◌, ℕ, Bool, true, false, List, Option, Some, refl, sym, ap, subst, arith, inl, inr, eqb-true}
+use Rattle.mg_safety.proofs.Words.{Contains-append_cases, ◌==◌, if◌then◌else◌, Contains, ◌⊎◌, Agent, Phase, awaits_reply, awaits_pass, resting, Entry, Gateway}
+use Rattle.mg_safety.proofs.Words.{last_executed, Request, Script, World, AgentSteps, agent_steps, sent_in, none_in, only_one, the_some}
+use Rattle.mg_safety.proofs.InvariantWords.{IsSentBy, IsCurrent, IsLost, CallIsSound, IsKnown, IsOpen, IsAboveFloor, GatewayIsSound, IsSound}
 
 -- the agent b goes on from a: what it sends is new and its own, what was sent before is settled, and it is current or lost
 pub record Goes (script : Script) (entries : List Entry) (g : Gateway) (a b : Agent) : Type 0 where

@@ -1,15 +1,10 @@
 -- What a reply binds leaves the rest of the agent; so the agent as it will be once it has taken a reply that is kept has the lines of the
 -- call.
-use Rattle.std.proofs.Common.{◌≡◌, ◌∙◌, ℕ, List, [], ◌∷◌, refl, ap, inl, inr}
+use Rattle.mg_safety.proofs.Words.{◌≡◌, ◌∙◌, ℕ, List, [], ◌∷◌, refl, ap, inl, inr, Command, AddLine, AddEphemeral, ModifyLine, ModifyEphemeral, MoveLine}
+use Rattle.mg_safety.proofs.Words.{MoveEphemeral, Subtract, SubtractAll, SetTopology, Agent, after_result, after_results, built_by, Gateway, Done, Script}
 use Rattle.mg_names.specs.declared.phases.LinkPhase as phases
-use Rattle.mg_model.specs.declared.commands.Command.{Command}
-use Rattle.mg_model.specs.declared.commands.Command.TheVariants.{AddLine, AddEphemeral, ModifyLine, ModifyEphemeral, MoveLine, MoveEphemeral, Subtract, SubtractAll, SetTopology}
 use Rattle.mg_model.specs.declared.commands.Termination.TheVariants as termination
-use Rattle.mg_model.specs.Agent.{Agent, after_result, after_results, built_by}
-use Rattle.mg_model.specs.Gateway.{Gateway}
-use Rattle.mg_model.specs.Items.{Done}
-use Rattle.mg_model.specs.Script.{Script}
-use Rattle.mg_safety.proofs.Invariant.Sound.{IsAt}
+use Rattle.mg_safety.proofs.InvariantWords.{IsAt}
 
 -- ---- what a reply binds leaves the rest of the agent
 

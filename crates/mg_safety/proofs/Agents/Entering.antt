@@ -1,27 +1,15 @@
 -- An agent that enters a state: what it keeps of itself, what it sends, and that the configuration which the checker enters is shown then.
-use Rattle.std.proofs.Common.{◌≡◌, ◌∙◌, ◌+◌, ◌<◌, ◌≤◌, ℕ, Bool, true, false, List, [], ◌∷◌, Some, None, refl, sym, ap, subst, arith, inl, inr}
-use Rattle.std.specs.Prelude.{if◌then◌else◌, nat_le}
+use Rattle.mg_safety.proofs.Words.{◌≡◌, ◌∙◌, ◌+◌, ◌<◌, ◌≤◌, ℕ, Bool, true, false, List, [], ◌∷◌, Some, None, refl, sym, ap, subst, arith, inl, inr}
+use Rattle.mg_safety.proofs.Words.{if◌then◌else◌, nat_le, Sent, Answered, Resting, Command, AddLine, AddEphemeral, ModifyLine, ModifyEphemeral, MoveLine}
+use Rattle.mg_safety.proofs.Words.{MoveEphemeral, Subtract, SubtractAll, SetTopology, Agent, Made, Phase, awaits_reply, awaits_pass, resting, entered_with}
+use Rattle.mg_safety.proofs.Words.{entered, built_by, command_of, commands_of, made_after, none_made, request_of, Configuration, Entry, last_number, Gateway}
+use Rattle.mg_safety.proofs.Words.{last_executed, LineRow, Request, RequestCommand, Names, built, Script, request_in, state_of, is_empty, none_is_some}
+use Rattle.mg_safety.proofs.Words.{the_some}
 use Rattle.mg_names.specs.declared.phases.LinkPhase as phases
-use Rattle.mg_names.specs.declared.phases.LinkPhase.TheVariants.{Sent, Answered, Resting}
-use Rattle.mg_model.specs.declared.commands.Command.{Command}
-use Rattle.mg_model.specs.declared.commands.Command.TheVariants.{AddLine, AddEphemeral, ModifyLine, ModifyEphemeral, MoveLine, MoveEphemeral, Subtract, SubtractAll, SetTopology}
-use Rattle.mg_model.specs.Agent.{Agent, Made, Phase, awaits_reply, awaits_pass, resting, entered_with, entered, built_by, command_of, commands_of, made_after, none_made, request_of}
-use Rattle.mg_model.specs.Configuration.{Configuration}
-use Rattle.mg_model.specs.Entries.{Entry}
-use Rattle.mg_model.specs.Numbers.{last_number}
-use Rattle.mg_model.specs.Gateway.{Gateway, last_executed}
-use Rattle.mg_model.specs.LineEvents.{LineRow}
-use Rattle.mg_model.specs.Messages.{Request, RequestCommand}
-use Rattle.mg_model.specs.Request.{Names, built}
-use Rattle.mg_model.specs.Script.{Script}
 use Rattle.mg_model.specs.Steps as steps
-use Rattle.mg_model.specs.Steps.{request_in}
-use Rattle.mg_model.specs.Tables.{state_of, is_empty}
-use Rattle.mg_model.proofs.Cases.{none_is_some, the_some}
-use Rattle.mg_safety.proofs.Invariant.Shown.{naming, Seen, LinesShown}
+use Rattle.mg_safety.proofs.InvariantWords.{naming, Seen, LinesShown, Stands, IsOfScript, owned_in, IsCurrent}
 use Rattle.mg_safety.proofs.Requests.RunKnown.{bound_agree}
 use Rattle.mg_safety.proofs.Requests.RunSteps.{seen_still}
-use Rattle.mg_safety.proofs.Invariant.Sound.{Stands, IsOfScript, owned_in, IsCurrent}
 
 -- ---- what an agent keeps as it goes on
 

@@ -1,29 +1,13 @@
 -- An agent that hears of a newer association keeps the world sound: it was lost, so it owns nothing, and of the gateway's own association the
 -- gateway shows the configuration in which nothing is used.
-use Rattle.std.proofs.Common.{◌≡◌, ◌∙◌, ◌<◌, ◌≤◌, ℕ, Bool, true, false, List, [], length, Option, Some, None, is_some, refl, sym, ap, subst, arith, inl, inr, true≢false}
-use Rattle.std.proofs.lemmas.Bool.{eqb-true, eq-eqb}
-use Rattle.std.proofs.Math.Nat.{eq-or-lt_of_le}
-use Rattle.std.proofs.lemmas.Grind.{common_steps}
-use Rattle.std.specs.Prelude.{◌==◌, ◌&&◌, ◌||◌, not, if◌then◌else◌, nat_lt, ◌⊎◌}
-use Rattle.mg_names.specs.declared.phases.LinkPhase.TheVariants.{Answered}
-use Rattle.mg_model.specs.declared.commands.EventsName.TheVariants.{Empty}
-use Rattle.mg_model.specs.declared.commands.Termination.{Termination}
+use Rattle.mg_safety.proofs.Words.{◌≡◌, ◌∙◌, ◌<◌, ◌≤◌, ℕ, Bool, true, false, List, [], length, Option, Some, None, is_some, refl, sym, ap, subst, arith, inl}
+use Rattle.mg_safety.proofs.Words.{inr, true≢false, eqb-true, eq-eqb, eq-or-lt_of_le, common_steps, ◌==◌, ◌&&◌, ◌||◌, not, if◌then◌else◌, nat_lt, ◌⊎◌, Answered}
+use Rattle.mg_safety.proofs.Words.{Empty, Termination, Null, In, Agent, entered, forgotten, heard, list_of, place_in, mode_in, Configuration, is_present, Entry}
+use Rattle.mg_safety.proofs.Words.{Gateway, last_executed, Script, World, AgentSteps, IsSlot, none_is_some}
 use Rattle.mg_model.specs.declared.commands.Termination.TheVariants as termination
-use Rattle.mg_model.specs.declared.components.Spot.TheVariants.{Null, In}
-use Rattle.mg_model.specs.Agent.{Agent, entered, forgotten, heard}
-use Rattle.mg_model.specs.ListContents.{list_of}
-use Rattle.mg_model.specs.Board.{place_in, mode_in}
-use Rattle.mg_model.specs.Configuration.{Configuration, is_present}
-use Rattle.mg_model.specs.Entries.{Entry}
-use Rattle.mg_model.specs.Gateway.{Gateway, last_executed}
-use Rattle.mg_model.specs.Script.{Script}
 use Rattle.mg_model.specs.Steps as steps
-use Rattle.mg_model.specs.World.{World, AgentSteps}
-use Rattle.mg_model.specs.Accepted.{IsSlot}
-use Rattle.mg_model.proofs.Cases.{none_is_some}
-use Rattle.mg_safety.proofs.Invariant.Shown.{Naming, Seen, LinesShown, number_at, row_on, term_of, cut_on}
-use Rattle.mg_safety.proofs.Invariant.Sound.{IsOfScript, is_call, owned_in, IsCurrent, IsLost, CallIsSound}
-use Rattle.mg_safety.proofs.Invariant.Statements.{IsClosed, KeepsSound}
+use Rattle.mg_safety.proofs.InvariantWords.{Naming, Seen, LinesShown, number_at, row_on, term_of, cut_on, IsOfScript, is_call, owned_in, IsCurrent, IsLost}
+use Rattle.mg_safety.proofs.InvariantWords.{CallIsSound, IsClosed, KeepsSound}
 use Rattle.mg_safety.proofs.Agents.Entering.{enters_follows, enters_current}
 use Rattle.mg_safety.proofs.Agents.AgentSteps.{Goes, agent_goes}
 use Rattle.mg_safety.proofs.Agents.AgentParts.{none_settles, goes_on, lost_still}

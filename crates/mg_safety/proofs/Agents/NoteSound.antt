@@ -1,26 +1,13 @@
 -- An agent that accepts a note keeps the world sound: the note that leads on is raised by the list that stands, so where it leads is an
 -- observation of the configuration.
-use Rattle.std.proofs.Common.{◌≡◌, ◌∙◌, ◌<◌, ℕ, Bool, true, false, List, Option, Some, None, refl, sym, ap, subst, arith, inl, inr, true≢false, Contains}
-use Rattle.std.proofs.lemmas.Bool.{eqb-true}
-use Rattle.std.specs.Prelude.{◌==◌, ◌&&◌, not, if◌then◌else◌, ◌⊎◌}
-use Rattle.mg_names.specs.declared.phases.LinkPhase.TheVariants.{Resting}
+use Rattle.mg_safety.proofs.Words.{◌≡◌, ◌∙◌, ◌<◌, ℕ, Bool, true, false, List, Option, Some, None, refl, sym, ap, subst, arith, inl, inr, true≢false, Contains}
+use Rattle.mg_safety.proofs.Words.{eqb-true, ◌==◌, ◌&&◌, not, if◌then◌else◌, ◌⊎◌, Resting, Inbox, arrival, is_new, arrives_new, was_seen, is_old, Agent}
+use Rattle.mg_safety.proofs.Words.{inbox_of, resting, entered_or_stays, is_resting, line_in, may_accept, noted, target_of, list_of, with_at, Configuration}
+use Rattle.mg_safety.proofs.Words.{Entry, Gateway, last_executed, SentNote, Script, state_of, items_of, raises, target_in, line_places, World, AgentSteps}
+use Rattle.mg_safety.proofs.Words.{none_is_some, the_some, and_second, is_resting_is}
 use Rattle.mg_model.specs.declared.steps.StepName.TheVariants as names
-use Rattle.mg_model.specs.Delivery.{Inbox, arrival, is_new, arrives_new, was_seen, is_old}
-use Rattle.mg_model.specs.Agent.{Agent, inbox_of, resting, entered_or_stays, is_resting, line_in, may_accept, noted, target_of}
-use Rattle.mg_model.specs.ListContents.{list_of}
-use Rattle.mg_model.specs.Updates.{with_at}
-use Rattle.mg_model.specs.Configuration.{Configuration}
-use Rattle.mg_model.specs.Entries.{Entry}
-use Rattle.mg_model.specs.Gateway.{Gateway, last_executed}
-use Rattle.mg_model.specs.Messages.{SentNote}
-use Rattle.mg_model.specs.Script.{Script}
 use Rattle.mg_model.specs.Steps as steps
-use Rattle.mg_model.specs.Tables.{state_of, items_of, raises, target_in, line_places}
-use Rattle.mg_model.specs.World.{World, AgentSteps}
-use Rattle.mg_model.proofs.Cases.{none_is_some, the_some, and_second}
-use Rattle.mg_model.proofs.Agents.{is_resting_is}
-use Rattle.mg_safety.proofs.Invariant.Sound.{Stands, IsCurrent, IsLost, IsNoteSound, IsNoteStanding, CallIsSound}
-use Rattle.mg_safety.proofs.Invariant.Statements.{IsClosed, KeepsSound}
+use Rattle.mg_safety.proofs.InvariantWords.{Stands, IsCurrent, IsLost, IsNoteSound, IsNoteStanding, CallIsSound, IsClosed, KeepsSound}
 use Rattle.mg_safety.proofs.Agents.Entering.{Follows, not_resting, enters_follows, IsBetween, enters_current}
 use Rattle.mg_safety.proofs.Agents.AgentSteps.{Goes, agent_goes}
 use Rattle.mg_safety.proofs.Agents.AgentParts.{step_of, quiet, goes_on, lost_goes}

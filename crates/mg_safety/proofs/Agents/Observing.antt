@@ -1,26 +1,14 @@
 -- A note that an agent accepts is one that the line's list can raise, so where it leads is an observation of the configuration.
-use Rattle.std.proofs.Common.{◌≡◌, ◌∙◌, ◌<◌, ℕ, Bool, true, false, List, [], ◌∷◌, length, map, Option, Some, None, is_some, refl, sym, ap, subst, arith, inl, inr, true≢false}
-use Rattle.std.proofs.lemmas.Bool.{eqb-true}
-use Rattle.std.proofs.lemmas.Grind.{common_steps}
-use Rattle.std.proofs.lemmas.List.Elements.{Contains-append_left, Contains-append_right, Contains-append_cases}
-use Rattle.std.specs.Prelude.{◌==◌, ◌||◌, if◌then◌else◌, Contains, nat_lt, unwrap_or}
-use Rattle.std.specs.List.{flat_map}
-use Rattle.mg_names.specs.declared.kinds.Kind.{Kind}
+use Rattle.mg_safety.proofs.Words.{◌≡◌, ◌∙◌, ◌<◌, ℕ, Bool, true, false, List, [], ◌∷◌, length, map, Option, Some, None, is_some, refl, sym, ap, subst, arith}
+use Rattle.mg_safety.proofs.Words.{inl, inr, true≢false, eqb-true, common_steps, Contains-append_left, Contains-append_right, Contains-append_cases, ◌==◌, ◌||◌}
+use Rattle.mg_safety.proofs.Words.{if◌then◌else◌, Contains, nat_lt, unwrap_or, flat_map, Kind, Resting, EventsName, EventItem, Agent, line_in, same_number}
+use Rattle.mg_safety.proofs.Words.{target_of, list_item, list_of, Configuration, ListItem, Note, Script, Step, all_kinds, with_state, entering, observation}
+use Rattle.mg_safety.proofs.Words.{observations, steps_by_link, state_of, items_of, item_raises, raises, target_in, below, line_places, only_here, only_one}
+use Rattle.mg_safety.proofs.Words.{in_joined}
 use Rattle.mg_names.specs.declared.kinds.Kind.TheVariants as kind
-use Rattle.mg_names.specs.declared.phases.LinkPhase.TheVariants.{Resting}
-use Rattle.mg_model.specs.declared.commands.EventsName.{EventsName}
 use Rattle.mg_model.specs.declared.steps.StepName.TheVariants as names
-use Rattle.mg_model.specs.declared.transitions.EventItem.{EventItem}
 use Rattle.mg_model.specs.declared.transitions.EventItem.TheVariants as item
-use Rattle.mg_model.specs.Agent.{Agent, line_in, same_number, target_of}
-use Rattle.mg_model.specs.ListContents.{list_item, list_of}
-use Rattle.mg_model.specs.Configuration.{Configuration}
-use Rattle.mg_model.specs.LineEvents.{ListItem, Note}
-use Rattle.mg_model.specs.Script.{Script}
-use Rattle.mg_model.specs.Steps.{Step, all_kinds, with_state, entering, observation, observations, steps_by_link}
-use Rattle.mg_model.specs.Tables.{state_of, items_of, item_raises, raises, target_in, below, line_places}
-use Rattle.mg_model.proofs.Single.{only_here, only_one, in_joined}
-use Rattle.mg_safety.proofs.Invariant.Shown.{raises_kind, list_raises}
+use Rattle.mg_safety.proofs.InvariantWords.{raises_kind, list_raises}
 
 -- ---- lists
 

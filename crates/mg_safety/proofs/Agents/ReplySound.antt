@@ -1,24 +1,12 @@
 -- An agent that takes a reply keeps the world sound: it is the reply that the gateway keeps, so the agent's names are then those by which the
 -- board shows the configuration.
-use Rattle.std.proofs.Common.{◌≡◌, ◌∙◌, ◌<◌, ◌≤◌, Bool, true, false, List, Option, Some, None, refl, sym, ap, subst, arith, inl, inr, Contains}
-use Rattle.std.proofs.lemmas.Bool.{and_parts, eqb-true}
-use Rattle.std.specs.Prelude.{◌==◌, ◌&&◌, if◌then◌else◌, Contains, unwrap_or, ◌⊎◌}
-use Rattle.mg_model.specs.declared.failures.Failure.{Failure}
-use Rattle.mg_names.specs.declared.phases.LinkPhase.TheVariants.{Answered, Failed}
+use Rattle.mg_safety.proofs.Words.{◌≡◌, ◌∙◌, ◌<◌, ◌≤◌, Bool, true, false, List, Option, Some, None, refl, sym, ap, subst, arith, inl, inr, Contains, and_parts}
+use Rattle.mg_safety.proofs.Words.{eqb-true, ◌==◌, ◌&&◌, if◌then◌else◌, unwrap_or, ◌⊎◌, Failure, Answered, Failed, answers, Agent, Phase, awaits_reply}
+use Rattle.mg_safety.proofs.Words.{awaits_pass, resting, built_by, after_results, leads_on, replied_to, replied, Configuration, Entry, Gateway, last_executed}
+use Rattle.mg_safety.proofs.Words.{number_of, Request, Reply, Script, state_of, World, AgentSteps, none_is_some}
 use Rattle.mg_model.specs.declared.steps.StepName.TheVariants as names
-use Rattle.mg_model.specs.Agent.{answers, Agent, Phase, awaits_reply, awaits_pass, resting, built_by, after_results, leads_on, replied_to, replied}
-use Rattle.mg_model.specs.Configuration.{Configuration}
-use Rattle.mg_model.specs.Entries.{Entry}
-use Rattle.mg_model.specs.Gateway.{Gateway, last_executed}
-use Rattle.mg_model.proofs.Offered.{number_of}
-use Rattle.mg_model.specs.Messages.{Request, Reply}
-use Rattle.mg_model.specs.Script.{Script}
 use Rattle.mg_model.specs.Steps as steps
-use Rattle.mg_model.specs.Tables.{state_of}
-use Rattle.mg_model.specs.World.{World, AgentSteps}
-use Rattle.mg_model.proofs.Cases.{none_is_some}
-use Rattle.mg_safety.proofs.Invariant.Sound.{Stands, link_of, IsAnswered, IsAt, IsCurrent, IsLost, IsReplySound, CallIsSound}
-use Rattle.mg_safety.proofs.Invariant.Statements.{IsClosed, KeepsSound}
+use Rattle.mg_safety.proofs.InvariantWords.{Stands, link_of, IsAnswered, IsAt, IsCurrent, IsLost, IsReplySound, CallIsSound, IsClosed, KeepsSound}
 use Rattle.mg_safety.proofs.Agents.Entering.{same_request, IsBetween}
 use Rattle.mg_safety.proofs.Agents.AgentSteps.{Goes, agent_goes}
 use Rattle.mg_safety.proofs.Agents.AgentParts.{step_of, target_entered, answer_led, leads_follows, goes_on, lost_goes}

@@ -1,12 +1,9 @@
 -- Where each component of a list allows a configuration, some number below the product makes the choices that give its values.
-use Rattle.std.proofs.Common.{◌≡◌, ◌∙◌, ◌+◌, ◌*◌, ◌<◌, ◌≤◌, ℕ, zero, suc, List, [], ◌∷◌, length, map, refl, ap, arith, slice_index_or}
-use Rattle.std.specs.Prelude.{Contains}
-use Rattle.std.specs.List.{All}
-use Rattle.std.proofs.Math.Nat.{mul-le-mul_right}
-use Rattle.std.proofs.lemmas.List.Elements.{All-head, All-tail}
+use Rattle.mg_safety.proofs.Words.{◌≡◌, ◌∙◌, ◌+◌, ◌*◌, ◌<◌, ◌≤◌, ℕ, zero, suc, List, [], ◌∷◌, length, map, refl, ap, arith, slice_index_or, Contains, All}
+use Rattle.mg_safety.proofs.Words.{mul-le-mul_right, All-head, All-tail, Configuration, Component, links, spots, modes, events, plays, contexts, remotes, cuts}
+use Rattle.mg_safety.proofs.Words.{Choice, link_choice, spot_choice, mode_choice, events_choice, plays_choice, context_choice, remote_choice, cut_choice}
+use Rattle.mg_safety.proofs.Words.{product, same_choice, chosen, choices_of, Allows}
 use Rattle.std.proofs.lemmas.Nat.{div-mul-add, mod-mul-add}
-use Rattle.mg_model.specs.Configuration.{Configuration}
-use Rattle.mg_model.specs.Entries.{Component, links, spots, modes, events, plays, contexts, remotes, cuts, Choice, link_choice, spot_choice, mode_choice, events_choice, plays_choice, context_choice, remote_choice, cut_choice, product, same_choice, chosen, choices_of, Allows}
 
 -- ---- one component
 

@@ -1,19 +1,10 @@
 -- Where no obligation is broken, the configurations that stand in the certificate are closed under steps, and each of them is safe.
-use Rattle.std.proofs.Common.{◌≡◌, ◌∙◌, ℕ, List, Some, ap}
-use Rattle.std.specs.Prelude.{Contains, slice_get}
-use Rattle.std.specs.List.{All}
-use Rattle.std.proofs.lemmas.List.Elements.{All-contains}
+use Rattle.mg_safety.proofs.Words.{◌≡◌, ◌∙◌, ℕ, List, Some, ap, Contains, slice_get, All, All-contains, Configuration, Entry, IsPointOf, OpeningCovered}
+use Rattle.mg_safety.proofs.Words.{ResetCovered, OfPoint, JoinedMarked, EndedCleared, CreatedUnbound, NamesLive, StepCovered, Script, steps_of, IsEntryOf}
 use Rattle.std.proofs.lemmas.Option.{slice_get-get_or}
-use Rattle.mg_model.specs.Configuration.{Configuration}
-use Rattle.mg_model.specs.Entries.{Entry, IsPointOf}
-use Rattle.mg_model.specs.Obligations.{OpeningCovered, ResetCovered, OfPoint, JoinedMarked, EndedCleared, CreatedUnbound, NamesLive, StepCovered}
-use Rattle.mg_model.specs.Script.{Script}
-use Rattle.mg_model.specs.Steps.{steps_of}
-use Rattle.mg_model.specs.Accepted.{IsEntryOf}
+use Rattle.mg_safety.proofs.InvariantWords.{Stands, NoneBrokenIsClosed}
 use Rattle.mg_safety.proofs.Certificate.OfSteps.{of_opening, of_reset, of_steps, LeadsToOne}
 use Rattle.mg_safety.proofs.Certificate.Points.{is_point}
-use Rattle.mg_safety.proofs.Invariant.Sound.{Stands}
-use Rattle.mg_safety.proofs.Invariant.Statements.{NoneBrokenIsClosed}
 
 -- what a list has stands in it at its place
 contained_at : {A : Type 0} (xs : List A) (x : A) (among : Contains xs x) → slice_get xs among.0 ≡ Some x

@@ -1,14 +1,7 @@
 -- What is declared and what is not: each name of a script is the one or the other.
-use Rattle.std.proofs.Common.{◌≡◌, ◌∙◌, ◌<◌, ◌≤◌, ℕ, Bool, true, false, length, refl, sym, arith, inl, inr, nat_lt, true≢false}
-use Rattle.std.specs.Prelude.{◌⊎◌, if◌then◌else◌}
-use Rattle.std.proofs.lemmas.Bool.{cases_lt}
-use Rattle.std.proofs.lemmas.Grind.{common_steps}
-use Rattle.mg_model.specs.declared.commands.Termination.{Termination}
+use Rattle.mg_safety.proofs.Words.{◌≡◌, ◌∙◌, ◌<◌, ◌≤◌, ℕ, Bool, true, false, length, refl, sym, arith, inl, inr, nat_lt, true≢false, ◌⊎◌, if◌then◌else◌}
+use Rattle.mg_safety.proofs.Words.{cases_lt, common_steps, Termination, Absent, Null, is_same, Script, IsSlot}
 use Rattle.mg_model.specs.declared.commands.Termination.TheVariants.{Line, Ephemeral}
-use Rattle.mg_model.specs.declared.components.Spot.TheVariants.{Absent, Null}
-use Rattle.mg_model.specs.Configuration.{is_same}
-use Rattle.mg_model.specs.Script.{Script}
-use Rattle.mg_model.specs.Accepted.{IsSlot}
 
 below_or_not : (i n : ℕ) → (i < n) ⊎ (i < n → ⊥)
 below_or_not i n = elim (cases_lt i n) [

@@ -1,14 +1,8 @@
 -- Where all components of a list are given a configuration's values, each thing that one of them lists has the configuration's value.
-use Rattle.std.proofs.Common.{◌≡◌, ◌∙◌, ◌<◌, ℕ, zero, suc, Bool, true, false, List, [], ◌∷◌, length, refl, sym, ap, arith, slice_index_or, true≢false, inl, inr}
-use Rattle.std.specs.Prelude.{◌==◌, ◌&&◌, if◌then◌else◌, IsTrue, Contains, ◌⊎◌}
-use Rattle.std.proofs.lemmas.Bool.{eqb-true, and_parts}
-use Rattle.mg_model.specs.declared.commands.Termination.{Termination}
-use Rattle.mg_model.specs.Updates.{with_at}
-use Rattle.mg_model.specs.Configuration.{Configuration, is_same, with_of}
-use Rattle.mg_model.specs.Effects.{with_pair}
-use Rattle.mg_model.specs.Entries.{Component, links, spots, modes, events, plays, contexts, remotes, cuts}
-use Rattle.mg_model.specs.Accepted.{is_links, is_spots, is_modes, is_events, is_plays, is_contexts, is_remotes, is_cuts}
-use Rattle.mg_model.proofs.Terminations.{is_same_is}
+use Rattle.mg_safety.proofs.Words.{◌≡◌, ◌∙◌, ◌<◌, ℕ, zero, suc, Bool, true, false, List, [], ◌∷◌, length, refl, sym, ap, arith, slice_index_or, true≢false, inl}
+use Rattle.mg_safety.proofs.Words.{inr, ◌==◌, ◌&&◌, if◌then◌else◌, IsTrue, Contains, ◌⊎◌, eqb-true, and_parts, Termination, with_at, Configuration, is_same}
+use Rattle.mg_safety.proofs.Words.{with_of, with_pair, Component, links, spots, modes, events, plays, contexts, remotes, cuts, is_links, is_spots, is_modes}
+use Rattle.mg_safety.proofs.Words.{is_events, is_plays, is_contexts, is_remotes, is_cuts, is_same_is}
 use Rattle.mg_safety.proofs.Certificate.ChoiceNumbers.{choice_to, choices_to}
 
 -- ---- changes that write a function's values into another

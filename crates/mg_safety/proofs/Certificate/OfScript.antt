@@ -1,29 +1,14 @@
 -- A command that is declared and legal changes nothing that the script doesn't declare.
-use Rattle.std.proofs.Common.{◌≡◌, ◌∙◌, ◌<◌, ◌≤◌, ℕ, Bool, true, false, length, refl, sym, ap, subst, arith, true≢false}
-use Rattle.std.specs.Prelude.{◌==◌, ◌&&◌, ◌||◌, not, if◌then◌else◌, unwrap_or}
-use Rattle.std.proofs.lemmas.Bool.{eqb-true, and_parts, false_from_ne_true}
-use Rattle.std.proofs.lemmas.Grind.{common_steps}
-use Rattle.mg_names.specs.declared.context_values.ContextValue.{ContextValue}
-use Rattle.mg_names.specs.declared.context_values.ContextValue.TheVariants.{Free, Live}
-use Rattle.mg_names.specs.declared.modes.Mode.TheVariants.{Inactive}
-use Rattle.mg_names.specs.declared.topologies.Topology.{Topology}
-use Rattle.mg_model.specs.declared.commands.Command.{Command}
-use Rattle.mg_model.specs.declared.commands.Command.TheVariants.{AddLine, AddEphemeral, ModifyLine, ModifyEphemeral, MoveLine, MoveEphemeral, Subtract, SubtractAll, SetTopology}
-use Rattle.mg_model.specs.declared.commands.EphemeralOptions.{EphemeralOptions}
-use Rattle.mg_model.specs.declared.commands.EventsName.TheVariants.{Empty}
-use Rattle.mg_model.specs.declared.commands.LineOptions.{LineOptions}
-use Rattle.mg_model.specs.declared.commands.Termination.{Termination}
+use Rattle.mg_safety.proofs.Words.{◌≡◌, ◌∙◌, ◌<◌, ◌≤◌, ℕ, Bool, true, false, length, refl, sym, ap, subst, arith, true≢false, ◌==◌, ◌&&◌, ◌||◌, not}
+use Rattle.mg_safety.proofs.Words.{if◌then◌else◌, unwrap_or, eqb-true, and_parts, false_from_ne_true, common_steps, ContextValue, Free, Live, Inactive}
+use Rattle.mg_safety.proofs.Words.{Topology, Command, AddLine, AddEphemeral, ModifyLine, ModifyEphemeral, MoveLine, MoveEphemeral, Subtract, SubtractAll}
+use Rattle.mg_safety.proofs.Words.{SetTopology, EphemeralOptions, Empty, LineOptions, Termination, In, with_at, Configuration, is_same, is_in, is_live, with_of}
+use Rattle.mg_safety.proofs.Words.{value_of, stands_in, settled, is_legal, effect, put_in, with_line_options, with_ephemeral_options, without_cuts_of}
+use Rattle.mg_safety.proofs.Words.{without_terminations, spot_after, remote_after, with_pair, cuts_forward, cuts_backward, plays_after, remote_set, Script}
+use Rattle.mg_safety.proofs.Words.{IsSlot, IsContext, IsCommandOf, where_false, is_same_is, is_same_self}
 use Rattle.mg_model.specs.declared.commands.Termination.TheVariants.{Line, Ephemeral}
-use Rattle.mg_model.specs.declared.components.Spot.TheVariants.{In}
-use Rattle.mg_model.specs.Updates.{with_at}
-use Rattle.mg_model.specs.Configuration.{Configuration, is_same, is_in, is_live, with_of, value_of, stands_in, settled}
-use Rattle.mg_model.specs.Effects.{is_legal, effect, put_in, with_line_options, with_ephemeral_options, without_cuts_of, without_terminations, spot_after, remote_after, with_pair, cuts_forward, cuts_backward, plays_after, remote_set}
-use Rattle.mg_model.specs.Script.{Script}
-use Rattle.mg_model.specs.Accepted.{IsSlot, IsContext, IsCommandOf}
-use Rattle.mg_model.proofs.Cases.{where_false}
-use Rattle.mg_model.proofs.Terminations.{is_same_is, is_same_self}
+use Rattle.mg_safety.proofs.InvariantWords.{IsOfScript}
 use Rattle.mg_safety.proofs.Certificate.Declared.{AreSlots}
-use Rattle.mg_safety.proofs.Invariant.Sound.{IsOfScript}
 
 -- ---- values that are changed elsewhere
 

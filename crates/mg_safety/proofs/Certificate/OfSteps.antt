@@ -1,29 +1,17 @@
 -- The opening, the reset, and each step of a configuration hold nothing that the script doesn't declare.
-use Rattle.std.proofs.Common.{◌≡◌, ◌+◌, ◌++◌, ℕ, Bool, true, false, List, [], ◌∷◌, length, Option, Some, None, refl}
-use Rattle.std.specs.Prelude.{if◌then◌else◌}
-use Rattle.std.specs.List.{All, flat_map}
-use Rattle.std.proofs.lemmas.List.Elements.{All-nil, All-cons, All-head, All-tail, All-append}
-use Rattle.mg_names.specs.declared.kinds.Kind.{Kind}
+use Rattle.mg_safety.proofs.Words.{◌≡◌, ◌+◌, ◌++◌, ℕ, Bool, true, false, List, [], ◌∷◌, length, Option, Some, None, refl, if◌then◌else◌, All, flat_map, All-nil}
+use Rattle.mg_safety.proofs.Words.{All-cons, All-head, All-tail, All-append, Kind, Sent, Answered, Failed, Resting, Command, EventsName, Empty, Armed}
+use Rattle.mg_safety.proofs.Words.{Termination, Absent, StepName, Refuse, Execute, Observe, Timer, Configuration, is_legal, effect, Script, Step, steps_of}
+use Rattle.mg_safety.proofs.Words.{steps_by_link, request_in, with_state, with_link, refusals, executed, execution, names_unbound, entering, reply_step}
+use Rattle.mg_safety.proofs.Words.{all_kinds, observation, observations, unused, opening, reset, bound_names, state_of, items_of, raises, target_in}
+use Rattle.mg_safety.proofs.Words.{line_places, IsScript, IsSlot, IsCommandOf}
 use Rattle.mg_names.specs.declared.phases.LinkPhase.{LinkPhase}
-use Rattle.mg_names.specs.declared.phases.LinkPhase.TheVariants.{Sent, Answered, Failed, Resting}
-use Rattle.mg_model.specs.declared.commands.Command.{Command}
-use Rattle.mg_model.specs.declared.commands.EventsName.{EventsName}
-use Rattle.mg_model.specs.declared.commands.EventsName.TheVariants.{Empty, Armed}
-use Rattle.mg_model.specs.declared.commands.Termination.{Termination}
 use Rattle.mg_model.specs.declared.commands.Termination.TheVariants.{Line, Ephemeral}
-use Rattle.mg_model.specs.declared.components.Spot.TheVariants.{Absent}
-use Rattle.mg_model.specs.declared.steps.StepName.{StepName}
-use Rattle.mg_model.specs.declared.steps.StepName.TheVariants.{Refuse, Execute, Reply, Observe, Timer}
-use Rattle.mg_model.specs.Configuration.{Configuration}
-use Rattle.mg_model.specs.Effects.{is_legal, effect}
-use Rattle.mg_model.specs.Script.{Script}
-use Rattle.mg_model.specs.Steps.{Step, steps_of, steps_by_link, request_in, with_state, with_link, refusals, executed, execution, names_unbound, entering, reply_step, all_kinds, observation, observations, unused, opening, reset, bound_names}
-use Rattle.mg_model.specs.Tables.{state_of, items_of, raises, target_in, line_places}
-use Rattle.mg_model.specs.Accepted.{IsScript, IsSlot, IsCommandOf}
+use Rattle.mg_model.specs.declared.steps.StepName.TheVariants.{Reply}
 use Rattle.mg_model.proofs.Built.{state_commands, built_commands}
+use Rattle.mg_safety.proofs.InvariantWords.{IsOfScript}
 use Rattle.mg_safety.proofs.Certificate.Declared.{past_is_not_below, unused_past}
 use Rattle.mg_safety.proofs.Certificate.OfScript.{of_effect}
-use Rattle.mg_safety.proofs.Invariant.Sound.{IsOfScript}
 
 -- ---- the configurations in which a call opens, and after a restart
 

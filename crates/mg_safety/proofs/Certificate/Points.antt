@@ -1,22 +1,13 @@
 -- A configuration of the script that an entry includes is one of the entry's points.
-use Rattle.std.proofs.Common.{◌≡◌, ◌∙◌, ◌<◌, ℕ, Bool, true, false, length, refl, sym, subst, inl, inr, nat_lt}
-use Rattle.std.specs.Prelude.{if◌then◌else◌}
-use Rattle.std.proofs.lemmas.Bool.{cases_lt}
-use Rattle.mg_names.specs.declared.phases.LinkPhase.TheVariants.{Resting}
-use Rattle.mg_model.specs.declared.commands.EventsName.TheVariants.{Empty}
-use Rattle.mg_model.specs.declared.commands.Termination.{Termination}
+use Rattle.mg_safety.proofs.Words.{◌≡◌, ◌∙◌, ◌<◌, ℕ, Bool, true, false, length, refl, sym, subst, inl, inr, nat_lt, if◌then◌else◌, cases_lt, Resting, Empty}
+use Rattle.mg_safety.proofs.Words.{Termination, Absent, Configuration, Entry, Includes, IsPointOf, Script, unused, IsEntryOf, IsSlot}
 use Rattle.mg_model.specs.declared.commands.Termination.TheVariants.{Line, Ephemeral}
-use Rattle.mg_model.specs.declared.components.Spot.TheVariants.{Absent}
-use Rattle.mg_model.specs.Configuration.{Configuration}
-use Rattle.mg_model.specs.Entries.{Entry, Includes, IsPointOf}
-use Rattle.mg_model.specs.Script.{Script}
-use Rattle.mg_model.specs.Steps.{unused}
 use Rattle.mg_model.proofs.ConfigurationLemmas.{SameComponents, same_configurations}
-use Rattle.mg_model.specs.Accepted.{IsEntryOf, IsSlot}
-use Rattle.mg_safety.proofs.Invariant.Sound.{IsOfScript}
+use Rattle.mg_safety.proofs.InvariantWords.{IsOfScript}
 use Rattle.mg_safety.proofs.Certificate.ChoiceNumbers.{choices_to, has_number}
 use Rattle.mg_safety.proofs.Certificate.Declared.{slot_or_not, slots_or_not, unused_past}
-use Rattle.mg_safety.proofs.Certificate.ListedValues.{state_given, link_given, spot_given, mode_given, events_given, plays_given, context_given, remote_given, cut_given}
+use Rattle.mg_safety.proofs.Certificate.ListedValues.{state_given, link_given, spot_given, mode_given, events_given, plays_given, context_given, remote_given}
+use Rattle.mg_safety.proofs.Certificate.ListedValues.{cut_given}
 
 all_empty : (lines i : ℕ) → (if nat_lt i lines then Empty else Empty) ≡ Empty
 all_empty lines i = either (nat_lt i lines)

@@ -1,44 +1,27 @@
 -- Add of an ephemeral carries over.
-use Rattle.std.proofs.Common.{IsTrue, ◌≡◌, ◌∙◌, ◌<◌, ℕ, Bool, true, false, not, length, Option, Some, None, is_some, refl, sym, ap, subst, subst₂, inr}
-use Rattle.std.proofs.lemmas.Bool.{eqb-true, and_from}
-use Rattle.std.specs.Prelude.{if◌then◌else◌, ◌==◌}
-use Rattle.mg_names.specs.declared.codes.Code.TheVariants.{UnknownContext, UnknownTermination}
-use Rattle.mg_names.specs.declared.context_values.ContextValue.TheVariants.{Live}
-use Rattle.mg_names.specs.declared.identifiers.TermId.{TermId}
-use Rattle.mg_names.specs.declared.identifiers.TermId.TheVariants.{Eph}
-use Rattle.mg_names.specs.declared.modes.Mode.TheVariants.{Inactive}
-use Rattle.mg_model.specs.declared.commands.Command.TheVariants.{AddEphemeral}
-use Rattle.mg_model.specs.declared.commands.EphemeralOptions.{EphemeralOptions}
-use Rattle.mg_model.specs.declared.commands.RemoteOption.{RemoteOption}
-use Rattle.mg_model.specs.declared.commands.RemoteOption.TheVariants.{NoneGiven, Peer}
-use Rattle.mg_model.specs.declared.commands.Termination.{Termination}
+use Rattle.mg_safety.proofs.Words.{IsTrue, ◌≡◌, ◌∙◌, ◌<◌, ℕ, Bool, true, false, not, length, Option, Some, None, is_some, refl, sym, ap, subst, subst₂, inr}
+use Rattle.mg_safety.proofs.Words.{eqb-true, and_from, if◌then◌else◌, ◌==◌, UnknownContext, UnknownTermination, Live, TermId, Eph, Inactive, AddEphemeral}
+use Rattle.mg_safety.proofs.Words.{EphemeralOptions, RemoteOption, NoneGiven, Peer, Termination, Null, In, Row, Board, same_term, exists, mode_in, remote_in}
+use Rattle.mg_safety.proofs.Words.{ContextExists, with_at, Configuration, is_same, is_present, is_live, is_free, with_of, stands_in, choose, remote_legal}
+use Rattle.mg_safety.proofs.Words.{given, is_context_number, is_ephemeral_number, row_at, target, with_ephemeral, remote_option_known, Script, and_first}
+use Rattle.mg_safety.proofs.Words.{and_second, denied, false_not_true, none_is_some, same_term_self}
 use Rattle.mg_model.specs.declared.commands.Termination.TheVariants as termination
-use Rattle.mg_model.specs.declared.components.Spot.TheVariants.{Null, In}
-use Rattle.mg_model.specs.declared.rows.Row.{Row}
-use Rattle.mg_model.specs.Board.{Board, same_term, exists, mode_in, remote_in, ContextExists}
-use Rattle.mg_model.specs.Updates.{with_at}
-use Rattle.mg_model.specs.Configuration.{Configuration, is_same, is_present, is_live, is_free, with_of, stands_in}
 use Rattle.mg_model.specs.Effects as effects
-use Rattle.mg_model.specs.Numbers.{choose}
-use Rattle.mg_model.specs.Effects.{remote_legal}
-use Rattle.mg_model.specs.Items.{effect, given, is_context_number, is_ephemeral_number, row_at, target, with_ephemeral}
-use Rattle.mg_model.specs.Request.{remote_option_known}
-use Rattle.mg_model.specs.Script.{Script}
+use Rattle.mg_model.specs.Items.{effect}
+use Rattle.mg_safety.proofs.InvariantWords.{IsCarried, IsCarriedOver, Naming, eph_of, Shown, IsAccounted, Owner, owned_at, AreBuilt, known_by, context_for}
+use Rattle.mg_safety.proofs.InvariantWords.{ephemeral_settings, item_for}
 use Rattle.mg_safety.proofs.Shared.Components.{free_as_before}
-use Rattle.mg_model.proofs.Cases.{and_first, and_second, denied, false_not_true, none_is_some}
-use Rattle.mg_model.proofs.Terminations.{same_term_self}
 use Rattle.mg_safety.proofs.Commands.Binding.{with_at_here, with_at_kept, with_context, given_still, shown_live, shown_given, accounted_given, built_given}
 use Rattle.mg_safety.proofs.Commands.Carrying.{Carries, IsEntered, carried}
-use Rattle.mg_safety.proofs.Invariant.CarriedOver.{IsCarried, IsCarriedOver}
 use Rattle.mg_safety.proofs.Commands.CreatedShown.{unbound_ephemeral, created_shown}
-use Rattle.mg_safety.proofs.Commands.Creating.{first_row, with_created, with_ephemeral_name, with_present, created_row, accounted_created, built_created, owned_back}
+use Rattle.mg_safety.proofs.Commands.Creating.{first_row, with_created, with_ephemeral_name, with_present, created_row, accounted_created, built_created}
+use Rattle.mg_safety.proofs.Commands.Creating.{owned_back}
 use Rattle.mg_safety.proofs.Commands.EnteredContexts.{known_context, real_not_choose, target_named, IsExisting, existing_context, entered_fresh}
 use Rattle.mg_safety.proofs.Commands.EphemeralNames.{peer_in_force, peer_legal}
 use Rattle.mg_safety.proofs.Commands.InForce.{MayExist}
 use Rattle.mg_safety.proofs.Commands.InContext.{with_live}
 use Rattle.mg_safety.proofs.Commands.OneRow.{HasOneRow, row_here, exists_as_before}
 use Rattle.mg_safety.proofs.Commands.Setting.{PeerInForce, cuts_stay, cuts_outside, ephemeral_set, set_in_context}
-use Rattle.mg_safety.proofs.Invariant.Shown.{Naming, eph_of, Shown, IsAccounted, Owner, owned_at, AreBuilt, known_by, context_for, ephemeral_settings, item_for}
 
 -- ---- tests
 

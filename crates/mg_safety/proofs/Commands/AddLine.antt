@@ -1,31 +1,19 @@
 -- Add of a line carries over, to a context that has a name and to one that is created.
-use Rattle.std.proofs.Common.{IsTrue, ◌≡◌, ◌∙◌, ◌<◌, ℕ, Bool, true, false, not, length, Some, refl, sym, ap, subst, ◌&&◌}
-use Rattle.std.proofs.lemmas.Bool.{eqb-true, and_from}
-use Rattle.std.specs.Prelude.{if◌then◌else◌, ◌==◌, IsTrue}
-use Rattle.mg_names.specs.declared.codes.Code.TheVariants.{UnknownContext, UnknownTermination, AlreadyInContext}
-use Rattle.mg_names.specs.declared.context_values.ContextValue.TheVariants.{Live}
-use Rattle.mg_names.specs.declared.identifiers.TermId.{TermId}
-use Rattle.mg_names.specs.declared.identifiers.TermId.TheVariants.{Line}
-use Rattle.mg_model.specs.declared.commands.Command.TheVariants.{AddLine}
-use Rattle.mg_model.specs.declared.commands.LineOptions.{LineOptions}
+use Rattle.mg_safety.proofs.Words.{IsTrue, ◌≡◌, ◌∙◌, ◌<◌, ℕ, Bool, true, false, not, length, Some, refl, sym, ap, subst, eqb-true, and_from, if◌then◌else◌}
+use Rattle.mg_safety.proofs.Words.{◌==◌, UnknownContext, UnknownTermination, AlreadyInContext, Live, TermId, Line, AddLine, LineOptions, In, Board, exists}
+use Rattle.mg_safety.proofs.Words.{place_of, ContextExists, with_at, Configuration, is_null, is_live, is_free, with_of, stands_in, choose, is_context_number}
+use Rattle.mg_safety.proofs.Words.{target, and_first, false_not_true, neither_first, not_refused}
 use Rattle.mg_model.specs.declared.commands.Termination.TheVariants as termination
-use Rattle.mg_model.specs.declared.components.Spot.TheVariants.{In}
-use Rattle.mg_model.specs.Board.{Board, exists, place_of, ContextExists}
-use Rattle.mg_model.specs.Updates.{with_at}
-use Rattle.mg_model.specs.Configuration.{Configuration, is_null, is_live, is_free, with_of, stands_in}
 use Rattle.mg_model.specs.Effects as effects
-use Rattle.mg_model.specs.Numbers.{choose}
-use Rattle.mg_model.specs.Items.{is_context_number, effect, target}
+use Rattle.mg_model.specs.Items.{effect}
+use Rattle.mg_safety.proofs.InvariantWords.{IsCarried, IsCarriedOver, term_of, Shown, owned_at, AreBuilt, context_for, line_settings, item_for}
 use Rattle.mg_safety.proofs.Shared.Components.{free_as_before}
-use Rattle.mg_model.proofs.Cases.{and_first, false_not_true, neither_first, not_refused}
 use Rattle.mg_safety.proofs.Commands.Binding.{with_at_here, with_context, with_given, given_still, shown_live, shown_given, accounted_given, built_given}
 use Rattle.mg_safety.proofs.Commands.Carrying.{Carries, IsEntered}
-use Rattle.mg_safety.proofs.Invariant.CarriedOver.{IsCarried, IsCarriedOver}
 use Rattle.mg_safety.proofs.Commands.EnteredContexts.{known_context, real_not_choose, target_named, IsExisting, existing_context, entered_fresh}
 use Rattle.mg_safety.proofs.Commands.InForce.{MayExist, null_named}
 use Rattle.mg_safety.proofs.Commands.OneRow.{HasOneRow}
 use Rattle.mg_safety.proofs.Commands.Setting.{cuts_stay}
-use Rattle.mg_safety.proofs.Invariant.Shown.{term_of, Shown, owned_at, AreBuilt, context_for, line_settings, item_for}
 use Rattle.mg_safety.proofs.Commands.InPlace.{row_with}
 use Rattle.mg_safety.proofs.Commands.InContext.{line_named, carried_line_in, with_live}
 

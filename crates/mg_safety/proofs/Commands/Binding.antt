@@ -1,21 +1,9 @@
 -- A number that no context had is bound to a name that is free: the board that gave it out shows the configuration in which the context
 -- is live, and the names in force are still those that commands are built with.
-use Rattle.std.proofs.Common.{◌≡◌, ◌∙◌, ◌<◌, ◌&&◌, ◌||◌, ℕ, Bool, true, false, not, Option, Some, None, is_some, refl, sym, ap, subst, true≢false, arith}
-use Rattle.std.proofs.lemmas.Bool.{eqb-true, eq-eqb}
-use Rattle.std.specs.Prelude.{if◌then◌else◌, ◌==◌, unwrap_or}
-use Rattle.mg_names.specs.declared.context_values.ContextValue.TheVariants.{Live}
-use Rattle.mg_names.specs.declared.identifiers.TermId.{TermId}
-use Rattle.mg_model.specs.declared.commands.Termination.{Termination}
-use Rattle.mg_model.specs.declared.components.Spot.{Spot}
-use Rattle.mg_model.specs.declared.components.Spot.TheVariants.{Absent, Null, In}
-use Rattle.mg_model.specs.Board.{Board, place_of}
-use Rattle.mg_model.specs.Updates.{with_at}
-use Rattle.mg_model.specs.Configuration.{Configuration, is_free}
-use Rattle.mg_model.specs.Items.{given, is_context_number}
-use Rattle.mg_model.specs.Script.{Script}
-use Rattle.mg_model.specs.Accepted.{IsSlot}
-use Rattle.mg_model.proofs.Cases.{false_not_true, none_is_some, none_of, the_some}
-use Rattle.mg_safety.proofs.Invariant.Shown.{Naming, term_of, number_at, Shown, IsAccounted, AreBuilt}
+use Rattle.mg_safety.proofs.Words.{◌≡◌, ◌∙◌, ◌<◌, ◌&&◌, ◌||◌, ℕ, Bool, true, false, not, Option, Some, None, is_some, refl, sym, ap, subst, true≢false, arith}
+use Rattle.mg_safety.proofs.Words.{eqb-true, eq-eqb, if◌then◌else◌, ◌==◌, unwrap_or, Live, TermId, Termination, Spot, Absent, Null, In, Board, place_of}
+use Rattle.mg_safety.proofs.Words.{with_at, Configuration, is_free, given, is_context_number, Script, IsSlot, false_not_true, none_is_some, none_of, the_some}
+use Rattle.mg_safety.proofs.InvariantWords.{Naming, term_of, number_at, Shown, IsAccounted, AreBuilt}
 
 -- ---- tests
 

@@ -1,19 +1,11 @@
 -- A command that gives one termination a row carries over: the board shows the configuration in which this termination alone is
 -- changed, and what changed is owned. The board may be one on which a context was given out or an ephemeral created for the command.
-use Rattle.std.proofs.Common.{◌≡◌, ◌∙◌, ◌&&◌, ◌||◌, ℕ, Bool, true, false, not, Some, None, refl, sym, ap, inl, ◌⊎◌}
-use Rattle.mg_names.specs.declared.identifiers.TermId.{TermId}
-use Rattle.mg_names.specs.declared.identifiers.TermId.TheVariants.{Line, Eph}
-use Rattle.mg_model.specs.declared.commands.Termination.{Termination}
+use Rattle.mg_safety.proofs.Words.{◌≡◌, ◌∙◌, ◌&&◌, ◌||◌, ℕ, Bool, true, false, not, Some, None, refl, sym, ap, inl, ◌⊎◌, TermId, Line, Eph, Termination, Row}
+use Rattle.mg_safety.proofs.Words.{Board, same_term, exists, place_of, Configuration, Script, IsSlot, the_some}
 use Rattle.mg_model.specs.declared.commands.Termination.TheVariants as termination
-use Rattle.mg_model.specs.declared.rows.Row.{Row}
-use Rattle.mg_model.specs.Board.{Board, same_term, exists, place_of}
-use Rattle.mg_model.specs.Configuration.{Configuration}
-use Rattle.mg_model.specs.Script.{Script}
-use Rattle.mg_model.specs.Accepted.{IsSlot}
-use Rattle.mg_model.proofs.Cases.{the_some}
+use Rattle.mg_safety.proofs.InvariantWords.{Naming, term_of, Shown, IsAccounted, Owner, owned_at, AreBuilt, ChangesOwned}
 use Rattle.mg_safety.proofs.Commands.OneRow.{HasOneRow, accounted_after, built_as_before, changes_as_owned}
 use Rattle.mg_safety.proofs.Commands.Placing.{HasOneName, eph_is, placed_shown}
-use Rattle.mg_safety.proofs.Invariant.Shown.{Naming, term_of, Shown, IsAccounted, Owner, owned_at, AreBuilt, ChangesOwned}
 
 -- what holds after a command, but that it is legal
 pub record Carries (script : Script) (own : Owner) (n m : Naming) (b after : Board) (next : Configuration) : Type 0 where

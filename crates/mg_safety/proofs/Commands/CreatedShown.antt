@@ -1,27 +1,15 @@
 -- The board with an ephemeral that was created for a name shows the configuration in which the name stands in the null context.
-use Rattle.std.proofs.Common.{◌≡◌, ◌∙◌, ◌||◌, ◌<◌, ℕ, Bool, true, false, length, Option, Some, None, is_some, refl, sym, ap, subst, true≢false, arith}
-use Rattle.std.proofs.lemmas.Bool.{eqb-true, eq-eqb}
-use Rattle.std.specs.Prelude.{if◌then◌else◌, ◌==◌}
-use Rattle.mg_names.specs.declared.identifiers.TermId.{TermId}
-use Rattle.mg_names.specs.declared.identifiers.TermId.TheVariants.{Line, Eph}
-use Rattle.mg_model.specs.declared.commands.Termination.{Termination}
+use Rattle.mg_safety.proofs.Words.{◌≡◌, ◌∙◌, ◌||◌, ◌<◌, ℕ, Bool, true, false, length, Option, Some, None, is_some, refl, sym, ap, subst, true≢false, arith}
+use Rattle.mg_safety.proofs.Words.{eqb-true, eq-eqb, if◌then◌else◌, ◌==◌, TermId, Line, Eph, Termination, Remote, Unset, Gone, To, Spot, Null, In, Board}
+use Rattle.mg_safety.proofs.Words.{same_term, exists, place_of, place_in, mode_in, remote_in, with_at, Configuration, is_same, is_present, Script, IsSlot}
+use Rattle.mg_safety.proofs.Words.{none_is_some, the_some, is_same_is, same_term_is, same_term_self}
 use Rattle.mg_model.specs.declared.commands.Termination.TheVariants as termination
-use Rattle.mg_model.specs.declared.components.Remote.{Remote}
-use Rattle.mg_model.specs.declared.components.Remote.TheVariants.{Unset, Gone, To}
-use Rattle.mg_model.specs.declared.components.Spot.{Spot}
-use Rattle.mg_model.specs.declared.components.Spot.TheVariants.{Null, In}
-use Rattle.mg_model.specs.Board.{Board, same_term, exists, place_of, place_in, mode_in, remote_in}
-use Rattle.mg_model.specs.Updates.{with_at}
-use Rattle.mg_model.specs.Configuration.{Configuration, is_same, is_present}
-use Rattle.mg_model.specs.Script.{Script}
-use Rattle.mg_model.specs.Accepted.{IsSlot}
-use Rattle.mg_model.proofs.Cases.{none_is_some, the_some}
-use Rattle.mg_model.proofs.Terminations.{is_same_is, same_term_is, same_term_self}
+use Rattle.mg_safety.proofs.InvariantWords.{Naming, eph_of, term_of, row_on, cut_on, number_at, RemoteReads, Shown, IsAccounted, Owner, owned_at}
 use Rattle.mg_safety.proofs.Commands.Binding.{with_at_here, with_at_kept, with_at_some, given_still}
-use Rattle.mg_safety.proofs.Commands.Creating.{first_row, with_created, with_ephemeral_name, with_present, created_row, created_owned, owned_elsewhere, given_apart, stands_apart, kept}
+use Rattle.mg_safety.proofs.Commands.Creating.{first_row, with_created, with_ephemeral_name, with_present, created_row, created_owned, owned_elsewhere}
+use Rattle.mg_safety.proofs.Commands.Creating.{given_apart, stands_apart, kept}
 use Rattle.mg_safety.proofs.Commands.OneRow.{row_here, row_elsewhere}
 use Rattle.mg_safety.proofs.Commands.Setting.{with_of_here, with_of_kept}
-use Rattle.mg_safety.proofs.Invariant.Shown.{Naming, eph_of, term_of, row_on, cut_on, number_at, RemoteReads, Shown, IsAccounted, Owner, owned_at}
 
 module _ (script : Script) (own : Owner) (n : Naming) (b : Board) (c : Configuration) (k x : ℕ) (shown : Shown script (owned_at own b) n b c)
     (accounted : IsAccounted b) (fresh : b.used_ephemeral x ≡ false) (earlier : (y : ℕ) → own.before y ≡ true → b.used_ephemeral y ≡ true)

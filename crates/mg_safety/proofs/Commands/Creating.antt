@@ -1,22 +1,12 @@
 -- An ephemeral is created for a name that is bound to none: as if it first stood in the null context, Inactive, without a Remote and with
 -- nothing cut. The board with it shows the configuration in which the name stands there, and it is owned.
-use Rattle.std.proofs.Common.{◌≡◌, ◌∙◌, ◌&&◌, ◌||◌, ℕ, Bool, true, false, not, Some, None, is_some, refl, sym, ap, true≢false}
-use Rattle.std.proofs.lemmas.Bool.{eqb-true}
-use Rattle.std.specs.Prelude.{if◌then◌else◌, ◌==◌}
-use Rattle.mg_names.specs.declared.identifiers.TermId.{TermId}
-use Rattle.mg_names.specs.declared.identifiers.TermId.TheVariants.{Line, Eph}
-use Rattle.mg_names.specs.declared.modes.Mode.TheVariants.{Inactive}
+use Rattle.mg_safety.proofs.Words.{◌≡◌, ◌∙◌, ◌&&◌, ◌||◌, ℕ, Bool, true, false, not, Some, None, is_some, refl, sym, ap, true≢false, eqb-true, if◌then◌else◌}
+use Rattle.mg_safety.proofs.Words.{◌==◌, TermId, Line, Eph, Inactive, Null, Row, Board, same_term, exists, place_of, place_in, with_at, Configuration, with_of}
+use Rattle.mg_safety.proofs.Words.{given, without_cuts, none_is_some, the_some}
 use Rattle.mg_model.specs.declared.commands.Termination.TheVariants as termination
-use Rattle.mg_model.specs.declared.components.Spot.TheVariants.{Null}
-use Rattle.mg_model.specs.declared.rows.Row.{Row}
-use Rattle.mg_model.specs.Board.{Board, same_term, exists, place_of, place_in}
-use Rattle.mg_model.specs.Updates.{with_at}
-use Rattle.mg_model.specs.Configuration.{Configuration, with_of}
-use Rattle.mg_model.specs.Items.{given, without_cuts}
-use Rattle.mg_model.proofs.Cases.{none_is_some, the_some}
+use Rattle.mg_safety.proofs.InvariantWords.{Naming, IsAccounted, Owner, owned_at, AreBuilt}
 use Rattle.mg_safety.proofs.Commands.Binding.{with_at_here, with_at_kept, with_at_some, given_new, given_still}
 use Rattle.mg_safety.proofs.Commands.OneRow.{HasOneRow, row_here, row_elsewhere, accounted_after}
-use Rattle.mg_safety.proofs.Invariant.Shown.{Naming, IsAccounted, Owner, owned_at, AreBuilt}
 
 -- the row of an ephemeral for which nothing was set yet
 abbrev pub first_row : Row

@@ -1,26 +1,13 @@
 -- What is known of the context into which a command places its termination, and of the place at which Modify finds one: a context that
 -- exists is live in the configuration and something owned stands in it; a created one is fresh.
-use Rattle.std.proofs.Common.{◌≡◌, ◌∙◌, ◌&&◌, ◌<◌, ℕ, Bool, true, false, Some, None, is_some, refl, sym, ap, inr, arith}
-use Rattle.std.proofs.lemmas.Bool.{eqb-true, eq-eqb, and_from}
-use Rattle.std.specs.Prelude.{if◌then◌else◌, ◌==◌, unwrap_or}
-use Rattle.mg_names.specs.declared.identifiers.TermId.{TermId}
-use Rattle.mg_model.specs.declared.commands.Place.{Place}
-use Rattle.mg_model.specs.declared.commands.Place.TheVariants.{NullContext, Context}
-use Rattle.mg_model.specs.declared.commands.Termination.{Termination}
-use Rattle.mg_model.specs.declared.components.Spot.TheVariants.{In}
-use Rattle.mg_model.specs.Board.{Board, exists, place_of}
-use Rattle.mg_model.specs.Configuration.{Configuration, IsWellFormed, is_in, is_live}
-use Rattle.mg_model.specs.Effects.{place_exists, stands_at}
-use Rattle.mg_model.specs.Numbers.{choose, all}
-use Rattle.mg_model.specs.Items.{is_context_number}
-use Rattle.mg_model.specs.Request.{place_known}
-use Rattle.mg_model.specs.Script.{Script}
-use Rattle.mg_model.specs.Accepted.{IsScript, IsSlot}
-use Rattle.mg_model.proofs.Cases.{none_is_some, some_of}
+use Rattle.mg_safety.proofs.Words.{◌≡◌, ◌∙◌, ◌&&◌, ◌<◌, ℕ, Bool, true, false, Some, None, is_some, refl, sym, ap, inr, arith, eqb-true, eq-eqb, and_from}
+use Rattle.mg_safety.proofs.Words.{if◌then◌else◌, ◌==◌, unwrap_or, TermId, Place, NullContext, Context, Termination, In, Board, exists, place_of, Configuration}
+use Rattle.mg_safety.proofs.Words.{IsWellFormed, is_in, is_live, place_exists, stands_at, choose, all, is_context_number, place_known, Script, IsScript, IsSlot}
+use Rattle.mg_safety.proofs.Words.{none_is_some, some_of}
+use Rattle.mg_safety.proofs.InvariantWords.{Naming, term_of, Shown, IsAccounted, Owner, owned_at, AreBuilt, known_by, context_for, place_for}
 use Rattle.mg_safety.proofs.Commands.Binding.{with_context, with_given, with_at_some, with_at_kept, given_new, not_fresh}
 use Rattle.mg_safety.proofs.Commands.Carrying.{IsEntered, entered_before}
 use Rattle.mg_safety.proofs.Commands.InForce.{MayExist, context_in_force, someone_in, owned_in_context, live_of, in_named, null_named}
-use Rattle.mg_safety.proofs.Invariant.Shown.{Naming, term_of, Shown, IsAccounted, Owner, owned_at, AreBuilt, known_by, context_for, place_for}
 
 -- ---- numbers of contexts
 

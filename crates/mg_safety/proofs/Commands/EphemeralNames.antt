@@ -1,23 +1,11 @@
 -- An ephemeral that commands may use, by its number.
-use Rattle.std.proofs.Common.{IsTrue, ◌≡◌, ◌∙◌, ◌<◌, ℕ, Bool, true, Some, refl, sym, ap, ◌&&◌, Option, None, is_some}
-use Rattle.std.specs.Prelude.{if◌then◌else◌, ◌==◌, unwrap_or, option_map, IsTrue}
-use Rattle.mg_names.specs.declared.identifiers.TermId.{TermId}
-use Rattle.mg_names.specs.declared.identifiers.TermId.TheVariants.{Eph}
+use Rattle.mg_safety.proofs.Words.{IsTrue, ◌≡◌, ◌∙◌, ℕ, Bool, true, Some, refl, sym, ap, Option, None, is_some, unwrap_or, option_map, TermId, Eph, Board}
+use Rattle.mg_safety.proofs.Words.{exists, Configuration, remote_legal, names_nothing, Script, IsRemote, not_refused, some_of, RemoteOption, NoneGiven, Peer}
+use Rattle.mg_safety.proofs.Words.{remote_option_known}
 use Rattle.mg_model.specs.declared.commands.Termination.TheVariants as termination
-use Rattle.mg_model.specs.Board.{Board, exists}
-use Rattle.mg_model.specs.Configuration.{Configuration}
-use Rattle.mg_model.specs.Effects as effects
-use Rattle.mg_model.specs.Effects.{remote_legal}
-use Rattle.mg_model.specs.Items.{names_nothing}
-use Rattle.mg_model.specs.Script.{Script}
-use Rattle.mg_model.specs.Accepted.{IsRemote}
-use Rattle.mg_model.proofs.Cases.{not_refused, some_of}
+use Rattle.mg_safety.proofs.InvariantWords.{Naming, Shown, AreBuilt, eph_of, row_on, known_by, ephemeral_for, remote_for}
 use Rattle.mg_safety.proofs.Commands.InForce.{ephemeral_in_force}
 use Rattle.mg_safety.proofs.Commands.Setting.{PeerInForce}
-use Rattle.mg_safety.proofs.Invariant.Shown.{Naming, Shown, AreBuilt, eph_of, row_on, known_by, ephemeral_for, remote_for}
-use Rattle.mg_model.specs.declared.commands.RemoteOption.{RemoteOption}
-use Rattle.mg_model.specs.declared.commands.RemoteOption.TheVariants.{NoneGiven, Peer}
-use Rattle.mg_model.specs.Request.{remote_option_known}
 
 -- an ephemeral that commands may use, by its number
 pub known_ephemeral : (m : Naming) (k : ℕ) → is_some (m.ephemerals k) ≡ true → m.ephemerals k ≡ Some (ephemeral_for m k)

@@ -1,23 +1,11 @@
 -- A line that comes to stand in a context.
-use Rattle.std.proofs.Common.{◌≡◌, ◌∙◌, ◌<◌, ℕ, true, false, length, Some, sym, ap, inl, ◌&&◌}
-use Rattle.std.specs.Prelude.{if◌then◌else◌, ◌==◌, unwrap_or}
-use Rattle.mg_names.specs.declared.context_values.ContextValue.TheVariants.{Live}
-use Rattle.mg_names.specs.declared.identifiers.TermId.{TermId}
-use Rattle.mg_names.specs.declared.identifiers.TermId.TheVariants.{Line}
-use Rattle.mg_model.specs.declared.commands.LineOptions.{LineOptions}
-use Rattle.mg_model.specs.declared.commands.Termination.{Termination}
+use Rattle.mg_safety.proofs.Words.{◌≡◌, ◌<◌, ℕ, true, false, length, Some, sym, ap, inl, unwrap_or, Live, TermId, Line, LineOptions, Termination, In, Board}
+use Rattle.mg_safety.proofs.Words.{same_term, exists, with_at, Configuration, is_free, with_of, Script, IsSlot}
 use Rattle.mg_model.specs.declared.commands.Termination.TheVariants as termination
-use Rattle.mg_model.specs.declared.components.Spot.TheVariants.{In}
-use Rattle.mg_model.specs.Board.{Board, same_term, exists}
-use Rattle.mg_model.specs.Updates.{with_at}
-use Rattle.mg_model.specs.Configuration.{Configuration, is_free, with_of}
-use Rattle.mg_model.specs.Effects as effects
-use Rattle.mg_model.specs.Script.{Script}
-use Rattle.mg_model.specs.Accepted.{IsSlot}
+use Rattle.mg_safety.proofs.InvariantWords.{Naming, term_of, cut_on, Shown, IsAccounted, Owner, owned_at, AreBuilt, line_settings}
 use Rattle.mg_safety.proofs.Commands.Carrying.{Carries, IsEntered, carried}
 use Rattle.mg_safety.proofs.Commands.OneRow.{HasOneRow}
 use Rattle.mg_safety.proofs.Commands.Setting.{line_set, set_in_context}
-use Rattle.mg_safety.proofs.Invariant.Shown.{Naming, term_of, cut_on, Shown, IsAccounted, Owner, owned_at, AreBuilt, line_settings}
 use Rattle.mg_safety.proofs.Commands.InPlace.{row_with}
 
 -- the line of the gateway by the names that commands are built with

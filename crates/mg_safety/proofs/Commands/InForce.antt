@@ -1,27 +1,14 @@
 -- The names in force: which termination each stands for, where it stands by the configuration, that the names which a legal command uses
 -- are in force, and who stands in a context that exists.
-use Rattle.std.proofs.Common.{◌≡◌, ◌∙◌, ◌<◌, ◌≤◌, ◌⊎◌, ℕ, zero, suc, Bool, true, false, not, length, Option, Some, None, is_some, refl, sym, ap, inl, inr, arith, true≢false}
-use Rattle.std.specs.Prelude.{◌==◌, unwrap_or, get_or}
-use Rattle.std.specs.List.{list_any}
-use Rattle.std.proofs.lemmas.Bool.{eqb-true, eq-eqb}
-use Rattle.std.proofs.lemmas.List.Folds.{list_any_at}
-use Rattle.mg_names.specs.declared.identifiers.LineNo.{LineNo}
-use Rattle.mg_names.specs.declared.identifiers.TermId.{TermId}
-use Rattle.mg_names.specs.declared.identifiers.TermId.TheVariants.{Line, Eph}
-use Rattle.mg_model.specs.declared.commands.Termination.{Termination}
+use Rattle.mg_safety.proofs.Words.{◌≡◌, ◌∙◌, ◌<◌, ◌≤◌, ◌⊎◌, ℕ, zero, suc, Bool, true, false, not, length, Option, Some, None, is_some, refl, sym, ap, inl, inr}
+use Rattle.mg_safety.proofs.Words.{arith, true≢false, ◌==◌, unwrap_or, get_or, list_any, eqb-true, eq-eqb, list_any_at, TermId, Line, Eph, Termination, Spot}
+use Rattle.mg_safety.proofs.Words.{Absent, Null, In, Board, exists, place_of, place_in, ContextExists, Configuration, IsWellFormed, is_in, is_null, is_present}
+use Rattle.mg_safety.proofs.Words.{is_live, terminations, is_elsewhere, termination_known, Script, IsScript, IsSlot, false_not_true, same_test, some_is_none}
+use Rattle.mg_safety.proofs.Words.{some_of, the_some, is_in_is}
 use Rattle.mg_model.specs.declared.commands.Termination.TheVariants as termination
-use Rattle.mg_model.specs.declared.components.Spot.{Spot}
-use Rattle.mg_model.specs.declared.components.Spot.TheVariants.{Absent, Null, In}
-use Rattle.mg_model.specs.Board.{Board, exists, place_of, place_in, ContextExists}
-use Rattle.mg_model.specs.Configuration.{Configuration, IsWellFormed, is_in, is_null, is_present, is_live, terminations}
-use Rattle.mg_model.specs.Effects.{is_elsewhere}
-use Rattle.mg_model.specs.Request.{termination_known}
-use Rattle.mg_model.specs.Script.{Script}
-use Rattle.mg_model.specs.Accepted.{IsScript, IsSlot}
-use Rattle.mg_model.proofs.Cases.{false_not_true, same_test, some_is_none, some_of, the_some}
-use Rattle.mg_model.proofs.Terminations.{is_in_is}
+use Rattle.mg_names.specs.declared.identifiers.LineNo.{LineNo}
+use Rattle.mg_safety.proofs.InvariantWords.{Naming, Shown, AreBuilt, row_on, term_of, eph_of, number_at, known_by, term_for, ephemeral_for}
 use Rattle.mg_safety.proofs.Shared.Components.{is_in_self}
-use Rattle.mg_safety.proofs.Invariant.Shown.{Naming, Shown, AreBuilt, row_on, term_of, eph_of, number_at, known_by, term_for, ephemeral_for}
 
 -- ---- names and terminations
 

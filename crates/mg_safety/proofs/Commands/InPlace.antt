@@ -1,23 +1,12 @@
 -- A termination that stays where it is, with what a command sets on it.
-use Rattle.std.proofs.Common.{◌≡◌, ◌∙◌, ◌<◌, ℕ, true, Some, refl, sym, inl, ◌&&◌}
-use Rattle.std.specs.Prelude.{if◌then◌else◌, ◌==◌}
-use Rattle.mg_names.specs.declared.identifiers.TermId.{TermId}
-use Rattle.mg_model.specs.declared.commands.Termination.{Termination}
-use Rattle.mg_model.specs.declared.commands.Termination.TheVariants as termination
-use Rattle.mg_model.specs.declared.items.Item.TheVariants.{Modify}
-use Rattle.mg_model.specs.declared.items.Settings.{Settings}
-use Rattle.mg_model.specs.declared.rows.Row.{Row}
-use Rattle.mg_model.specs.Board.{Board, exists, place_of, mode_of, remote_of}
-use Rattle.mg_model.specs.Configuration.{Configuration}
-use Rattle.mg_model.specs.Effects as effects
-use Rattle.mg_model.specs.Items.{Chosen, effect, row_at}
-use Rattle.mg_model.specs.Script.{Script}
-use Rattle.mg_model.specs.Accepted.{IsSlot}
+use Rattle.mg_safety.proofs.Words.{◌≡◌, ◌∙◌, ℕ, true, Some, refl, sym, inl, TermId, Termination, Modify, Settings, Row, Board, exists, place_of, mode_of}
+use Rattle.mg_safety.proofs.Words.{remote_of, Configuration, Chosen, row_at, Script, IsSlot}
+use Rattle.mg_model.specs.Items.{effect}
+use Rattle.mg_safety.proofs.InvariantWords.{Naming, term_of, Shown, IsAccounted, Owner, owned_at, AreBuilt}
 use Rattle.mg_safety.proofs.Commands.Carrying.{Carries, entered_before, owned_named, carried}
 use Rattle.mg_safety.proofs.Commands.InForce.{place_named, present_named}
 use Rattle.mg_safety.proofs.Commands.OneRow.{HasOneRow}
 use Rattle.mg_safety.proofs.Commands.Setting.{IsSet, set_in_place}
-use Rattle.mg_safety.proofs.Invariant.Shown.{Naming, term_of, Shown, IsAccounted, Owner, owned_at, AreBuilt}
 
 -- the row of a termination with what a command sets on it
 abbrev pub row_with : Board → TermId → ℕ → Settings → Row

@@ -1,29 +1,12 @@
 -- Terminations of a call leave their context for good: the board after it shows the configuration without them.
-use Rattle.std.proofs.Common.{◌≡◌, ◌∙◌, ◌<◌, ℕ, Bool, true, false, length, Option, Some, None, is_some, refl, sym, ap, subst, arith, true≢false}
-use Rattle.std.specs.Prelude.{◌||◌, not, if◌then◌else◌, unwrap_or}
-use Rattle.std.proofs.lemmas.Bool.{or_right}
-use Rattle.mg_names.specs.declared.context_values.ContextValue.{ContextValue}
-use Rattle.mg_names.specs.declared.identifiers.TermId.{TermId}
-use Rattle.mg_names.specs.declared.identifiers.TermId.TheVariants.{Line, Eph}
-use Rattle.mg_names.specs.declared.modes.Mode.{Mode}
-use Rattle.mg_names.specs.declared.modes.Mode.TheVariants.{Inactive}
-use Rattle.mg_model.specs.declared.commands.Termination.{Termination}
+use Rattle.mg_safety.proofs.Words.{◌≡◌, ◌∙◌, ◌<◌, ℕ, Bool, true, false, length, Option, Some, None, is_some, refl, sym, ap, subst, arith, true≢false, ◌||◌, not}
+use Rattle.mg_safety.proofs.Words.{if◌then◌else◌, unwrap_or, or_right, ContextValue, TermId, Line, Eph, Mode, Inactive, Termination, Remote, Unset, Gone, To}
+use Rattle.mg_safety.proofs.Words.{Spot, Absent, Null, In, Row, Board, exists, place_of, place_in, mode_in, remote_in, Configuration, is_present, is_free}
+use Rattle.mg_safety.proofs.Words.{settled, stands_in, without_terminations, without_cuts_of, spot_after, remote_after, null, subtracted, without, Script}
+use Rattle.mg_safety.proofs.Words.{IsSlot, where_true, where_false, some_is_none}
 use Rattle.mg_model.specs.declared.commands.Termination.TheVariants as termination
-use Rattle.mg_model.specs.declared.components.Remote.{Remote}
-use Rattle.mg_model.specs.declared.components.Remote.TheVariants.{Unset, Gone, To}
-use Rattle.mg_model.specs.declared.components.Spot.{Spot}
-use Rattle.mg_model.specs.declared.components.Spot.TheVariants.{Absent, Null, In}
-use Rattle.mg_model.specs.declared.rows.Row.{Row}
-use Rattle.mg_model.specs.Board.{Board, exists, place_of, place_in, mode_in, remote_in}
-use Rattle.mg_model.specs.Configuration.{Configuration, is_present, is_free, settled, stands_in}
-use Rattle.mg_model.specs.Effects.{without_terminations, without_cuts_of, spot_after, remote_after}
-use Rattle.mg_model.specs.Numbers.{null}
-use Rattle.mg_model.specs.Items.{subtracted, without}
-use Rattle.mg_model.specs.Script.{Script}
-use Rattle.mg_model.specs.Accepted.{IsSlot}
+use Rattle.mg_safety.proofs.InvariantWords.{Naming, Shown, RemoteReads, Owner, owned_at, row_on, cut_on, term_of, eph_of, number_at, IsAccounted}
 use Rattle.mg_safety.proofs.Shared.Components.{free_as_before}
-use Rattle.mg_model.proofs.Cases.{where_true, where_false, some_is_none}
-use Rattle.mg_safety.proofs.Invariant.Shown.{Naming, Shown, RemoteReads, Owner, owned_at, row_on, cut_on, term_of, eph_of, number_at, IsAccounted}
 
 -- the terminations of the board that leave are those of the slots that leave, and their names are unbound; a context's name is unbound only
 -- where nobody stays in it

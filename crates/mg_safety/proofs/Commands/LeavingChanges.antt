@@ -1,21 +1,12 @@
 -- Terminations of a call leave their context for good: what is given out, which names commands are built with, and what changed.
-use Rattle.std.proofs.Common.{◌≡◌, ◌∙◌, ℕ, Bool, true, false, Option, Some, None, is_some, refl, sym, ap, inl}
-use Rattle.std.specs.Prelude.{if◌then◌else◌}
-use Rattle.std.proofs.lemmas.Bool.{false_from_ne_true}
-use Rattle.mg_names.specs.declared.context_values.ContextValue.{ContextValue}
-use Rattle.mg_names.specs.declared.identifiers.TermId.{TermId}
-use Rattle.mg_names.specs.declared.identifiers.TermId.TheVariants.{Line, Eph}
-use Rattle.mg_model.specs.declared.commands.Termination.{Termination}
+use Rattle.mg_safety.proofs.Words.{◌≡◌, ◌∙◌, ℕ, Bool, true, false, Option, Some, None, is_some, refl, sym, ap, inl, if◌then◌else◌, false_from_ne_true}
+use Rattle.mg_safety.proofs.Words.{ContextValue, TermId, Line, Eph, Termination, Board, exists, place_of, ContextExists, Configuration, subtracted, without}
+use Rattle.mg_safety.proofs.Words.{Script, not_both, where_true, where_false, some_is_none}
 use Rattle.mg_model.specs.declared.commands.Termination.TheVariants as termination
-use Rattle.mg_model.specs.Board.{Board, exists, place_of, ContextExists}
-use Rattle.mg_model.specs.Configuration.{Configuration}
-use Rattle.mg_model.specs.Items.{subtracted, without}
-use Rattle.mg_model.specs.Script.{Script}
-use Rattle.mg_model.proofs.Cases.{not_both, where_true, where_false, some_is_none}
+use Rattle.mg_safety.proofs.InvariantWords.{Naming, Shown, Owner, owned_at, AreBuilt, eph_of, IsAccounted, ChangesOwned}
 use Rattle.mg_safety.proofs.Commands.InForce.{name_stands}
 use Rattle.mg_safety.proofs.Commands.Leaving.{Leaves, names_left, exists_after, not_after, place_before}
 use Rattle.mg_safety.proofs.Events.Others.{name_owned}
-use Rattle.mg_safety.proofs.Invariant.Shown.{Naming, Shown, Owner, owned_at, AreBuilt, eph_of, IsAccounted, ChangesOwned}
 
 pub accounted_left : (b : Board) (gone : TermId → Bool) → IsAccounted b → IsAccounted (without b gone)
 accounted_left b gone accounted = record {

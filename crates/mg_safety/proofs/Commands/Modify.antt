@@ -1,29 +1,17 @@
 -- Modify of a line and of an ephemeral carries over.
-use Rattle.std.proofs.Common.{◌≡◌, ◌∙◌, ◌<◌, ℕ, Bool, true, false, not, length, Some, refl, sym, ap, subst, ◌&&◌, is_some}
-use Rattle.std.proofs.lemmas.Bool.{eqb-true, and_from}
-use Rattle.std.specs.Prelude.{if◌then◌else◌, ◌==◌, option_map}
-use Rattle.mg_names.specs.declared.codes.Code.TheVariants.{UnknownTermination, NotInContext}
-use Rattle.mg_names.specs.declared.identifiers.TermId.{TermId}
-use Rattle.mg_names.specs.declared.identifiers.TermId.TheVariants.{Line, Eph}
-use Rattle.mg_model.specs.declared.commands.Command.TheVariants.{ModifyLine, ModifyEphemeral}
-use Rattle.mg_model.specs.declared.commands.LineOptions.{LineOptions}
-use Rattle.mg_model.specs.declared.commands.Place.{Place}
+use Rattle.mg_safety.proofs.Words.{◌≡◌, ◌<◌, ℕ, Bool, true, false, not, length, Some, refl, sym, ap, subst, ◌&&◌, is_some, eqb-true, and_from, ◌==◌, option_map}
+use Rattle.mg_safety.proofs.Words.{UnknownTermination, NotInContext, TermId, Line, Eph, ModifyLine, ModifyEphemeral, LineOptions, Place, Board, exists}
+use Rattle.mg_safety.proofs.Words.{place_of, mode_of, remote_of, Configuration, place_exists, stands_at, remote_legal, names_nothing, and_first, false_not_true}
+use Rattle.mg_safety.proofs.Words.{neither_first, neither_second, not_refused, and_second, EphemeralOptions, place_known, remote_option_known}
 use Rattle.mg_model.specs.declared.commands.Termination.TheVariants as termination
-use Rattle.mg_model.specs.Board.{Board, exists, place_of, mode_of, remote_of}
-use Rattle.mg_model.specs.Configuration.{Configuration}
 use Rattle.mg_model.specs.Effects as effects
-use Rattle.mg_model.specs.Effects.{place_exists, stands_at, remote_legal}
-use Rattle.mg_model.specs.Items.{names_nothing}
-use Rattle.mg_model.proofs.Cases.{and_first, false_not_true, neither_first, neither_second, not_refused, and_second}
+use Rattle.mg_safety.proofs.InvariantWords.{IsCarried, IsCarriedOver, term_of, owned_at, place_for, line_settings, eph_of, known_by, ephemeral_for, remote_for}
+use Rattle.mg_safety.proofs.InvariantWords.{ephemeral_settings}
 use Rattle.mg_safety.proofs.Commands.Carrying.{Carries}
-use Rattle.mg_safety.proofs.Invariant.CarriedOver.{IsCarried, IsCarriedOver}
 use Rattle.mg_safety.proofs.Commands.EnteredContexts.{modified_place}
 use Rattle.mg_safety.proofs.Commands.InForce.{ephemeral_in_force}
 use Rattle.mg_safety.proofs.Commands.OneRow.{HasOneRow, exists_as_before}
 use Rattle.mg_safety.proofs.Commands.Setting.{cuts_stay, line_set, PeerInForce, ephemeral_set}
-use Rattle.mg_safety.proofs.Invariant.Shown.{term_of, owned_at, place_for, line_settings, eph_of, known_by, ephemeral_for, remote_for, ephemeral_settings}
-use Rattle.mg_model.specs.declared.commands.EphemeralOptions.{EphemeralOptions}
-use Rattle.mg_model.specs.Request.{place_known, remote_option_known}
 use Rattle.mg_safety.proofs.Commands.InPlace.{row_with, after_modify, carried_in_place}
 use Rattle.mg_safety.proofs.Commands.InContext.{line_named}
 use Rattle.mg_safety.proofs.Commands.EphemeralNames.{known_ephemeral, peer_in_force, peer_legal}

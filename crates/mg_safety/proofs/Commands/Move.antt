@@ -1,33 +1,21 @@
 -- Move of a line and of an ephemeral carries over.
-use Rattle.std.proofs.Common.{◌≡◌, ◌∙◌, ◌<◌, ℕ, Bool, true, false, not, length, Some, refl, sym, ap, subst, inl, ◌&&◌, is_some}
-use Rattle.std.proofs.lemmas.Bool.{eq-eqb, and_from}
-use Rattle.std.specs.Prelude.{if◌then◌else◌, ◌==◌, option_map}
-use Rattle.mg_names.specs.declared.codes.Code.TheVariants.{UnknownContext, UnknownTermination, NotInContext}
-use Rattle.mg_names.specs.declared.context_values.ContextValue.TheVariants.{Live}
-use Rattle.mg_names.specs.declared.identifiers.TermId.{TermId}
-use Rattle.mg_names.specs.declared.identifiers.TermId.TheVariants.{Line, Eph}
-use Rattle.mg_model.specs.declared.commands.Command.TheVariants.{MoveLine, MoveEphemeral}
-use Rattle.mg_model.specs.declared.commands.LineOptions.{LineOptions}
+use Rattle.mg_safety.proofs.Words.{◌≡◌, ◌∙◌, ◌<◌, ℕ, Bool, true, false, not, length, Some, refl, sym, ap, subst, inl, ◌&&◌, is_some, eq-eqb, and_from, ◌==◌}
+use Rattle.mg_safety.proofs.Words.{option_map, UnknownContext, UnknownTermination, NotInContext, Live, TermId, Line, Eph, MoveLine, MoveEphemeral, LineOptions}
+use Rattle.mg_safety.proofs.Words.{In, Board, exists, place_of, mode_of, remote_of, with_at, Configuration, is_live, with_of, stands_in, is_elsewhere}
+use Rattle.mg_safety.proofs.Words.{remote_legal, names_nothing, and_first, false_not_true, neither_first, neither_second, not_refused, and_second}
+use Rattle.mg_safety.proofs.Words.{EphemeralOptions, remote_option_known}
 use Rattle.mg_model.specs.declared.commands.Termination.TheVariants as termination
-use Rattle.mg_model.specs.declared.components.Spot.TheVariants.{In}
-use Rattle.mg_model.specs.Board.{Board, exists, place_of, mode_of, remote_of}
-use Rattle.mg_model.specs.Updates.{with_at}
-use Rattle.mg_model.specs.Configuration.{Configuration, is_live, with_of, stands_in}
 use Rattle.mg_model.specs.Effects as effects
-use Rattle.mg_model.specs.Effects.{is_elsewhere, remote_legal}
-use Rattle.mg_model.specs.Items.{effect, names_nothing}
+use Rattle.mg_model.specs.Items.{effect}
+use Rattle.mg_safety.proofs.InvariantWords.{IsCarried, IsCarriedOver, term_of, Shown, owned_at, context_for, line_settings, item_for, eph_of, known_by}
+use Rattle.mg_safety.proofs.InvariantWords.{ephemeral_for, remote_for, ephemeral_settings}
 use Rattle.mg_safety.proofs.Shared.Components.{free_as_before}
-use Rattle.mg_model.proofs.Cases.{and_first, false_not_true, neither_first, neither_second, not_refused, and_second}
 use Rattle.mg_safety.proofs.Commands.Binding.{shown_live}
 use Rattle.mg_safety.proofs.Commands.Carrying.{Carries, IsEntered, carried}
-use Rattle.mg_safety.proofs.Invariant.CarriedOver.{IsCarried, IsCarriedOver}
 use Rattle.mg_safety.proofs.Commands.EnteredContexts.{known_context, IsExisting, existing_context}
 use Rattle.mg_safety.proofs.Commands.InForce.{MayExist, elsewhere_named, ephemeral_in_force}
 use Rattle.mg_safety.proofs.Commands.OneRow.{HasOneRow, exists_as_before}
 use Rattle.mg_safety.proofs.Commands.Setting.{cuts_leave, set_in_context, cuts_outside, PeerInForce, ephemeral_set}
-use Rattle.mg_safety.proofs.Invariant.Shown.{term_of, Shown, owned_at, context_for, line_settings, item_for, eph_of, known_by, ephemeral_for, remote_for, ephemeral_settings}
-use Rattle.mg_model.specs.declared.commands.EphemeralOptions.{EphemeralOptions}
-use Rattle.mg_model.specs.Request.{remote_option_known}
 use Rattle.mg_safety.proofs.Commands.InPlace.{row_with}
 use Rattle.mg_safety.proofs.Commands.InContext.{line_named, carried_line_in, with_live}
 use Rattle.mg_safety.proofs.Commands.EphemeralNames.{known_ephemeral, peer_in_force, peer_legal}

@@ -1,14 +1,8 @@
 -- What a board is after the row of one termination was changed: what exists, what was given, what names that are in force no more
 -- name, and what was owned.
-use Rattle.std.proofs.Common.{◌≡◌, ◌∙◌, ℕ, Bool, true, false, Some, None, is_some, refl, sym, ap, inl, inr, ◌⊎◌, true≢false}
-use Rattle.std.proofs.lemmas.Bool.{eqb-true}
-use Rattle.std.specs.Prelude.{if◌then◌else◌}
-use Rattle.mg_names.specs.declared.identifiers.TermId.{TermId}
-use Rattle.mg_names.specs.declared.identifiers.TermId.TheVariants.{Line, Eph}
-use Rattle.mg_model.specs.declared.rows.Row.{Row}
-use Rattle.mg_model.specs.Board.{Board, same_term, exists, place_of, place_in}
-use Rattle.mg_model.proofs.Terminations.{same_term_is}
-use Rattle.mg_safety.proofs.Invariant.Shown.{Naming, IsAccounted, Owner, owned_at, AreBuilt, ChangesOwned}
+use Rattle.mg_safety.proofs.Words.{◌≡◌, ◌∙◌, ℕ, Bool, true, false, Some, None, is_some, refl, sym, ap, inl, inr, ◌⊎◌, true≢false, eqb-true, if◌then◌else◌}
+use Rattle.mg_safety.proofs.Words.{TermId, Line, Eph, Row, Board, same_term, exists, place_of, place_in, same_term_is}
+use Rattle.mg_safety.proofs.InvariantWords.{Naming, IsAccounted, Owner, owned_at, AreBuilt, ChangesOwned}
 
 -- ---- one row changed
 

@@ -1,24 +1,12 @@
 -- A termination that a call's name stands for gets another row: what is read at each name after it, and that the board then shows the
 -- configuration in which this termination alone is changed.
-use Rattle.std.proofs.Common.{◌≡◌, ◌∙◌, ℕ, Bool, true, false, not, Option, Some, None, is_some, refl, sym, ap, subst, length, ◌<◌}
-use Rattle.std.proofs.lemmas.Bool.{eqb-true, eq-eqb}
-use Rattle.std.specs.Prelude.{◌==◌}
-use Rattle.mg_names.specs.declared.identifiers.TermId.{TermId}
-use Rattle.mg_names.specs.declared.identifiers.TermId.TheVariants.{Line, Eph}
-use Rattle.mg_model.specs.declared.commands.Termination.{Termination}
+use Rattle.mg_safety.proofs.Words.{◌≡◌, ◌∙◌, ℕ, Bool, true, false, not, Option, Some, None, is_some, refl, sym, ap, subst, length, ◌<◌, eqb-true, eq-eqb, ◌==◌}
+use Rattle.mg_safety.proofs.Words.{TermId, Line, Eph, Termination, Remote, Unset, Gone, To, In, Row, Board, same_term, exists, place_of, place_in, mode_in}
+use Rattle.mg_safety.proofs.Words.{remote_in, Configuration, is_same, is_present, is_free, Script, IsSlot, same_test, none_is_some, the_some, is_same_is}
+use Rattle.mg_safety.proofs.Words.{same_term_is, same_term_self}
 use Rattle.mg_model.specs.declared.commands.Termination.TheVariants as termination
-use Rattle.mg_model.specs.declared.components.Remote.{Remote}
-use Rattle.mg_model.specs.declared.components.Remote.TheVariants.{Unset, Gone, To}
-use Rattle.mg_model.specs.declared.components.Spot.TheVariants.{In}
-use Rattle.mg_model.specs.declared.rows.Row.{Row}
-use Rattle.mg_model.specs.Board.{Board, same_term, exists, place_of, place_in, mode_in, remote_in}
-use Rattle.mg_model.specs.Configuration.{Configuration, is_same, is_present, is_free}
-use Rattle.mg_model.specs.Script.{Script}
-use Rattle.mg_model.specs.Accepted.{IsSlot}
-use Rattle.mg_model.proofs.Cases.{same_test, none_is_some, the_some}
-use Rattle.mg_model.proofs.Terminations.{is_same_is, same_term_is, same_term_self}
+use Rattle.mg_safety.proofs.InvariantWords.{Naming, eph_of, term_of, row_on, cut_on, number_at, RemoteReads, Shown}
 use Rattle.mg_safety.proofs.Commands.OneRow.{HasOneRow, row_here, row_elsewhere, exists_as_before}
-use Rattle.mg_safety.proofs.Invariant.Shown.{Naming, eph_of, term_of, row_on, cut_on, number_at, RemoteReads, Shown}
 
 -- ---- names
 

@@ -1,35 +1,17 @@
 -- What a command sets on its termination, in the configuration and on the board: the mode, the Remote, the cuts that it forgets, and where
 -- the termination stands.
-use Rattle.std.proofs.Common.{◌≡◌, ◌∙◌, ◌||◌, ℕ, Bool, true, false, Option, Some, None, is_some, refl, sym, ap, subst, true≢false, length, ◌<◌}
-use Rattle.std.specs.Prelude.{if◌then◌else◌, unwrap_or, option_map}
-use Rattle.mg_names.specs.declared.identifiers.TermId.{TermId}
-use Rattle.mg_names.specs.declared.identifiers.TermId.TheVariants.{Eph}
-use Rattle.mg_names.specs.declared.modes.Mode.{Mode}
-use Rattle.mg_model.specs.declared.commands.EphemeralOptions.{EphemeralOptions}
-use Rattle.mg_model.specs.declared.commands.LineOptions.{LineOptions}
-use Rattle.mg_model.specs.declared.commands.RemoteOption.{RemoteOption}
-use Rattle.mg_model.specs.declared.commands.RemoteOption.TheVariants.{NoneGiven, Peer}
-use Rattle.mg_model.specs.declared.commands.Termination.{Termination}
+use Rattle.mg_safety.proofs.Words.{◌≡◌, ◌∙◌, ◌||◌, ℕ, Bool, true, false, Option, Some, None, is_some, refl, sym, ap, subst, true≢false, length, ◌<◌}
+use Rattle.mg_safety.proofs.Words.{if◌then◌else◌, unwrap_or, option_map, TermId, Eph, Mode, EphemeralOptions, LineOptions, RemoteOption, NoneGiven, Peer}
+use Rattle.mg_safety.proofs.Words.{Termination, Remote, Unset, Gone, To, Spot, In, Row, Board, same_term, exists, mode_of, mode_in, remote_of, remote_in}
+use Rattle.mg_safety.proofs.Words.{with_at, Configuration, is_same, is_present, is_free, with_of, without_cuts_of, row_at, without_cuts, Script, IsSlot}
+use Rattle.mg_safety.proofs.Words.{false_either_way, is_same_self, is_same_turned, same_term_turned}
 use Rattle.mg_model.specs.declared.commands.Termination.TheVariants as termination
-use Rattle.mg_model.specs.declared.components.Remote.{Remote}
-use Rattle.mg_model.specs.declared.components.Remote.TheVariants.{Unset, Gone, To}
-use Rattle.mg_model.specs.declared.components.Spot.{Spot}
-use Rattle.mg_model.specs.declared.components.Spot.TheVariants.{In}
-use Rattle.mg_model.specs.declared.rows.Row.{Row}
-use Rattle.mg_model.specs.Board.{Board, same_term, exists, mode_of, mode_in, remote_of, remote_in}
-use Rattle.mg_model.specs.Updates.{with_at}
-use Rattle.mg_model.specs.Configuration.{Configuration, is_same, is_present, is_free, with_of}
 use Rattle.mg_model.specs.Effects as effects
-use Rattle.mg_model.specs.Effects.{without_cuts_of}
 use Rattle.mg_model.specs.Items as items
-use Rattle.mg_model.specs.Items.{row_at, without_cuts}
-use Rattle.mg_model.specs.Script.{Script}
-use Rattle.mg_model.specs.Accepted.{IsSlot}
-use Rattle.mg_model.proofs.Cases.{false_either_way}
-use Rattle.mg_model.proofs.Terminations.{is_same_self, is_same_turned, same_term_turned}
+use Rattle.mg_safety.proofs.InvariantWords.{Naming, eph_of, term_of, row_on, cut_on, number_at, RemoteReads, Shown, line_settings, ephemeral_settings}
+use Rattle.mg_safety.proofs.InvariantWords.{remote_for}
 use Rattle.mg_safety.proofs.Commands.Binding.{with_at_here, with_at_kept}
 use Rattle.mg_safety.proofs.Commands.Placing.{HasOneName, term_test, is_term}
-use Rattle.mg_safety.proofs.Invariant.Shown.{Naming, eph_of, term_of, row_on, cut_on, number_at, RemoteReads, Shown, line_settings, ephemeral_settings, remote_for}
 
 -- ---- one termination changed
 

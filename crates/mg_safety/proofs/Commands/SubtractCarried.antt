@@ -1,36 +1,18 @@
 -- The two forms of Subtract carry over: a termination leaves its context, and all of a context do.
-use Rattle.std.proofs.Common.{◌≡◌, ◌∙◌, ℕ, Bool, true, false, List, Option, Some, None, is_some, get_or, refl, sym, ap, subst}
-use Rattle.std.specs.Prelude.{◌==◌, ◌&&◌, not, if◌then◌else◌, unwrap_or, Contains}
-use Rattle.std.proofs.lemmas.Bool.{eqb-true, eq-eqb, and_parts, and_from, true_from_ne_false}
-use Rattle.std.proofs.lemmas.List.Folds.{Any-from_list_any, list_any_at}
-use Rattle.mg_names.specs.declared.codes.Code.TheVariants.{UnknownContext, UnknownTermination, NotInContext}
-use Rattle.mg_names.specs.declared.context_values.ContextValue.{ContextValue}
-use Rattle.mg_names.specs.declared.context_values.ContextValue.TheVariants.{Free}
-use Rattle.mg_names.specs.declared.identifiers.TermId.{TermId}
-use Rattle.mg_names.specs.declared.identifiers.TermId.TheVariants.{Eph}
-use Rattle.mg_model.specs.Numbers.{all}
-use Rattle.mg_model.specs.declared.commands.Command.{Command}
-use Rattle.mg_model.specs.declared.commands.Command.TheVariants.{Subtract, SubtractAll}
-use Rattle.mg_model.specs.declared.commands.Termination.{Termination}
+use Rattle.mg_safety.proofs.Words.{◌≡◌, ◌∙◌, ℕ, Bool, true, false, List, Option, Some, None, is_some, get_or, refl, sym, ap, subst, ◌==◌, ◌&&◌, not}
+use Rattle.mg_safety.proofs.Words.{if◌then◌else◌, unwrap_or, Contains, eqb-true, eq-eqb, and_parts, and_from, true_from_ne_false, Any-from_list_any}
+use Rattle.mg_safety.proofs.Words.{list_any_at, UnknownContext, UnknownTermination, NotInContext, ContextValue, Free, TermId, Eph, all, Command, Subtract}
+use Rattle.mg_safety.proofs.Words.{SubtractAll, Termination, In, is_listed, Board, exists, place_of, same_term, ContextExists, with_at, Configuration, is_same}
+use Rattle.mg_safety.proofs.Words.{is_in, is_free, is_live, is_legal, effect, Done, Lists, subtracts, without, termination_known, Script, IsSlot, at_another}
+use Rattle.mg_safety.proofs.Words.{not_both, same_test, where_true, where_false, some_is_none, some_of, the_some, is_same_is, is_same_self, same_term_is}
+use Rattle.mg_safety.proofs.Words.{same_term_self}
 use Rattle.mg_model.specs.declared.commands.Termination.TheVariants as termination
-use Rattle.mg_model.specs.declared.components.Spot.TheVariants.{In}
-use Rattle.mg_model.specs.Agent.{is_listed}
-use Rattle.mg_model.specs.Board.{Board, exists, place_of, same_term, ContextExists}
-use Rattle.mg_model.specs.Updates.{with_at}
-use Rattle.mg_model.specs.Configuration.{Configuration, is_same, is_in, is_free, is_live}
-use Rattle.mg_model.specs.Effects.{is_legal, effect}
-use Rattle.mg_model.specs.Items.{Done, Lists, subtracts, without}
-use Rattle.mg_model.specs.Request.{termination_known}
-use Rattle.mg_model.specs.Script.{Script}
-use Rattle.mg_model.specs.Accepted.{IsSlot}
+use Rattle.mg_safety.proofs.InvariantWords.{IsReady, IsCarried, IsCarriedOver, Naming, Shown, Owner, owned_at, term_of, eph_of, known_by, context_for, term_for}
+use Rattle.mg_safety.proofs.InvariantWords.{item_for, named_after, built_after}
 use Rattle.mg_safety.proofs.Shared.Components.{is_in_self}
-use Rattle.mg_model.proofs.Cases.{at_another, not_both, same_test, where_true, where_false, some_is_none, some_of, the_some}
-use Rattle.mg_model.proofs.Terminations.{is_same_is, is_same_self, same_term_is, same_term_self}
-use Rattle.mg_safety.proofs.Invariant.CarriedOver.{IsReady, IsCarried, IsCarriedOver}
 use Rattle.mg_safety.proofs.Commands.InForce.{MayExist, names_once, in_named, same_place, context_in_force, live_context, term_in_force}
 use Rattle.mg_safety.proofs.Commands.Leaving.{Leaves, names_left, configuration_left, shown_left}
 use Rattle.mg_safety.proofs.Commands.LeavingChanges.{accounted_left, built_left, leaving_owned, changes_left}
-use Rattle.mg_safety.proofs.Invariant.Shown.{Naming, Shown, Owner, owned_at, term_of, eph_of, known_by, context_for, term_for, item_for, named_after, built_after}
 
 -- what a command carries over by which terminations leave
 carried_left : (script : Script) (own : Owner) (n m : Naming) (contexts ephemerals : ℕ → Option ℕ) (b : Board) (c : Configuration)

@@ -1,29 +1,16 @@
 -- Topology carries over: the pair is cut in the configuration as on the board, and nothing else changes.
-use Rattle.std.proofs.Common.{◌≡◌, ◌∙◌, ℕ, Bool, true, false, Option, Some, None, is_some, refl, sym, ap, subst, inl, true≢false}
-use Rattle.std.specs.Prelude.{◌==◌, ◌&&◌, ◌||◌, not, if◌then◌else◌, unwrap_or}
-use Rattle.std.proofs.lemmas.Bool.{eqb-true, and_parts, and_from, or_left, or_right, false_from_ne_true, true_from_ne_false}
-use Rattle.mg_names.specs.declared.codes.Code.TheVariants.{UnknownContext, UnknownTermination, NotInContext}
-use Rattle.mg_names.specs.declared.identifiers.TermId.{TermId}
-use Rattle.mg_names.specs.declared.identifiers.TermId.TheVariants.{Line, Eph}
-use Rattle.mg_names.specs.declared.topologies.Topology.{Topology}
-use Rattle.mg_model.specs.Numbers.{all}
-use Rattle.mg_model.specs.declared.commands.Command.TheVariants.{SetTopology}
-use Rattle.mg_model.specs.declared.commands.Termination.{Termination}
-use Rattle.mg_model.specs.Board.{Board, exists, place_of, same_term}
-use Rattle.mg_model.specs.Configuration.{Configuration, is_same, is_in, is_live}
-use Rattle.mg_model.specs.Effects.{with_pair, cuts_forward, cuts_backward}
-use Rattle.mg_model.specs.Items.{with_cut, first_receives}
+use Rattle.mg_safety.proofs.Words.{◌≡◌, ◌∙◌, ℕ, Bool, true, false, Option, Some, None, is_some, refl, sym, ap, subst, inl, true≢false, ◌==◌, ◌&&◌, ◌||◌, not}
+use Rattle.mg_safety.proofs.Words.{if◌then◌else◌, unwrap_or, eqb-true, and_parts, and_from, or_left, or_right, false_from_ne_true, true_from_ne_false}
+use Rattle.mg_safety.proofs.Words.{UnknownContext, UnknownTermination, NotInContext, TermId, Line, Eph, Topology, all, SetTopology, Termination, Board, exists}
+use Rattle.mg_safety.proofs.Words.{place_of, same_term, Configuration, is_same, is_in, is_live, with_pair, cuts_forward, cuts_backward, with_cut}
+use Rattle.mg_safety.proofs.Words.{first_receives, termination_known, Script, IsSlot, not_both, same_test, some_is_none, some_of, the_some, is_same_is}
+use Rattle.mg_safety.proofs.Words.{is_same_self, same_term_is, same_term_self}
+use Rattle.mg_safety.proofs.InvariantWords.{IsCarried, IsCarriedOver, Naming, Shown, Owner, owned_at, cut_on, term_of, known_by, context_for, term_for}
+use Rattle.mg_safety.proofs.InvariantWords.{ChangesOwned, IsAccounted, AreBuilt}
 use Rattle.mg_safety.proofs.Shared.Sides.{forward_is, backward_is}
-use Rattle.mg_model.specs.Request.{termination_known}
-use Rattle.mg_model.specs.Script.{Script}
-use Rattle.mg_model.specs.Accepted.{IsSlot}
 use Rattle.mg_safety.proofs.Shared.Components.{is_in_self}
-use Rattle.mg_model.proofs.Cases.{not_both, same_test, some_is_none, some_of, the_some}
-use Rattle.mg_model.proofs.Terminations.{is_same_is, is_same_self, same_term_is, same_term_self}
-use Rattle.mg_safety.proofs.Invariant.CarriedOver.{IsCarried, IsCarriedOver}
 use Rattle.mg_safety.proofs.Commands.InForce.{MayExist, names_once, in_named, context_in_force, live_context, term_in_force}
 use Rattle.mg_safety.proofs.Events.Others.{name_owned}
-use Rattle.mg_safety.proofs.Invariant.Shown.{Naming, Shown, Owner, owned_at, cut_on, term_of, known_by, context_for, term_for, ChangesOwned, IsAccounted, AreBuilt}
 
 -- ---- the pair
 

@@ -1,20 +1,13 @@
 -- A call that begins on the lines of one that has ended keeps the world sound.
-use Rattle.std.proofs.Common.{◌≡◌, ◌∙◌, ℕ, Bool, true, false, List, Some, None, length, refl, sym, ap, subst, arith, inl, inr, ◌<◌, ◌≤◌}
-use Rattle.std.specs.Prelude.{◌==◌}
-use Rattle.std.proofs.lemmas.Bool.{eqb-true, eqb-false}
-use Rattle.mg_model.specs.Agent.{Agent, begun}
-use Rattle.mg_model.specs.Entries.{Entry}
+use Rattle.mg_safety.proofs.Words.{◌≡◌, ◌∙◌, ℕ, Bool, true, false, List, Some, None, length, refl, sym, ap, subst, arith, inl, inr, ◌<◌, ◌≤◌, ◌==◌, eqb-true}
+use Rattle.mg_safety.proofs.Words.{eqb-false, Agent, begun, Entry, Gateway, CallLink, last_executed, Reply, SentNote, Script, World, Begins, HasEnded, MayBegin}
+use Rattle.mg_safety.proofs.Words.{the_some, at_one, at_another}
 use Rattle.mg_model.specs.Gateway as gateway
-use Rattle.mg_model.specs.Gateway.{Gateway, CallLink, handed_over, last_executed}
-use Rattle.mg_model.specs.Messages.{Reply, SentNote}
-use Rattle.mg_model.specs.Script.{Script}
-use Rattle.mg_model.specs.World.{World, Begins, HasEnded}
-use Rattle.mg_model.specs.Gateway.{MayBegin}
-use Rattle.mg_model.proofs.Cases.{the_some, at_one, at_another}
-use Rattle.mg_safety.proofs.Events.Handover.{handed_from, handed_none, handed_other, link_other, kept_from, executed_other, world_begun, agent_new, agent_other, agent_from, below_next, at_most, floor_begun, floor_new, floor_other, reached_other}
+use Rattle.mg_safety.proofs.InvariantWords.{IsKnown, IsOpen, IsReached, IsReplySound, IsNoteSound, IsAboveFloor, CallIsSound, GatewayIsSound, IsSound, IsClosed}
+use Rattle.mg_safety.proofs.InvariantWords.{KeepsSound}
+use Rattle.mg_safety.proofs.Events.Handover.{handed_from, handed_none, handed_other, link_other, kept_from, executed_other, world_begun, agent_new, agent_other}
+use Rattle.mg_safety.proofs.Events.Handover.{agent_from, below_next, at_most, floor_begun, floor_new, floor_other, reached_other}
 use Rattle.mg_safety.proofs.Events.BegunCalls.{differ, not_known, new_sound, other_sound}
-use Rattle.mg_safety.proofs.Invariant.Sound.{IsKnown, IsOpen, IsReached, IsReplySound, IsNoteSound, IsAboveFloor, CallIsSound, GatewayIsSound, IsSound}
-use Rattle.mg_safety.proofs.Invariant.Statements.{IsClosed, KeepsSound}
 
 module _ (script : Script) (entries : List Entry) (closed : IsClosed script entries) (w : World) (sound : IsSound script entries w) (new old : ℕ) (a : Agent)
     (open_call : w.agent old ≡ Some a) (ended : HasEnded script w a) (may : MayBegin w.gateway old)

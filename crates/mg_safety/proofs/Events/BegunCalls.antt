@@ -1,34 +1,18 @@
 -- Where a call begins on the lines of one that has ended, the new call is shown the opening configuration, and each other call what it was shown.
-use Rattle.std.proofs.Common.{◌≡◌, ◌∙◌, ℕ, Bool, false, List, Option, Some, None, length, refl, sym, ap, subst, arith, inl, inr, true≢false, ◌<◌, ◌≤◌, ◌⊎◌}
-use Rattle.std.specs.Prelude.{IsTrue}
-use Rattle.std.proofs.lemmas.Bool.{eq-eqb, false_from_ne_true}
-use Rattle.mg_names.specs.declared.identifiers.TermId.{TermId}
-use Rattle.mg_names.specs.declared.identifiers.TermId.TheVariants.{Line, Eph}
+use Rattle.mg_safety.proofs.Words.{◌≡◌, ◌∙◌, ℕ, Bool, false, List, Option, Some, None, length, refl, sym, ap, subst, arith, inl, inr, true≢false, ◌<◌, ◌≤◌, ◌⊎◌}
+use Rattle.mg_safety.proofs.Words.{IsTrue, eq-eqb, false_from_ne_true, TermId, Line, Eph, Spot, Null, Agent, begun, Board, Configuration, is_in, Entry, Gateway}
+use Rattle.mg_safety.proofs.Words.{CallLink, MayBegin, last_executed, list_of, Request, Script, opening, state_of, World, HasEnded, some_is_none, the_some}
+use Rattle.mg_safety.proofs.Words.{not_both}
 use Rattle.mg_names.specs.declared.phases.LinkPhase as phases
 use Rattle.mg_model.specs.declared.commands.Termination.TheVariants as termination
-use Rattle.mg_model.specs.declared.components.Spot.{Spot}
-use Rattle.mg_model.specs.declared.components.Spot.TheVariants.{Null}
-use Rattle.mg_model.specs.Agent.{Agent, begun}
-use Rattle.mg_model.specs.Board.{Board}
-use Rattle.mg_model.specs.Configuration.{Configuration, is_in}
-use Rattle.mg_model.specs.Entries.{Entry}
 use Rattle.mg_model.specs.Gateway as gateway
-use Rattle.mg_model.specs.Gateway.{Gateway, CallLink, MayBegin, last_executed}
-use Rattle.mg_model.specs.ListContents.{list_of}
-use Rattle.mg_model.specs.Messages.{Request}
-use Rattle.mg_model.specs.Script.{Script}
-use Rattle.mg_model.specs.Steps.{opening}
-use Rattle.mg_model.specs.Tables.{state_of}
-use Rattle.mg_model.specs.World.{World, HasEnded}
-use Rattle.mg_model.proofs.Cases.{some_is_none, the_some, not_both}
+use Rattle.mg_safety.proofs.InvariantWords.{Naming, naming, Seen, LinesShown, IsAt, IsCurrent, IsLost, IsSentBy, IsKnown, CallIsSound, IsSound, is_call}
+use Rattle.mg_safety.proofs.InvariantWords.{owned_in, IsClosed}
 use Rattle.mg_safety.proofs.Agents.AgentSound.{at_rest}
 use Rattle.mg_safety.proofs.Agents.Entering.{not_resting}
 use Rattle.mg_safety.proofs.Events.Others.{is_call_of, created_only}
 use Rattle.mg_safety.proofs.Events.Handover.{handed_own, handed_other, still_owns, link_other, none_executed, executed_other, world_begun}
 use Rattle.mg_safety.proofs.Invariant.OpeningShown.{AreCleared, events_armed, opening_shown}
-use Rattle.mg_safety.proofs.Invariant.Shown.{Naming, naming, Seen, LinesShown}
-use Rattle.mg_safety.proofs.Invariant.Sound.{IsAt, IsCurrent, IsLost, IsSentBy, IsKnown, CallIsSound, IsSound, is_call, owned_in}
-use Rattle.mg_safety.proofs.Invariant.Statements.{IsClosed}
 
 -- what a call is shown does not depend on how it is said what it owns
 seen_by : (script : Script) (owned also : TermId → Bool) (n : Naming) (b : Board) (c : Configuration) → ((t : TermId) → also t ≡ owned t)

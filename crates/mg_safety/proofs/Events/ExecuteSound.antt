@@ -1,18 +1,8 @@
 -- A request that reaches the gateway keeps the world sound: it is executed, or its reply is sent once more, or nothing happens.
-use Rattle.std.proofs.Common.{◌≡◌, ◌∙◌, ◌++◌, ℕ, false, true≢false, List, [], ◌∷◌, refl, sym, ap, subst, arith, inl, inr, Option}
-use Rattle.std.proofs.lemmas.List.Elements.{Contains-append_cases}
-use Rattle.std.specs.Prelude.{Contains}
-use Rattle.mg_model.specs.declared.failures.ChosenRefusal.{ChosenRefusal}
-use Rattle.mg_model.specs.Entries.{Entry}
-use Rattle.mg_model.specs.Gateway.{Gateway, reply_of, after_request, sent_notes, IsExecutedBy}
-use Rattle.mg_model.specs.Messages.{Request, Reply, SentNote}
-use Rattle.mg_model.specs.Script.{Script}
-use Rattle.mg_model.specs.World.{World, with_gateway, Executes, IsFirst, IsRepeat}
-use Rattle.mg_model.specs.Accepted.{IsScript}
-use Rattle.mg_model.proofs.Single.{only_one}
-use Rattle.mg_safety.proofs.Invariant.Sound.{IsReplySound, IsKnown, IsOpen, IsSound}
-use Rattle.mg_safety.proofs.Invariant.Statements.{IsClosed, RequestsRun, OthersStayShown, OwnersAgree, KeepsSound}
-use Rattle.mg_model.proofs.Offered.{fresh_at, fresh_is_open, kept_at}
+use Rattle.mg_safety.proofs.Words.{◌≡◌, ◌∙◌, ◌++◌, ℕ, false, true≢false, List, [], ◌∷◌, refl, sym, ap, subst, arith, inl, inr, Option, Contains-append_cases}
+use Rattle.mg_safety.proofs.Words.{Contains, ChosenRefusal, Entry, Gateway, reply_of, after_request, sent_notes, IsExecutedBy, Request, Reply, SentNote, Script}
+use Rattle.mg_safety.proofs.Words.{World, with_gateway, Executes, IsFirst, IsRepeat, IsScript, only_one, fresh_at, fresh_is_open, kept_at}
+use Rattle.mg_safety.proofs.InvariantWords.{IsReplySound, IsKnown, IsOpen, IsSound, IsClosed, RequestsRun, OthersStayShown, OwnersAgree, KeepsSound}
 use Rattle.mg_safety.proofs.Events.Executing.{HasRun, is_due, due_runs}
 use Rattle.mg_safety.proofs.Events.ExecutedCalls.{OtherLost, world_after, calls_after}
 use Rattle.mg_safety.proofs.Events.ExecutedGateway.{gateway_after}

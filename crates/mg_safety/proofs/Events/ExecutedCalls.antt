@@ -1,22 +1,11 @@
 -- The calls after a request was executed: the request's own call is answered, and each other call is as it was.
-use Rattle.std.proofs.Common.{◌≡◌, ◌∙◌, ◌<◌, ◌++◌, ℕ, Bool, true, false, List, ◌∷◌, length, Option, Some, refl, sym, ap, subst, arith, inl, inr}
-use Rattle.std.proofs.lemmas.Bool.{eqb-true, eqb-false}
-use Rattle.std.specs.Prelude.{◌==◌, unwrap_or}
-use Rattle.mg_model.specs.declared.failures.Failure.{Failure}
+use Rattle.mg_safety.proofs.Words.{◌≡◌, ◌∙◌, ◌<◌, ◌++◌, ℕ, Bool, true, false, List, ◌∷◌, length, Option, Some, refl, sym, ap, subst, arith, inl, inr, eqb-true}
+use Rattle.mg_safety.proofs.Words.{eqb-false, ◌==◌, unwrap_or, Failure, Agent, after_results, built_by, Board, IsSettled, Entry, Gateway, CallLink}
+use Rattle.mg_safety.proofs.Words.{last_executed, reply_of, after_request, sent_notes, LineRow, Request, Running, Script, World, with_gateway}
 use Rattle.mg_names.specs.declared.phases.LinkPhase as phases
-use Rattle.mg_model.specs.Agent.{Agent, after_results, built_by}
-use Rattle.mg_model.specs.Board.{Board, IsSettled}
-use Rattle.mg_model.specs.Entries.{Entry}
-use Rattle.mg_model.specs.Gateway.{Gateway, CallLink, last_executed, reply_of, after_request, sent_notes}
-use Rattle.mg_model.specs.LineEvents.{LineRow}
-use Rattle.mg_model.specs.Messages.{Request}
-use Rattle.mg_model.specs.RequestRun.{Running}
-use Rattle.mg_model.specs.Script.{Script}
-use Rattle.mg_model.specs.World.{World, with_gateway}
+use Rattle.mg_safety.proofs.InvariantWords.{naming, owned_at, is_call, owner_of, owned_in, IsAt, IsCurrent, IsLost, IsSentBy, CallIsSound, IsSound, IsOwnChange}
+use Rattle.mg_safety.proofs.InvariantWords.{OthersStayShown, OwnersAgree}
 use Rattle.mg_safety.proofs.Agents.EffectiveAgent.{same_lines}
-use Rattle.mg_safety.proofs.Invariant.Shown.{naming, owned_at}
-use Rattle.mg_safety.proofs.Invariant.Sound.{is_call, owner_of, owned_in, IsAt, IsCurrent, IsLost, IsSentBy, CallIsSound, IsSound}
-use Rattle.mg_safety.proofs.Invariant.Statements.{IsOwnChange, OthersStayShown, OwnersAgree}
 use Rattle.mg_safety.proofs.Requests.Ending.{seen_at_end}
 use Rattle.mg_safety.proofs.Events.Executing.{not_call_of, HasRun, link_own, link_other, executed_own, executed_other, run_changes}
 

@@ -1,31 +1,16 @@
 -- The gateway after a request was executed, and the messages that were sent: what was created is the call's, what its lines expect is bounded by
 -- the request's number, and its reply is the kept one.
-use Rattle.std.proofs.Common.{◌≡◌, ◌∙◌, ◌+◌, ◌<◌, ◌≤◌, ℕ, Bool, true, false, List, [], ◌∷◌, Option, Some, None, is_some, refl, sym, ap, subst, arith, inl, inr}
-use Rattle.std.proofs.lemmas.Bool.{eqb-true, eqb-false}
-use Rattle.std.proofs.lemmas.List.Elements.{Contains-append_left, Contains-append_right, Contains-append_cases}
-use Rattle.std.specs.Prelude.{◌==◌, if◌then◌else◌, Contains, unwrap_or, ◌⊎◌}
-use Rattle.mg_model.specs.declared.failures.Failure.{Failure}
-use Rattle.mg_names.specs.declared.identifiers.TermId.{TermId}
-use Rattle.mg_names.specs.declared.identifiers.TermId.TheVariants.{Line, Eph}
-use Rattle.mg_model.specs.declared.rows.Row.{Row}
-use Rattle.mg_model.specs.Agent.{Agent, after_results, built_by}
-use Rattle.mg_model.specs.Board.{Board, exists, place_of, place_in, remote_of, remote_in, IsSettled}
-use Rattle.mg_model.specs.Entries.{Entry}
-use Rattle.mg_model.specs.Gateway.{CallLink, last_executed, reply_of, after_request, creator_after, sent_notes}
-use Rattle.mg_model.proofs.Offered.{number_of}
-use Rattle.mg_model.specs.LineEvents.{LineRow, Note}
-use Rattle.mg_model.specs.Messages.{Request, Reply, SentNote}
-use Rattle.mg_model.specs.RequestRun.{Running, RaisedNote, note_on}
-use Rattle.mg_model.specs.Script.{Script}
-use Rattle.mg_model.specs.World.{World}
-use Rattle.mg_model.proofs.Single.{only_one}
+use Rattle.mg_safety.proofs.Words.{◌≡◌, ◌∙◌, ◌+◌, ◌<◌, ◌≤◌, ℕ, Bool, true, false, List, [], ◌∷◌, Option, Some, None, is_some, refl, sym, ap, subst, arith, inl}
+use Rattle.mg_safety.proofs.Words.{inr, eqb-true, eqb-false, Contains-append_left, Contains-append_right, Contains-append_cases, ◌==◌, if◌then◌else◌, Contains}
+use Rattle.mg_safety.proofs.Words.{unwrap_or, ◌⊎◌, Failure, TermId, Line, Eph, Row, Agent, after_results, built_by, Board, exists, place_of, place_in}
+use Rattle.mg_safety.proofs.Words.{remote_of, remote_in, IsSettled, Entry, CallLink, last_executed, reply_of, after_request, creator_after, sent_notes}
+use Rattle.mg_safety.proofs.Words.{number_of, LineRow, Note, Request, Reply, SentNote, Running, RaisedNote, note_on, Script, World, only_one, none_is_some}
+use Rattle.mg_safety.proofs.InvariantWords.{naming, IsAccounted, list_raises, is_call, IsKnown, IsOpen, IsReached, IsReplySound, IsNoteStanding, IsNoteSound}
+use Rattle.mg_safety.proofs.InvariantWords.{GatewayIsSound, IsSound, IsOwnChange, LineGoes}
 use Rattle.mg_safety.proofs.Events.Others.{is_call_of}
 use Rattle.mg_safety.proofs.Events.StayApart.{stay_apart}
-use Rattle.mg_model.proofs.Cases.{none_is_some}
-use Rattle.mg_safety.proofs.Invariant.Shown.{naming, IsAccounted, list_raises}
-use Rattle.mg_safety.proofs.Invariant.Sound.{is_call, IsKnown, IsOpen, IsReached, IsReplySound, IsNoteStanding, IsNoteSound, GatewayIsSound, IsSound}
-use Rattle.mg_safety.proofs.Invariant.Statements.{IsOwnChange, LineGoes}
-use Rattle.mg_safety.proofs.Events.Executing.{not_call_of, HasRun, link_own, link_other, executed_own, executed_other, executed_more, run_changes, unused_absent}
+use Rattle.mg_safety.proofs.Events.Executing.{not_call_of, HasRun, link_own, link_other, executed_own, executed_other, executed_more, run_changes}
+use Rattle.mg_safety.proofs.Events.Executing.{unused_absent}
 use Rattle.mg_safety.proofs.Events.ExecutedCalls.{world_after}
 
 -- ---- notes that a request sends

@@ -1,25 +1,11 @@
 -- A request that is executed: it is the outstanding one of a current call, and what the gateway is after it, link by link and owner by owner.
-use Rattle.std.proofs.Common.{◌≡◌, ◌∙◌, ◌<◌, ◌≤◌, ℕ, Bool, true, false, List, Option, Some, None, refl, sym, ap, subst, arith, inl, inr, true≢false}
-use Rattle.std.proofs.lemmas.Bool.{eqb-true, eqb-false}
-use Rattle.std.specs.Prelude.{◌==◌, ◌+◌, if◌then◌else◌, length, ◌⊎◌}
-use Rattle.mg_names.specs.declared.identifiers.TermId.TheVariants.{Eph}
-use Rattle.mg_model.specs.declared.failures.ChosenRefusal.{ChosenRefusal}
-use Rattle.mg_model.specs.declared.failures.Failure.{Failure}
-use Rattle.mg_names.specs.declared.phases.LinkPhase.TheVariants.{Sent}
-use Rattle.mg_model.specs.Agent.{Agent, awaits_reply}
-use Rattle.mg_model.specs.Board.{Board, IsSettled, exists}
-use Rattle.mg_model.specs.Entries.{Entry}
-use Rattle.mg_model.specs.Gateway.{Gateway, CallLink, last_executed, start_of, reply_of, after_request}
-use Rattle.mg_model.proofs.Offered.{number_of}
-use Rattle.mg_model.specs.Messages.{Request, RequestCommand}
-use Rattle.mg_model.specs.RequestRun.{Running, RunsFrom}
-use Rattle.mg_model.specs.Script.{Script}
-use Rattle.mg_model.specs.World.{World}
-use Rattle.mg_model.specs.Accepted.{IsScript}
-use Rattle.mg_model.proofs.Cases.{at_another, at_one}
-use Rattle.mg_safety.proofs.Invariant.Shown.{naming, Seen, LinesShown, IsAccounted, ChangesOwned}
-use Rattle.mg_safety.proofs.Invariant.Sound.{is_call, owner_of, owned_in, IsOutstanding, IsAt, IsCurrent, IsLost, IsSentBy, CallIsSound, GatewayIsSound}
-use Rattle.mg_safety.proofs.Invariant.Statements.{IsClosed, IsRunOf, RequestsRun, IsOwnChange}
+use Rattle.mg_safety.proofs.Words.{◌≡◌, ◌∙◌, ◌<◌, ◌≤◌, ℕ, Bool, true, false, List, Option, Some, None, refl, sym, ap, subst, arith, inl, inr, true≢false}
+use Rattle.mg_safety.proofs.Words.{eqb-true, eqb-false, ◌==◌, ◌+◌, if◌then◌else◌, length, ◌⊎◌, Eph, ChosenRefusal, Failure, Sent, Agent, awaits_reply, Board}
+use Rattle.mg_safety.proofs.Words.{IsSettled, exists, Entry, Gateway, CallLink, last_executed, start_of, reply_of, after_request, number_of, Request}
+use Rattle.mg_safety.proofs.Words.{RequestCommand, Running, Script, World, IsScript, at_another, at_one}
+use Rattle.mg_model.specs.RequestRun.{RunsFrom}
+use Rattle.mg_safety.proofs.InvariantWords.{naming, Seen, LinesShown, IsAccounted, ChangesOwned, is_call, owner_of, owned_in, IsOutstanding, IsAt, IsCurrent}
+use Rattle.mg_safety.proofs.InvariantWords.{IsLost, IsSentBy, CallIsSound, GatewayIsSound, IsClosed, IsRunOf, RequestsRun, IsOwnChange}
 use Rattle.mg_safety.proofs.Agents.Entering.{same_request}
 use Rattle.mg_safety.proofs.Agents.AgentSound.{pass_quiet, rest_quiet}
 

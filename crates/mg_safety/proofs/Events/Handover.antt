@@ -1,19 +1,10 @@
 -- What a call that begins on the lines of another changes: who holds the lines, whose agents and links there are, and which RequestIDs count as
 -- there before it. A call with the number of neither is as it was.
-use Rattle.std.proofs.Common.{◌≡◌, ◌∙◌, ℕ, Bool, true, false, Option, Some, None, refl, sym, ap, arith, inl, inr, zero, suc, ◌<◌, ◌≤◌, ◌⊎◌}
-use Rattle.std.specs.Prelude.{◌==◌, if◌then◌else◌}
-use Rattle.std.proofs.lemmas.Bool.{eqb-true, eqb-false}
-use Rattle.mg_names.specs.declared.identifiers.TermId.{TermId}
-use Rattle.mg_names.specs.declared.identifiers.TermId.TheVariants.{Line, Eph}
-use Rattle.mg_model.specs.Agent.{Agent, begun}
+use Rattle.mg_safety.proofs.Words.{◌≡◌, ◌∙◌, ℕ, Bool, true, false, Option, Some, None, refl, sym, ap, arith, inl, inr, zero, suc, ◌<◌, ◌≤◌, ◌⊎◌, ◌==◌}
+use Rattle.mg_safety.proofs.Words.{if◌then◌else◌, eqb-true, eqb-false, TermId, Line, Eph, Agent, begun, Gateway, CallLink, handed_over, last_executed}
+use Rattle.mg_safety.proofs.Words.{number_of, Reply, Script, World, none_is_some, the_some, some_is_none, at_one, at_another, different}
 use Rattle.mg_model.specs.Gateway as gateway
-use Rattle.mg_model.specs.Gateway.{Gateway, CallLink, handed_over, last_executed}
-use Rattle.mg_model.proofs.Offered.{number_of}
-use Rattle.mg_model.specs.Messages.{Reply}
-use Rattle.mg_model.specs.Script.{Script}
-use Rattle.mg_model.specs.World.{World}
-use Rattle.mg_model.proofs.Cases.{none_is_some, the_some, some_is_none, at_one, at_another, different}
-use Rattle.mg_safety.proofs.Invariant.Sound.{is_call, owned_in, IsReached}
+use Rattle.mg_safety.proofs.InvariantWords.{is_call, owned_in, IsReached}
 
 -- ---- who holds a line
 

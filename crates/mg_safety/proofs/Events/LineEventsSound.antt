@@ -1,24 +1,13 @@
 -- An event of a line keeps the world sound: the board, the holders and the kept replies stay, each line's descriptor stays, and the note that
 -- is raised is one of the descriptor that stands.
-use Rattle.std.proofs.Common.{◌≡◌, ◌∙◌, ◌+◌, ◌++◌, ℕ, Bool, true, false, List, [], ◌∷◌, length, Option, Some, None, refl, sym, ap, subst, arith, ◌<◌, ◌≤◌, ◌⊎◌, inl, inr, zero, suc, get_or}
-use Rattle.std.specs.Prelude.{◌==◌, if◌then◌else◌, Contains}
-use Rattle.std.proofs.lemmas.Bool.{eqb-true}
-use Rattle.std.proofs.lemmas.List.Elements.{Contains-append_cases}
+use Rattle.mg_safety.proofs.Words.{◌≡◌, ◌∙◌, ◌+◌, ◌++◌, ℕ, Bool, true, false, List, [], ◌∷◌, length, Option, Some, None, refl, sym, ap, subst, arith, ◌<◌, ◌≤◌}
+use Rattle.mg_safety.proofs.Words.{◌⊎◌, inl, inr, zero, suc, get_or, ◌==◌, if◌then◌else◌, Contains, eqb-true, Contains-append_cases, Agent, awaits_reply}
+use Rattle.mg_safety.proofs.Words.{Configuration, Entry, LineEvent, Gateway, last_executed, with_line, with_notes, notes_from, number_of, LineRow, Note}
+use Rattle.mg_safety.proofs.Words.{Outcome, silent, Request, Reply, SentNote, Script, World, LineOccurs, with_gateway}
 use Rattle.mg_names.specs.declared.phases.LinkPhase as phases
-use Rattle.mg_model.specs.Agent.{Agent, awaits_reply}
-use Rattle.mg_model.specs.Configuration.{Configuration}
-use Rattle.mg_model.specs.Entries.{Entry}
-use Rattle.mg_model.specs.declared.line_events.LineEvent.{LineEvent}
-use Rattle.mg_model.specs.Gateway.{Gateway, last_executed, with_line, with_notes, notes_from}
-use Rattle.mg_model.proofs.Offered.{number_of}
-use Rattle.mg_model.specs.LineEvents.{LineRow, Note, Outcome, silent}
-use Rattle.mg_model.specs.Messages.{Request, Reply, SentNote}
-use Rattle.mg_model.specs.Script.{Script}
-use Rattle.mg_model.specs.World.{World, LineOccurs, with_gateway}
+use Rattle.mg_safety.proofs.InvariantWords.{LinesShown, list_raises, IsAt, IsCurrent, IsLost, IsSentBy, IsKnown, IsOpen, IsReached, CallIsSound, IsReplySound}
+use Rattle.mg_safety.proofs.InvariantWords.{IsNoteStanding, IsNoteSound, GatewayIsSound, IsSound, KeepsSound}
 use Rattle.mg_safety.proofs.Events.RowAfterEvent.{IsRowAfter, row_after}
-use Rattle.mg_safety.proofs.Invariant.Shown.{LinesShown, list_raises}
-use Rattle.mg_safety.proofs.Invariant.Sound.{IsAt, IsCurrent, IsLost, IsSentBy, IsKnown, IsOpen, IsReached, CallIsSound, IsReplySound, IsNoteStanding, IsNoteSound, GatewayIsSound, IsSound}
-use Rattle.mg_safety.proofs.Invariant.Statements.{KeepsSound}
 
 -- what an event leaves of a line
 record IsKept (row after : LineRow) : Type 0 where

@@ -1,29 +1,12 @@
 -- Openings are sound: every call stands in the opening configuration, which the certificate has, and nothing was sent.
-use Rattle.std.proofs.Common.{◌≡◌, ◌∙◌, ℕ, Bool, true, false, List, [], length, Option, Some, None, is_some, refl, sym, ap, subst, arith, true≢false, ◌<◌, inl, inr}
-use Rattle.std.specs.Prelude.{Contains, if◌then◌else◌, nat_lt, unwrap_or}
-use Rattle.std.proofs.lemmas.Bool.{eq-eqb}
-use Rattle.mg_names.specs.declared.identifiers.TermId.{TermId}
-use Rattle.mg_names.specs.declared.identifiers.TermId.TheVariants.{Line}
-use Rattle.mg_model.specs.declared.rows.Row.{Row}
-use Rattle.mg_model.specs.Agent.{Agent, opened}
-use Rattle.mg_model.specs.ListContents.{list_of}
-use Rattle.mg_model.specs.Entries.{Entry}
-use Rattle.mg_model.specs.Gateway.{CallLink, last_executed}
-use Rattle.mg_model.proofs.Offered.{number_of}
-use Rattle.mg_model.specs.LineEvents.{LineRow}
-use Rattle.mg_model.specs.Messages.{Reply}
-use Rattle.mg_model.specs.Script.{Script}
-use Rattle.mg_model.specs.Steps.{opening}
-use Rattle.mg_model.specs.World.{World, Opened, IsOpening, armed_line}
+use Rattle.mg_safety.proofs.Words.{◌≡◌, ◌∙◌, ℕ, Bool, true, false, List, length, Option, Some, None, is_some, refl, sym, ap, subst, arith, true≢false, ◌<◌, inl}
+use Rattle.mg_safety.proofs.Words.{inr, Contains, if◌then◌else◌, nat_lt, unwrap_or, eq-eqb, TermId, Line, Row, Agent, opened, list_of, Entry, CallLink}
+use Rattle.mg_safety.proofs.Words.{last_executed, number_of, LineRow, Reply, Script, opening, World, Opened, IsOpening, armed_line, none_is_some, line_armed}
+use Rattle.mg_safety.proofs.Words.{line_held, line_stands, nothing_in}
+use Rattle.mg_safety.proofs.InvariantWords.{LinesShown, IsReached, IsCurrent, CallIsSound, GatewayIsSound, is_call, owned_in, IsClosed, OpeningsAreSound}
 use Rattle.mg_safety.proofs.Agents.Entering.{not_resting}
-use Rattle.mg_model.proofs.Cases.{none_is_some}
-use Rattle.mg_model.proofs.OpenedLines.{line_armed, line_held, line_stands}
-use Rattle.mg_model.proofs.Single.{nothing_in}
 use Rattle.mg_safety.proofs.SmallLaws.OpeningLaws.{all_in_null}
-use Rattle.mg_safety.proofs.Invariant.Shown.{LinesShown}
 use Rattle.mg_safety.proofs.Invariant.OpeningShown.{AreCleared, events_armed, opening_shown}
-use Rattle.mg_safety.proofs.Invariant.Sound.{IsReached, IsCurrent, CallIsSound, GatewayIsSound, is_call, owned_in}
-use Rattle.mg_safety.proofs.Invariant.Statements.{IsClosed, OpeningsAreSound}
 
 module _ (script : Script) (entries : List Entry) (closed : IsClosed script entries) (calls : List Opened) (w : World) (o : IsOpening script calls w) where
   -- ---- one call

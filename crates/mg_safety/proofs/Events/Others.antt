@@ -1,25 +1,12 @@
 -- A request of one call leaves what every other call is shown: what it changes it owns, and it stands where no other call stands.
-use Rattle.std.proofs.Common.{◌≡◌, ◌∙◌, ◌<◌, ℕ, Bool, true, false, Option, Some, None, is_some, length, refl, sym, ap, subst, arith, inl, inr, true≢false}
-use Rattle.std.specs.Prelude.{◌&&◌, ◌||◌, not, if◌then◌else◌}
-use Rattle.std.proofs.lemmas.Bool.{eqb-true, eq-eqb, or_right, false_from_ne_true}
-use Rattle.mg_model.specs.declared.components.Spot.TheVariants.{In}
-use Rattle.mg_names.specs.declared.identifiers.TermId.{TermId}
-use Rattle.mg_names.specs.declared.identifiers.TermId.TheVariants.{Line, Eph}
-use Rattle.mg_model.specs.declared.commands.Termination.{Termination}
+use Rattle.mg_safety.proofs.Words.{◌≡◌, ◌∙◌, ◌<◌, ℕ, Bool, true, false, Option, Some, None, is_some, length, refl, sym, ap, subst, arith, inl, inr, true≢false}
+use Rattle.mg_safety.proofs.Words.{◌&&◌, ◌||◌, not, if◌then◌else◌, eqb-true, eq-eqb, or_right, false_from_ne_true, In, TermId, Line, Eph, Termination, Row}
+use Rattle.mg_safety.proofs.Words.{Agent, Board, exists, place_of, place_in, mode_in, remote_in, Configuration, Gateway, CallLink, LineRow, Script, IsSlot}
+use Rattle.mg_safety.proofs.Words.{not_both, different, some_is_none, the_some}
 use Rattle.mg_model.specs.declared.commands.Termination.TheVariants as termination
-use Rattle.mg_model.specs.declared.rows.Row.{Row}
-use Rattle.mg_model.specs.Agent.{Agent}
-use Rattle.mg_model.specs.Board.{Board, exists, place_of, place_in, mode_in, remote_in}
-use Rattle.mg_model.specs.Configuration.{Configuration}
-use Rattle.mg_model.specs.Gateway.{Gateway, CallLink}
-use Rattle.mg_model.specs.LineEvents.{LineRow}
-use Rattle.mg_model.specs.Script.{Script}
-use Rattle.mg_model.specs.Accepted.{IsSlot}
-use Rattle.mg_model.proofs.Cases.{not_both, different, some_is_none, the_some}
-use Rattle.mg_safety.proofs.Invariant.Shown.{Naming, Seen, RemoteSeen, owned_at, row_on, cut_on, term_of, eph_of}
-use Rattle.mg_safety.proofs.Invariant.Sound.{is_call, owner_of, owned_in, IsLost}
+use Rattle.mg_safety.proofs.InvariantWords.{Naming, Seen, RemoteSeen, owned_at, row_on, cut_on, term_of, eph_of, is_call, owner_of, owned_in, IsLost}
+use Rattle.mg_safety.proofs.InvariantWords.{IsOwnChange, OthersStayShown, OwnersAgree}
 use Rattle.mg_safety.proofs.Requests.Starting.{spot_used}
-use Rattle.mg_safety.proofs.Invariant.Statements.{IsOwnChange, OthersStayShown, OwnersAgree}
 
 -- ---- whose a termination is
 

@@ -1,23 +1,11 @@
 -- A restart keeps the world sound: every call is lost, and nothing of the association before counts any more.
-use Rattle.std.proofs.Common.{◌≡◌, ◌∙◌, ◌+◌, ℕ, true, false, List, length, Option, Some, None, is_some, refl, sym, ap, subst, arith, true≢false, ◌<◌, ◌≤◌, ◌⊎◌, inl, inr}
-use Rattle.std.specs.Prelude.{Contains}
-use Rattle.mg_names.specs.declared.identifiers.TermId.TheVariants.{Line, Eph}
-use Rattle.mg_model.specs.declared.rows.Row.{Row}
-use Rattle.mg_model.specs.Agent.{Agent}
-use Rattle.mg_model.specs.Board.{exists, place_in}
-use Rattle.mg_model.specs.Entries.{Entry}
-use Rattle.mg_model.specs.Gateway.{restarted, row_restarted, board_restarted}
-use Rattle.mg_model.specs.Messages.{Request, Reply, SentNote}
-use Rattle.mg_model.specs.Script.{Script}
-use Rattle.mg_model.specs.declared.events.Event.TheVariants.{Restart}
-use Rattle.mg_model.specs.World.{World, with_gateway, Occurs}
-use Rattle.mg_model.specs.Board.{null_row}
-use Rattle.mg_model.proofs.Cases.{none_is_some}
+use Rattle.mg_safety.proofs.Words.{◌≡◌, ◌∙◌, ◌+◌, ℕ, true, false, List, length, Option, Some, None, is_some, refl, sym, ap, subst, arith, true≢false, ◌<◌, ◌≤◌}
+use Rattle.mg_safety.proofs.Words.{◌⊎◌, inl, inr, Contains, Line, Eph, Row, Agent, exists, place_in, Entry, restarted, row_restarted, board_restarted, Request}
+use Rattle.mg_safety.proofs.Words.{Reply, SentNote, Script, Restart, World, with_gateway, Occurs, null_row, none_is_some}
 use Rattle.mg_model.proofs.Settled.{restarted_gone, restarted_in_null}
+use Rattle.mg_safety.proofs.InvariantWords.{IsAccounted, IsCurrent, IsLost, IsSentBy, IsOpen, CallIsSound, IsReplySound, IsNoteSound, GatewayIsSound, IsSound}
+use Rattle.mg_safety.proofs.InvariantWords.{KeepsSound}
 use Rattle.mg_safety.proofs.Agents.EffectiveAgent.{same_lines}
-use Rattle.mg_safety.proofs.Invariant.Shown.{IsAccounted}
-use Rattle.mg_safety.proofs.Invariant.Sound.{IsCurrent, IsLost, IsSentBy, IsOpen, CallIsSound, IsReplySound, IsNoteSound, GatewayIsSound, IsSound}
-use Rattle.mg_safety.proofs.Invariant.Statements.{KeepsSound}
 
 -- ---- rows
 

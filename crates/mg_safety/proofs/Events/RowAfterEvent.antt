@@ -1,28 +1,18 @@
 -- The row of a line after something happened on it: its Events descriptor and its RequestID stay, a silent line stays silent, and a note that
 -- is raised has the descriptor's RequestID and a kind that the list raises.
-use Rattle.std.proofs.Common.{◌≡◌, ◌∙◌, ℕ, Bool, true, false, List, [], ◌∷◌, Option, Some, None, refl, sym, ap, subst}
-use Rattle.std.specs.Prelude.{if◌then◌else◌, option_map}
-use Rattle.std.specs.List.{list_any}
-use Rattle.std.proofs.lemmas.Bool.{or_right}
-use Rattle.mg_names.specs.declared.kinds.Kind.{Kind}
+use Rattle.mg_safety.proofs.Words.{◌≡◌, ◌∙◌, ℕ, Bool, true, false, List, [], ◌∷◌, Option, Some, None, refl, sym, ap, subst, if◌then◌else◌, option_map, list_any}
+use Rattle.mg_safety.proofs.Words.{or_right, Kind, Signal, Ring, DialTone, RingingTone, BusyTone, CongestionTone, Hook, On, Off, DigitMap, LineEvent}
+use Rattle.mg_safety.proofs.Words.{outcome_of, OnHook, OffHook, Flash, Digits, ListItem, LineRow, Note, Outcome, silent, is_hook, is_flash, map_in, kind_of}
+use Rattle.mg_safety.proofs.Words.{stays, detected, is_on, same_hook, hooked, flashed, kind_by, note_by, note_of, taken, dialled_by, dialled, paused_by, paused}
+use Rattle.mg_safety.proofs.Words.{without_signal, signal_ended, any_too, none_is_some, the_some}
 use Rattle.mg_names.specs.declared.kinds.Kind.TheVariants as kind
-use Rattle.mg_names.specs.declared.signals.Signal.{Signal}
-use Rattle.mg_names.specs.declared.signals.Signal.TheVariants.{Ring, DialTone, RingingTone, BusyTone, CongestionTone}
+use Rattle.mg_model.specs.declared.line_events.LineEvent.TheVariants as event
 use Rattle.mg_names.specs.declared.symbols.Symbol.{Symbol}
-use Rattle.mg_model.specs.declared.line_events.Hook.{Hook}
-use Rattle.mg_model.specs.declared.line_events.Hook.TheVariants.{On, Off}
 use Rattle.mg_model.specs.declared.line_events.Method.{Method}
 use Rattle.mg_model.specs.declared.line_events.Method.TheVariants.{Unambiguous, Full, Partial}
-use Rattle.mg_model.specs.Script.{DigitMap}
 use Rattle.mg_model.specs.DigitMaps.{Dialling, collecting, completed, Collected, Completion, with_symbol, with_pause}
-use Rattle.mg_model.specs.declared.line_events.LineEvent.{LineEvent}
-use Rattle.mg_model.specs.declared.line_events.LineEvent.TheVariants as event
-use Rattle.mg_model.specs.Gateway.{outcome_of}
-use Rattle.mg_model.specs.declared.transitions.EventItem.TheVariants.{OnHook, OffHook, Flash, Digits}
-use Rattle.mg_model.specs.LineEvents.{ListItem, LineRow, Note, Outcome, silent, is_hook, is_flash, map_in, kind_of, stays, detected, is_on, same_hook, hooked, flashed, kind_by, note_by, note_of, taken, dialled_by, dialled, paused_by, paused, plays, without_signal, signal_ended}
-use Rattle.mg_model.proofs.Single.{any_too}
-use Rattle.mg_model.proofs.Cases.{none_is_some, the_some}
-use Rattle.mg_safety.proofs.Invariant.Shown.{raises_kind, list_raises}
+use Rattle.mg_model.specs.LineEvents.{plays}
+use Rattle.mg_safety.proofs.InvariantWords.{raises_kind, list_raises}
 
 pub record IsRowAfter (row : LineRow) (outcome : Outcome) : Type 0 where
   pub list : outcome.row.list ≡ row.list

@@ -1,19 +1,9 @@
 -- No two ephemerals of different calls name each other: a Remote is only ever set to an ephemeral of the setter, and what the setter's
 -- ephemerals name at the end of its request is its own, or is no more.
-use Rattle.std.proofs.Common.{◌≡◌, ◌∙◌, ◌==◌, ℕ, Bool, true, false, Option, Some, None, refl, sym, ap, subst, true≢false}
-use Rattle.std.specs.Prelude.{if◌then◌else◌}
-use Rattle.std.proofs.lemmas.Bool.{eqb-true, eqb-false, eq-eqb}
-use Rattle.mg_names.specs.declared.identifiers.TermId.TheVariants.{Eph}
-use Rattle.mg_model.specs.declared.components.Remote.{Remote}
-use Rattle.mg_model.specs.declared.components.Remote.TheVariants.{Unset, Gone, To}
-use Rattle.mg_model.specs.Board.{Board, exists, remote_of, remote_in}
-use Rattle.mg_model.specs.Configuration.{Configuration}
-use Rattle.mg_model.specs.Gateway.{Gateway}
-use Rattle.mg_model.specs.Script.{Script}
-use Rattle.mg_model.proofs.Cases.{none_is_some, the_some}
-use Rattle.mg_safety.proofs.Invariant.Shown.{Naming, Shown, RemoteReads, IsAccounted, owned_at, row_on, eph_of}
-use Rattle.mg_safety.proofs.Invariant.Sound.{is_call, owner_of, owned_in}
-use Rattle.mg_safety.proofs.Invariant.Statements.{IsOwnChange}
+use Rattle.mg_safety.proofs.Words.{◌≡◌, ◌∙◌, ◌==◌, ℕ, Bool, true, false, Option, Some, None, refl, sym, ap, subst, true≢false, if◌then◌else◌, eqb-true}
+use Rattle.mg_safety.proofs.Words.{eqb-false, eq-eqb, Eph, Remote, Unset, Gone, To, Board, exists, remote_of, remote_in, Configuration, Gateway, Script}
+use Rattle.mg_safety.proofs.Words.{none_is_some, the_some}
+use Rattle.mg_safety.proofs.InvariantWords.{Naming, Shown, RemoteReads, IsAccounted, owned_at, row_on, eph_of, is_call, owner_of, owned_in, IsOwnChange}
 use Rattle.mg_safety.proofs.Events.Others.{is_call_of, created_only, apart_at, owners_agree}
 
 -- of another call than the one that changed things it was so before

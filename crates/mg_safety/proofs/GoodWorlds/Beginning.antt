@@ -1,28 +1,15 @@
 -- A call that has ended is released, so another may begin on its lines where nothing is set on them; the lines of a lost call report nothing, so
 -- none may begin there.
-use Rattle.std.proofs.Common.{◌≡◌, ◌∙◌, ◌<◌, ◌⊎◌, ℕ, List, [], ◌∷◌, length, Some, sym, ap, subst, arith, inl, inr, true≢false}
-use Rattle.std.specs.List.{All}
-use Rattle.mg_names.specs.declared.identifiers.TermId.TheVariants.{Line}
-use Rattle.mg_names.specs.declared.strictness.Strict.TheVariants.{Exact}
-use Rattle.mg_model.specs.declared.events.Event.{Event}
-use Rattle.mg_model.specs.declared.transitions.EventItem.TheVariants.{OffHook}
-use Rattle.mg_model.specs.Accepted.{IsScript, IsEntryOf}
-use Rattle.mg_model.specs.Agent.{Agent}
-use Rattle.mg_model.specs.Board.{null_row}
-use Rattle.mg_model.specs.Entries.{Entry}
-use Rattle.mg_model.specs.Gateway.{MayBegin}
-use Rattle.mg_model.specs.LineEvents.{ListItem, silent}
-use Rattle.mg_model.specs.Obligations.{NoneBroken}
-use Rattle.mg_model.specs.Script.{Script}
-use Rattle.mg_model.specs.Tables.{is_empty}
-use Rattle.mg_model.specs.World.{World, Opened, IsOpening, IsReleased, Runs}
-use Rattle.mg_model.proofs.Cases.{not_both, the_some}
+use Rattle.mg_safety.proofs.Words.{◌≡◌, ◌∙◌, ◌<◌, ◌⊎◌, ℕ, List, [], ◌∷◌, length, Some, sym, ap, subst, arith, inl, inr, true≢false, All, Line, Exact, Event}
+use Rattle.mg_safety.proofs.Words.{OffHook, IsScript, IsEntryOf, Agent, null_row, Entry, MayBegin, ListItem, silent, NoneBroken, Script, is_empty, World}
+use Rattle.mg_safety.proofs.Words.{Opened, IsOpening, IsReleased, not_both, the_some}
+use Rattle.mg_model.specs.World.{Runs}
+use Rattle.mg_safety.proofs.InvariantWords.{IsCurrent, IsLost, IsSound}
 use Rattle.mg_safety.specs.Beginnings.{EndedCallsMayBegin, LostCallsMayNotBegin, LinesAreIdle}
 use Rattle.mg_safety.proofs.Certificate.Closed.{closed}
 use Rattle.mg_safety.proofs.Events.Openings.{openings_sound}
 use Rattle.mg_safety.proofs.GoodWorlds.EveryRun.{runs_sound}
 use Rattle.mg_safety.proofs.GoodWorlds.Good.{sound_good}
-use Rattle.mg_safety.proofs.Invariant.Sound.{IsCurrent, IsLost, IsSound}
 
 pub reached : (script : Script) (entries : List Entry) → IsScript script → All (IsEntryOf script) entries → NoneBroken script entries
     → (calls : List Opened) (events : List Event) (opening end : World) → IsOpening script calls opening → Runs script events opening end

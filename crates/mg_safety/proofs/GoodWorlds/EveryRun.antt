@@ -1,17 +1,11 @@
 -- The promise over runs: openings are sound, every event keeps a world sound, and sound worlds are good.
-use Rattle.std.proofs.Common.{ℕ, List, [], ◌∷◌, sym, subst}
-use Rattle.mg_model.specs.Entries.{Entry}
-use Rattle.mg_model.specs.Script.{Script}
-use Rattle.mg_model.specs.declared.events.CallEvent.{CallEvent}
+use Rattle.mg_safety.proofs.Words.{ℕ, List, [], ◌∷◌, sym, subst, Entry, Script, CallEvent, Event, OfCall, Restart, replied, noted, line_places, World}
+use Rattle.mg_safety.proofs.Words.{AgentSteps, OccursTo, Occurs, IsScript, AddLine, AddEphemeral, ModifyLine, ModifyEphemeral, MoveLine, MoveEphemeral}
+use Rattle.mg_safety.proofs.Words.{Subtract, SubtractAll, SetTopology}
 use Rattle.mg_model.specs.declared.events.CallEvent.TheVariants as to_call
-use Rattle.mg_model.specs.declared.events.Event.{Event}
-use Rattle.mg_model.specs.declared.events.Event.TheVariants.{OfCall, Restart}
-use Rattle.mg_model.specs.Agent.{replied, noted}
-use Rattle.mg_model.specs.Tables.{line_places}
-use Rattle.mg_model.specs.World.{World, AgentSteps, OccursTo, Occurs, Runs}
+use Rattle.mg_model.specs.World.{Runs}
+use Rattle.mg_safety.proofs.InvariantWords.{IsSound, IsClosed, KeepsSound}
 use Rattle.mg_safety.specs.Headline.{EveryRunIsGood, EveryRunOfOneCallIsGood}
-use Rattle.mg_model.specs.Accepted.{IsScript}
-use Rattle.mg_model.specs.declared.commands.Command.TheVariants.{AddLine, AddEphemeral, ModifyLine, ModifyEphemeral, MoveLine, MoveEphemeral, Subtract, SubtractAll, SetTopology}
 use Rattle.mg_safety.proofs.Commands.AddEphemeral.{add_ephemeral_carried}
 use Rattle.mg_safety.proofs.Commands.AddLine.{add_line_carried}
 use Rattle.mg_safety.proofs.Commands.Modify.{modify_ephemeral_carried, modify_line_carried}
@@ -32,8 +26,6 @@ use Rattle.mg_safety.proofs.Events.Others.{others_stay, owners_agree, other_lost
 use Rattle.mg_safety.proofs.Agents.ReplySound.{reply_sound}
 use Rattle.mg_safety.proofs.Events.Restarts.{restart_sound}
 use Rattle.mg_safety.proofs.Requests.Run.{CommandsCarry, requests_run}
-use Rattle.mg_safety.proofs.Invariant.Sound.{IsSound}
-use Rattle.mg_safety.proofs.Invariant.Statements.{IsClosed, KeepsSound}
 
 pub commands_carry : CommandsCarry
 commands_carry (AddLine create j i o) = add_line_carried create j i o

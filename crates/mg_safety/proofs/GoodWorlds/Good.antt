@@ -1,36 +1,20 @@
 -- Sound worlds are good: a path between two lines is one of a configuration of the certificate, which marks joined lines, and what a
 -- configuration of an ended call says is read back on the gateway.
-use Rattle.std.proofs.Common.{◌≡◌, ◌∙◌, ℕ, true, false, List, [], ◌∷◌, length, Option, Some, None, is_some, refl, sym, ap, subst, arith, true≢false, ◌<◌, ◌⊎◌, inl, inr}
-use Rattle.std.specs.Prelude.{map, not, ◌&&◌, ◌||◌, IsTrue}
-use Rattle.std.proofs.lemmas.Bool.{eq-eqb, false_from_ne_true}
-use Rattle.mg_names.specs.declared.identifiers.TermId.{TermId}
-use Rattle.mg_names.specs.declared.identifiers.TermId.TheVariants.{Line, Eph}
-use Rattle.mg_names.specs.declared.strictness.Strict.TheVariants.{Exact, State}
-use Rattle.mg_model.specs.declared.commands.Termination.{Termination}
+use Rattle.mg_safety.proofs.Words.{◌≡◌, ◌∙◌, ℕ, true, false, List, [], ◌∷◌, length, Option, Some, None, is_some, refl, sym, ap, subst, arith, true≢false, ◌<◌}
+use Rattle.mg_safety.proofs.Words.{◌⊎◌, inl, inr, map, not, ◌&&◌, ◌||◌, IsTrue, eq-eqb, false_from_ne_true, TermId, Line, Eph, Exact, Termination, Row}
+use Rattle.mg_safety.proofs.Words.{EventItem, Agent, list_item, exists, place_in, Configuration, is_present, Entry, OffHook, silent, Script, state_of, items_of}
+use Rattle.mg_safety.proofs.Words.{is_armed_list, is_marked, World, IsMarkedPair, HasEnded, IsReleased, none_is_some, the_some}
 use Rattle.mg_model.specs.declared.commands.Termination.TheVariants as termination
-use Rattle.mg_model.specs.declared.rows.Row.{Row}
-use Rattle.mg_model.specs.declared.transitions.EventItem.{EventItem}
 use Rattle.mg_model.specs.declared.transitions.EventItem.TheVariants as item
-use Rattle.mg_model.specs.Agent.{Agent}
-use Rattle.mg_model.specs.ListContents.{list_item}
-use Rattle.mg_model.specs.Board.{exists, place_in}
-use Rattle.mg_model.specs.Configuration.{Configuration, is_present}
-use Rattle.mg_model.specs.Entries.{Entry}
-use Rattle.mg_model.specs.declared.transitions.EventItem.TheVariants.{OffHook}
-use Rattle.mg_model.specs.LineEvents.{silent}
 use Rattle.mg_model.specs.Media as media
 use Rattle.mg_model.specs.Obligations as obligations
 use Rattle.mg_model.specs.Paths as paths
-use Rattle.mg_model.specs.Script.{Script}
-use Rattle.mg_model.specs.Tables.{state_of, items_of, is_armed_list, is_marked}
-use Rattle.mg_model.specs.World.{World, IsMarkedPair, HasEnded, IsReleased}
+use Rattle.mg_names.specs.declared.strictness.Strict.TheVariants.{State}
+use Rattle.mg_safety.proofs.InvariantWords.{Naming, naming, eph_of, row_on, number_at, Stands, IsCurrent, IsLost, IsSound, owned_in, is_call, IsClosed}
+use Rattle.mg_safety.proofs.InvariantWords.{SoundIsGood}
 use Rattle.mg_safety.proofs.Agents.AgentSound.{at_rest}
-use Rattle.mg_model.proofs.Cases.{none_is_some, the_some}
 use Rattle.mg_safety.proofs.Agents.EffectiveAgent.{same_lines}
 use Rattle.mg_safety.proofs.GoodWorlds.GoodPaths.{IsNamed, NoStranger, path_shown, path_starts_outside}
-use Rattle.mg_safety.proofs.Invariant.Shown.{Naming, naming, eph_of, row_on, number_at}
-use Rattle.mg_safety.proofs.Invariant.Sound.{Stands, IsCurrent, IsLost, IsSound, owned_in, is_call}
-use Rattle.mg_safety.proofs.Invariant.Statements.{IsClosed, SoundIsGood}
 use Rattle.mg_safety.proofs.Events.Others.{is_call_of, created_only}
 
 some_row : (row : Option Row) → is_some row ≡ true → (r : Row) × (row ≡ Some r)

@@ -1,28 +1,15 @@
 -- Media that starts at a termination that a call names stays at what the call names, and goes there as media goes in the configuration that
 -- the gateway shows of the call: each hop, each crossing, and so each path.
-use Rattle.std.proofs.Common.{◌≡◌, ◌∙◌, ℕ, Bool, true, false, List, [], ◌∷◌, Option, Some, None, is_some, refl, sym, ap, subst, arith, true≢false}
-use Rattle.std.specs.Prelude.{◌==◌, ◌&&◌, not, IsTrue, unwrap_or}
-use Rattle.std.proofs.lemmas.Bool.{eqb-true, eq-eqb, false_from_ne_true}
-use Rattle.std.proofs.lemmas.Grind.{common_steps}
-use Rattle.mg_names.specs.declared.identifiers.TermId.{TermId}
-use Rattle.mg_names.specs.declared.identifiers.TermId.TheVariants.{Line, Eph}
-use Rattle.mg_model.specs.declared.commands.Termination.{Termination}
+use Rattle.mg_safety.proofs.Words.{◌≡◌, ◌∙◌, ℕ, Bool, true, false, List, [], ◌∷◌, Option, Some, None, is_some, refl, sym, ap, subst, arith, true≢false, ◌==◌}
+use Rattle.mg_safety.proofs.Words.{◌&&◌, not, IsTrue, unwrap_or, eqb-true, eq-eqb, false_from_ne_true, common_steps, TermId, Line, Eph, Termination, Remote}
+use Rattle.mg_safety.proofs.Words.{Unset, Gone, To, Spot, Absent, Null, In, Board, same_term, exists, place_of, place_in, mode_of, mode_in, remote_of}
+use Rattle.mg_safety.proofs.Words.{remote_in, Configuration, is_same, is_in, is_present, is_to, is_number, passes_in, passes_out, is_shared, Script, IsSlot}
+use Rattle.mg_safety.proofs.Words.{all_three, none_is_some, the_some, three_parts, is_same_is, same_term_self}
 use Rattle.mg_model.specs.declared.commands.Termination.TheVariants as termination
-use Rattle.mg_model.specs.declared.components.Remote.{Remote}
-use Rattle.mg_model.specs.declared.components.Remote.TheVariants.{Unset, Gone, To}
-use Rattle.mg_model.specs.declared.components.Spot.{Spot}
-use Rattle.mg_model.specs.declared.components.Spot.TheVariants.{Absent, Null, In}
-use Rattle.mg_model.specs.Board.{Board, same_term, exists, place_of, place_in, mode_of, mode_in, remote_of, remote_in}
-use Rattle.mg_model.specs.Configuration.{Configuration, is_same, is_in, is_present, is_to}
 use Rattle.mg_model.specs.Media as media
-use Rattle.mg_model.specs.Media.{is_number}
+use Rattle.mg_model.specs.Paths.{hops, crosses, goes_over}
+use Rattle.mg_safety.proofs.InvariantWords.{Naming, eph_of, term_of, row_on, cut_on, number_at, RemoteSeen, Seen}
 use Rattle.mg_safety.proofs.Shared.Sides.{receives_is, sends_is}
-use Rattle.mg_model.specs.Paths.{passes_in, passes_out, is_shared, hops, crosses, goes_over}
-use Rattle.mg_model.specs.Script.{Script}
-use Rattle.mg_model.specs.Accepted.{IsSlot}
-use Rattle.mg_model.proofs.Cases.{all_three, none_is_some, the_some, three_parts}
-use Rattle.mg_model.proofs.Terminations.{is_same_is, same_term_self}
-use Rattle.mg_safety.proofs.Invariant.Shown.{Naming, eph_of, term_of, row_on, cut_on, number_at, RemoteSeen, Seen}
 
 -- a slot of the script stands for a termination of the gateway
 pub record IsNamed (script : Script) (n : Naming) (u : Termination) (t : TermId) : Type 0 where

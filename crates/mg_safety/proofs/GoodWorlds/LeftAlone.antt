@@ -1,22 +1,9 @@
 -- What an event of one call leaves alone: it changes rows and cuts by a request alone, and that changes what its call owns.
-use Rattle.std.proofs.Common.{◌≡◌, ◌∙◌, ℕ, Bool, true, false, List, Option, inl, inr, refl, sym, ap}
-use Rattle.std.specs.List.{All}
-use Rattle.std.proofs.lemmas.Bool.{eq-eqb}
-use Rattle.mg_names.specs.declared.identifiers.TermId.{TermId}
-use Rattle.mg_names.specs.declared.identifiers.TermId.TheVariants.{Line, Eph}
-use Rattle.mg_model.specs.declared.events.CallEvent.{CallEvent}
+use Rattle.mg_safety.proofs.Words.{◌≡◌, ◌∙◌, ℕ, Bool, true, false, List, Option, inl, inr, refl, sym, ap, eq-eqb, TermId, Line, Eph, CallEvent, ChosenRefusal}
+use Rattle.mg_safety.proofs.Words.{Row, IsScript, Agent, Board, Entry, Gateway, after_request, Request, Script, World, AgentSteps, Executes, IsFirst}
+use Rattle.mg_safety.proofs.Words.{IsRequestOf, OccursTo}
 use Rattle.mg_model.specs.declared.events.CallEvent.TheVariants as to_call
-use Rattle.mg_model.specs.declared.failures.ChosenRefusal.{ChosenRefusal}
-use Rattle.mg_model.specs.declared.rows.Row.{Row}
-use Rattle.mg_model.specs.Accepted.{IsScript, IsEntryOf}
-use Rattle.mg_model.specs.Agent.{Agent}
-use Rattle.mg_model.specs.Board.{Board}
-use Rattle.mg_model.specs.Entries.{Entry}
-use Rattle.mg_model.specs.Gateway.{Gateway, after_request}
-use Rattle.mg_model.specs.Messages.{Request}
-use Rattle.mg_model.specs.Obligations.{NoneBroken}
-use Rattle.mg_model.specs.Script.{Script}
-use Rattle.mg_model.specs.World.{World, AgentSteps, Executes, IsFirst, IsRequestOf, OccursTo}
+use Rattle.mg_safety.proofs.InvariantWords.{owned_at, IsSound, is_call, owned_in, owner_of, IsClosed, IsOwnChange}
 use Rattle.mg_safety.specs.Others.{IsLeftAlone, IsOwnedBy, OthersAreKept, OthersAreLeftAlone}
 use Rattle.mg_safety.proofs.Certificate.Closed.{closed}
 use Rattle.mg_safety.proofs.Events.ExecuteSound.{has_run}
@@ -24,9 +11,6 @@ use Rattle.mg_safety.proofs.Events.Executing.{run_changes}
 use Rattle.mg_safety.proofs.Events.Others.{apart_at, created_only}
 use Rattle.mg_safety.proofs.GoodWorlds.Beginning.{reached}
 use Rattle.mg_safety.proofs.GoodWorlds.EveryRun.{commands_carry}
-use Rattle.mg_safety.proofs.Invariant.Shown.{owned_at}
-use Rattle.mg_safety.proofs.Invariant.Sound.{IsSound, is_call, owned_in, owner_of}
-use Rattle.mg_safety.proofs.Invariant.Statements.{IsClosed, IsOwnChange}
 use Rattle.mg_safety.proofs.Messages.NamedMessages.{opening_numbered, runs_numbered}
 use Rattle.mg_safety.proofs.Requests.Run.{requests_run}
 use Rattle.mg_safety.proofs.SmallLaws.CallLaws.{events_keep}

@@ -1,15 +1,6 @@
 -- What a command carries over, from the gateway's board to the configuration that it shows: what is asked before, and what holds after.
-use Rattle.std.specs.Prelude.{◌≡◌, ℕ, true}
-use Rattle.mg_names.specs.declared.identifiers.TermId.{TermId}
-use Rattle.mg_model.specs.declared.commands.Command.{Command}
-use Rattle.mg_model.specs.Board.{Board}
-use Rattle.mg_model.specs.Configuration.{Configuration, IsWellFormed}
-use Rattle.mg_model.specs.Effects.{is_legal, effect}
-use Rattle.mg_model.specs.Items.{Done, IsExecuted, subtracts}
-use Rattle.mg_model.specs.Request.{uses_known}
-use Rattle.mg_model.specs.Script.{Script}
-use Rattle.mg_model.specs.Steps.{creates_unbound}
-use Rattle.mg_model.specs.Accepted.{IsScript, IsCommandOf}
+use Rattle.mg_safety.proofs.Words.{◌≡◌, ℕ, true, TermId, Command, Board, Configuration, IsWellFormed, is_legal, effect, Done, IsExecuted, subtracts, uses_known}
+use Rattle.mg_safety.proofs.Words.{Script, creates_unbound, IsScript, IsCommandOf}
 use Rattle.mg_safety.proofs.Invariant.Shown.{Naming, Shown, IsAccounted, Owner, owned_at, AreBuilt, known_by, item_for, named_after, built_after, ChangesOwned}
 
 -- a command of a request is next: the board shows the configuration by the names in force (n), and the command is built with names of

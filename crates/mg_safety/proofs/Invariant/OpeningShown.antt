@@ -1,20 +1,8 @@
 -- The opening configuration is shown on lines that stand in the null context, where nothing is cut between them and no ephemeral exists that is owned.
-use Rattle.std.proofs.Common.{◌≡◌, ◌∙◌, ℕ, Bool, true, false, Some, None, is_some, length, refl, sym, ap, true≢false, ◌<◌}
-use Rattle.std.specs.Prelude.{nat_lt}
-use Rattle.std.proofs.lemmas.Bool.{lt-ltb}
-use Rattle.mg_names.specs.declared.identifiers.TermId.{TermId}
-use Rattle.mg_names.specs.declared.identifiers.TermId.TheVariants.{Line, Eph}
-use Rattle.mg_model.specs.declared.commands.EventsName.TheVariants.{Empty, Armed}
-use Rattle.mg_model.specs.declared.commands.Termination.{Termination}
+use Rattle.mg_safety.proofs.Words.{◌≡◌, ◌∙◌, ℕ, Bool, true, false, Some, None, is_some, length, refl, sym, ap, true≢false, ◌<◌, nat_lt, lt-ltb, TermId, Line}
+use Rattle.mg_safety.proofs.Words.{Eph, Empty, Armed, Termination, Spot, Absent, Null, In, Board, exists, null_row, place_in, mode_in, is_present, Script}
+use Rattle.mg_safety.proofs.Words.{opening, IsSlot, none_is_some, where_true}
 use Rattle.mg_model.specs.declared.commands.Termination.TheVariants as termination
-use Rattle.mg_model.specs.declared.components.Spot.{Spot}
-use Rattle.mg_model.specs.declared.components.Spot.TheVariants.{Absent, Null, In}
-use Rattle.mg_model.specs.Board.{Board, exists, null_row, place_in, mode_in}
-use Rattle.mg_model.specs.Configuration.{is_present}
-use Rattle.mg_model.specs.Script.{Script}
-use Rattle.mg_model.specs.Steps.{opening}
-use Rattle.mg_model.specs.Accepted.{IsSlot}
-use Rattle.mg_model.proofs.Cases.{none_is_some, where_true}
 use Rattle.mg_safety.proofs.Invariant.Shown.{Naming, term_of, row_on, cut_on, number_at, Seen}
 
 abbrev is_null_or_absent : Spot → Bool

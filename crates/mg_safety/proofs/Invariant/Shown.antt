@@ -1,44 +1,18 @@
 -- What it is for a gateway to show a configuration of a call: each component of the configuration is what the gateway's rows are,
 -- read through the call's names; and the names are one to one with what the call owns.
-use Rattle.std.specs.Prelude.{◌≡◌, ℕ, ◌<◌, Bool, true, false, not, ◌&&◌, ◌||◌, if◌then◌else◌, List, length, Option, Some, None, is_some, unwrap_or, option_map, slice_get, option_and_then, ◌⊎◌}
-use Rattle.std.specs.List.{list_any}
-use Rattle.mg_names.specs.declared.identifiers.TermId.{TermId}
-use Rattle.mg_names.specs.declared.identifiers.TermId.TheVariants.{Line, Eph}
-use Rattle.mg_names.specs.declared.kinds.Kind.{Kind}
+use Rattle.mg_safety.proofs.Words.{◌≡◌, ℕ, ◌<◌, Bool, true, false, not, ◌&&◌, ◌||◌, if◌then◌else◌, List, length, Option, Some, None, is_some, unwrap_or}
+use Rattle.mg_safety.proofs.Words.{option_map, slice_get, option_and_then, ◌⊎◌, list_any, TermId, Line, Eph, Kind, Command, AddLine, AddEphemeral, ModifyLine}
+use Rattle.mg_safety.proofs.Words.{ModifyEphemeral, MoveLine, MoveEphemeral, Subtract, SubtractAll, SetTopology, EphemeralOptions, LineOptions, Place}
+use Rattle.mg_safety.proofs.Words.{NullContext, Context, RemoteOption, NoneGiven, Peer, Termination, Remote, Unset, Gone, To, Spot, Absent, Null, In, Item}
+use Rattle.mg_safety.proofs.Words.{Settings, Row, Agent, Made, bound_if, is_listed, list_of, Board, exists, place_of, place_in, mode_in, remote_in}
+use Rattle.mg_safety.proofs.Words.{ContextExists, with_at, choose, null, all, Configuration, is_present, is_free, Done, is_context_number, OnHook, OffHook}
+use Rattle.mg_safety.proofs.Words.{Flash, Digits, LineRow, ListItem, silent, Names, Script, IsSlot}
 use Rattle.mg_names.specs.declared.kinds.Kind.TheVariants as kind
-use Rattle.mg_model.specs.declared.commands.Command.{Command}
-use Rattle.mg_model.specs.declared.commands.Command.TheVariants.{AddLine, AddEphemeral, ModifyLine, ModifyEphemeral, MoveLine, MoveEphemeral, Subtract, SubtractAll, SetTopology}
-use Rattle.mg_model.specs.declared.commands.EphemeralOptions.{EphemeralOptions}
-use Rattle.mg_model.specs.declared.commands.LineOptions.{LineOptions}
-use Rattle.mg_model.specs.declared.commands.Place.{Place}
-use Rattle.mg_model.specs.declared.commands.Place.TheVariants.{NullContext, Context}
-use Rattle.mg_model.specs.declared.commands.RemoteOption.{RemoteOption}
-use Rattle.mg_model.specs.declared.commands.RemoteOption.TheVariants.{NoneGiven, Peer}
-use Rattle.mg_model.specs.declared.commands.Termination.{Termination}
 use Rattle.mg_model.specs.declared.commands.Termination.TheVariants as termination
-use Rattle.mg_model.specs.declared.components.Remote.{Remote}
-use Rattle.mg_model.specs.declared.components.Remote.TheVariants.{Unset, Gone, To}
-use Rattle.mg_model.specs.declared.components.Spot.{Spot}
-use Rattle.mg_model.specs.declared.components.Spot.TheVariants.{Absent, Null, In}
 use Rattle.mg_model.specs.declared.items.Added.TheVariants as added
-use Rattle.mg_model.specs.declared.items.Item.{Item}
 use Rattle.mg_model.specs.declared.items.Item.TheVariants as item
 use Rattle.mg_model.specs.declared.items.RemoteSetting.{RemoteSetting}
 use Rattle.mg_model.specs.declared.items.RemoteSetting.TheVariants.{Nothing, Ephemeral}
-use Rattle.mg_model.specs.declared.items.Settings.{Settings}
-use Rattle.mg_model.specs.declared.rows.Row.{Row}
-use Rattle.mg_model.specs.Agent.{Agent, Made, bound_if, is_listed}
-use Rattle.mg_model.specs.ListContents.{list_of}
-use Rattle.mg_model.specs.Board.{Board, exists, place_of, place_in, mode_in, remote_in, ContextExists}
-use Rattle.mg_model.specs.Updates.{with_at}
-use Rattle.mg_model.specs.Numbers.{choose, null, all}
-use Rattle.mg_model.specs.Configuration.{Configuration, is_present, is_free}
-use Rattle.mg_model.specs.Items.{Done, is_context_number}
-use Rattle.mg_model.specs.declared.transitions.EventItem.TheVariants.{OnHook, OffHook, Flash, Digits}
-use Rattle.mg_model.specs.LineEvents.{LineRow, ListItem, silent}
-use Rattle.mg_model.specs.Request.{Names}
-use Rattle.mg_model.specs.Script.{Script}
-use Rattle.mg_model.specs.Accepted.{IsSlot}
 
 -- ---- names
 

@@ -1,31 +1,11 @@
 -- What holds of every world of a run whose script and certificate have no broken obligation: each call is shown by a configuration of the
 -- certificate, or it is lost; and what a call owns is named by it alone.
-use Rattle.std.specs.Prelude.{◌≡◌, ℕ, ◌<◌, ◌≤◌, ◌==◌, Bool, true, false, List, [], length, Contains, Option, Some, None, ◌⊎◌}
-use Rattle.mg_model.specs.declared.failures.Failure.{Failure}
-use Rattle.mg_names.specs.declared.identifiers.TermId.{TermId}
-use Rattle.mg_names.specs.declared.identifiers.TermId.TheVariants.{Line, Eph}
+use Rattle.mg_safety.proofs.Words.{◌≡◌, ℕ, ◌<◌, ◌≤◌, ◌==◌, Bool, true, false, List, [], length, Contains, Option, Some, None, ◌⊎◌, Failure, TermId, Line, Eph}
+use Rattle.mg_safety.proofs.Words.{Sent, Answered, Failed, Resting, Row, Agent, awaits_reply, awaits_pass, resting, after_results, built_by, commands_of}
+use Rattle.mg_safety.proofs.Words.{none_made, exists, remote_of, Configuration, Entry, IsCovered, Gateway, last_executed, silent, Request, Reply, SentNote}
+use Rattle.mg_safety.proofs.Words.{Script, World, null_row, IsSlot, Termination, Empty, Unset, Absent, Free, Inactive, is_same}
 use Rattle.mg_names.specs.declared.phases.LinkPhase as phases
-use Rattle.mg_names.specs.declared.phases.LinkPhase.TheVariants.{Sent, Answered, Failed, Resting}
-use Rattle.mg_model.specs.declared.rows.Row.{Row}
-use Rattle.mg_model.specs.Agent.{Agent, awaits_reply, awaits_pass, resting, after_results, built_by, commands_of, none_made}
-use Rattle.mg_model.specs.Board.{exists, remote_of}
-use Rattle.mg_model.specs.Configuration.{Configuration}
-use Rattle.mg_model.specs.Entries.{Entry, IsCovered}
-use Rattle.mg_model.specs.Gateway.{Gateway, last_executed}
-use Rattle.mg_model.specs.LineEvents.{silent}
-use Rattle.mg_model.specs.Messages.{Request, Reply, SentNote}
-use Rattle.mg_model.specs.Script.{Script}
-use Rattle.mg_model.specs.World.{World}
-use Rattle.mg_model.specs.Board.{null_row}
-use Rattle.mg_model.specs.Accepted.{IsSlot}
 use Rattle.mg_safety.proofs.Invariant.Shown.{naming, Seen, LinesShown, IsAccounted, Owner, owned_at, list_raises}
-use Rattle.mg_model.specs.declared.commands.Termination.{Termination}
-use Rattle.mg_model.specs.declared.commands.EventsName.TheVariants.{Empty}
-use Rattle.mg_model.specs.declared.components.Remote.TheVariants.{Unset}
-use Rattle.mg_model.specs.declared.components.Spot.TheVariants.{Absent}
-use Rattle.mg_names.specs.declared.context_values.ContextValue.TheVariants.{Free}
-use Rattle.mg_names.specs.declared.modes.Mode.TheVariants.{Inactive}
-use Rattle.mg_model.specs.Configuration.{is_same}
 
 -- ---- configurations that stand in the certificate
 

@@ -1,23 +1,9 @@
 -- The statements of the lemmas of which the promise over runs is made, each proved in a file of its own.
-use Rattle.std.specs.Prelude.{◌≡◌, ℕ, true, false, if◌then◌else◌, List, Contains, Option, Some, None, ◌⊎◌}
-use Rattle.std.specs.List.{All}
-use Rattle.mg_model.specs.declared.failures.ChosenRefusal.{ChosenRefusal}
-use Rattle.mg_model.specs.declared.failures.Failure.{Failure}
-use Rattle.mg_names.specs.declared.identifiers.TermId.{TermId}
-use Rattle.mg_names.specs.declared.identifiers.TermId.TheVariants.{Eph}
-use Rattle.mg_names.specs.declared.phases.LinkPhase.TheVariants.{Sent}
-use Rattle.mg_model.specs.Agent.{Agent, after_results, built_by, commands_of, none_made}
-use Rattle.mg_model.specs.Board.{Board, exists, IsSettled}
-use Rattle.mg_model.specs.Configuration.{Configuration}
-use Rattle.mg_model.specs.Entries.{Entry}
-use Rattle.mg_model.specs.Gateway.{Gateway, start_of}
-use Rattle.mg_model.specs.LineEvents.{LineRow, Note}
-use Rattle.mg_model.specs.Obligations.{NoneBroken, JoinedAreMarked, EndedIsCleared, CreatedAreUnbound, NamesAreLive}
-use Rattle.mg_model.specs.RequestRun.{Running, RunsFrom, note_on}
-use Rattle.mg_model.specs.Script.{Script}
-use Rattle.mg_model.specs.Steps.{Step, steps_of, opening, reset}
-use Rattle.mg_model.specs.World.{World, Opened, IsOpening, IsGood}
-use Rattle.mg_model.specs.Accepted.{IsScript, IsEntryOf}
+use Rattle.mg_safety.proofs.Words.{◌≡◌, ℕ, true, false, if◌then◌else◌, List, Contains, Option, Some, None, ◌⊎◌, All, ChosenRefusal, Failure, TermId, Eph, Sent}
+use Rattle.mg_safety.proofs.Words.{Agent, after_results, built_by, commands_of, none_made, Board, exists, IsSettled, Configuration, Entry, Gateway, start_of}
+use Rattle.mg_safety.proofs.Words.{LineRow, Note, NoneBroken, JoinedAreMarked, EndedIsCleared, CreatedAreUnbound, NamesAreLive, Running, note_on, Script, Step}
+use Rattle.mg_safety.proofs.Words.{steps_of, opening, reset, World, Opened, IsOpening, IsGood, IsScript, IsEntryOf}
+use Rattle.mg_model.specs.RequestRun.{RunsFrom}
 use Rattle.mg_safety.proofs.Invariant.Shown.{Naming, naming, Shown, Seen, LinesShown, IsAccounted, owned_at, list_raises, ChangesOwned}
 use Rattle.mg_safety.proofs.Invariant.Sound.{Stands, is_call, owner_of, owned_in, link_of, IsSound}
 

@@ -1,18 +1,11 @@
 -- What a step of an agent sends has the next number of its call, and no step changes its lines.
-use Rattle.std.proofs.Common.{◌≡◌, ◌+◌, ◌<◌, ℕ, Bool, true, false, List, [], length, Option, Some, None, refl, sym, ap, subst, arith, true≢false}
-use Rattle.std.specs.Prelude.{◌==◌, ◌&&◌, not, if◌then◌else◌, nat_lt, nat_le, Contains}
-use Rattle.mg_model.specs.declared.failures.Failure.{Failure}
-use Rattle.mg_model.specs.Delivery.{arrival, is_new}
-use Rattle.mg_model.specs.Agent.{answers, Agent, inbox_of, Phase, awaits_reply, awaits_pass, resting, entered_with, entered, entered_or_rests, entered_if, entered_or_stays, built_by, request_of, after_results, leads_on, replied_to, replied, passed_in, passed, may_accept, target_of, line_in, noted, is_resting, timed, forgotten, heard}
-use Rattle.mg_model.specs.Numbers.{last_number}
-use Rattle.mg_model.specs.Updates.{with_at}
-use Rattle.mg_model.specs.Messages.{Request, Reply, SentNote}
-use Rattle.mg_model.specs.Script.{Script}
-use Rattle.mg_model.specs.Tables.{state_of, is_empty}
-use Rattle.mg_model.specs.World.{sent_in}
+use Rattle.mg_safety.proofs.Words.{◌≡◌, ◌+◌, ◌<◌, ℕ, Bool, true, false, List, [], length, Option, Some, None, refl, sym, ap, subst, arith, true≢false, ◌==◌}
+use Rattle.mg_safety.proofs.Words.{◌&&◌, not, if◌then◌else◌, nat_lt, nat_le, Contains, Failure, arrival, is_new, answers, Agent, inbox_of, Phase, awaits_reply}
+use Rattle.mg_safety.proofs.Words.{awaits_pass, resting, entered_with, entered, entered_or_rests, entered_if, entered_or_stays, built_by, request_of}
+use Rattle.mg_safety.proofs.Words.{after_results, leads_on, replied_to, replied, passed_in, passed, may_accept, target_of, line_in, noted, is_resting, timed}
+use Rattle.mg_safety.proofs.Words.{forgotten, heard, last_number, with_at, Request, Reply, SentNote, Script, state_of, is_empty, sent_in, none_in, only_one}
+use Rattle.mg_safety.proofs.Words.{the_some, none_is_some, and_first, and_second}
 use Rattle.mg_safety.proofs.Agents.EffectiveAgent.{results_keep}
-use Rattle.mg_model.proofs.Single.{none_in, only_one}
-use Rattle.mg_model.proofs.Cases.{the_some, none_is_some, and_first, and_second}
 
 -- a request that is outstanding in a phase is of this call and has this number
 abbrev IsNext : (call number : ℕ) → Phase → Type 0

@@ -1,23 +1,14 @@
 -- In every world of every run a message is named by its call and its number.
-use Rattle.std.proofs.Common.{◌≡◌, ◌∙◌, ◌==◌, ℕ, Bool, true, false, List, [], ◌∷◌, Some, None, refl, sym, ap, subst, arith, inl, inr}
-use Rattle.std.specs.Prelude.{Contains}
-use Rattle.std.proofs.lemmas.Bool.{eqb-true, eqb-false}
-use Rattle.mg_model.specs.declared.events.CallEvent.{CallEvent}
+use Rattle.mg_safety.proofs.Words.{◌≡◌, ◌∙◌, ◌==◌, ℕ, Bool, true, false, List, [], ◌∷◌, Some, None, refl, sym, ap, subst, arith, inl, inr, Contains, eqb-true}
+use Rattle.mg_safety.proofs.Words.{eqb-false, CallEvent, Event, OfCall, Restart, Agent, begun, opened, replied, passed, noted, timed, heard, Gateway, CallLink}
+use Rattle.mg_safety.proofs.Words.{restarted, Request, Reply, SentNote, Script, line_places, World, Opened, IsOpening, OccursTo, Occurs, Begins, with_gateway}
+use Rattle.mg_safety.proofs.Words.{none_is_some, some_is_none, the_some, not_both, at_one, at_another, none_in}
 use Rattle.mg_model.specs.declared.events.CallEvent.TheVariants as to_call
-use Rattle.mg_model.specs.declared.events.Event.{Event}
-use Rattle.mg_model.specs.declared.events.Event.TheVariants.{OfCall, Restart}
-use Rattle.mg_model.specs.Agent.{Agent, begun, opened, replied, passed, noted, timed, heard}
 use Rattle.mg_model.specs.Gateway as gateway
-use Rattle.mg_model.specs.Gateway.{Gateway, CallLink, restarted}
-use Rattle.mg_model.specs.Messages.{Request, Reply, SentNote}
-use Rattle.mg_model.specs.Script.{Script}
-use Rattle.mg_model.specs.Tables.{line_places}
-use Rattle.mg_model.specs.World.{World, Opened, IsOpening, OccursTo, Occurs, Runs, Begins, with_gateway}
-use Rattle.mg_model.proofs.Cases.{none_is_some, some_is_none, the_some, not_both, at_one, at_another}
-use Rattle.mg_model.proofs.Single.{none_in}
+use Rattle.mg_model.specs.World.{Runs}
+use Rattle.mg_safety.proofs.InvariantWords.{IsKnown}
 use Rattle.mg_safety.specs.MessageNumbers.{MessagesAreNamedByNumber}
 use Rattle.mg_safety.proofs.Events.Handover.{handed_from, link_other, kept_from, world_begun, agent_new, agent_other, agent_from}
-use Rattle.mg_safety.proofs.Invariant.Sound.{IsKnown}
 use Rattle.mg_safety.proofs.Messages.AgentNumbers.{replied_next, passed_next, noted_next, timed_next, heard_next}
 use Rattle.mg_safety.proofs.Messages.Numbered.{notes_stay, replies_stay}
 use Rattle.mg_safety.proofs.Messages.NumberedExecutes.{execute_numbered}

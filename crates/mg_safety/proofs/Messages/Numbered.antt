@@ -1,17 +1,8 @@
 -- Lists of messages that are named by their numbers, and what keeps them so: a request with the next number of its agent, a reply to a request
 -- that is executed or the kept one, and notes that are numbered on.
-use Rattle.std.proofs.Common.{◌≡◌, ◌∙◌, ◌+◌, ◌<◌, ◌≤◌, ◌++◌, ◌==◌, ◌⊎◌, ℕ, Bool, true, false, List, [], ◌∷◌, length, Option, Some, None, refl, sym, ap, subst, arith, inl, inr}
-use Rattle.std.specs.Prelude.{Contains}
-use Rattle.std.proofs.lemmas.Bool.{eqb-true, eqb-false}
-use Rattle.std.proofs.lemmas.List.Elements.{Contains-append_cases}
-use Rattle.mg_model.specs.Agent.{Agent}
-use Rattle.mg_model.specs.Gateway.{CallLink, sent_notes, notes_from, Gateway}
-use Rattle.mg_model.proofs.Offered.{number_of}
-use Rattle.mg_model.specs.LineEvents.{Note}
-use Rattle.mg_model.specs.Messages.{Request, Reply, SentNote}
-use Rattle.mg_model.specs.RequestRun.{RaisedNote}
-use Rattle.mg_model.proofs.Cases.{the_some}
-use Rattle.mg_model.proofs.Single.{none_in, only_one}
+use Rattle.mg_safety.proofs.Words.{◌≡◌, ◌∙◌, ◌+◌, ◌<◌, ◌≤◌, ◌++◌, ◌==◌, ◌⊎◌, ℕ, Bool, true, false, List, [], ◌∷◌, length, Option, Some, None, refl, sym, ap}
+use Rattle.mg_safety.proofs.Words.{subst, arith, inl, inr, Contains, eqb-true, eqb-false, Contains-append_cases, Agent, CallLink, sent_notes, notes_from}
+use Rattle.mg_safety.proofs.Words.{Gateway, number_of, Note, Request, Reply, SentNote, RaisedNote, the_some, none_in, only_one}
 use Rattle.mg_safety.specs.MessageNumbers.{AreOnce}
 
 -- ---- lists in which each stands once

@@ -1,17 +1,11 @@
 -- A request that reaches the gateway keeps messages numbered: its reply is the first with its number, or the kept one once more.
-use Rattle.std.proofs.Common.{◌≡◌, ◌∙◌, ◌+◌, ◌<◌, ◌≤◌, ◌++◌, ◌==◌, ◌⊎◌, ℕ, Bool, true, false, List, [], ◌∷◌, length, Option, Some, if◌then◌else◌, refl, sym, ap, subst, arith, inl, inr}
-use Rattle.std.specs.Prelude.{Contains}
-use Rattle.std.proofs.lemmas.Bool.{eqb-true, eqb-false}
-use Rattle.std.proofs.lemmas.List.Elements.{Contains-append_cases}
-use Rattle.mg_model.specs.declared.failures.ChosenRefusal.{ChosenRefusal}
-use Rattle.mg_model.specs.Gateway.{Gateway, CallLink, IsExecutedBy, last_executed, after_request, reply_of}
-use Rattle.mg_model.specs.Messages.{Request, Reply, SentNote}
-use Rattle.mg_model.specs.World.{World, with_gateway, IsFirst, IsRepeat, Executes}
-use Rattle.mg_model.proofs.Cases.{the_some, at_one, at_another}
-use Rattle.mg_model.proofs.Offered.{fresh_is_open, fresh_at, kept_at, number_of}
-use Rattle.mg_model.proofs.Single.{only_one}
-use Rattle.mg_safety.proofs.Invariant.Sound.{IsKnown}
-use Rattle.mg_safety.proofs.Messages.Numbered.{one_once, both_once, AreNumberedOn, sent_on, notes_added, IsAnswered, RepliesAreNumbered, one_association, reply_again}
+use Rattle.mg_safety.proofs.Words.{◌≡◌, ◌∙◌, ◌+◌, ◌<◌, ◌≤◌, ◌++◌, ◌==◌, ◌⊎◌, ℕ, Bool, true, false, List, [], ◌∷◌, length, Option, Some, if◌then◌else◌, refl}
+use Rattle.mg_safety.proofs.Words.{sym, ap, subst, arith, inl, inr, Contains, eqb-true, eqb-false, Contains-append_cases, ChosenRefusal, Gateway, CallLink}
+use Rattle.mg_safety.proofs.Words.{IsExecutedBy, last_executed, after_request, reply_of, Request, Reply, SentNote, World, with_gateway, IsFirst, IsRepeat}
+use Rattle.mg_safety.proofs.Words.{Executes, the_some, at_one, at_another, fresh_is_open, fresh_at, kept_at, number_of, only_one}
+use Rattle.mg_safety.proofs.InvariantWords.{IsKnown}
+use Rattle.mg_safety.proofs.Messages.Numbered.{one_once, both_once, AreNumberedOn, sent_on, notes_added, IsAnswered, RepliesAreNumbered, one_association}
+use Rattle.mg_safety.proofs.Messages.Numbered.{reply_again}
 use Rattle.mg_safety.proofs.Messages.NumberedWorlds.{IsNumbered}
 
 module _ (w : World) (was : IsNumbered w) (request : Request) (among : Contains w.requests request) (chosen : Option ChosenRefusal) (gateway : Gateway)

@@ -1,19 +1,14 @@
 -- A world in which messages are numbered; a step of an agent and an event of a line keep it so.
-use Rattle.std.proofs.Common.{◌≡◌, ◌∙◌, ◌+◌, ◌<◌, ◌++◌, ◌==◌, ◌⊎◌, ℕ, Bool, true, false, List, length, Option, Some, if◌then◌else◌, refl, sym, ap, subst, arith, inl, inr}
-use Rattle.std.specs.Prelude.{Contains}
-use Rattle.std.proofs.lemmas.Bool.{eqb-true, eqb-false}
-use Rattle.std.proofs.lemmas.List.Elements.{Contains-append_cases, Contains-append_right}
-use Rattle.mg_model.specs.declared.line_events.LineEvent.{LineEvent}
-use Rattle.mg_model.specs.Agent.{Agent, Phase, awaits_reply, awaits_pass, resting}
+use Rattle.mg_safety.proofs.Words.{◌≡◌, ◌∙◌, ◌+◌, ◌<◌, ◌++◌, ◌==◌, ◌⊎◌, ℕ, Bool, true, false, List, length, Option, Some, if◌then◌else◌, refl, sym, ap, subst}
+use Rattle.mg_safety.proofs.Words.{arith, inl, inr, Contains, eqb-true, eqb-false, Contains-append_cases, Contains-append_right, LineEvent, Agent, Phase}
+use Rattle.mg_safety.proofs.Words.{awaits_reply, awaits_pass, resting, Gateway, CallLink, with_line, with_notes, Request, World, AgentSteps, agent_steps}
+use Rattle.mg_safety.proofs.Words.{sent_in, with_gateway, LineOccurs, the_some, at_one, at_another}
 use Rattle.mg_model.specs.Gateway as gateway
-use Rattle.mg_model.specs.Gateway.{Gateway, CallLink, with_line, with_notes}
-use Rattle.mg_model.specs.Messages.{Request}
-use Rattle.mg_model.specs.World.{World, AgentSteps, agent_steps, sent_in, with_gateway, LineOccurs}
-use Rattle.mg_model.proofs.Cases.{the_some, at_one, at_another}
+use Rattle.mg_safety.proofs.InvariantWords.{IsKnown}
 use Rattle.mg_safety.specs.MessageNumbers.{AreOnce}
-use Rattle.mg_safety.proofs.Invariant.Sound.{IsKnown}
 use Rattle.mg_safety.proofs.Messages.AgentNumbers.{GoesOn, GivesNext}
-use Rattle.mg_safety.proofs.Messages.Numbered.{none_once, one_once, both_once, AreNumberedOn, line_on, NotesAreNumbered, notes_stay, notes_added, RequestsAreNumbered, RepliesAreNumbered, replies_stay}
+use Rattle.mg_safety.proofs.Messages.Numbered.{none_once, one_once, both_once, AreNumberedOn, line_on, NotesAreNumbered, notes_stay, notes_added}
+use Rattle.mg_safety.proofs.Messages.Numbered.{RequestsAreNumbered, RepliesAreNumbered, replies_stay}
 
 pub record IsNumbered (w : World) : Type 0 where
   pub agents : (call : ℕ) (a : Agent) → w.agent call ≡ Some a → a.call ≡ call

@@ -1,14 +1,7 @@
 -- The end of a request. What it freed may be given again from then on, so less is said of what the board shows.
-use Rattle.std.proofs.Common.{◌≡◌, ◌∙◌, ℕ, Bool, true, false, Option, Some, None, is_some, refl, sym, ap, subst, true≢false}
-use Rattle.mg_names.specs.declared.identifiers.TermId.{TermId}
-use Rattle.mg_names.specs.declared.identifiers.TermId.TheVariants.{Line, Eph}
-use Rattle.mg_model.specs.declared.components.Remote.{Remote}
-use Rattle.mg_model.specs.declared.components.Remote.TheVariants.{Unset, Gone, To}
-use Rattle.mg_model.specs.declared.rows.Row.{Row}
-use Rattle.mg_model.specs.Board.{Board, exists, place_in, mode_in, remote_in, IsSettled}
-use Rattle.mg_model.specs.Configuration.{Configuration}
-use Rattle.mg_model.specs.Script.{Script}
-use Rattle.mg_safety.proofs.Invariant.Shown.{Naming, Shown, Seen, RemoteReads, RemoteSeen, row_on, cut_on, term_of, eph_of}
+use Rattle.mg_safety.proofs.Words.{◌≡◌, ◌∙◌, ℕ, Bool, true, false, Option, Some, None, is_some, refl, sym, ap, subst, true≢false, TermId, Line, Eph, Remote}
+use Rattle.mg_safety.proofs.Words.{Unset, Gone, To, Row, Board, exists, place_in, mode_in, remote_in, IsSettled, Configuration, Script}
+use Rattle.mg_safety.proofs.InvariantWords.{Naming, Shown, Seen, RemoteReads, RemoteSeen, row_on, cut_on, term_of, eph_of}
 
 module _ (script : Script) (owned after : TermId → Bool) (n : Naming) (b settled : Board) (c : Configuration) (shown : Shown script owned n b c)
     (is : IsSettled b settled) (same : (t : TermId) → exists b t ≡ true → after t ≡ owned t) where

@@ -1,43 +1,24 @@
 -- A request runs: by induction over its commands the present configuration is shown and stands in the certificate with the link Failed, and
 -- at the end with the link Answered.
-use Rattle.std.proofs.Common.{◌≡◌, ◌∙◌, ◌+◌, ℕ, Bool, true, false, List, [], ◌∷◌, ◌++◌, length, Option, is_some, refl, sym, ap, subst, true≢false, inl, inr, length-append, append_assoc}
-use Rattle.std.proofs.lemmas.List.{append-nil}
-use Rattle.std.proofs.lemmas.List.Elements.{Contains-append_right, All-head, All-tail}
-use Rattle.std.specs.Prelude.{Contains, if◌then◌else◌}
-use Rattle.std.specs.List.{All, list_all}
-use Rattle.mg_model.specs.declared.failures.ChosenRefusal.{ChosenRefusal}
-use Rattle.mg_model.specs.declared.failures.Failure.{Failure}
-use Rattle.mg_names.specs.declared.identifiers.TermId.TheVariants.{Line}
+use Rattle.mg_safety.proofs.Words.{◌≡◌, ◌∙◌, ◌+◌, ℕ, Bool, true, false, List, [], ◌∷◌, ◌++◌, length, Option, is_some, refl, sym, ap, subst, true≢false, inl}
+use Rattle.mg_safety.proofs.Words.{inr, length-append, append_assoc, Contains-append_right, All-head, All-tail, Contains, if◌then◌else◌, All, list_all}
+use Rattle.mg_safety.proofs.Words.{ChosenRefusal, Failure, Line, Sent, Answered, Failed, Command, Refuse, Execute, Agent, Made, after_result, after_results}
+use Rattle.mg_safety.proofs.Words.{bound_by, built_by, command_of, commands_of, made_after, none_made, Board, Configuration, is_legal, effect, Entry, Gateway}
+use Rattle.mg_safety.proofs.Words.{start_of, Done, IsExecuted, Names, built, Running, Succeeds, after_command, line_after, descriptors_for, is_line, Script}
+use Rattle.mg_safety.proofs.Words.{Step, creates_unbound, executed, execution, refusals, steps_by_link, with_link, names_unbound, bound_names, state_of}
+use Rattle.mg_safety.proofs.Words.{IsScript, IsCommandOf, create_once, first_in, and_first, and_second, no_results}
 use Rattle.mg_names.specs.declared.phases.LinkPhase as phases
-use Rattle.mg_names.specs.declared.phases.LinkPhase.TheVariants.{Sent, Answered, Failed}
-use Rattle.mg_model.specs.declared.commands.Command.{Command}
-use Rattle.mg_model.specs.declared.steps.StepName.TheVariants.{Refuse, Execute}
-use Rattle.mg_model.specs.Agent.{Agent, Made, after_result, after_results, bound_by, built_by, command_of, commands_of, made_after, none_made}
-use Rattle.mg_model.specs.Board.{Board}
-use Rattle.mg_model.specs.Configuration.{Configuration}
-use Rattle.mg_model.specs.Effects.{is_legal, effect}
-use Rattle.mg_model.specs.Entries.{Entry}
-use Rattle.mg_model.specs.Gateway.{Gateway, start_of}
-use Rattle.mg_model.specs.Items.{Done, IsExecuted}
-use Rattle.mg_model.specs.Request.{Names, built}
-use Rattle.mg_model.specs.RequestRun.{Running, Succeeds, RunsFrom, after_command, line_after, descriptors_for, is_line}
-use Rattle.mg_model.specs.Script.{Script}
-use Rattle.mg_model.specs.Steps.{Step, creates_unbound, executed, execution, refusals, steps_by_link, with_link, names_unbound, bound_names}
-use Rattle.mg_model.specs.Tables.{state_of}
-use Rattle.mg_model.specs.Accepted.{IsScript, IsCommandOf, create_once}
-use Rattle.mg_model.proofs.Single.{first_in}
-use Rattle.mg_model.proofs.Cases.{and_first, and_second}
-use Rattle.mg_model.proofs.Agents.{no_results}
-use Rattle.mg_safety.proofs.Invariant.CarriedOver.{IsReady, IsCarried, IsCarriedOver}
+use Rattle.std.proofs.lemmas.List.{append-nil}
+use Rattle.mg_model.specs.RequestRun.{RunsFrom}
+use Rattle.mg_safety.proofs.InvariantWords.{IsReady, IsCarried, IsCarriedOver, Naming, naming, naming_at, Shown, Seen, LinesShown, IsAccounted, owned_at}
+use Rattle.mg_safety.proofs.InvariantWords.{AreBuilt, known_by, item_for, built_after, ChangesOwned, Stands, owner_of, owned_in, link_of, IsClosed, IsRunOf}
+use Rattle.mg_safety.proofs.InvariantWords.{LineGoes, RequestsRun}
 use Rattle.mg_safety.proofs.Requests.RunCarried.{lines_carried}
 use Rattle.mg_safety.proofs.Requests.RunKnown.{AreKnown, binds, bound_agree, built_all, built_known, built_once, built_pass, known_on, state_is}
 use Rattle.mg_safety.proofs.Requests.RunNames.{IsMadeBelow, built_on, item_is, made_below_next, named_on, none_below}
 use Rattle.mg_safety.proofs.Requests.RunNotes.{AreNotes, described_held, goes_on, line_goes, no_notes, notes_carried, other_line}
 use Rattle.mg_safety.proofs.Requests.RunSteps.{all_unbound, changes_on, effect_state, formed_with_link, lines_with_link, shown_still, unchanged}
 use Rattle.mg_safety.proofs.Requests.Starting.{shown_at_start}
-use Rattle.mg_safety.proofs.Invariant.Shown.{Naming, naming, naming_at, Shown, Seen, LinesShown, IsAccounted, owned_at, AreBuilt, known_by, item_for, built_after, ChangesOwned}
-use Rattle.mg_safety.proofs.Invariant.Sound.{Stands, owner_of, owned_in, link_of}
-use Rattle.mg_safety.proofs.Invariant.Statements.{IsClosed, IsRunOf, LineGoes, RequestsRun}
 
 -- each command is carried over
 abbrev pub CommandsCarry : Type 0

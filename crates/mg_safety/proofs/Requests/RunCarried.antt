@@ -1,27 +1,14 @@
 -- One command and the lines: they show what the command makes of the configuration; a line is armed, emptied or left by it; and the lines
 -- of others stay.
-use Rattle.std.proofs.Common.{◌≡◌, ◌∙◌, ◌<◌, ℕ, Bool, true, false, length, Some, None, is_some, refl, sym, ap, subst}
-use Rattle.std.proofs.lemmas.Bool.{eqb-true, eq-eqb}
-use Rattle.std.specs.Prelude.{◌==◌, ◌&&◌, if◌then◌else◌, unwrap_or}
+use Rattle.mg_safety.proofs.Words.{◌≡◌, ◌∙◌, ◌<◌, ℕ, Bool, true, false, length, Some, None, is_some, refl, sym, ap, subst, eqb-true, eq-eqb, ◌==◌, ◌&&◌}
+use Rattle.mg_safety.proofs.Words.{if◌then◌else◌, unwrap_or, Command, AddLine, AddEphemeral, ModifyLine, ModifyEphemeral, MoveLine, MoveEphemeral, Subtract}
+use Rattle.mg_safety.proofs.Words.{SubtractAll, SetTopology, Empty, LineOptions, Agent, Made, line_descriptors, expected_if, is_listed, command_of}
+use Rattle.mg_safety.proofs.Words.{after_result, Board, place_of, with_at, Configuration, is_in, is_live, plays_after, is_legal, effect, Done, IsExecuted}
+use Rattle.mg_safety.proofs.Words.{LineRow, cleared, Running, described_row, line_after, on_line, Script, IsCommandOf, same_test, same_turned}
 use Rattle.mg_names.specs.declared.identifiers.TermId.TheVariants as term
-use Rattle.mg_model.specs.declared.commands.Command.{Command}
-use Rattle.mg_model.specs.declared.commands.Command.TheVariants.{AddLine, AddEphemeral, ModifyLine, ModifyEphemeral, MoveLine, MoveEphemeral, Subtract, SubtractAll, SetTopology}
-use Rattle.mg_model.specs.declared.commands.EventsName.TheVariants.{Empty}
-use Rattle.mg_model.specs.declared.commands.LineOptions.{LineOptions}
 use Rattle.mg_model.specs.declared.commands.Termination.TheVariants as termination
-use Rattle.mg_model.specs.Agent.{Agent, Made, line_descriptors, expected_if, is_listed, command_of, after_result}
-use Rattle.mg_model.specs.Board.{Board, place_of}
-use Rattle.mg_model.specs.Updates.{with_at}
-use Rattle.mg_model.specs.Configuration.{Configuration, is_in, is_live}
-use Rattle.mg_model.specs.Effects.{plays_after, is_legal, effect}
-use Rattle.mg_model.specs.Items.{Done, IsExecuted}
-use Rattle.mg_model.specs.LineEvents.{LineRow, cleared}
-use Rattle.mg_model.specs.RequestRun.{Running, described_row, line_after, on_line}
-use Rattle.mg_model.specs.Script.{Script}
-use Rattle.mg_model.specs.Accepted.{IsCommandOf}
-use Rattle.mg_model.proofs.Cases.{same_test, same_turned}
+use Rattle.mg_safety.proofs.InvariantWords.{naming, naming_at, Shown, LinesShown, Owner, owned_at, AreBuilt, item_for, context_for}
 use Rattle.mg_safety.proofs.Requests.RunLines.{AreShown, leaves_test, listed_test, described_lines, cleared_lines}
-use Rattle.mg_safety.proofs.Invariant.Shown.{naming, naming_at, Shown, LinesShown, Owner, owned_at, AreBuilt, item_for, context_for}
 
 and_true : (x y : Bool) → y ≡ true → (x && y) ≡ x
 and_true true y e = e

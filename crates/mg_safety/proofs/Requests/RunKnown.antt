@@ -1,27 +1,14 @@
 -- The names that a built request may use: they are those that its commands are built with, at each place; and what was kept of a state's
 -- commands is as declared, creates no name twice, and creates names that were unbound.
-use Rattle.std.proofs.Common.{◌≡◌, ◌∙◌, ◌<◌, ◌≤◌, ℕ, Bool, true, false, List, [], ◌∷◌, length, Option, Some, None, is_some, refl, sym, ap, arith, true≢false, inl, inr, zero, suc}
-use Rattle.std.proofs.Math.Path.{fun_ext}
-use Rattle.std.proofs.lemmas.Bool.{cases_lt, and_from}
-use Rattle.std.proofs.lemmas.List.Elements.{All-nil, All-cons, All-head, All-tail}
-use Rattle.std.specs.Prelude.{◌==◌, ◌⊎◌, not, if◌then◌else◌, unwrap_or, slice_get}
-use Rattle.std.specs.List.{All, list_all}
-use Rattle.mg_names.specs.declared.identifiers.TermId.{TermId}
-use Rattle.mg_model.specs.declared.commands.Command.{Command}
-use Rattle.mg_model.specs.declared.commands.Command.TheVariants.{AddLine, AddEphemeral, ModifyLine, ModifyEphemeral, MoveLine, MoveEphemeral, Subtract, SubtractAll, SetTopology}
+use Rattle.mg_safety.proofs.Words.{◌≡◌, ◌∙◌, ◌<◌, ◌≤◌, ℕ, Bool, true, false, List, [], ◌∷◌, length, Option, Some, None, is_some, refl, sym, ap, arith}
+use Rattle.mg_safety.proofs.Words.{true≢false, inl, inr, zero, suc, fun_ext, cases_lt, and_from, All-nil, All-cons, All-head, All-tail, ◌==◌, ◌⊎◌, not}
+use Rattle.mg_safety.proofs.Words.{if◌then◌else◌, unwrap_or, slice_get, All, list_all, TermId, Command, AddLine, AddEphemeral, ModifyLine, ModifyEphemeral}
+use Rattle.mg_safety.proofs.Words.{MoveLine, MoveEphemeral, Subtract, SubtractAll, SetTopology, Agent, bound_by, bound_if, Board, Configuration, is_present}
+use Rattle.mg_safety.proofs.Words.{is_free, Done, IsExecuted, bound_names, Names, uses_known, with_name, names_after, created_context, created_ephemeral, built}
+use Rattle.mg_safety.proofs.Words.{Script, State, state_of, no_state, IsScript, IsCommandOf, IsStateOf, creates_apart, create_once, and_first, and_second}
+use Rattle.mg_safety.proofs.Words.{by_test}
 use Rattle.mg_model.specs.declared.commands.Termination.TheVariants as termination
-use Rattle.mg_model.specs.Agent.{Agent, bound_by, bound_if}
-use Rattle.mg_model.specs.Board.{Board}
-use Rattle.mg_model.specs.Configuration.{Configuration, is_present, is_free}
-use Rattle.mg_model.specs.Items.{Done, IsExecuted}
-use Rattle.mg_model.specs.Steps.{bound_names}
-use Rattle.mg_model.specs.Request.{Names, uses_known, with_name, names_after, created_context, created_ephemeral, built}
-use Rattle.mg_model.specs.Script.{Script, State}
-use Rattle.mg_model.specs.Tables.{state_of, no_state}
-use Rattle.mg_model.specs.Accepted.{IsScript, IsCommandOf, IsStateOf, creates_apart, create_once}
-use Rattle.mg_model.proofs.Cases.{and_first, and_second, by_test}
-use Rattle.mg_safety.proofs.Invariant.Shown.{Naming, naming, Seen, known_by, item_for, built_after, eph_of, row_on}
-use Rattle.mg_safety.proofs.Invariant.Sound.{IsOfScript}
+use Rattle.mg_safety.proofs.InvariantWords.{Naming, naming, Seen, known_by, item_for, built_after, eph_of, row_on, IsOfScript}
 
 -- ---- what a command creates is in its result
 

@@ -1,38 +1,15 @@
 -- The lines while a request runs: one command takes the lines that show a configuration to lines that show what it makes of it; a line is
 -- armed, emptied or left by it; and the lines of others stay.
-use Rattle.std.proofs.Common.{◌≡◌, ◌∙◌, ◌<◌, ℕ, Bool, true, false, List, [], ◌∷◌, length, Option, Some, None, is_some, refl, sym, ap, arith, true≢false}
-use Rattle.std.proofs.lemmas.Bool.{eqb-true, eq-eqb}
-use Rattle.std.proofs.lemmas.List.Elements.{Contains-append_right}
-use Rattle.std.proofs.lemmas.List.Folds.{list_any_at}
-use Rattle.std.specs.Prelude.{◌==◌, ◌||◌, not, if◌then◌else◌, unwrap_or, option_map, Contains}
-use Rattle.std.specs.List.{list_any}
-use Rattle.mg_names.specs.declared.context_values.ContextValue.{ContextValue}
-use Rattle.mg_names.specs.declared.context_values.ContextValue.TheVariants.{Free, Live, Stale}
-use Rattle.mg_names.specs.declared.identifiers.TermId.{TermId}
+use Rattle.mg_safety.proofs.Words.{◌≡◌, ◌∙◌, ◌<◌, ℕ, Bool, true, false, List, [], ◌∷◌, length, Option, Some, None, is_some, refl, sym, ap, arith, true≢false}
+use Rattle.mg_safety.proofs.Words.{eqb-true, eq-eqb, Contains-append_right, list_any_at, ◌==◌, ◌||◌, not, if◌then◌else◌, unwrap_or, option_map, Contains}
+use Rattle.mg_safety.proofs.Words.{list_any, ContextValue, Free, Live, Stale, TermId, Signal, Ring, DialTone, RingingTone, BusyTone, CongestionTone, all}
+use Rattle.mg_safety.proofs.Words.{EventsName, Empty, Spot, Absent, Null, In, SignalSet, expected_if, is_listed, list_of, names_signal, set_of, Board, place_of}
+use Rattle.mg_safety.proofs.Words.{with_at, Configuration, is_in, is_live, is_free, plays_after, Lists, ListItem, LineRow, Outcome, armed, cleared, silent}
+use Rattle.mg_safety.proofs.Words.{is_standing, with_signals, with_events, Script, signals_of, is_empty, by_test, same_test, some_of, the_some}
 use Rattle.mg_names.specs.declared.identifiers.TermId.TheVariants as term
-use Rattle.mg_names.specs.declared.signals.Signal.{Signal}
-use Rattle.mg_names.specs.declared.signals.Signal.TheVariants.{Ring, DialTone, RingingTone, BusyTone, CongestionTone}
-use Rattle.mg_model.specs.Numbers.{all}
-use Rattle.mg_model.specs.declared.commands.EventsName.{EventsName}
-use Rattle.mg_model.specs.declared.commands.EventsName.TheVariants.{Empty}
-use Rattle.mg_model.specs.declared.commands.SignalsName.{SignalsName}
 use Rattle.mg_model.specs.declared.commands.Termination.TheVariants as termination
-use Rattle.mg_model.specs.declared.components.Spot.{Spot}
-use Rattle.mg_model.specs.declared.components.Spot.TheVariants.{Absent, Null, In}
-use Rattle.mg_model.specs.declared.line_events.SignalSet.{SignalSet}
-use Rattle.mg_model.specs.Agent.{expected_if, is_listed}
-use Rattle.mg_model.specs.ListContents.{list_of, names_signal, set_of}
-use Rattle.mg_model.specs.Board.{Board, place_of}
-use Rattle.mg_model.specs.Updates.{with_at}
-use Rattle.mg_model.specs.Configuration.{Configuration, is_in, is_live, is_free}
-use Rattle.mg_model.specs.Effects.{plays_after}
-use Rattle.mg_model.specs.Items.{Lists}
-use Rattle.mg_model.specs.LineEvents.{ListItem, LineRow, Outcome, armed, cleared, silent, is_standing}
-use Rattle.mg_model.specs.RequestRun.{with_signals, with_events}
-use Rattle.mg_model.specs.Script.{Script}
-use Rattle.mg_model.specs.Tables.{signals_of, is_empty}
-use Rattle.mg_model.proofs.Cases.{by_test, same_test, some_of, the_some}
-use Rattle.mg_safety.proofs.Invariant.Shown.{Naming, Shown, AreBuilt, number_at, context_for}
+use Rattle.mg_model.specs.declared.commands.SignalsName.{SignalsName}
+use Rattle.mg_safety.proofs.InvariantWords.{Naming, Shown, AreBuilt, number_at, context_for}
 
 -- ---- the lines, as far as they show a configuration
 

@@ -1,24 +1,14 @@
 -- The names of a request that runs: a command of a request is the item that its names stand for, the names in force and the names that
 -- later commands are built with go on as the agent binds them, and a request that was built uses known names alone.
-use Rattle.std.proofs.Common.{◌≡◌, ◌∙◌, ◌+◌, ◌<◌, ℕ, Bool, true, false, List, [], ◌∷◌, ◌++◌, length, Option, Some, None, is_some, refl, sym, ap, arith, true≢false, zero, suc}
-use Rattle.std.proofs.Math.Path.{fun_ext}
-use Rattle.std.specs.Prelude.{◌==◌, if◌then◌else◌, unwrap_or, slice_get, option_map}
-use Rattle.mg_model.specs.Numbers.{all}
-use Rattle.mg_model.specs.declared.commands.Command.{Command}
-use Rattle.mg_model.specs.declared.commands.Command.TheVariants.{AddLine, AddEphemeral, ModifyLine, ModifyEphemeral, MoveLine, MoveEphemeral, Subtract, SubtractAll, SetTopology}
-use Rattle.mg_model.specs.declared.commands.Place.{Place}
-use Rattle.mg_model.specs.declared.commands.Place.TheVariants.{NullContext, Context}
-use Rattle.mg_model.specs.declared.commands.RemoteOption.{RemoteOption}
-use Rattle.mg_model.specs.declared.commands.RemoteOption.TheVariants.{NoneGiven, Peer}
-use Rattle.mg_model.specs.declared.commands.Termination.{Termination}
+use Rattle.mg_safety.proofs.Words.{◌≡◌, ◌∙◌, ◌+◌, ◌<◌, ℕ, Bool, true, false, List, [], ◌∷◌, ◌++◌, length, Option, Some, None, is_some, refl, sym, ap, arith}
+use Rattle.mg_safety.proofs.Words.{true≢false, zero, suc, fun_ext, ◌==◌, if◌then◌else◌, unwrap_or, slice_get, option_map, all, Command, AddLine, AddEphemeral}
+use Rattle.mg_safety.proofs.Words.{ModifyLine, ModifyEphemeral, MoveLine, MoveEphemeral, Subtract, SubtractAll, SetTopology, Place, NullContext, Context}
+use Rattle.mg_safety.proofs.Words.{RemoteOption, NoneGiven, Peer, Termination, Agent, Made, none_made, at_place, bound_if, context_or, context_ref}
+use Rattle.mg_safety.proofs.Words.{ephemeral_or, ephemeral_ref, added_to, place_ref, termination_ref, remote_ref, command_of, made_after, after_result}
+use Rattle.mg_safety.proofs.Words.{created_context, created_ephemeral, Done, context_at, ephemeral_at, termination_at, remote_at, item_at, Script, the_some}
 use Rattle.mg_model.specs.declared.commands.Termination.TheVariants as termination
-use Rattle.mg_model.specs.Agent.{Agent, Made, none_made, at_place, bound_if, context_or, context_ref, ephemeral_or, ephemeral_ref, added_to, place_ref, termination_ref, remote_ref, command_of, made_after, after_result}
-use Rattle.mg_model.specs.Request.{created_context, created_ephemeral}
-use Rattle.mg_model.specs.Items.{Done}
-use Rattle.mg_model.specs.RequestRun.{context_at, ephemeral_at, termination_at, remote_at, item_at}
-use Rattle.mg_model.specs.Script.{Script}
-use Rattle.mg_model.proofs.Cases.{the_some}
-use Rattle.mg_safety.proofs.Invariant.Shown.{Naming, naming, naming_at, context_made, ephemeral_made, context_for, ephemeral_for, target_for, place_for, term_for, remote_for, item_for, named_after, built_after}
+use Rattle.mg_safety.proofs.InvariantWords.{Naming, naming, naming_at, context_made, ephemeral_made, context_for, ephemeral_for, target_for, place_for}
+use Rattle.mg_safety.proofs.InvariantWords.{term_for, remote_for, item_for, named_after, built_after}
 
 -- ---- a command by the names that it is built with
 

@@ -1,32 +1,16 @@
 -- What a request does to each line, and its notes: a line is armed, emptied or left by each command, the lines of others stay, and each note
 -- that is to be sent is of a line of the call, has the request's number, and is one that the line's list can raise if its descriptor stands.
-use Rattle.std.proofs.Common.{◌≡◌, ◌∙◌, ◌<◌, ℕ, Bool, true, false, List, [], ◌∷◌, ◌++◌, length, Option, Some, None, is_some, refl, sym, ap, subst, arith, true≢false, inl, inr}
-use Rattle.std.proofs.lemmas.Bool.{eqb-true, eq-eqb, false_from_ne_true}
-use Rattle.std.proofs.lemmas.List.Elements.{Contains-append_cases, Contains-append_left, Contains-append_right}
-use Rattle.std.specs.Prelude.{◌==◌, ◌&&◌, ◌||◌, not, if◌then◌else◌, unwrap_or, Contains, filter}
-use Rattle.std.specs.List.{list_any}
+use Rattle.mg_safety.proofs.Words.{◌≡◌, ◌∙◌, ◌<◌, ℕ, Bool, true, false, List, [], ◌∷◌, ◌++◌, length, Option, Some, None, is_some, refl, sym, ap, subst, arith}
+use Rattle.mg_safety.proofs.Words.{true≢false, inl, inr, eqb-true, eq-eqb, false_from_ne_true, Contains-append_cases, Contains-append_left}
+use Rattle.mg_safety.proofs.Words.{Contains-append_right, ◌==◌, ◌&&◌, ◌||◌, not, if◌then◌else◌, unwrap_or, Contains, filter, list_any, Command, AddLine}
+use Rattle.mg_safety.proofs.Words.{AddEphemeral, ModifyLine, ModifyEphemeral, MoveLine, MoveEphemeral, Subtract, SubtractAll, SetTopology, Item, Hook, On, Off}
+use Rattle.mg_safety.proofs.Words.{SignalSet, Agent, Made, command_of, Board, Configuration, Done, subtracts, OnHook, OffHook, Flash, Digits, ListItem, LineRow}
+use Rattle.mg_safety.proofs.Words.{Note, Outcome, armed, cleared, is_standing, kind_of, RequestCommand, LineDescriptors, RaisedNote, Running, note_on}
+use Rattle.mg_safety.proofs.Words.{with_signals, with_events, with_descriptors, descriptors_for, described_row, line_after, is_line, has_new_events, note_from}
+use Rattle.mg_safety.proofs.Words.{raised, standing, Script, IsCommandOf, any_too, only_one, by_test}
 use Rattle.mg_names.specs.declared.identifiers.TermId.TheVariants as term
-use Rattle.mg_model.specs.declared.commands.Command.{Command}
-use Rattle.mg_model.specs.declared.commands.Command.TheVariants.{AddLine, AddEphemeral, ModifyLine, ModifyEphemeral, MoveLine, MoveEphemeral, Subtract, SubtractAll, SetTopology}
-use Rattle.mg_model.specs.declared.items.Item.{Item}
-use Rattle.mg_model.specs.declared.line_events.Hook.{Hook}
-use Rattle.mg_model.specs.declared.line_events.Hook.TheVariants.{On, Off}
-use Rattle.mg_model.specs.declared.line_events.SignalSet.{SignalSet}
-use Rattle.mg_model.specs.Agent.{Agent, Made, command_of}
-use Rattle.mg_model.specs.Board.{Board}
-use Rattle.mg_model.specs.Configuration.{Configuration}
-use Rattle.mg_model.specs.Items.{Done, subtracts}
-use Rattle.mg_model.specs.declared.transitions.EventItem.TheVariants.{OnHook, OffHook, Flash, Digits}
-use Rattle.mg_model.specs.LineEvents.{ListItem, LineRow, Note, Outcome, armed, cleared, is_standing, kind_of}
-use Rattle.mg_model.specs.Messages.{RequestCommand}
-use Rattle.mg_model.specs.RequestRun.{LineDescriptors, RaisedNote, Running, note_on, with_signals, with_events, with_descriptors, descriptors_for, described_row, line_after, is_line, has_new_events, note_from, raised, standing}
-use Rattle.mg_model.specs.Script.{Script}
-use Rattle.mg_model.specs.Accepted.{IsCommandOf}
-use Rattle.mg_model.proofs.Single.{any_too, only_one}
-use Rattle.mg_model.proofs.Cases.{by_test}
+use Rattle.mg_safety.proofs.InvariantWords.{naming, naming_at, Shown, Owner, owned_at, AreBuilt, raises_kind, list_raises, LineGoes}
 use Rattle.mg_safety.proofs.Requests.RunLines.{armed_list, armed_request}
-use Rattle.mg_safety.proofs.Invariant.Shown.{naming, naming_at, Shown, Owner, owned_at, AreBuilt, raises_kind, list_raises}
-use Rattle.mg_safety.proofs.Invariant.Statements.{LineGoes}
 
 -- ---- each line
 

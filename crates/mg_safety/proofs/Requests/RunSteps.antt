@@ -1,32 +1,14 @@
 -- What goes on from command to command of a request: changes of what is owned compose, the names that later commands create stay unbound,
 -- and a configuration is shown, and is well formed, whatever its link is.
-use Rattle.std.proofs.Common.{◌≡◌, ◌∙◌, ℕ, Bool, true, false, List, [], ◌∷◌, Option, Some, None, refl, sym, ap, true≢false, inl, inr}
-use Rattle.std.proofs.lemmas.Bool.{eqb-true, eq-eqb, and_from, false_from_ne_true}
-use Rattle.std.specs.Prelude.{◌==◌, ◌&&◌, ◌||◌, ◌⊎◌, not, if◌then◌else◌}
-use Rattle.std.specs.List.{list_all}
-use Rattle.mg_names.specs.declared.context_values.ContextValue.{ContextValue}
-use Rattle.mg_names.specs.declared.context_values.ContextValue.TheVariants.{Free, Live, Stale}
-use Rattle.mg_names.specs.declared.identifiers.TermId.{TermId}
-use Rattle.mg_names.specs.declared.identifiers.TermId.TheVariants.{Line, Eph}
+use Rattle.mg_safety.proofs.Words.{◌≡◌, ◌∙◌, ℕ, Bool, true, false, List, [], ◌∷◌, Option, Some, None, refl, sym, ap, true≢false, inl, inr, eqb-true, eq-eqb}
+use Rattle.mg_safety.proofs.Words.{and_from, false_from_ne_true, ◌==◌, ◌&&◌, ◌||◌, ◌⊎◌, not, if◌then◌else◌, list_all, ContextValue, Free, Live, Stale, TermId}
+use Rattle.mg_safety.proofs.Words.{Line, Eph, Command, AddLine, AddEphemeral, ModifyLine, ModifyEphemeral, MoveLine, MoveEphemeral, Subtract, SubtractAll}
+use Rattle.mg_safety.proofs.Words.{SetTopology, Termination, Spot, Absent, Null, In, Agent, Board, place_of, with_at, Configuration, IsWellFormed, is_same}
+use Rattle.mg_safety.proofs.Words.{is_in, is_live, is_free, is_present, value_of, is_legal, effect, is_elsewhere, LineRow, created_context, created_ephemeral}
+use Rattle.mg_safety.proofs.Words.{Script, creates_unbound, with_link, is_apart, creates_apart, and_first, and_second, by_test}
 use Rattle.mg_names.specs.declared.phases.LinkPhase as phases
-use Rattle.mg_model.specs.declared.commands.Command.{Command}
-use Rattle.mg_model.specs.declared.commands.Command.TheVariants.{AddLine, AddEphemeral, ModifyLine, ModifyEphemeral, MoveLine, MoveEphemeral, Subtract, SubtractAll, SetTopology}
-use Rattle.mg_model.specs.declared.commands.Termination.{Termination}
 use Rattle.mg_model.specs.declared.commands.Termination.TheVariants as termination
-use Rattle.mg_model.specs.declared.components.Spot.{Spot}
-use Rattle.mg_model.specs.declared.components.Spot.TheVariants.{Absent, Null, In}
-use Rattle.mg_model.specs.Agent.{Agent}
-use Rattle.mg_model.specs.Board.{Board, place_of}
-use Rattle.mg_model.specs.Updates.{with_at}
-use Rattle.mg_model.specs.Configuration.{Configuration, IsWellFormed, is_same, is_in, is_live, is_free, is_present, value_of}
-use Rattle.mg_model.specs.Effects.{is_legal, effect, is_elsewhere}
-use Rattle.mg_model.specs.LineEvents.{LineRow}
-use Rattle.mg_model.specs.Request.{created_context, created_ephemeral}
-use Rattle.mg_model.specs.Script.{Script}
-use Rattle.mg_model.specs.Steps.{creates_unbound, with_link}
-use Rattle.mg_model.specs.Accepted.{is_apart, creates_apart}
-use Rattle.mg_model.proofs.Cases.{and_first, and_second, by_test}
-use Rattle.mg_safety.proofs.Invariant.Shown.{Naming, Shown, Seen, LinesShown, Owner, owned_at, ChangesOwned}
+use Rattle.mg_safety.proofs.InvariantWords.{Naming, Shown, Seen, LinesShown, Owner, owned_at, ChangesOwned}
 
 -- ---- changes of what is owned
 

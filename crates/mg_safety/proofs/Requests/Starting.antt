@@ -1,25 +1,10 @@
 -- The start of a request. No name is stale then and no Remote is gone, so whatever is seen is shown as long as the request runs.
-use Rattle.std.proofs.Common.{◌≡◌, ◌∙◌, ◌<◌, ◌≤◌, ℕ, Bool, true, false, List, [], ◌∷◌, length, Option, Some, None, is_some, refl, sym, ap, subst, arith, true≢false, inl, inr, ◌⊎◌}
-use Rattle.std.specs.Prelude.{◌||◌, not, unwrap_or}
-use Rattle.std.specs.List.{list_any}
-use Rattle.std.proofs.lemmas.Bool.{cases_lt}
-use Rattle.mg_names.specs.declared.context_values.ContextValue.{ContextValue}
-use Rattle.mg_names.specs.declared.context_values.ContextValue.TheVariants.{Free, Live, Stale}
-use Rattle.mg_names.specs.declared.identifiers.TermId.{TermId}
-use Rattle.mg_model.specs.declared.commands.Termination.{Termination}
+use Rattle.mg_safety.proofs.Words.{◌≡◌, ◌∙◌, ◌<◌, ◌≤◌, ℕ, Bool, true, false, List, [], ◌∷◌, length, Option, Some, None, is_some, refl, sym, ap, subst, arith}
+use Rattle.mg_safety.proofs.Words.{true≢false, inl, inr, ◌⊎◌, ◌||◌, not, unwrap_or, list_any, cases_lt, ContextValue, Free, Live, Stale, TermId, Termination}
+use Rattle.mg_safety.proofs.Words.{Remote, Unset, Gone, To, Spot, Absent, Null, In, IsSlot, Board, place_of, place_in, remote_in, Configuration, IsWellFormed}
+use Rattle.mg_safety.proofs.Words.{is_in, is_free, is_live, terminations, IsLive, Script, is_in_is}
 use Rattle.mg_model.specs.declared.commands.Termination.TheVariants as termination
-use Rattle.mg_model.specs.declared.components.Remote.{Remote}
-use Rattle.mg_model.specs.declared.components.Remote.TheVariants.{Unset, Gone, To}
-use Rattle.mg_model.specs.declared.components.Spot.{Spot}
-use Rattle.mg_model.specs.declared.components.Spot.TheVariants.{Absent, Null, In}
-use Rattle.mg_model.specs.Accepted.{IsSlot}
-use Rattle.mg_model.specs.Board.{Board, place_of, place_in, remote_in}
-use Rattle.mg_model.specs.Configuration.{Configuration, IsWellFormed, is_in, is_free, is_live, terminations}
-use Rattle.mg_model.specs.Obligations.{IsLive}
-use Rattle.mg_model.specs.Script.{Script}
-use Rattle.mg_model.proofs.Terminations.{is_in_is}
-use Rattle.mg_safety.proofs.Invariant.Shown.{Naming, Shown, Seen, RemoteReads, RemoteSeen, IsAccounted, row_on, term_of, eph_of, number_at}
-use Rattle.mg_safety.proofs.Invariant.Sound.{IsOfScript}
+use Rattle.mg_safety.proofs.InvariantWords.{Naming, Shown, Seen, RemoteReads, RemoteSeen, IsAccounted, row_on, term_of, eph_of, number_at, IsOfScript}
 
 first_or : {A : Type 0} (p : A → Bool) (x : A) (b : Bool) (rest : Bool) → p x ≡ b → (b || rest) ≡ true → (rest ≡ true → (y : A) × (p y ≡ true))
     → (y : A) × (p y ≡ true)

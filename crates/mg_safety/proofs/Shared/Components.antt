@@ -1,11 +1,5 @@
 -- What the tests of spots and contexts say.
-use Rattle.std.proofs.Common.{◌≡◌, ◌∙◌, ℕ, Bool, true, false, refl, ap}
-use Rattle.std.proofs.lemmas.Bool.{eq-eqb}
-use Rattle.mg_names.specs.declared.context_values.ContextValue.{ContextValue}
-use Rattle.mg_names.specs.declared.context_values.ContextValue.TheVariants.{Free, Live, Stale}
-use Rattle.mg_model.specs.declared.components.Spot.{Spot}
-use Rattle.mg_model.specs.declared.components.Spot.TheVariants.{In}
-use Rattle.mg_model.specs.Configuration.{is_in, is_free, value_of}
+use Rattle.mg_safety.proofs.Words.{◌≡◌, ◌∙◌, ℕ, Bool, true, false, refl, ap, eq-eqb, ContextValue, Free, Live, Stale, Spot, In, is_in, is_free, value_of}
 
 pub is_in_self : (spot : Spot) (j : ℕ) → spot ≡ In j → is_in spot j ≡ true
 is_in_self spot j e = ap (λ s. is_in s j) e ∙ eq-eqb j j refl

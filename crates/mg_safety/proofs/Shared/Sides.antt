@@ -1,15 +1,8 @@
 -- That the gateway's side of the definitions and the checker's agree on what each wrote down by itself: which modes let media in and
 -- out, and which way a Topology descriptor cuts.
-use Rattle.std.proofs.Common.{◌≡◌, refl}
-use Rattle.std.specs.Prelude.{not}
-use Rattle.mg_names.specs.declared.modes.Mode.{Mode}
-use Rattle.mg_names.specs.declared.modes.Mode.TheVariants.{Inactive, SendOnly, ReceiveOnly, SendReceive}
-use Rattle.mg_names.specs.declared.topologies.Topology.{Topology}
+use Rattle.mg_safety.proofs.Words.{◌≡◌, refl, not, Mode, Inactive, SendOnly, ReceiveOnly, SendReceive, Topology, cuts_forward, cuts_backward, second_receives}
+use Rattle.mg_safety.proofs.Words.{first_receives, receives, sends, passes_in, passes_out}
 use Rattle.mg_names.specs.declared.topologies.Topology.TheVariants.{Isolate, Oneway, Bothway}
-use Rattle.mg_model.specs.Effects.{cuts_forward, cuts_backward}
-use Rattle.mg_model.specs.Items.{second_receives, first_receives}
-use Rattle.mg_model.specs.Media.{receives, sends}
-use Rattle.mg_model.specs.Paths.{passes_in, passes_out}
 use Rattle.mg_safety.specs.Laws.{SidesAgree}
 
 pub receives_is : (mode : Mode) → receives mode ≡ passes_in mode

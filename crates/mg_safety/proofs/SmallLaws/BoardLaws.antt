@@ -1,19 +1,10 @@
 -- What a command leaves alone, and where a path stays.
-use Rattle.std.proofs.Common.{◌≡◌, ◌∙◌, ℕ, Bool, true, false, [], ◌∷◌, refl, sym, ap, arith, true≢false}
-use Rattle.std.specs.Prelude.{◌==◌, ◌&&◌, not, IsTrue}
-use Rattle.std.proofs.lemmas.Bool.{eqb-true}
-use Rattle.std.proofs.lemmas.Grind.{common_steps}
-use Rattle.mg_names.specs.declared.identifiers.TermId.{TermId}
-use Rattle.mg_names.specs.declared.identifiers.TermId.TheVariants.{Line, Eph}
+use Rattle.mg_safety.proofs.Words.{◌≡◌, ◌∙◌, ℕ, Bool, true, false, [], ◌∷◌, refl, sym, ap, arith, true≢false, ◌==◌, ◌&&◌, not, IsTrue, eqb-true, common_steps}
+use Rattle.mg_safety.proofs.Words.{TermId, Line, Eph, Add, Modify, Move, Board, same_term, place_of, mode_of, without_cuts, share_context, hops, crosses}
+use Rattle.mg_safety.proofs.Words.{goes_over, receives, sends, three_parts, same_term_is}
 use Rattle.mg_model.specs.declared.items.Added.TheVariants as added
-use Rattle.mg_model.specs.declared.items.Item.TheVariants.{Add, Modify, Move, Subtract, SubtractAll, SetTopology}
-use Rattle.mg_model.specs.Board.{Board, same_term, place_of, mode_of}
-use Rattle.mg_model.specs.Items.{without_cuts}
-use Rattle.mg_model.specs.Media.{share_context, hops, crosses, goes_over}
-use Rattle.mg_model.specs.Media.{receives, sends}
+use Rattle.mg_model.specs.declared.items.Item.TheVariants.{Subtract, SubtractAll, SetTopology}
 use Rattle.mg_safety.specs.Laws.{CommandsKeepOthers, AreClosed, PathsStayInside}
-use Rattle.mg_model.proofs.Cases.{three_parts}
-use Rattle.mg_model.proofs.Terminations.{same_term_is}
 
 -- another termination than one of these
 differs : (mine : TermId → Bool) (t u : TermId) → IsTrue (mine t) → mine u ≡ false → same_term u t ≡ false

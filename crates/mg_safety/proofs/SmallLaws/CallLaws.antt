@@ -1,22 +1,11 @@
 -- What an event leaves alone.
-use Rattle.std.proofs.Common.{◌≡◌, ◌∙◌, ◌+◌, ◌<◌, ◌≤◌, ◌++◌, ℕ, List, [], ◌∷◌, length, Option, Some, None, refl, sym, ap, subst, arith, inl, inr, zero, suc, get_or}
-use Rattle.std.specs.Prelude.{Contains, unwrap_or}
-use Rattle.std.proofs.lemmas.List.Elements.{Contains-append_cases}
-use Rattle.mg_model.specs.declared.failures.ChosenRefusal.{ChosenRefusal}
-use Rattle.mg_names.specs.declared.identifiers.TermId.TheVariants.{Line}
-use Rattle.mg_model.specs.Agent.{Agent, replied, passed, noted, timed, heard}
-use Rattle.mg_model.specs.LineEvents.{Note}
-use Rattle.mg_model.specs.declared.line_events.LineEvent.{LineEvent}
-use Rattle.mg_model.specs.Gateway.{Gateway, last_executed, row_restarted, notes_from, sent_notes, reply_of}
-use Rattle.mg_model.specs.Messages.{Request, Reply, SentNote}
-use Rattle.mg_model.specs.RequestRun.{RaisedNote}
+use Rattle.mg_safety.proofs.Words.{◌≡◌, ◌∙◌, ◌+◌, ◌<◌, ◌≤◌, ◌++◌, ℕ, List, [], ◌∷◌, length, Option, Some, None, refl, sym, ap, subst, arith, inl, inr, zero}
+use Rattle.mg_safety.proofs.Words.{suc, get_or, Contains, unwrap_or, Contains-append_cases, ChosenRefusal, Line, Agent, replied, passed, noted, timed, heard}
+use Rattle.mg_safety.proofs.Words.{Note, LineEvent, Gateway, last_executed, row_restarted, notes_from, sent_notes, reply_of, Request, Reply, SentNote}
+use Rattle.mg_safety.proofs.Words.{RaisedNote, Script, World, Executes, IsFirst, LineOccurs, AgentSteps, Begins, sent_in, line_places, at_another, fresh_at}
+use Rattle.mg_safety.proofs.Words.{kept_at}
 use Rattle.mg_model.specs.declared.events.CallEvent.TheVariants as to_call
-use Rattle.mg_model.specs.Script.{Script}
-use Rattle.mg_model.specs.World.{World, Executes, IsFirst, LineOccurs, AgentSteps, Begins, sent_in}
-use Rattle.mg_model.specs.Tables.{line_places}
 use Rattle.mg_safety.specs.Laws.{OldRequestsDoNothing, RestartsClearLines, EventsKeepOthers, AreNumbered, IsSameButReplies, IsSameFor}
-use Rattle.mg_model.proofs.Cases.{at_another}
-use Rattle.mg_model.proofs.Offered.{fresh_at, kept_at}
 use Rattle.mg_safety.proofs.Events.Handover.{link_other, agent_other}
 use Rattle.mg_safety.proofs.SmallLaws.AgentLaws.{IsOwn, GivesOwn, replied_own, passed_own, noted_own, timed_own, heard_own}
 

@@ -1,17 +1,9 @@
 -- At each moment no line is of two calls: whoever has a line holds it on the gateway, and a call that begins is handed the lines of the old one.
-use Rattle.std.proofs.Common.{◌≡◌, ◌∙◌, ◌<◌, ◌==◌, ℕ, Bool, true, false, List, [], ◌∷◌, length, Option, Some, if◌then◌else◌, refl, sym, ap, subst, inl, inr}
-use Rattle.std.proofs.lemmas.Bool.{eqb-true}
-use Rattle.mg_model.specs.declared.events.CallEvent.{CallEvent}
+use Rattle.mg_safety.proofs.Words.{◌≡◌, ◌∙◌, ◌<◌, ◌==◌, ℕ, Bool, true, false, List, [], ◌∷◌, length, Option, Some, if◌then◌else◌, refl, sym, ap, subst, inl}
+use Rattle.mg_safety.proofs.Words.{inr, eqb-true, CallEvent, Event, OfCall, Restart, Agent, opened, replied, passed, noted, timed, heard, Gateway, Script}
+use Rattle.mg_safety.proofs.Words.{line_places, World, Opened, IsOpening, AgentSteps, agent_steps, Begins, OccursTo, Occurs, the_some, line_held}
 use Rattle.mg_model.specs.declared.events.CallEvent.TheVariants as to_call
-use Rattle.mg_model.specs.declared.events.Event.{Event}
-use Rattle.mg_model.specs.declared.events.Event.TheVariants.{OfCall, Restart}
-use Rattle.mg_model.specs.Agent.{Agent, opened, replied, passed, noted, timed, heard}
-use Rattle.mg_model.specs.Gateway.{Gateway}
-use Rattle.mg_model.specs.Script.{Script}
-use Rattle.mg_model.specs.Tables.{line_places}
-use Rattle.mg_model.specs.World.{World, Opened, IsOpening, AgentSteps, agent_steps, Begins, OccursTo, Occurs, Runs}
-use Rattle.mg_model.proofs.Cases.{the_some}
-use Rattle.mg_model.proofs.OpenedLines.{line_held}
+use Rattle.mg_model.specs.World.{Runs}
 use Rattle.mg_safety.specs.Laws.{LinesStayDistinct}
 use Rattle.mg_safety.proofs.Events.Handover.{handed_own, handed_other, world_begun, agent_from}
 use Rattle.mg_safety.proofs.Messages.AgentNumbers.{GivesNext, replied_next, passed_next, noted_next, timed_next, heard_next}

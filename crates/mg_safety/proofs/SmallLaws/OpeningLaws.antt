@@ -1,21 +1,9 @@
 -- Openings are good, and in a good world calls stay apart.
-use Rattle.std.proofs.Common.{◌≡◌, ◌∙◌, ℕ, Bool, List, [], ◌∷◌, Option, Some, None, is_some, refl, sym, ap, arith, inl, inr}
-use Rattle.std.proofs.lemmas.Grind.{common_steps}
-use Rattle.std.specs.Prelude.{◌==◌, ◌&&◌, not, IsTrue, unwrap_or}
-use Rattle.mg_names.specs.declared.identifiers.TermId.{TermId}
-use Rattle.mg_names.specs.declared.identifiers.TermId.TheVariants.{Line, Eph}
-use Rattle.mg_model.specs.declared.rows.Row.{Row}
-use Rattle.mg_model.specs.Agent.{Agent, opened}
-use Rattle.mg_model.specs.Board.{Board, same_term, place_of, place_in, mode_of}
-use Rattle.mg_model.specs.Media.{receives, sends}
-use Rattle.mg_model.specs.LineEvents.{LineRow}
-use Rattle.mg_model.specs.Media.{hops, crosses, goes_over, AreJoined}
-use Rattle.mg_model.specs.Script.{Script}
-use Rattle.mg_model.specs.World.{World, Opened, IsOpening, IsReleased}
-use Rattle.mg_model.specs.Board.{null_row}
+use Rattle.mg_safety.proofs.Words.{◌≡◌, ◌∙◌, ℕ, Bool, List, [], ◌∷◌, Option, Some, None, is_some, refl, sym, ap, arith, inl, inr, common_steps, ◌==◌, ◌&&◌, not}
+use Rattle.mg_safety.proofs.Words.{IsTrue, unwrap_or, TermId, Line, Eph, Row, Agent, opened, Board, same_term, place_of, place_in, mode_of, receives, sends}
+use Rattle.mg_safety.proofs.Words.{LineRow, hops, crosses, goes_over, AreJoined, Script, World, Opened, IsOpening, IsReleased, null_row, the_some, three_parts}
+use Rattle.mg_safety.proofs.Words.{line_armed, line_stands}
 use Rattle.mg_safety.specs.Laws.{OpeningsAreGood, CallsStayApart, LostCallsAreNotJoined}
-use Rattle.mg_model.proofs.Cases.{the_some, three_parts}
-use Rattle.mg_model.proofs.OpenedLines.{line_armed, line_stands}
 
 -- ---- nothing is joined where all stands in the null context
 
