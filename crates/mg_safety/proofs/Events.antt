@@ -1,5 +1,6 @@
 -- The events of the gateway and what they leave to other calls: executes, events of lines, restarts, calls that begin; and openings.
 pub mod Others
+pub mod StillSound
 pub mod StayApart
 pub mod RowAfterEvent
 pub mod LineEventsSound

@@ -1,12 +1,12 @@
 -- The words of std and of the model that the proofs here cite, brought in from one place. Declares nothing.
 pub use Rattle.std.proofs.Common.{if◌then◌else◌, ◌&&◌, ◌*◌, ◌++◌, ◌+◌, ◌<◌, ◌==◌, ◌||◌, ◌∙◌, ◌∷◌, ◌≡◌, ◌≤◌, ◌⊎◌, Bool, Contains, IsTrue, List, None, Option}
-pub use Rattle.std.proofs.Common.{Some, [], ap, append_assoc, arith, false, get_or, inl, inr, is_some, length, length-append, map, nat_lt, not, refl}
+pub use Rattle.std.proofs.Common.{Some, [], ap, append_assoc, arith, false, get_or, inl, inr, is_some, length, length-append, ltb-true, map, nat_lt, not, refl}
 pub use Rattle.std.proofs.Common.{slice_index_or, subst, subst₂, suc, sym, true, true≢false, zero, ℕ}
 pub use Rattle.std.specs.Prelude.{filter, nat_le, option_and_then, option_map, slice_get, unwrap_or}
 pub use Rattle.std.proofs.Math.Nat.{eq-or-lt_of_le, mul-le-mul_right}
 pub use Rattle.std.proofs.Math.Path.{fun_ext}
-pub use Rattle.std.proofs.lemmas.Bool.{and_from, and_parts, cases_lt, eq-eqb, eqb-false, eqb-true, false_from_ne_true, lt-ltb, or_left, or_right}
-pub use Rattle.std.proofs.lemmas.Bool.{true_from_ne_false}
+pub use Rattle.std.proofs.lemmas.Bool.{and_from, and_parts, cases_Bool, cases_eq, cases_lt, eq-eqb, eqb-false, eqb-true, false_from_ne_true, lt-ltb, or_left}
+pub use Rattle.std.proofs.lemmas.Bool.{or_right, true_from_ne_false}
 pub use Rattle.std.proofs.lemmas.Grind.{common_steps}
 pub use Rattle.std.proofs.lemmas.List.Elements.{All-append, All-cons, All-contains, All-head, All-nil, All-tail, Contains-append_cases, Contains-append_left}
 pub use Rattle.std.proofs.lemmas.List.Elements.{Contains-append_right}
@@ -27,11 +27,11 @@ pub use Rattle.mg_names.specs.declared.strictness.Strict.TheVariants.{Exact}
 pub use Rattle.mg_names.specs.declared.topologies.Topology.{Topology}
 pub use Rattle.mg_model.proofs.Agents.{is_resting_is, no_results}
 pub use Rattle.mg_model.proofs.Cases.{all_three, and_first, and_second, at_another, at_one, by_test, denied, different, false_either_way, false_not_true}
-pub use Rattle.mg_model.proofs.Cases.{neither_first, neither_second, none_is_some, none_of, not_both, not_refused, same_test, same_turned, some_is_none}
-pub use Rattle.mg_model.proofs.Cases.{some_of, the_some, three_parts, where_false, where_true}
+pub use Rattle.mg_model.proofs.Cases.{neither_first, neither_second, none_is_some, none_of, not_both, not_refused, same_itself, same_test, same_turned}
+pub use Rattle.mg_model.proofs.Cases.{some_is_none, some_of, the_some, three_parts, where_false, where_true}
 pub use Rattle.mg_model.proofs.Offered.{fresh_at, fresh_is_open, kept_at, number_of}
 pub use Rattle.mg_model.proofs.OpenedLines.{line_armed, line_held, line_stands}
-pub use Rattle.mg_model.proofs.Single.{any_too, first_in, in_joined, none_in, nothing_in, only_here, only_one}
+pub use Rattle.mg_model.proofs.Single.{any_too, first_in, first_or_later, in_joined, later_in, none_in, nothing_in, only_here, only_one}
 pub use Rattle.mg_model.proofs.Terminations.{is_in_is, is_same_is, is_same_self, is_same_turned, same_term_is, same_term_self, same_term_turned}
 pub use Rattle.mg_model.specs.Accepted.{IsCommandOf, IsContext, IsEntryOf, IsRemote, IsScript, IsSlot, IsStateOf, create_once, creates_apart, is_apart}
 pub use Rattle.mg_model.specs.Accepted.{is_contexts, is_cuts, is_events, is_links, is_modes, is_plays, is_remotes, is_spots}

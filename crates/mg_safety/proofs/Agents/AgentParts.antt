@@ -1,8 +1,7 @@
 -- Parts of the steps of an agent: the configuration that it is shown by where a target is entered, and what stays of a lost call.
-use Rattle.mg_safety.proofs.Words.{◌≡◌, ◌∙◌, ◌<◌, ◌≤◌, ℕ, false, List, [], length, Option, Some, None, sym, subst, arith, inl, inr, Contains, ◌⊎◌, Failure}
-use Rattle.mg_safety.proofs.Words.{Line, Resting, StepName, Agent, awaits_reply, resting, entered_or_rests, entered_if, leads_on, Configuration, Entry, Gateway}
-use Rattle.mg_safety.proofs.Words.{last_executed, Request, Script, Step, entering, reply_step, steps_by_link, state_of, silent, null_row, only_here}
-use Rattle.mg_safety.proofs.Words.{none_is_some, the_some}
+use Rattle.mg_safety.proofs.Words.{◌≡◌, ◌∙◌, ◌<◌, ◌≤◌, ℕ, List, Option, Some, None, sym, subst, arith, inl, inr, Contains, ◌⊎◌, Failure, Resting, StepName}
+use Rattle.mg_safety.proofs.Words.{Agent, awaits_reply, resting, entered_or_rests, entered_if, leads_on, Configuration, Entry, Gateway, last_executed, Request}
+use Rattle.mg_safety.proofs.Words.{Script, Step, entering, reply_step, steps_by_link, state_of, only_here, none_is_some, the_some, subst₂}
 use Rattle.mg_names.specs.declared.phases.LinkPhase as phases
 use Rattle.mg_model.specs.declared.steps.StepName.TheVariants as names
 use Rattle.mg_model.specs.Steps as steps
@@ -53,17 +52,17 @@ leads_follows script was e (Some failure) b is = if_follows script e (state_of s
 -- a lost call stays lost: nothing is read of it but its number, its association and its lines
 pub lost_still : (script : Script) (g : Gateway) (a b : Agent) → IsLost script g a → b.call ≡ a.call → b.association < g.association → b.lines ≡ a.lines
     → IsLost script g b
-lost_still script g a b lost call older lines = record {
-  association = older;
-  rows = subst (λ (at : ℕ → ℕ). (i : ℕ) → i < length script.lines → g.board.row (Line (record { 0 = at i })) ≡ Some null_row) (sym lines) lost.rows;
-  list = subst (λ (at : ℕ → ℕ). (i : ℕ) → i < length script.lines → (g.line (at i)).list ≡ []) (sym lines) lost.list;
-  playing = subst (λ (at : ℕ → ℕ). (i : ℕ) → i < length script.lines → (g.line (at i)).playing ≡ silent) (sym lines) lost.playing;
-  request = subst (λ (at : ℕ → ℕ). (i : ℕ) → i < length script.lines → (g.line (at i)).request ≡ None) (sym lines) lost.request;
-  no_ephemeral = subst (λ (call : ℕ). (x : ℕ) → g.creator x ≡ Some call → ⊥) (sym call) lost.no_ephemeral;
-  no_reply = subst (λ (call : ℕ). (g.link call).last ≡ None) (sym call) lost.no_reply;
-  no_cut = subst (λ (at : ℕ → ℕ). (i j : ℕ) → i < length script.lines → j < length script.lines
-      → g.board.cut (Line (record { 0 = at i })) (Line (record { 0 = at j })) ≡ false) (sym lines) lost.no_cut;
-}
+lost_still script g a b lost call older lines =
+    subst₂ (λ (n : ℕ) (at : ℕ → ℕ). IsLost script g (record b { call = n; lines = at })) (sym call) (sym lines) (record {
+      association = older;
+      rows = lost.rows;
+      list = lost.list;
+      playing = lost.playing;
+      request = lost.request;
+      no_ephemeral = lost.no_ephemeral;
+      no_reply = lost.no_reply;
+      no_cut = lost.no_cut;
+    })
 
 -- what was sent by a lost call is of an older association
 pub none_settles : (script : Script) (g : Gateway) (a : Agent) → IsLost script g a → (request : Request) → IsSentBy g a request

@@ -31,8 +31,7 @@ between_of script entries g a e k effective call association next above = record
 passes : (script : Script) (a b : Agent) (phase : Phase) → passed_in script a phase ≡ Some b
     → (phase ≡ awaits_pass) × (entered_or_rests script a (state_of script a.state).ok ≡ Some b)
 passes script a b awaits_pass is = (refl, is)
-passes script a b (awaits_reply request) is = absurd (none_is_some b is)
-passes script a b resting is = absurd (none_is_some b is)
+passes script a b phase is = absurd (none_is_some b is)
 
 -- a phase in which nothing is outstanding
 pub pass_quiet : (phase : Phase) → phase ≡ awaits_pass → (request : Request) → phase ≡ awaits_reply request → ⊥
@@ -46,18 +45,12 @@ pub at_pass : (script : Script) (g : Gateway) (a e : Agent) (link : phases.LinkP
 at_pass script g a e link is (inl sent) = absurd (pass_quiet a.phase is sent.request sent.outstanding.phase)
 at_pass script g a e link is (inr (inl answered)) = absurd (pass_quiet a.phase is answered.request answered.outstanding.phase)
 at_pass script g a e link is (inr (inr (inl passing))) = passing
-at_pass script g a e link is (inr (inr (inr rests))) = absurd (apart (sym rests.phase ∙ is))
-  where
-    apart : resting ≡ awaits_pass → ⊥
-    apart e = cc
+at_pass script g a e link is (inr (inr (inr rests))) = let apart : resting ≡ awaits_pass = sym rests.phase ∙ is in absurd (cc)
 
 pub at_rest : (script : Script) (g : Gateway) (a e : Agent) (link : phases.LinkPhase) → a.phase ≡ resting → IsAt script g a e link → IsResting a e link
 at_rest script g a e link is (inl sent) = absurd (rest_quiet a.phase is sent.request sent.outstanding.phase)
 at_rest script g a e link is (inr (inl answered)) = absurd (rest_quiet a.phase is answered.request answered.outstanding.phase)
-at_rest script g a e link is (inr (inr (inl passing))) = absurd (apart (sym passing.phase ∙ is))
-  where
-    apart : awaits_pass ≡ resting → ⊥
-    apart e = cc
+at_rest script g a e link is (inr (inr (inl passing))) = let apart : awaits_pass ≡ resting = sym passing.phase ∙ is in absurd (cc)
 at_rest script g a e link is (inr (inr (inr rests))) = rests
 
 pass_goes : (script : Script) (entries : List Entry) → IsClosed script entries → (w : World) (call : ℕ) (a b : Agent) → CallIsSound script entries w call a

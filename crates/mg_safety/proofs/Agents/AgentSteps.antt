@@ -1,7 +1,7 @@
 -- A step of one agent keeps the world sound, where the agent after it goes on from the one before.
-use Rattle.mg_safety.proofs.Words.{◌≡◌, ◌∙◌, ◌<◌, ◌≤◌, ℕ, Bool, true, false, List, Option, Some, refl, sym, ap, subst, arith, inl, inr, eqb-true}
-use Rattle.mg_safety.proofs.Words.{Contains-append_cases, ◌==◌, if◌then◌else◌, Contains, ◌⊎◌, Agent, Phase, awaits_reply, awaits_pass, resting, Entry, Gateway}
-use Rattle.mg_safety.proofs.Words.{last_executed, Request, Script, World, AgentSteps, agent_steps, sent_in, none_in, only_one, the_some}
+use Rattle.mg_safety.proofs.Words.{◌≡◌, ◌∙◌, ◌<◌, ◌≤◌, ℕ, false, List, Option, Some, refl, sym, ap, subst, arith, inl, inr, eqb-true, Contains-append_cases}
+use Rattle.mg_safety.proofs.Words.{◌==◌, Contains, ◌⊎◌, Agent, Phase, awaits_reply, Entry, Gateway, last_executed, Request, Script, World, AgentSteps}
+use Rattle.mg_safety.proofs.Words.{agent_steps, sent_in, none_in, only_one, the_some, cases_eq, by_test, at_one, at_another}
 use Rattle.mg_safety.proofs.InvariantWords.{IsSentBy, IsCurrent, IsLost, CallIsSound, IsKnown, IsOpen, IsAboveFloor, GatewayIsSound, IsSound}
 
 -- the agent b goes on from a: what it sends is new and its own, what was sent before is settled, and it is current or lost
@@ -19,11 +19,15 @@ pub record Goes (script : Script) (entries : List Entry) (g : Gateway) (a b : Ag
 -- a request that a phase sends is outstanding in it
 outstanding_in : (phase : Phase) (request : Request) → Contains (sent_in phase) request → phase ≡ awaits_reply request
 outstanding_in (awaits_reply one) request among = ap awaits_reply (only_one one request among)
-outstanding_in awaits_pass request among = absurd (none_in request among)
-outstanding_in resting request among = absurd (none_in request among)
+outstanding_in phase request among = absurd (none_in request among)
 
-differs : (m n : ℕ) → (m == n) ≡ false → m ≡ n → ⊥
-differs m n e is = grind (arith, e, is)
+-- an agent after a step is the call's, or one that was there
+pub stepped_agent : (w : World) (call : ℕ) (b : Agent) (other : ℕ) (one : Agent) → (agent_steps w call b).agent other ≡ Some one
+    → ((other ≡ call) × (b ≡ one)) ⊎ ((other ≡ call → ⊥) × (w.agent other ≡ Some one))
+stepped_agent w call b other one there = elim (cases_eq other call) [
+  | inl is ↦ inl (is, the_some b one (sym (ap (agent_steps w call b).agent is ∙ at_one call (Some b) (w.agent call)) ∙ there))
+  | inr apart ↦ inr (apart, sym (at_another call other (Some b) (w.agent other) apart) ∙ there)
+]
 
 module _ (script : Script) (entries : List Entry) (w : World) (call : ℕ) (a b : Agent) (sound : IsSound script entries w)
     (here : w.agent call ≡ Some a) (goes : Goes script entries w.gateway a b) where
@@ -36,17 +40,10 @@ module _ (script : Script) (entries : List Entry) (w : World) (call : ℕ) (a b 
   -- the agent of each call that was open, after the step
   agent_after : (other : ℕ) (one : Agent) → w.agent other ≡ Some one
       → (now : Agent) × ((agent_steps w call b).agent other ≡ Some now) × (now.lines ≡ one.lines)
-  agent_after other one there = by_call (other == call) refl
-    where
-      by_call : (same : Bool) → (other == call) ≡ same
-          → (now : Agent) × ((if same then Some b else w.agent other) ≡ Some now) × (now.lines ≡ one.lines)
-      by_call true e = (
-        b,
-        refl,
-        goes.lines ∙ ap (λ (x : Agent). x.lines)
-            (the_some a one (sym here ∙ ap w.agent (sym (eqb-true other call e)) ∙ there)),
-      )
-      by_call false e = (one, there, refl)
+  agent_after other one there =
+      by_test (λ (o : Option Agent). (now : Agent) × (o ≡ Some now) × (now.lines ≡ one.lines)) (Some b) (w.agent other) (other == call)
+      (λ e. (b, refl, goes.lines ∙ ap (λ (x : Agent). x.lines) (the_some a one (sym here ∙ ap w.agent (sym (eqb-true other call e)) ∙ there))))
+      (λ e. (one, there, refl))
 
   -- what was sent before stays sent by the agent
   sent_before : (request : Request) → IsSentBy w.gateway a request → IsSentBy w.gateway b request
@@ -95,44 +92,40 @@ module _ (script : Script) (entries : List Entry) (w : World) (call : ℕ) (a b 
   }
 
   each_call : (other : ℕ) (one : Agent) → (agent_steps w call b).agent other ≡ Some one → CallIsSound script entries (agent_steps w call b) other one
-  each_call other one = by_call (other == call) refl
-    where
-      by_call : (same : Bool) → (other == call) ≡ same → (if same then Some b else w.agent other) ≡ Some one
-          → CallIsSound script entries (agent_steps w call b) other one
-      by_call true e there = subst (λ n. CallIsSound script entries (agent_steps w call b) n one) (sym (eqb-true other call e))
-          (subst (CallIsSound script entries (agent_steps w call b) call) (the_some b one there) own_call)
-      by_call false e there = other_call other one (differs other call e) there
+  each_call other one there = elim (stepped_agent w call b other one there) [
+    | inl own ↦ subst (λ n. CallIsSound script entries (agent_steps w call b) n one) (sym own.0)
+        (subst (CallIsSound script entries (agent_steps w call b) call) own.1 own_call)
+    | inr was ↦ other_call other one was.0 was.1
+  ]
 
   known_after : (other : ℕ) → IsKnown w other → IsKnown (agent_steps w call b) other
   known_after other (inl there) = let now = agent_after other there.0 there.1 in inl (now.0, now.1)
   known_after other (inr gone) = inr gone
 
   open_before : (other : ℕ) → IsOpen (agent_steps w call b) other → IsOpen w other
-  open_before other (now, there) = by_call (other == call) refl there
-    where
-      by_call : (same : Bool) → (other == call) ≡ same → (if same then Some b else w.agent other) ≡ Some now → IsOpen w other
-      by_call true e is = (a, ap w.agent (eqb-true other call e) ∙ here)
-      by_call false e is = (now, is)
+  open_before other (now, there) = elim (stepped_agent w call b other now there) [
+    | inl own ↦ (a, ap w.agent own.0 ∙ here)
+    | inr was ↦ (now, was.1)
+  ]
 
   floor_after : (other : ℕ) (one : Agent) → (agent_steps w call b).agent other ≡ Some one → IsAboveFloor (sound.floor other) (agent_steps w call b) other one
-  floor_after other one = by_call (other == call) refl
+  floor_after other one there = elim (stepped_agent w call b other one there) [
+    | inl its ↦ subst (λ n. IsAboveFloor (sound.floor n) (agent_steps w call b) n one) (sym its.0)
+        (subst (IsAboveFloor (sound.floor call) (agent_steps w call b) call) its.1 own)
+    | inr was ↦ (let old = sound.floors other one was.1 in record {
+      next = old.next;
+      requests = λ request among of. elim (Contains-append_cases (sent_in b.phase) w.requests request among) [
+        | inl new ↦ absurd (was.0 (sym of ∙ sent_own request new))
+        | inr before ↦ old.requests request before of
+      ];
+    })
+  ]
     where
       own : IsAboveFloor (sound.floor call) (agent_steps w call b) call b
       own = let old = sound.floors call a here in record {
         next = let before = old.next in let step = goes.next in omega (arith, before, step);
         requests = λ request there of. elim (Contains-append_cases (sent_in b.phase) w.requests request there) [
           | inl new ↦ (let sends = goes.above request (outstanding_in b.phase request new) in let before = old.next in omega (arith, sends, before))
-          | inr before ↦ old.requests request before of
-        ];
-      }
-
-      by_call : (same : Bool) → (other == call) ≡ same → (if same then Some b else w.agent other) ≡ Some one → IsAboveFloor (sound.floor other) (agent_steps w call b) other one
-      by_call true e there = subst (λ n. IsAboveFloor (sound.floor n) (agent_steps w call b) n one) (sym (eqb-true other call e))
-          (subst (IsAboveFloor (sound.floor call) (agent_steps w call b) call) (the_some b one there) own)
-      by_call false e there = let old = sound.floors other one there in record {
-        next = old.next;
-        requests = λ request among of. elim (Contains-append_cases (sent_in b.phase) w.requests request among) [
-          | inl new ↦ absurd (differs other call e (sym of ∙ sent_own request new))
           | inr before ↦ old.requests request before of
         ];
       }
@@ -145,10 +138,7 @@ module _ (script : Script) (entries : List Entry) (w : World) (call : ℕ) (a b 
     accounted = old.accounted;
     creator_stands = old.creator_stands;
     apart = old.apart;
-    created = λ x stands.
-        let was = old.created x stands in
-        let now = agent_after was.0 was.1 was.3 in
-        (was.0, now.0, was.2, now.1);
+    created = λ x stands. let was = old.created x stands in let now = agent_after was.0 was.1 was.3 in (was.0, now.0, was.2, now.1);
     unheld = old.unheld;
     held = λ l one is.
         let was = old.held l one is in

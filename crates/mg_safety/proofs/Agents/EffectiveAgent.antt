@@ -1,7 +1,7 @@
 -- What a reply binds leaves the rest of the agent; so the agent as it will be once it has taken a reply that is kept has the lines of the
 -- call.
-use Rattle.mg_safety.proofs.Words.{◌≡◌, ◌∙◌, ℕ, List, [], ◌∷◌, refl, ap, inl, inr, Command, AddLine, AddEphemeral, ModifyLine, ModifyEphemeral, MoveLine}
-use Rattle.mg_safety.proofs.Words.{MoveEphemeral, Subtract, SubtractAll, SetTopology, Agent, after_result, after_results, built_by, Gateway, Done, Script}
+use Rattle.mg_safety.proofs.Words.{◌≡◌, ◌∙◌, ℕ, List, [], ◌∷◌, refl, ap, inl, inr, Command, Subtract, Agent, after_result, after_results, built_by, Gateway}
+use Rattle.mg_safety.proofs.Words.{Done, Script}
 use Rattle.mg_names.specs.declared.phases.LinkPhase as phases
 use Rattle.mg_model.specs.declared.commands.Termination.TheVariants as termination
 use Rattle.mg_safety.proofs.InvariantWords.{IsAt}
@@ -28,16 +28,8 @@ kept_twice a b c first second = record {
 }
 
 result_keeps : (a : Agent) (command : Command) (done : Done) (number : ℕ) → IsKeptBy a (after_result a command done number)
-result_keeps a (AddLine create j i o) done number = record { call = refl; state = refl; association = refl; lines = refl; next = refl }
-result_keeps a (AddEphemeral create j k o) done number = record { call = refl; state = refl; association = refl; lines = refl; next = refl }
-result_keeps a (ModifyLine place i o) done number = record { call = refl; state = refl; association = refl; lines = refl; next = refl }
-result_keeps a (ModifyEphemeral place k o) done number = kept_itself a
-result_keeps a (MoveLine j i o) done number = record { call = refl; state = refl; association = refl; lines = refl; next = refl }
-result_keeps a (MoveEphemeral j k o) done number = kept_itself a
 result_keeps a (Subtract j (termination.Line i)) done number = record { call = refl; state = refl; association = refl; lines = refl; next = refl }
-result_keeps a (Subtract j (termination.Ephemeral k)) done number = record { call = refl; state = refl; association = refl; lines = refl; next = refl }
-result_keeps a (SubtractAll j) done number = record { call = refl; state = refl; association = refl; lines = refl; next = refl }
-result_keeps a (SetTopology j t u topology) done number = kept_itself a
+result_keeps a command done number = record { call = refl; state = refl; association = refl; lines = refl; next = refl }
 
 pub results_keep : (a : Agent) (commands : List Command) (results : List Done) (number : ℕ) → IsKeptBy a (after_results a commands results number)
 results_keep a [] results number = kept_itself a

@@ -1,10 +1,9 @@
 -- An agent that enters a state: what it keeps of itself, what it sends, and that the configuration which the checker enters is shown then.
 use Rattle.mg_safety.proofs.Words.{◌≡◌, ◌∙◌, ◌+◌, ◌<◌, ◌≤◌, ℕ, Bool, true, false, List, [], ◌∷◌, Some, None, refl, sym, ap, subst, arith, inl, inr}
-use Rattle.mg_safety.proofs.Words.{if◌then◌else◌, nat_le, Sent, Answered, Resting, Command, AddLine, AddEphemeral, ModifyLine, ModifyEphemeral, MoveLine}
-use Rattle.mg_safety.proofs.Words.{MoveEphemeral, Subtract, SubtractAll, SetTopology, Agent, Made, Phase, awaits_reply, awaits_pass, resting, entered_with}
-use Rattle.mg_safety.proofs.Words.{entered, built_by, command_of, commands_of, made_after, none_made, request_of, Configuration, Entry, last_number, Gateway}
-use Rattle.mg_safety.proofs.Words.{last_executed, LineRow, Request, RequestCommand, Names, built, Script, request_in, state_of, is_empty, none_is_some}
-use Rattle.mg_safety.proofs.Words.{the_some}
+use Rattle.mg_safety.proofs.Words.{if◌then◌else◌, nat_le, Sent, Answered, Resting, Command, SubtractAll, Agent, Made, Phase, awaits_reply, awaits_pass, resting}
+use Rattle.mg_safety.proofs.Words.{entered_with, entered, built_by, command_of, commands_of, made_after, none_made, request_of, Configuration, Entry}
+use Rattle.mg_safety.proofs.Words.{last_number, Gateway, last_executed, LineRow, Request, RequestCommand, Names, built, Script, request_in, state_of, is_empty}
+use Rattle.mg_safety.proofs.Words.{none_is_some, the_some, by_test, ◌⊎◌, Option}
 use Rattle.mg_names.specs.declared.phases.LinkPhase as phases
 use Rattle.mg_model.specs.Steps as steps
 use Rattle.mg_safety.proofs.InvariantWords.{naming, Seen, LinesShown, Stands, IsOfScript, owned_in, IsCurrent}
@@ -43,38 +42,50 @@ follows_resting e = record {
   above = λ request is. absurd (not_resting request is);
 }
 
-entered_follows : (script : Script) (e : Agent) (state : ℕ) (b : Agent) (empty : Bool) → entered_with script e state empty ≡ Some b → Follows e b
-entered_follows script e state b true is = subst (Follows e) (the_some (record e { state = state; phase = awaits_pass }) b is) (record {
-  call = refl;
-  association = refl;
-  lines = refl;
-  next = omega arith;
-  sends = λ request is. absurd (not_passing request is);
-  above = λ request is. absurd (not_passing request is);
-})
-entered_follows script e state b false is = numbered (nat_le e.next last_number) is
+-- an agent that enters a state passes an empty request, or sends the state's
+abbrev pub passing : Agent → ℕ → Agent
+passing e state = record e { state = state; phase = awaits_pass }
+
+abbrev pub asking : Script → Agent → ℕ → Agent
+asking script e state = record e { state = state; phase = awaits_reply (request_of script e state); next = e.next + 1 }
+
+pub enters : (script : Script) (e : Agent) (state : ℕ) (b : Agent) → entered script e state ≡ Some b
+    → ((is_empty (built_by script e state) ≡ true) × (passing e state ≡ b)) ⊎ ((is_empty (built_by script e state) ≡ false) × (asking script e state ≡ b))
+enters script e state b = by_request (is_empty (built_by script e state))
   where
-    numbered : (room : Bool) → (if room
-        then Some (record e { state = state; phase = awaits_reply (request_of script e state); next = e.next + 1 }) else None) ≡ Some b → Follows e b
-    numbered true is = subst (Follows e) (the_some (record e { state = state; phase = awaits_reply (request_of script e state); next = e.next + 1 }) b is) (record {
-      call = refl;
-      association = refl;
-      lines = refl;
-      next = omega arith;
-      sends = λ request is.
-          let one : request_of script e state ≡ request = same_request (request_of script e state) request is in
-          let own : e.call ≡ request.call = ap (λ (r : Request). r.call) one in
-          let present : e.association ≡ request.association = ap (λ (r : Request). r.association) one in
-          let number : e.next ≡ request.number = ap (λ (r : Request). r.number) one in
-          (sym own, sym present, omega (arith, number));
-      above = λ request is.
-          let number : e.next ≡ request.number = ap (λ (r : Request). r.number) (same_request (request_of script e state) request is) in
-          omega (arith, number);
-    })
-    numbered false is = absurd (none_is_some b is)
+    by_request : (empty : Bool) → entered_with script e state empty ≡ Some b
+        → ((empty ≡ true) × (passing e state ≡ b)) ⊎ ((empty ≡ false) × (asking script e state ≡ b))
+    by_request true is = inl (refl, the_some (passing e state) b is)
+    by_request false is = inr (
+      refl,
+      by_test (λ (o : Option Agent). o ≡ Some b → asking script e state ≡ b) (Some (asking script e state)) None
+          (nat_le e.next last_number) (λ room. the_some (asking script e state) b) (λ full none. absurd (none_is_some b none)) is,
+    )
 
 pub enters_follows : (script : Script) (e : Agent) (state : ℕ) (b : Agent) → entered script e state ≡ Some b → Follows e b
-enters_follows script e state b is = entered_follows script e state b (is_empty (built_by script e state)) is
+enters_follows script e state b is = elim (enters script e state b is) [
+  | inl passes ↦ subst (Follows e) passes.1 (record {
+    call = refl;
+    association = refl;
+    lines = refl;
+    next = omega arith;
+    sends = λ request is. absurd (not_passing request is);
+    above = λ request is. absurd (not_passing request is);
+  })
+  | inr asks ↦ subst (Follows e) asks.1 (record {
+    call = refl;
+    association = refl;
+    lines = refl;
+    next = omega arith;
+    sends = λ request is.
+        let one : request_of script e state ≡ request = same_request (request_of script e state) request is in
+        let number : e.next ≡ request.number = ap (λ (r : Request). r.number) one in
+        (sym (ap (λ (r : Request). r.call) one), sym (ap (λ (r : Request). r.association) one), omega (arith, number));
+    above = λ request is.
+        let number : e.next ≡ request.number = ap (λ (r : Request). r.number) (same_request (request_of script e state) request is) in
+        omega (arith, number);
+  })
+]
 
 -- ---- the request of a state, built from what is bound, and from the configuration
 
@@ -95,15 +106,8 @@ built_same script g e c state between =
 -- commands are built from lines and names alone
 command_same : (script : Script) (e : Agent) (state next : ℕ) (phase : Phase) (made : Made) (command : Command)
     → command_of script e made command ≡ command_of script (record e { state = state; phase = phase; next = next }) made command
-command_same script e state next phase made (AddLine create j i o) = refl
-command_same script e state next phase made (AddEphemeral create j k o) = refl
-command_same script e state next phase made (ModifyLine place i o) = refl
-command_same script e state next phase made (ModifyEphemeral place k o) = refl
-command_same script e state next phase made (MoveLine j i o) = refl
-command_same script e state next phase made (MoveEphemeral j k o) = refl
-command_same script e state next phase made (Subtract j t) = refl
 command_same script e state next phase made (SubtractAll j) = refl
-command_same script e state next phase made (SetTopology j t u topology) = refl
+command_same script e state next phase made command = refl
 
 one_more : (x y : RequestCommand) (xs ys : List RequestCommand) → x ≡ y → xs ≡ ys → x ∷ xs ≡ y ∷ ys
 one_more x y xs ys first rest = cc
@@ -126,63 +130,55 @@ pub lines_still : (script : Script) (e : Agent) (line : ℕ → LineRow) (c : Co
 lines_still script e line c phase state next accepted link s = record { events = s.events; silent = s.silent; expected = s.expected }
 
 -- the agent enters a state where the configuration that the checker enters stands
-entered_current : (script : Script) (entries : List Entry) (g : Gateway) (e : Agent) (c : Configuration) (state : ℕ) (b : Agent) (empty : Bool)
-    → IsBetween script g e c → Stands script entries (steps.with_state script c state) → is_empty (built_by script e state) ≡ empty
-    → entered_with script e state empty ≡ Some b → IsCurrent script entries g b
-entered_current script entries g e c state b true between stands empty is = subst (IsCurrent script entries g)
-    (the_some (record e { state = state; phase = awaits_pass }) b is) (record {
-      association = between.association;
-      c = steps.with_state script c state;
-      e = record e { state = state; phase = awaits_pass };
-      stands = stands;
-      state = refl;
-      at = inr (inr (inl (record {
+module _ (script : Script) (entries : List Entry) (g : Gateway) (e : Agent) (c : Configuration) (state : ℕ) (between : IsBetween script g e c)
+    (stands : Stands script entries (steps.with_state script c state)) where
+  abbrev next : Configuration
+  next = steps.with_state script c state
+
+  link_as : (empty : Bool) → is_empty (built_by script e state) ≡ empty → next.link ≡ (if empty then Answered else Sent)
+  link_as empty is = ap (λ (p : Bool). if p then Answered else Sent) (sym (ap is_empty (built_same script g e c state between)) ∙ is)
+
+  passes_on : is_empty (built_by script e state) ≡ true → IsCurrent script entries g (passing e state)
+  passes_on empty = record {
+    association = between.association;
+    c = next;
+    e = passing e state;
+    stands = stands;
+    state = refl;
+    at = inr (inr (inl (record { phase = refl; effective = refl; link_is = link_as true empty })));
+    shown = seen_still script (owned_in g e.call) (naming e) g.board c state next.link between.shown;
+    lines_shown = lines_still script e g.line c awaits_pass state e.next e.accepted next.link between.lines_shown;
+  }
+
+  asks_on : is_empty (built_by script e state) ≡ false → IsCurrent script entries g (asking script e state)
+  asks_on not_empty = record {
+    association = between.association;
+    c = next;
+    e = asking script e state;
+    stands = stands;
+    state = refl;
+    at = inl (record {
+      request = request_of script e state;
+      outstanding = record {
         phase = refl;
-        effective = refl;
-        link_is = ap (λ (p : Bool). if p then Answered else Sent)
-            (sym (ap is_empty (built_same script g e c state between)) ∙ empty);
-      })));
-      shown = seen_still script (owned_in g e.call) (naming e) g.board c state (if is_empty (request_in script c state) then Answered else Sent)
-          between.shown;
-      lines_shown = lines_still script e g.line c awaits_pass state e.next e.accepted (if is_empty (request_in script c state) then Answered else Sent)
-          between.lines_shown;
-    })
-entered_current script entries g e c state b false between stands empty is = numbered (nat_le e.next last_number) is
-  where
-    numbered : (room : Bool) → (if room
-        then Some (record e { state = state; phase = awaits_reply (request_of script e state); next = e.next + 1 }) else None) ≡ Some b
-        → IsCurrent script entries g b
-    numbered true is = subst (IsCurrent script entries g)
-        (the_some (record e { state = state; phase = awaits_reply (request_of script e state); next = e.next + 1 }) b is) (record {
-          association = between.association;
-          c = steps.with_state script c state;
-          e = record e { state = state; phase = awaits_reply (request_of script e state); next = e.next + 1 };
-          stands = stands;
-          state = refl;
-          at = inl (record {
-            request = request_of script e state;
-            outstanding = record {
-              phase = refl;
-              call = refl;
-              association = refl;
-              commands = commands_same script e state (e.next + 1) (awaits_reply (request_of script e state)) none_made 0 (built_by script e state);
-            };
-            above = between.next;
-            effective = refl;
-            link_is = ap (λ (p : Bool). if p then Answered else Sent)
-                (sym (ap is_empty (built_same script g e c state between)) ∙ empty);
-          });
-          shown = seen_still script (owned_in g e.call) (naming e) g.board c state (if is_empty (request_in script c state) then Answered else Sent)
-              between.shown;
-          lines_shown = lines_still script e g.line c (awaits_reply (request_of script e state)) state (e.next + 1) e.accepted
-              (if is_empty (request_in script c state) then Answered else Sent) between.lines_shown;
-        })
-    numbered false is = absurd (none_is_some b is)
+        call = refl;
+        association = refl;
+        commands = commands_same script e state (e.next + 1) (awaits_reply (request_of script e state)) none_made 0 (built_by script e state);
+      };
+      above = between.next;
+      effective = refl;
+      link_is = link_as false not_empty;
+    });
+    shown = seen_still script (owned_in g e.call) (naming e) g.board c state next.link between.shown;
+    lines_shown = lines_still script e g.line c (awaits_reply (request_of script e state)) state (e.next + 1) e.accepted next.link between.lines_shown;
+  }
 
 pub enters_current : (script : Script) (entries : List Entry) (g : Gateway) (e : Agent) (c : Configuration) (state : ℕ) (b : Agent)
     → IsBetween script g e c → Stands script entries (steps.with_state script c state) → entered script e state ≡ Some b → IsCurrent script entries g b
-enters_current script entries g e c state b between stands is =
-    entered_current script entries g e c state b (is_empty (built_by script e state)) between stands refl is
+enters_current script entries g e c state b between stands is = elim (enters script e state b is) [
+  | inl passes ↦ subst (IsCurrent script entries g) passes.1 (passes_on script entries g e c state between stands passes.0)
+  | inr asks ↦ subst (IsCurrent script entries g) asks.1 (asks_on script entries g e c state between stands asks.0)
+]
 
 -- the agent rests
 pub rests_current : (script : Script) (entries : List Entry) (g : Gateway) (e : Agent) (c : Configuration)

@@ -4,7 +4,7 @@ use Rattle.mg_safety.proofs.Words.{◌≡◌, ◌∙◌, ◌<◌, ℕ, Bool, tru
 use Rattle.mg_safety.proofs.Words.{eqb-true, ◌==◌, ◌&&◌, not, if◌then◌else◌, ◌⊎◌, Resting, Inbox, arrival, is_new, arrives_new, was_seen, is_old, Agent}
 use Rattle.mg_safety.proofs.Words.{inbox_of, resting, entered_or_stays, is_resting, line_in, may_accept, noted, target_of, list_of, with_at, Configuration}
 use Rattle.mg_safety.proofs.Words.{Entry, Gateway, last_executed, SentNote, Script, state_of, items_of, raises, target_in, line_places, World, AgentSteps}
-use Rattle.mg_safety.proofs.Words.{none_is_some, the_some, and_second, is_resting_is}
+use Rattle.mg_safety.proofs.Words.{none_is_some, the_some, and_second, is_resting_is, three_parts}
 use Rattle.mg_model.specs.declared.steps.StepName.TheVariants as names
 use Rattle.mg_model.specs.Steps as steps
 use Rattle.mg_safety.proofs.InvariantWords.{Stands, IsCurrent, IsLost, IsNoteSound, IsNoteStanding, CallIsSound, IsClosed, KeepsSound}
@@ -25,10 +25,7 @@ record IsAccepted (script : Script) (a b : Agent) (sent : SentNote) : Type 0 whe
   leads : entered_or_stays script (accepting a sent.number) (target_of script a (line_in a sent.line (line_places script)) sent.note) ≡ Some b
 
 first_and_third : (p q r : Bool) → (p && q && r) ≡ true → (p ≡ true) × (r ≡ true)
-first_and_third true true true e = (refl, refl)
-first_and_third true true false e = absurd (true≢false (sym e))
-first_and_third true false r e = absurd (true≢false (sym e))
-first_and_third false q r e = absurd (true≢false (sym e))
+first_and_third p q r e = let parts = three_parts p q r e in (parts.0, parts.2)
 
 -- what is new to an inbox is of its association
 new_is_ours : (inbox : Inbox) (association number : ℕ) → is_new (arrival inbox association number) ≡ true → association ≡ inbox.association
@@ -75,11 +72,8 @@ accepting_between script g a number c between = record {
   next = between.next;
   of_script = between.of_script;
   shown = between.shown;
-  lines_shown = record {
-    events = between.lines_shown.events;
-    silent = between.lines_shown.silent;
-    expected = between.lines_shown.expected;
-  };
+  lines_shown =
+      record { events = between.lines_shown.events; silent = between.lines_shown.silent; expected = between.lines_shown.expected };
 }
 
 stays_current : (script : Script) (entries : List Entry) (g : Gateway) (a : Agent) (number : ℕ) (k : IsCurrent script entries g a) → a.phase ≡ resting
@@ -123,8 +117,8 @@ note_current script entries closed floor g a b sent k phase link between standin
     enters_current script entries g (accepting a sent.number) k.c state b (accepting_between script g a sent.number k.c between)
     (note_leads script entries closed floor g a sent state k link between standing (leads_where script a sent.line sent.note state where_to)) is
 
-note_goes : (script : Script) (entries : List Entry) → IsClosed script entries → (floor : ℕ → ℕ) (w : World) (sent : SentNote) (a b : Agent) → IsNoteSound floor w.gateway sent
-    → CallIsSound script entries w sent.call a → IsAccepted script a b sent → Goes script entries w.gateway a b
+note_goes : (script : Script) (entries : List Entry) → IsClosed script entries → (floor : ℕ → ℕ) (w : World) (sent : SentNote) (a b : Agent)
+    → IsNoteSound floor w.gateway sent → CallIsSound script entries w sent.call a → IsAccepted script a b sent → Goes script entries w.gateway a b
 note_goes script entries closed floor w sent a b known sound t = by_part sound.part
   where
     by_part : IsCurrent script entries w.gateway a ⊎ IsLost script w.gateway a → Goes script entries w.gateway a b
@@ -140,7 +134,8 @@ note_goes script entries closed floor w sent a b known sound t = by_part sound.p
     by_part (inr lost) = lost_goes script entries w.gateway a (accepting a sent.number) b lost refl refl refl refl
         (stay_follows script (accepting a sent.number) b (target_of script a (line_in a sent.line (line_places script)) sent.note) t.phase t.leads)
 
-pub note_sound : (sent : SentNote) → KeepsSound (λ script w after. Contains w.notes sent × AgentSteps w sent.call (λ a. noted script a (line_places script) sent) after)
+pub note_sound : (sent : SentNote) → KeepsSound (λ script w after.
+    Contains w.notes sent × AgentSteps w sent.call (λ a. noted script a (line_places script) sent) after)
 note_sound sent script entries is_script closed w after sound occurs =
     let s = occurs.1 in
     agent_goes script entries w after sent.call (λ a. noted script a (line_places script) sent) sound s

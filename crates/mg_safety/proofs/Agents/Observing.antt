@@ -1,10 +1,10 @@
 -- A note that an agent accepts is one that the line's list can raise, so where it leads is an observation of the configuration.
 use Rattle.mg_safety.proofs.Words.{◌≡◌, ◌∙◌, ◌<◌, ℕ, Bool, true, false, List, [], ◌∷◌, length, map, Option, Some, None, is_some, refl, sym, ap, subst, arith}
-use Rattle.mg_safety.proofs.Words.{inl, inr, true≢false, eqb-true, common_steps, Contains-append_left, Contains-append_right, Contains-append_cases, ◌==◌, ◌||◌}
-use Rattle.mg_safety.proofs.Words.{if◌then◌else◌, Contains, nat_lt, unwrap_or, flat_map, Kind, Resting, EventsName, EventItem, Agent, line_in, same_number}
-use Rattle.mg_safety.proofs.Words.{target_of, list_item, list_of, Configuration, ListItem, Note, Script, Step, all_kinds, with_state, entering, observation}
-use Rattle.mg_safety.proofs.Words.{observations, steps_by_link, state_of, items_of, item_raises, raises, target_in, below, line_places, only_here, only_one}
-use Rattle.mg_safety.proofs.Words.{in_joined}
+use Rattle.mg_safety.proofs.Words.{inl, inr, true≢false, eqb-true, common_steps, Contains-append_left, ◌==◌, ◌||◌, if◌then◌else◌, Contains, nat_lt, flat_map}
+use Rattle.mg_safety.proofs.Words.{Kind, Resting, EventsName, EventItem, Agent, line_in, same_number, target_of, list_item, list_of, Configuration, ListItem}
+use Rattle.mg_safety.proofs.Words.{Note, Script, Step, all_kinds, with_state, entering, observation, observations, steps_by_link, state_of, items_of}
+use Rattle.mg_safety.proofs.Words.{item_raises, raises, target_in, below, line_places, only_here, in_joined, none_in, first_or_later, the_some, first_in}
+use Rattle.mg_safety.proofs.Words.{later_in}
 use Rattle.mg_names.specs.declared.kinds.Kind.TheVariants as kind
 use Rattle.mg_model.specs.declared.steps.StepName.TheVariants as names
 use Rattle.mg_model.specs.declared.transitions.EventItem.TheVariants as item
@@ -13,39 +13,25 @@ use Rattle.mg_safety.proofs.InvariantWords.{raises_kind, list_raises}
 -- ---- lists
 
 below_less : (n : ℕ) (xs : List ℕ) (i : ℕ) → Contains (below n xs) i → i < n
-below_less n [] i among = absurd (let nothing : among.0 < 0 = among.1 in omega (arith, nothing))
+below_less n [] i among = absurd (none_in i among)
 below_less n (x ∷ xs) i there = by_first (below_less n xs i) (nat_lt x n) refl there
   where
     by_first : (Contains (below n xs) i → i < n) → (first : Bool) → nat_lt x n ≡ first → Contains (if first then x ∷ below n xs else []) i → i < n
-    by_first rest true e among = elim (Contains-append_cases (x ∷ []) (below n xs) i among) [
-      | inl one ↦ (let same : x ≡ i = only_one x i one in grind (arith, common_steps, e, same))
+    by_first rest true e among = elim (first_or_later x (below n xs) i among) [
+      | inl same ↦ grind (arith, common_steps, e, same)
       | inr later ↦ rest later
     ]
-    by_first rest false e among = absurd (let nothing : among.0 < 0 = among.1 in omega (arith, nothing))
+    by_first rest false e among = absurd (none_in i among)
 
 -- ---- what a list raises
 
 item_same : (script : Script) (what : Kind) (one : EventItem ℕ) → raises_kind what (list_item script one) ≡ item_raises what one
-item_same script kind.On (item.OnHook strict) = refl
-item_same script kind.On (item.OffHook strict) = refl
 item_same script kind.On item.Flash = refl
-item_same script kind.On (item.Digits m) = refl
-item_same script kind.Of (item.OnHook strict) = refl
-item_same script kind.Of (item.OffHook strict) = refl
 item_same script kind.Of item.Flash = refl
-item_same script kind.Of (item.Digits m) = refl
-item_same script kind.Fl (item.OnHook strict) = refl
-item_same script kind.Fl (item.OffHook strict) = refl
 item_same script kind.Fl item.Flash = refl
-item_same script kind.Fl (item.Digits m) = refl
-item_same script kind.Full (item.OnHook strict) = refl
-item_same script kind.Full (item.OffHook strict) = refl
 item_same script kind.Full item.Flash = refl
-item_same script kind.Full (item.Digits m) = refl
-item_same script kind.Part (item.OnHook strict) = refl
-item_same script kind.Part (item.OffHook strict) = refl
 item_same script kind.Part item.Flash = refl
-item_same script kind.Part (item.Digits m) = refl
+item_same script what one = refl
 
 raises_same : (script : Script) (what : Kind) (items : List (EventItem ℕ)) → list_raises (map (list_item script) items) what ≡ raises items what
 raises_same script what [] = refl
@@ -62,15 +48,11 @@ line_is : (a : Agent) (l : ℕ) (slots : List ℕ) (i : ℕ) → line_in a l slo
 line_is a l [] i is = absurd (true≢false (sym (ap is_some is)))
 line_is a l (j ∷ more) i is = by_first (line_is a l more i) (a.lines j == l) refl is
   where
-    by_first : (line_in a l more ≡ Some i → Contains more i × (a.lines i ≡ l)) → (first : Bool) → (a.lines j == l) ≡ first → (if first then Some j else line_in a l more) ≡ Some i → Contains (j ∷ more) i × (a.lines i ≡ l)
-    by_first rest true e is =
-        let same : j ≡ i = ap (λ (o : Option ℕ). unwrap_or o i) is in (
-          Contains-append_left (j ∷ []) more i (subst (λ v. Contains (j ∷ []) v) same (only_here j)),
-          ap a.lines (sym same) ∙ eqb-true (a.lines j) l e,
-        )
-    by_first rest false e is =
-        let later = rest is in
-        (Contains-append_right (j ∷ []) more i later.0, later.1)
+    by_first : (line_in a l more ≡ Some i → Contains more i × (a.lines i ≡ l)) → (first : Bool) → (a.lines j == l) ≡ first
+        → (if first then Some j else line_in a l more) ≡ Some i → Contains (j ∷ more) i × (a.lines i ≡ l)
+    by_first rest true e is = let same : j ≡ i = the_some j i is in
+        (subst (λ v. Contains (j ∷ more) v) same (first_in j more), ap a.lines (sym same) ∙ eqb-true (a.lines j) l e)
+    by_first rest false e is = let later = rest is in (later_in j more i later.0, later.1)
 
 expects : (o : Option ℕ) (q : ℕ) → same_number o q ≡ true → o ≡ Some q
 expects None q e = absurd (true≢false (sym e))

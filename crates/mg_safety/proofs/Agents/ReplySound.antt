@@ -1,9 +1,9 @@
 -- An agent that takes a reply keeps the world sound: it is the reply that the gateway keeps, so the agent's names are then those by which the
 -- board shows the configuration.
 use Rattle.mg_safety.proofs.Words.{◌≡◌, ◌∙◌, ◌<◌, ◌≤◌, Bool, true, false, List, Option, Some, None, refl, sym, ap, subst, arith, inl, inr, Contains, and_parts}
-use Rattle.mg_safety.proofs.Words.{eqb-true, ◌==◌, ◌&&◌, if◌then◌else◌, unwrap_or, ◌⊎◌, Failure, Answered, Failed, answers, Agent, Phase, awaits_reply}
-use Rattle.mg_safety.proofs.Words.{awaits_pass, resting, built_by, after_results, leads_on, replied_to, replied, Configuration, Entry, Gateway, last_executed}
-use Rattle.mg_safety.proofs.Words.{number_of, Request, Reply, Script, state_of, World, AgentSteps, none_is_some}
+use Rattle.mg_safety.proofs.Words.{eqb-true, ◌==◌, ◌&&◌, if◌then◌else◌, ◌⊎◌, Failure, Answered, Failed, answers, Agent, Phase, awaits_reply, built_by}
+use Rattle.mg_safety.proofs.Words.{after_results, leads_on, replied_to, replied, Configuration, Entry, Gateway, last_executed, number_of, Request, Reply}
+use Rattle.mg_safety.proofs.Words.{Script, state_of, World, AgentSteps, none_is_some, the_some}
 use Rattle.mg_model.specs.declared.steps.StepName.TheVariants as names
 use Rattle.mg_model.specs.Steps as steps
 use Rattle.mg_safety.proofs.InvariantWords.{Stands, link_of, IsAnswered, IsAt, IsCurrent, IsLost, IsReplySound, CallIsSound, IsClosed, KeepsSound}
@@ -44,10 +44,8 @@ takes script a b answer is = in_phase a.phase refl is
     fits request phase false e is = absurd (none_is_some b is)
 
     in_phase : (phase : Phase) → a.phase ≡ phase → replied_to script a phase answer ≡ Some b → IsTaken script a b answer
-    in_phase (awaits_reply request) phase is =
-        fits request phase (answers answer request) refl is
-    in_phase awaits_pass phase is = absurd (none_is_some b is)
-    in_phase resting phase is = absurd (none_is_some b is)
+    in_phase (awaits_reply request) phase is = fits request phase (answers answer request) refl is
+    in_phase other phase is = absurd (none_is_some b is)
 
 -- ---- what is known of a reply of the present association
 
@@ -62,7 +60,7 @@ no_newer g answer sound present = elim (sound.kept present) [
 is_kept : (g : Gateway) (answer kept : Reply) → IsReplySound g answer → answer.association ≡ g.association → (g.link answer.call).last ≡ Some kept
     → kept.number ≡ answer.number → kept ≡ answer
 is_kept g answer kept sound present last same = elim (sound.kept present) [
-  | inl is ↦ ap (λ (o : Option Reply). unwrap_or o answer) (sym last ∙ is)
+  | inl is ↦ the_some kept answer (sym last ∙ is)
   | inr older ↦ (let below : answer.number < last_executed g answer.call = older in
       let number : last_executed g answer.call ≡ kept.number = ap number_of last in absurd (omega (arith, below, number, same)))
 ]

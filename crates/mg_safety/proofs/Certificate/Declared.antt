@@ -1,6 +1,6 @@
 -- What is declared and what is not: each name of a script is the one or the other.
 use Rattle.mg_safety.proofs.Words.{◌≡◌, ◌∙◌, ◌<◌, ◌≤◌, ℕ, Bool, true, false, length, refl, sym, arith, inl, inr, nat_lt, true≢false, ◌⊎◌, if◌then◌else◌}
-use Rattle.mg_safety.proofs.Words.{cases_lt, common_steps, Termination, Absent, Null, is_same, Script, IsSlot}
+use Rattle.mg_safety.proofs.Words.{cases_lt, common_steps, Termination, Absent, Null, is_same, Script, IsSlot, by_test, Spot, ltb-true}
 use Rattle.mg_model.specs.declared.commands.Termination.TheVariants.{Line, Ephemeral}
 
 below_or_not : (i n : ℕ) → (i < n) ⊎ (i < n → ⊥)
@@ -32,8 +32,5 @@ past_is_not_below i n past = grind (arith, common_steps)
 
 -- where no line is declared, no termination stands
 pub unused_past : (lines i : ℕ) → (i < lines → ⊥) → (if nat_lt i lines then Null else Absent) ≡ Absent
-unused_past lines i past = rw (past_is_not_below i lines (from_cases (cases_lt i lines))) refl
-  where
-    from_cases : (i < lines) ⊎ (lines ≤ i) → lines ≤ i
-    from_cases (inl below) = absurd (past below)
-    from_cases (inr at_least) = at_least
+unused_past lines i past = by_test (λ (spot : Spot). spot ≡ Absent) Null Absent (nat_lt i lines)
+    (λ below. absurd (past (ltb-true i lines below))) (λ e. refl)

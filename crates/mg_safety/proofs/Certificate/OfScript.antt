@@ -119,8 +119,8 @@ module _ (script : Script) where
       plays = o.plays;
       context = o.context;
       remote = o.remote;
-      cut = λ x y undeclared. where_false (is_same x t && is_same y u) value (c.cut x y) (false_from_ne_true (is_same x t && is_same y u) (λ e. undeclared (they_are x y e)))
-          ∙ o.cut x y undeclared;
+      cut = λ x y undeclared. where_false (is_same x t && is_same y u) value (c.cut x y)
+          (false_from_ne_true (is_same x t && is_same y u) (λ e. undeclared (they_are x y e))) ∙ o.cut x y undeclared;
     }
       where
         they_are : (x y : Termination) → (is_same x t && is_same y u) ≡ true → AreSlots script x y

@@ -1,10 +1,10 @@
 -- The opening, the reset, and each step of a configuration hold nothing that the script doesn't declare.
-use Rattle.mg_safety.proofs.Words.{◌≡◌, ◌+◌, ◌++◌, ℕ, Bool, true, false, List, [], ◌∷◌, length, Option, Some, None, refl, if◌then◌else◌, All, flat_map, All-nil}
-use Rattle.mg_safety.proofs.Words.{All-cons, All-head, All-tail, All-append, Kind, Sent, Answered, Failed, Resting, Command, EventsName, Empty, Armed}
-use Rattle.mg_safety.proofs.Words.{Termination, Absent, StepName, Refuse, Execute, Observe, Timer, Configuration, is_legal, effect, Script, Step, steps_of}
-use Rattle.mg_safety.proofs.Words.{steps_by_link, request_in, with_state, with_link, refusals, executed, execution, names_unbound, entering, reply_step}
-use Rattle.mg_safety.proofs.Words.{all_kinds, observation, observations, unused, opening, reset, bound_names, state_of, items_of, raises, target_in}
-use Rattle.mg_safety.proofs.Words.{line_places, IsScript, IsSlot, IsCommandOf}
+use Rattle.mg_safety.proofs.Words.{◌≡◌, ◌+◌, ◌++◌, ℕ, List, [], ◌∷◌, length, Option, Some, None, refl, if◌then◌else◌, All, flat_map, All-nil, All-cons}
+use Rattle.mg_safety.proofs.Words.{All-head, All-tail, All-append, Kind, Sent, Answered, Failed, Resting, Command, EventsName, Empty, Armed, Termination}
+use Rattle.mg_safety.proofs.Words.{Absent, StepName, Refuse, Execute, Observe, Timer, Configuration, is_legal, effect, Script, Step, steps_of, steps_by_link}
+use Rattle.mg_safety.proofs.Words.{request_in, with_state, with_link, refusals, executed, execution, names_unbound, entering, reply_step, all_kinds}
+use Rattle.mg_safety.proofs.Words.{observation, observations, unused, opening, reset, bound_names, state_of, items_of, raises, target_in, line_places, IsScript}
+use Rattle.mg_safety.proofs.Words.{IsSlot, IsCommandOf, by_test}
 use Rattle.mg_names.specs.declared.phases.LinkPhase.{LinkPhase}
 use Rattle.mg_model.specs.declared.commands.Termination.TheVariants.{Line, Ephemeral}
 use Rattle.mg_model.specs.declared.steps.StepName.TheVariants.{Reply}
@@ -31,16 +31,10 @@ of_unused script state link list = record {
     at (Ephemeral k) undeclared = refl
 
 -- the state that a call is in and how far its request has come are no names of the script
-of_phase : (script : Script) (c : Configuration) (state : ℕ) (link : LinkPhase) → IsOfScript script c → IsOfScript script (record c { state = state; link = link })
-of_phase script c state link o = record {
-  spot = o.spot;
-  mode = o.mode;
-  events = o.events;
-  plays = o.plays;
-  context = o.context;
-  remote = o.remote;
-  cut = o.cut;
-}
+of_phase : (script : Script) (c : Configuration) (state : ℕ) (link : LinkPhase) → IsOfScript script c
+    → IsOfScript script (record c { state = state; link = link })
+of_phase script c state link o =
+    record { spot = o.spot; mode = o.mode; events = o.events; plays = o.plays; context = o.context; remote = o.remote; cut = o.cut }
 
 of_entered : (script : Script) (c : Configuration) (state : ℕ) → IsOfScript script c → IsOfScript script (with_state script c state)
 of_entered script c state o = of_phase script c state (with_state script c state).link o
@@ -73,27 +67,19 @@ module _ (script : Script) where
   of_refusals c o place (command ∷ more) all =
       All-cons LeadsToOne (Refuse place, with_link c Failed) (if is_legal c command then refusals script (effect script c command) (place + 1) more else [])
       (of_phase script c c.state Failed o)
-      (by_test (is_legal c command)
+      (by_test (All LeadsToOne) (refusals script (effect script c command) (place + 1) more) [] (is_legal c command)
       (λ legal. of_refusals (effect script c command) (of_effect script c command o (All-head (IsCommandOf script) command more all) legal)
-      (place + 1) more (All-tail (IsCommandOf script) command more all)))
-    where
-      by_test : (legal : Bool) → (legal ≡ true → All LeadsToOne (refusals script (effect script c command) (place + 1) more))
-          → All LeadsToOne (if legal then refusals script (effect script c command) (place + 1) more else [])
-      by_test true rest = rest refl
-      by_test false rest = All-nil LeadsToOne
+      (place + 1) more (All-tail (IsCommandOf script) command more all))
+      (λ refused. All-nil LeadsToOne))
 
   of_execution : (c : Configuration) → IsOfScript script c → (commands : List Command) → All (IsCommandOf script) commands
       → All LeadsToOne (execution (executed script c commands))
   of_execution c o [] all = one_step Execute (with_link c Answered) (of_phase script c c.state Answered o)
   of_execution c o (command ∷ more) all =
-      by_test (is_legal c command)
+      by_test (λ (o : Option Configuration). All LeadsToOne (execution o)) (executed script (effect script c command) more) None (is_legal c command)
       (λ legal. of_execution (effect script c command) (of_effect script c command o (All-head (IsCommandOf script) command more all) legal)
       more (All-tail (IsCommandOf script) command more all))
-    where
-      by_test : (legal : Bool) → (legal ≡ true → All LeadsToOne (execution (executed script (effect script c command) more)))
-          → All LeadsToOne (execution (if legal then executed script (effect script c command) more else None))
-      by_test true rest = rest refl
-      by_test false rest = All-nil LeadsToOne
+      (λ refused. All-nil LeadsToOne)
 
   of_entering : (c : Configuration) → IsOfScript script c → (name : StepName) (target : Option ℕ) → All LeadsToOne (entering script c name target)
   of_entering c o name None = All-nil LeadsToOne
@@ -108,22 +94,18 @@ module _ (script : Script) where
   of_each f each (x ∷ xs) = All-append LeadsToOne (f x) (flat_map f xs) (each x) (of_each f each xs)
 
   of_observation : (c : Configuration) → IsOfScript script c → (line : ℕ) (kind : Kind) → All LeadsToOne (observation script c line kind)
-  of_observation c o line kind = by_test (raises (items_of script (c.events line)) kind)
-    where
-      by_test : (raised : Bool) → All LeadsToOne (if raised
-          then entering script c (Observe line kind) (target_in (state_of script c.state).on line kind) else [])
-      by_test true = of_entering c o (Observe line kind) (target_in (state_of script c.state).on line kind)
-      by_test false = All-nil LeadsToOne
+  of_observation c o line kind =
+      by_test (All LeadsToOne) (entering script c (Observe line kind) (target_in (state_of script c.state).on line kind)) []
+      (raises (items_of script (c.events line)) kind)
+      (λ raised. of_entering c o (Observe line kind) (target_in (state_of script c.state).on line kind)) (λ quiet. All-nil LeadsToOne)
 
   of_link : IsScript script → (c : Configuration) → IsOfScript script c → (link : LinkPhase) → All LeadsToOne (steps_by_link script c link)
-  of_link is c o Sent = by_test (names_unbound script c)
-    where
-      by_test : (unbound : Bool) → All LeadsToOne (if unbound
-          then refusals script c 0 (request_in script c c.state) ++ execution (executed script c (request_in script c c.state)) else [])
-      by_test true = All-append LeadsToOne (refusals script c 0 (request_in script c c.state)) (execution (executed script c (request_in script c c.state)))
-          (of_refusals c o 0 (request_in script c c.state) (request_commands script is c c.state))
-          (of_execution c o (request_in script c c.state) (request_commands script is c c.state))
-      by_test false = All-nil LeadsToOne
+  of_link is c o Sent =
+      let commands = request_in script c c.state in
+      by_test (All LeadsToOne) (refusals script c 0 commands ++ execution (executed script c commands)) [] (names_unbound script c)
+      (λ unbound. All-append LeadsToOne (refusals script c 0 commands) (execution (executed script c commands))
+      (of_refusals c o 0 commands (request_commands script is c c.state)) (of_execution c o commands (request_commands script is c c.state)))
+      (λ bound. All-nil LeadsToOne)
   of_link is c o Answered = of_reply c o (state_of script c.state).ok
   of_link is c o Failed = of_entering c o Reply (state_of script c.state).fault
   of_link is c o Resting =

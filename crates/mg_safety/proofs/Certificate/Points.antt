@@ -1,6 +1,6 @@
 -- A configuration of the script that an entry includes is one of the entry's points.
-use Rattle.mg_safety.proofs.Words.{◌≡◌, ◌∙◌, ◌<◌, ℕ, Bool, true, false, length, refl, sym, subst, inl, inr, nat_lt, if◌then◌else◌, cases_lt, Resting, Empty}
-use Rattle.mg_safety.proofs.Words.{Termination, Absent, Configuration, Entry, Includes, IsPointOf, Script, unused, IsEntryOf, IsSlot}
+use Rattle.mg_safety.proofs.Words.{◌≡◌, ◌∙◌, ◌<◌, ℕ, length, refl, sym, subst, inl, inr, nat_lt, if◌then◌else◌, cases_lt, Resting, Empty, Termination, Absent}
+use Rattle.mg_safety.proofs.Words.{Configuration, Entry, Includes, IsPointOf, Script, unused, IsEntryOf, IsSlot, by_test, EventsName}
 use Rattle.mg_model.specs.declared.commands.Termination.TheVariants.{Line, Ephemeral}
 use Rattle.mg_model.proofs.ConfigurationLemmas.{SameComponents, same_configurations}
 use Rattle.mg_safety.proofs.InvariantWords.{IsOfScript}
@@ -10,11 +10,7 @@ use Rattle.mg_safety.proofs.Certificate.ListedValues.{state_given, link_given, s
 use Rattle.mg_safety.proofs.Certificate.ListedValues.{cut_given}
 
 all_empty : (lines i : ℕ) → (if nat_lt i lines then Empty else Empty) ≡ Empty
-all_empty lines i = either (nat_lt i lines)
-  where
-    either : (b : Bool) → (if b then Empty else Empty) ≡ Empty
-    either true = refl
-    either false = refl
+all_empty lines i = by_test (λ (name : EventsName). name ≡ Empty) Empty Empty (nat_lt i lines) (λ e. refl) (λ e. refl)
 
 module _ (script : Script) (entry : Entry) (of_entry : IsEntryOf script entry) (c : Configuration) (of_script : IsOfScript script c)
     (state : c.state ≡ entry.state) where

@@ -1,24 +1,23 @@
 -- Add of an ephemeral carries over.
 use Rattle.mg_safety.proofs.Words.{IsTrue, ◌≡◌, ◌∙◌, ◌<◌, ℕ, Bool, true, false, not, length, Option, Some, None, is_some, refl, sym, ap, subst, subst₂, inr}
-use Rattle.mg_safety.proofs.Words.{eqb-true, and_from, if◌then◌else◌, ◌==◌, UnknownContext, UnknownTermination, Live, TermId, Eph, Inactive, AddEphemeral}
+use Rattle.mg_safety.proofs.Words.{eqb-true, and_from, if◌then◌else◌, ◌==◌, UnknownContext, UnknownTermination, Live, Eph, Inactive, AddEphemeral}
 use Rattle.mg_safety.proofs.Words.{EphemeralOptions, RemoteOption, NoneGiven, Peer, Termination, Null, In, Row, Board, same_term, exists, mode_in, remote_in}
-use Rattle.mg_safety.proofs.Words.{ContextExists, with_at, Configuration, is_same, is_present, is_live, is_free, with_of, stands_in, choose, remote_legal}
-use Rattle.mg_safety.proofs.Words.{given, is_context_number, is_ephemeral_number, row_at, target, with_ephemeral, remote_option_known, Script, and_first}
-use Rattle.mg_safety.proofs.Words.{and_second, denied, false_not_true, none_is_some, same_term_self}
+use Rattle.mg_safety.proofs.Words.{with_at, Configuration, is_same, is_present, is_live, is_free, with_of, stands_in, choose, remote_legal, given}
+use Rattle.mg_safety.proofs.Words.{is_context_number, is_ephemeral_number, row_at, target, with_ephemeral, remote_option_known, Script, denied, none_is_some}
+use Rattle.mg_safety.proofs.Words.{same_term_self, and_parts}
 use Rattle.mg_model.specs.declared.commands.Termination.TheVariants as termination
 use Rattle.mg_model.specs.Effects as effects
 use Rattle.mg_model.specs.Items.{effect}
-use Rattle.mg_safety.proofs.InvariantWords.{IsCarried, IsCarriedOver, Naming, eph_of, Shown, IsAccounted, Owner, owned_at, AreBuilt, known_by, context_for}
+use Rattle.mg_safety.proofs.InvariantWords.{IsCarriedOver, Naming, eph_of, Shown, IsAccounted, Owner, owned_at, AreBuilt, known_by, context_for}
 use Rattle.mg_safety.proofs.InvariantWords.{ephemeral_settings, item_for}
 use Rattle.mg_safety.proofs.Shared.Components.{free_as_before}
 use Rattle.mg_safety.proofs.Commands.Binding.{with_at_here, with_at_kept, with_context, given_still, shown_live, shown_given, accounted_given, built_given}
-use Rattle.mg_safety.proofs.Commands.Carrying.{Carries, IsEntered, carried}
+use Rattle.mg_safety.proofs.Commands.Carrying.{Carries, IsEntered, carried, carried_over}
 use Rattle.mg_safety.proofs.Commands.CreatedShown.{unbound_ephemeral, created_shown}
 use Rattle.mg_safety.proofs.Commands.Creating.{first_row, with_created, with_ephemeral_name, with_present, created_row, accounted_created, built_created}
 use Rattle.mg_safety.proofs.Commands.Creating.{owned_back}
-use Rattle.mg_safety.proofs.Commands.EnteredContexts.{known_context, real_not_choose, target_named, IsExisting, existing_context, entered_fresh}
+use Rattle.mg_safety.proofs.Commands.EnteredContexts.{entered_fresh, target_existing}
 use Rattle.mg_safety.proofs.Commands.EphemeralNames.{peer_in_force, peer_legal}
-use Rattle.mg_safety.proofs.Commands.InForce.{MayExist}
 use Rattle.mg_safety.proofs.Commands.InContext.{with_live}
 use Rattle.mg_safety.proofs.Commands.OneRow.{HasOneRow, row_here, exists_as_before}
 use Rattle.mg_safety.proofs.Commands.Setting.{PeerInForce, cuts_stay, cuts_outside, ephemeral_set, set_in_context}
@@ -127,138 +126,54 @@ module _ (script : Script) (own : Owner) (n m built_by : Naming) (before : Board
 
 add_ephemeral_named : (j k : ℕ) (o : EphemeralOptions) → IsCarriedOver (AddEphemeral false j k o)
 add_ephemeral_named j k o script is_script own n m b c after done ready x =
-    subst (λ a. IsCarried script own n m b c (AddEphemeral false j k o) a done) (sym x.effect_is) it
-  where
-    owned : TermId → Bool
-    owned = owned_at own b
-
-    made : ℕ
-    made = x.chosen.ephemeral
-
-    next : Configuration
-    next = effects.effect script c (AddEphemeral false j k o)
-
-    end : Board
-    end = effect b (item_for m (AddEphemeral false j k o)) x.chosen
-
-    fresh : is_ephemeral_number made × (b.used_ephemeral made ≡ false) × IsTrue (b.class made)
-    fresh = x.fresh.ephemeral refl
-
-    slot : k < length script.ephemerals
-    slot = ready.declared.1
-
-    absent : is_present (c.spot (termination.Ephemeral k)) ≡ false
-    absent = denied (is_present (c.spot (termination.Ephemeral k))) ready.unbound
-
-    number : (y : ℕ) × (m.contexts j ≡ Some y) × (context_for m j ≡ y)
-    number = known_context m j (and_first (is_some (m.contexts j)) (remote_option_known (known_by m) o.remote) ready.known)
-
-    peer : PeerInForce n m o.remote
-    peer = peer_in_force n m b ready.built o.remote
-        (and_second (is_some (m.contexts j)) (remote_option_known (known_by m) o.remote) ready.known) (x.legal UnknownTermination)
-
-    p : ℕ
-    p = target (record { 0 = context_for m j }) x.chosen
-
-    place_is : p ≡ number.0
-    place_is = ap (λ q. if q == choose then x.chosen.context else q) number.2
-        ∙ target_named number.0 x.chosen.context (ready.built.context_real j number.0 number.1).0
-
-    may : MayExist b number.0
-    may lacks = x.legal UnknownContext (
-      (λ is. real_not_choose number.0 (ready.built.context_real j number.0 number.1).0 (sym number.2 ∙ is)),
-      subst (λ q. ContextExists b q → ⊥) (sym number.2) lacks,
-    )
-
-    existing : IsExisting own n m b c j number.0
-    existing = existing_context script is_script own n m b c j number.0 ready.shown ready.well_formed ready.accounted ready.built number.1 may
-
-    moved : Carries script own (with_ephemeral_name n k made) (with_ephemeral_name m k made) b end next
-    moved = carried_created script own n m m b b.used_context (given (context_for m j == choose) x.chosen.context b.used_context) c false j k made
-        p o (shown_live script owned n b c j number.0 ready.shown existing.bound) ready.accounted ready.built slot fresh.1 ready.earlier absent
-        (λ y e. e) (given_still (context_for m j == choose) x.chosen.context b.used_context)
-        (existing.bound ∙ ap (λ y. Some y) (sym place_is)) (subst (IsEntered own n m b b.used_context) (sym place_is) existing.entered) peer
-
-    told : Some made ≡ done.ephemeral
-    told = sym x.result.ephemeral
-
-    it : IsCarried script own n m b c (AddEphemeral false j k o) end done
-    it = record {
-      legal = and_from (is_live (c.context j)) (remote_legal c o.remote) existing.live
-          (peer_legal script owned n m b c ready.shown o.remote ready.declared.2 peer);
-      shown = subst (λ q. Shown script (owned_at own end) (record n { ephemerals = with_at n.ephemerals k q }) end next) told moved.shown;
-      accounted = moved.accounted;
-      built = subst (λ q. AreBuilt (record n { ephemerals = with_at n.ephemerals k q }) (record m { ephemerals = with_at m.ephemerals k q }) end)
-          told moved.built;
-      changes = moved.changes;
-      leaving = λ t leaves. absurd (false_not_true leaves);
-    }
+    let made : ℕ = x.chosen.ephemeral in
+    let end : Board = effect b (item_for m (AddEphemeral false j k o)) x.chosen in
+    let next : Configuration = effects.effect script c (AddEphemeral false j k o) in
+    let p : ℕ = target (record { 0 = context_for m j }) x.chosen in
+    let fresh : is_ephemeral_number made × (b.used_ephemeral made ≡ false) × IsTrue (b.class made) = x.fresh.ephemeral refl in
+    let known = and_parts (is_some (m.contexts j)) (remote_option_known (known_by m) o.remote) ready.known in
+    let peer : PeerInForce n m o.remote = peer_in_force n m b ready.built o.remote known.1 (x.legal UnknownTermination) in
+    let existing = target_existing script is_script own n m b c (AddEphemeral false j k o) ready j known.0 x.chosen (x.legal UnknownContext) in
+    carried_over script own n m b after end c (AddEphemeral false j k o) done x.effect_is
+    (and_from (is_live (c.context j)) (remote_legal c o.remote) existing.live
+    (peer_legal script (owned_at own b) n m b c ready.shown o.remote ready.declared.2 peer))
+    (subst (λ q. Carries script own (record n { ephemerals = with_at n.ephemerals k q }) (record m { ephemerals = with_at m.ephemerals k q }) b end next)
+    (sym x.result.ephemeral)
+    (carried_created script own n m m b b.used_context (given (context_for m j == choose) x.chosen.context b.used_context) c false j k made p o
+    (shown_live script (owned_at own b) n b c j p ready.shown existing.bound) ready.accounted ready.built ready.declared.1 fresh.1 ready.earlier
+    (denied (is_present (c.spot (termination.Ephemeral k))) ready.unbound) (λ y e. e)
+    (given_still (context_for m j == choose) x.chosen.context b.used_context) existing.bound existing.entered peer))
+    (λ t. refl)
 
 -- ---- into a context that is created
 
+-- a peer is in force whatever contexts are
+peer_kept : (n m : Naming) (j y : ℕ) (o : Option RemoteOption) → PeerInForce n m o → PeerInForce (with_context n j y) m o
+peer_kept n m j y None known = tt
+peer_kept n m j y (Some NoneGiven) known = tt
+peer_kept n m j y (Some (Peer i)) known = known
+
 add_ephemeral_created : (j k : ℕ) (o : EphemeralOptions) → IsCarriedOver (AddEphemeral true j k o)
 add_ephemeral_created j k o script is_script own n m b c after done ready x =
-    subst (λ a. IsCarried script own n m b c (AddEphemeral true j k o) a done) (sym x.effect_is) it
-  where
-    owned : TermId → Bool
-    owned = owned_at own b
-
-    made : ℕ
-    made = x.chosen.ephemeral
-
-    y : ℕ
-    y = x.chosen.context
-
-    next : Configuration
-    next = effects.effect script c (AddEphemeral true j k o)
-
-    end : Board
-    end = effect b (item_for m (AddEphemeral true j k o)) x.chosen
-
-    fresh : is_ephemeral_number made × (b.used_ephemeral made ≡ false) × IsTrue (b.class made)
-    fresh = x.fresh.ephemeral refl
-
-    fresh_context : is_context_number y × (b.used_context y ≡ false) × IsTrue (b.class y)
-    fresh_context = x.fresh.context refl
-
-    slot : k < length script.ephemerals
-    slot = ready.declared.1
-
-    free : is_free (c.context j) ≡ true
-    free = and_first (is_free (c.context j)) (not (is_present (c.spot (termination.Ephemeral k)))) ready.unbound
-
-    absent : is_present (c.spot (termination.Ephemeral k)) ≡ false
-    absent = denied (is_present (c.spot (termination.Ephemeral k)))
-        (and_second (is_free (c.context j)) (not (is_present (c.spot (termination.Ephemeral k)))) ready.unbound)
-
-    peer : PeerInForce n m o.remote
-    peer = peer_in_force n m b ready.built o.remote ready.known (x.legal UnknownTermination)
-
-    moved : Carries script own (with_ephemeral_name (with_context n j y) k made) (with_ephemeral_name (with_context m j y) k made) b end next
-    moved = carried_created script own (with_context n j y) (with_context m j y) m b (given true y b.used_context) (given true y b.used_context) c
-        true j k made y o (shown_given n m b j y fresh_context.1 script owned c ready.shown free ready.accounted fresh_context.0)
-        (accounted_given n m b j y fresh_context.1 ready.accounted) (built_given n m b j y fresh_context.1 ready.built fresh_context.0) slot fresh.1
-        ready.earlier absent (given_still true y b.used_context) (λ z e. e) (with_at_here n.contexts j (Some y))
-        (entered_fresh own n m b j y ready.built fresh_context.1) (with_names o.remote peer)
-      where
-        with_names : (q : Option RemoteOption) → PeerInForce n m q → PeerInForce (with_context n j y) m q
-        with_names None known = tt
-        with_names (Some NoneGiven) known = tt
-        with_names (Some (Peer i)) known = known
-
-    it : IsCarried script own n m b c (AddEphemeral true j k o) end done
-    it = record {
-      legal = peer_legal script owned n m b c ready.shown o.remote ready.declared.2 peer;
-      shown = subst₂ (λ q r. Shown script (owned_at own end)
-          (record n { contexts = with_at n.contexts j q; ephemerals = with_at n.ephemerals k r }) end next)
-          (sym x.result.context) (sym x.result.ephemeral) moved.shown;
-      accounted = moved.accounted;
-      built = subst₂ (λ q r. AreBuilt (record n { contexts = with_at n.contexts j q; ephemerals = with_at n.ephemerals k r })
-          (record m { contexts = with_at m.contexts j q; ephemerals = with_at m.ephemerals k r }) end)
-          (sym x.result.context) (sym x.result.ephemeral) moved.built;
-      changes = moved.changes;
-      leaving = λ t leaves. absurd (false_not_true leaves);
-    }
+    let made : ℕ = x.chosen.ephemeral in
+    let y : ℕ = x.chosen.context in
+    let end : Board = effect b (item_for m (AddEphemeral true j k o)) x.chosen in
+    let next : Configuration = effects.effect script c (AddEphemeral true j k o) in
+    let fresh : is_ephemeral_number made × (b.used_ephemeral made ≡ false) × IsTrue (b.class made) = x.fresh.ephemeral refl in
+    let fresh_context : is_context_number y × (b.used_context y ≡ false) × IsTrue (b.class y) = x.fresh.context refl in
+    let unbound = and_parts (is_free (c.context j)) (not (is_present (c.spot (termination.Ephemeral k)))) ready.unbound in
+    let peer : PeerInForce n m o.remote = peer_in_force n m b ready.built o.remote ready.known (x.legal UnknownTermination) in
+    carried_over script own n m b after end c (AddEphemeral true j k o) done x.effect_is
+    (peer_legal script (owned_at own b) n m b c ready.shown o.remote ready.declared.2 peer)
+    (subst₂ (λ q r. Carries script own (record n { contexts = with_at n.contexts j q; ephemerals = with_at n.ephemerals k r })
+    (record m { contexts = with_at m.contexts j q; ephemerals = with_at m.ephemerals k r }) b end next)
+    (sym x.result.context) (sym x.result.ephemeral)
+    (carried_created script own (with_context n j y) (with_context m j y) m b (given true y b.used_context) (given true y b.used_context) c true j k made y o
+    (shown_given n m b j y fresh_context.1 script (owned_at own b) c ready.shown unbound.0 ready.accounted fresh_context.0)
+    (accounted_given n m b j y fresh_context.1 ready.accounted) (built_given n m b j y fresh_context.1 ready.built fresh_context.0) ready.declared.1 fresh.1
+    ready.earlier (denied (is_present (c.spot (termination.Ephemeral k))) unbound.1) (given_still true y b.used_context) (λ z e. e)
+    (with_at_here n.contexts j (Some y)) (entered_fresh own n m b j y ready.built fresh_context.1) (peer_kept n m j y o.remote peer)))
+    (λ t. refl)
 
 pub add_ephemeral_carried : (create : Bool) (j k : ℕ) (o : EphemeralOptions) → IsCarriedOver (AddEphemeral create j k o)
 add_ephemeral_carried true j k o = add_ephemeral_created j k o

@@ -3,6 +3,7 @@
 use Rattle.mg_safety.proofs.Words.{◌≡◌, ◌∙◌, ◌<◌, ◌&&◌, ◌||◌, ℕ, Bool, true, false, not, Option, Some, None, is_some, refl, sym, ap, subst, true≢false, arith}
 use Rattle.mg_safety.proofs.Words.{eqb-true, eq-eqb, if◌then◌else◌, ◌==◌, unwrap_or, Live, TermId, Termination, Spot, Absent, Null, In, Board, place_of}
 use Rattle.mg_safety.proofs.Words.{with_at, Configuration, is_free, given, is_context_number, Script, IsSlot, false_not_true, none_is_some, none_of, the_some}
+use Rattle.mg_safety.proofs.Words.{different, or_right, cases_Bool, where_true, by_test, ContextValue, inl, inr}
 use Rattle.mg_safety.proofs.InvariantWords.{Naming, term_of, number_at, Shown, IsAccounted, AreBuilt}
 
 -- ---- tests
@@ -16,11 +17,10 @@ with_at_kept f i v k e = ap (λ p. if p then v else f k) e
 -- a name that is bound to one thing after another one was bound: it is the new one, or it was bound before
 pub with_at_some : {A : Type 0} (f : ℕ → Option A) (i : ℕ) (v : Option A) (k : ℕ) (o : Option A) (P : Type 0) → with_at f i v k ≡ o
     → (k ≡ i → v ≡ o → P) → ((k == i) ≡ false → f k ≡ o → P) → P
-with_at_some f i v k o P e new old = go (k == i) refl
-  where
-    go : (p : Bool) → (k == i) ≡ p → P
-    go true same = new (eqb-true k i same) (sym (ap (λ p. if p then v else f k) same) ∙ e)
-    go false other = old other (sym (with_at_kept f i v k other) ∙ e)
+with_at_some f i v k o P e new old = elim (cases_Bool (k == i)) [
+  | inl same ↦ new (eqb-true k i same) (sym (where_true (k == i) v (f k) same) ∙ e)
+  | inr other ↦ old other (sym (with_at_kept f i v k other) ∙ e)
+]
 
 -- ---- a name that is bound
 
@@ -34,7 +34,8 @@ shown_live script owned n b c j x shown bound = record {
   mode = shown.mode;
   remote = shown.remote;
   cut = shown.cut;
-  bound = λ i. free i (i == j) refl;
+  bound = λ i. by_test (λ (v : ContextValue). is_some (n.contexts i) ≡ not (is_free v)) Live (c.context i) (i == j)
+      (λ same. ap (λ k. is_some (n.contexts k)) (eqb-true i j same) ∙ ap is_some bound) (λ other. shown.bound i);
   line_stands = shown.line_stands;
   line_owned = shown.line_owned;
   line_once = shown.line_once;
@@ -47,11 +48,6 @@ shown_live script owned n b c j x shown bound = record {
   ephemeral_once = shown.ephemeral_once;
   ephemeral_named = shown.ephemeral_named;
 }
-  where
-    free : (i : ℕ) (p : Bool) → (i == j) ≡ p → is_some (n.contexts i) ≡ not (is_free (if i == j then Live else c.context i))
-    free i true e = ap (λ k. is_some (n.contexts k)) (eqb-true i j e) ∙ ap is_some bound
-        ∙ ap (λ p. not (is_free (if p then Live else c.context i))) (sym e)
-    free i false e = shown.bound i ∙ ap (λ p. not (is_free (if p then Live else c.context i))) (sym e)
 
 -- ---- a fresh number
 
@@ -65,11 +61,7 @@ pub given_new : (y : ℕ) (was : ℕ → Bool) → given true y was y ≡ true
 given_new y was = ap (λ p. p || was y) (eq-eqb y y refl)
 
 pub given_still : (p : Bool) (y : ℕ) (was : ℕ → Bool) (x : ℕ) → was x ≡ true → given p y was x ≡ true
-given_still p y was x before = go (p && x == y)
-  where
-    go : (q : Bool) → (q || was x) ≡ true
-    go true = refl
-    go false = before
+given_still p y was x before = or_right (p && x == y) (was x) before
 
 module _ (n m : Naming) (b : Board) (j y : ℕ) (fresh : b.used_context y ≡ false) where
   -- a number that was given isn't the fresh one
@@ -109,11 +101,8 @@ module _ (n m : Naming) (b : Board) (j y : ℕ) (fresh : b.used_context y ≡ fa
 
     -- a name in which a termination stands isn't the free one
     stands_apart : (t : Termination) (i : ℕ) → IsSlot script t → c.spot t ≡ In i → (i == j) ≡ false
-    stands_apart t i slot at = go (i == j) refl
-      where
-        go : (p : Bool) → (i == j) ≡ p → p ≡ false
-        go true same = absurd (false_not_true (sym (ap is_some (ap n.contexts (eqb-true i j same) ∙ unbound_name)) ∙ shown.in_bound t i slot at))
-        go false other = refl
+    stands_apart t i slot at =
+        different i j (λ same. false_not_true (sym (ap is_some (ap n.contexts same ∙ unbound_name)) ∙ shown.in_bound t i slot at))
 
     same_number : (t : Termination) → IsSlot script t → (s : Spot) → c.spot t ≡ s → number_at n s ≡ number_at (with_context n j y) s
     same_number t slot Absent at = refl
@@ -129,7 +118,7 @@ module _ (n m : Naming) (b : Board) (j y : ℕ) (fresh : b.used_context y ≡ fa
       mode = shown.mode;
       remote = shown.remote;
       cut = shown.cut;
-      bound = λ i. bound i (i == j) refl;
+      bound = λ i. bound i (i == j);
       line_stands = shown.line_stands;
       line_owned = shown.line_owned;
       line_once = shown.line_once;
@@ -147,11 +136,9 @@ module _ (n m : Naming) (b : Board) (j y : ℕ) (fresh : b.used_context y ≡ fa
       ephemeral_named = shown.ephemeral_named;
     }
       where
-        bound : (i : ℕ) (p : Bool) → (i == j) ≡ p
-            → is_some (if i == j then Some y else n.contexts i) ≡ not (is_free (if i == j then Live else c.context i))
-        bound i true e = ap (λ p. is_some (if p then Some y else n.contexts i)) e ∙ ap (λ p. not (is_free (if p then Live else c.context i))) (sym e)
-        bound i false e = ap (λ p. is_some (if p then Some y else n.contexts i)) e ∙ shown.bound i
-            ∙ ap (λ p. not (is_free (if p then Live else c.context i))) (sym e)
+        bound : (i : ℕ) (p : Bool) → is_some (if p then Some y else n.contexts i) ≡ not (is_free (if p then Live else c.context i))
+        bound i true = refl
+        bound i false = shown.bound i
 
         -- the fresh number has no other name
         alone : (i x : ℕ) → n.contexts i ≡ Some x → y ≡ x → ⊥

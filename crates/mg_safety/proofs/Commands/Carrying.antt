@@ -1,11 +1,13 @@
 -- A command that gives one termination a row carries over: the board shows the configuration in which this termination alone is
 -- changed, and what changed is owned. The board may be one on which a context was given out or an ephemeral created for the command.
 use Rattle.mg_safety.proofs.Words.{◌≡◌, ◌∙◌, ◌&&◌, ◌||◌, ℕ, Bool, true, false, not, Some, None, refl, sym, ap, inl, ◌⊎◌, TermId, Line, Eph, Termination, Row}
-use Rattle.mg_safety.proofs.Words.{Board, same_term, exists, place_of, Configuration, Script, IsSlot, the_some}
-use Rattle.mg_model.specs.declared.commands.Termination.TheVariants as termination
-use Rattle.mg_safety.proofs.InvariantWords.{Naming, term_of, Shown, IsAccounted, Owner, owned_at, AreBuilt, ChangesOwned}
+use Rattle.mg_safety.proofs.Words.{Board, same_term, exists, place_of, Configuration, Script, IsSlot, Command, Done, is_legal, effect, subtracts, not_both}
+use Rattle.mg_safety.proofs.Words.{subst}
+use Rattle.mg_safety.proofs.InvariantWords.{Naming, term_of, Shown, IsAccounted, Owner, owned_at, AreBuilt, ChangesOwned, IsCarried, named_after, built_after}
+use Rattle.mg_safety.proofs.InvariantWords.{item_for}
 use Rattle.mg_safety.proofs.Commands.OneRow.{HasOneRow, accounted_after, built_as_before, changes_as_owned}
-use Rattle.mg_safety.proofs.Commands.Placing.{HasOneName, eph_is, placed_shown}
+use Rattle.mg_safety.proofs.Commands.Placing.{HasOneName, placed_shown}
+use Rattle.mg_safety.proofs.Events.Others.{name_owned}
 
 -- what holds after a command, but that it is legal
 pub record Carries (script : Script) (own : Owner) (n m : Naming) (b after : Board) (next : Configuration) : Type 0 where
@@ -58,14 +60,6 @@ shown_owned script owned other n b c same shown = record {
   ephemeral_named = λ x mine. shown.ephemeral_named x (sym (same (Eph x)) ∙ mine);
 }
 
--- what a declared name stands for is owned, and exists where it is an ephemeral
-pub owned_named : (script : Script) (owned : TermId → Bool) (n : Naming) (b : Board) (c : Configuration) → Shown script owned n b c
-    → (t : Termination) (u : TermId) → IsSlot script t → term_of n t ≡ Some u → owned u ≡ true
-owned_named script owned n b c shown (termination.Line i) u slot named = ap owned (sym (the_some _ u named)) ∙ shown.line_owned i slot
-owned_named script owned n b c shown (termination.Ephemeral k) u slot named =
-    let x = eph_is (n.ephemerals k) u named in
-    ap owned x.2 ∙ shown.ephemeral_owned k x.0 x.1
-
 -- before is the board before the command, b the one on which what it creates was given out
 pub carried : (script : Script) (own : Owner) (n m : Naming) (before b after : Board) (c next : Configuration) (t : Termination) (u : TermId) (r : Row)
     → Shown script (owned_at own b) n b c → IsAccounted b → AreBuilt n m b → IsSlot script t → term_of n t ≡ Some u → exists b u ≡ true
@@ -83,6 +77,22 @@ carried script own n m before b after c next t u r shown accounted built slot na
           (λ x is. one.used_ephemeral x (accounted.ephemerals x (ap (λ v. exists b v) (sym is) ∙ stood)))
           (λ real. one.used_context r.place.0 (entered real).was_given);
       built = built_as_before b after u r one n m built stood (λ real. (entered real).in_force);
-      changes = changes_as_owned before after u r first own (owned u ∙ owned_named script (owned_at own b) n b c shown t u slot named) cuts
+      changes = changes_as_owned before after u r first own
+          (owned u ∙ name_owned script (owned_at own b) n shown.line_owned shown.ephemeral_owned t slot u named) cuts
           (λ v other mine. back v other (sym (owned v) ∙ mine)) (λ real. (entered real).stood) existed;
     }
+
+-- so a legal command that takes nothing out of a context is carried over
+pub carried_over : (script : Script) (own : Owner) (n m : Naming) (b after end : Board) (c : Configuration) (command : Command) (done : Done)
+    → after ≡ end → is_legal c command ≡ true
+    → Carries script own (named_after n command done) (built_after m command done) b end (effect script c command)
+    → ((t : TermId) → subtracts b (item_for m command) t ≡ false) → IsCarried script own n m b c command after done
+carried_over script own n m b after end c command done is legal moved stays =
+    subst (λ a. IsCarried script own n m b c command a done) (sym is) (record {
+      legal = legal;
+      shown = moved.shown;
+      accounted = moved.accounted;
+      built = moved.built;
+      changes = moved.changes;
+      leaving = λ t leaves. absurd (not_both leaves (stays t));
+    })

@@ -1,8 +1,9 @@
 -- The board with an ephemeral that was created for a name shows the configuration in which the name stands in the null context.
 use Rattle.mg_safety.proofs.Words.{◌≡◌, ◌∙◌, ◌||◌, ◌<◌, ℕ, Bool, true, false, length, Option, Some, None, is_some, refl, sym, ap, subst, true≢false, arith}
-use Rattle.mg_safety.proofs.Words.{eqb-true, eq-eqb, if◌then◌else◌, ◌==◌, TermId, Line, Eph, Termination, Remote, Unset, Gone, To, Spot, Null, In, Board}
-use Rattle.mg_safety.proofs.Words.{same_term, exists, place_of, place_in, mode_in, remote_in, with_at, Configuration, is_same, is_present, Script, IsSlot}
-use Rattle.mg_safety.proofs.Words.{none_is_some, the_some, is_same_is, same_term_is, same_term_self}
+use Rattle.mg_safety.proofs.Words.{eqb-true, eq-eqb, if◌then◌else◌, ◌==◌, TermId, Line, Eph, Termination, Remote, Unset, Gone, To, Null, In, Board, same_term}
+use Rattle.mg_safety.proofs.Words.{exists, place_of, place_in, mode_in, remote_in, with_at, Configuration, is_same, is_present, Script, IsSlot, none_is_some}
+use Rattle.mg_safety.proofs.Words.{the_some, is_same_is, same_term_self, different, false_from_ne_true, not_both, none_of, some_of, where_true, or_right}
+use Rattle.mg_safety.proofs.Words.{same_term_turned}
 use Rattle.mg_model.specs.declared.commands.Termination.TheVariants as termination
 use Rattle.mg_safety.proofs.InvariantWords.{Naming, eph_of, term_of, row_on, cut_on, number_at, RemoteReads, Shown, IsAccounted, Owner, owned_at}
 use Rattle.mg_safety.proofs.Commands.Binding.{with_at_here, with_at_kept, with_at_some, given_still}
@@ -10,6 +11,7 @@ use Rattle.mg_safety.proofs.Commands.Creating.{first_row, with_created, with_eph
 use Rattle.mg_safety.proofs.Commands.Creating.{given_apart, stands_apart, kept}
 use Rattle.mg_safety.proofs.Commands.OneRow.{row_here, row_elsewhere}
 use Rattle.mg_safety.proofs.Commands.Setting.{with_of_here, with_of_kept}
+use Rattle.mg_safety.proofs.Shared.Components.{eph_is, no_second}
 
 module _ (script : Script) (own : Owner) (n : Naming) (b : Board) (c : Configuration) (k x : ℕ) (shown : Shown script (owned_at own b) n b c)
     (accounted : IsAccounted b) (fresh : b.used_ephemeral x ≡ false) (earlier : (y : ℕ) → own.before y ≡ true → b.used_ephemeral y ≡ true)
@@ -24,12 +26,8 @@ module _ (script : Script) (own : Owner) (n : Naming) (b : Board) (c : Configura
   name = termination.Ephemeral k
 
   pub unbound_ephemeral : n.ephemerals k ≡ None
-  unbound_ephemeral = go (n.ephemerals k) refl
-    where
-      go : (o : Option ℕ) → n.ephemerals k ≡ o → o ≡ None
-      go None e = refl
-      go (Some y) e = absurd (true≢false (sym (shown.ephemeral_stands k y e) ∙ ap (λ q. is_some (row_on b (eph_of q))) (sym e)
-          ∙ shown.stands name slot ∙ absent))
+  unbound_ephemeral = none_of (n.ephemerals k) (false_from_ne_true (is_some (n.ephemerals k)) (λ bound. let y = some_of (n.ephemerals k) bound in
+      not_both (shown.ephemeral_stands k y.0 y.1) (ap (λ q. is_some (row_on b (eph_of q))) (sym y.1) ∙ shown.stands name slot ∙ absent)))
 
   row_before : row_on b (term_of n name) ≡ None
   row_before = ap (λ q. row_on b (eph_of q)) unbound_ephemeral
@@ -44,21 +42,19 @@ module _ (script : Script) (own : Owner) (n : Naming) (b : Board) (c : Configura
   named_elsewhere (termination.Ephemeral i) e = ap eph_of (with_at_kept n.ephemerals k (Some x) i e)
 
   named_still : (t : Termination) (u : TermId) → term_of n t ≡ Some u → term_of names t ≡ Some u
-  named_still t u named = go (is_same t name) refl
-    where
-      go : (p : Bool) → is_same t name ≡ p → term_of names t ≡ Some u
-      go true e = absurd (none_is_some u (sym (ap (term_of n) (is_same_is t name e) ∙ ap eph_of unbound_ephemeral) ∙ named))
-      go false e = named_elsewhere t e ∙ named
+  named_still t u named = named_elsewhere t (false_from_ne_true (is_same t name)
+      (λ e. none_is_some u (sym (ap (term_of n) (is_same_is t name e) ∙ ap eph_of unbound_ephemeral) ∙ named))) ∙ named
+
+  bound_still : (i y : ℕ) → n.ephemerals i ≡ Some y → with_at n.ephemerals k (Some x) i ≡ Some y
+  bound_still i y bound = with_at_kept n.ephemerals k (Some x) i
+      (different i k (λ same. none_is_some y (sym (ap n.ephemerals same ∙ unbound_ephemeral) ∙ bound))) ∙ bound
 
   -- what a name stands for is another termination than the new one
   term_apart : (t : Termination) (u : TermId) → term_of n t ≡ Some u → same_term u (Eph x) ≡ false
   term_apart (termination.Line i) u named = ap (λ v. same_term v (Eph x)) (sym (the_some (Line (record { 0 = n.lines i })) u named))
-  term_apart (termination.Ephemeral i) u named = by_name (n.ephemerals i) refl
-    where
-      by_name : (o : Option ℕ) → n.ephemerals i ≡ o → same_term u (Eph x) ≡ false
-      by_name None e = absurd (none_is_some u (sym (ap eph_of e) ∙ named))
-      by_name (Some y) e = ap (λ v. same_term v (Eph x)) (sym (the_some (Eph y) u (sym (ap eph_of e) ∙ named)))
-          ∙ stands_apart b x fresh accounted y (shown.ephemeral_stands i y e)
+  term_apart (termination.Ephemeral i) u named =
+      let y = eph_is (n.ephemerals i) u named in
+      ap (λ v. same_term v (Eph x)) y.2 ∙ stands_apart b x fresh accounted y.0 (shown.ephemeral_stands i y.0 y.1)
 
   read_here : (t : Termination) → is_same t name ≡ true → row_on after (term_of names t) ≡ Some first_row
   read_here t e = ap (row_on after) (named_here t e) ∙ row_here b after (Eph x) first_row (created_row b x fresh accounted) (Eph x) (same_term_self (Eph x))
@@ -82,11 +78,8 @@ module _ (script : Script) (own : Owner) (n : Naming) (b : Board) (c : Configura
   place t named false e = ap place_in (read_elsewhere t e) ∙ shown.place t named ∙ ap (number_at n) (sym (with_of_kept c.spot name Null t e))
 
   in_bound : (t : Termination) (j : ℕ) → IsSlot script t → (p : Bool) → is_same t name ≡ p → next.spot t ≡ In j → is_some (n.contexts j) ≡ true
-  in_bound t j named true e at = absurd (true≢false (ap is_null (sym (with_of_here c.spot name Null) ∙ ap next.spot (sym (is_same_is t name e)) ∙ at)))
-    where
-      is_null : Spot → Bool
-      is_null Null = true
-      is_null spot = false
+  in_bound t j named true e at =
+      let apart : Null ≡ In j = sym (with_of_here c.spot name Null) ∙ ap next.spot (sym (is_same_is t name e)) ∙ at in absurd (cc)
   in_bound t j named false e at = shown.in_bound t j named (sym (with_of_kept c.spot name Null t e) ∙ at)
 
   mode : (t : Termination) → IsSlot script t → (p : Bool) → is_same t name ≡ p → c.mode t ≡ mode_in (row_on after (term_of names t))
@@ -102,13 +95,6 @@ module _ (script : Script) (own : Owner) (n : Naming) (b : Board) (c : Configura
     given_still true x b.used_ephemeral reads.0 reads.3,
   )
   remote_still (To i) o reads = (reads.0, reads.1, bound_still i reads.0 reads.2)
-    where
-      bound_still : (i y : ℕ) → n.ephemerals i ≡ Some y → with_at n.ephemerals k (Some x) i ≡ Some y
-      bound_still i y bound = go (i == k) refl
-        where
-          go : (p : Bool) → (i == k) ≡ p → with_at n.ephemerals k (Some x) i ≡ Some y
-          go true same = absurd (none_is_some y (sym (ap n.ephemerals (eqb-true i k same) ∙ unbound_ephemeral) ∙ bound))
-          go false other = with_at_kept n.ephemerals k (Some x) i other ∙ bound
 
   remote : (i : ℕ) → i < length script.ephemerals → RemoteReads after names (c.remote i) (remote_in (row_on after (term_of names (termination.Ephemeral i))))
   remote i named = subst (RemoteReads after names (c.remote i)) (go (is_same (termination.Ephemeral i) name) refl)
@@ -128,15 +114,8 @@ module _ (script : Script) (own : Owner) (n : Naming) (b : Board) (c : Configura
 
   cut_second : (o : Option TermId) → cut_on after o (Some (Eph x)) ≡ false
   cut_second None = refl
-  cut_second (Some v) = go (same_term (Eph x) v)
-    where
-      go : (p : Bool) → (if p || same_term (Eph x) (Eph x) then false else b.cut v (Eph x)) ≡ false
-      go true = refl
-      go false = ap (λ p. if p then false else b.cut v (Eph x)) (same_term_self (Eph x))
-
-  cut_of_none : (o : Option TermId) → cut_on b o None ≡ false
-  cut_of_none None = refl
-  cut_of_none (Some v) = refl
+  cut_second (Some v) = where_true (same_term (Eph x) v || same_term (Eph x) (Eph x)) false (b.cut v (Eph x))
+      (or_right (same_term (Eph x) v) (same_term (Eph x) (Eph x)) (same_term_self (Eph x)))
 
   cut_others : (o q : Option TermId) → ((u : TermId) → o ≡ Some u → same_term (Eph x) u ≡ false)
       → ((u : TermId) → q ≡ Some u → same_term (Eph x) u ≡ false) → cut_on b o q ≡ cut_on after o q
@@ -146,11 +125,7 @@ module _ (script : Script) (own : Owner) (n : Naming) (b : Board) (c : Configura
       sym (ap (λ p. if p || same_term (Eph x) w then false else b.cut v w) (first v refl) ∙ ap (λ p. if p then false else b.cut v w) (second w refl))
 
   turned : (t : Termination) (u : TermId) → term_of n t ≡ Some u → same_term (Eph x) u ≡ false
-  turned t u named = go (same_term (Eph x) u) refl
-    where
-      go : (p : Bool) → same_term (Eph x) u ≡ p → p ≡ false
-      go true e = absurd (true≢false (sym (ap (λ v. same_term v (Eph x)) (sym (same_term_is (Eph x) u e)) ∙ same_term_self (Eph x)) ∙ term_apart t u named))
-      go false e = refl
+  turned t u named = same_term_turned (Eph x) u ∙ term_apart t u named
 
   cut : (t s : Termination) → IsSlot script t → IsSlot script s → (p q : Bool) → is_same t name ≡ p → is_same s name ≡ q
       → c.cut t s ≡ cut_on after (term_of names t) (term_of names s)
@@ -159,7 +134,7 @@ module _ (script : Script) (own : Owner) (n : Naming) (b : Board) (c : Configura
       ∙ sym (ap (λ o. cut_on after o (term_of names s)) (named_here t e) ∙ cut_first (term_of names s))
   cut t s first second false true e f = shown.cut t s first second
       ∙ ap (cut_on b (term_of n t)) (ap (term_of n) (is_same_is s name f) ∙ ap eph_of unbound_ephemeral)
-      ∙ cut_of_none (term_of n t)
+      ∙ no_second b (term_of n t)
       ∙ sym (ap (cut_on after (term_of names t)) (named_here s f) ∙ cut_second (term_of names t))
   cut t s first second false false e f = shown.cut t s first second
       ∙ cut_others (term_of n t) (term_of n s) (turned t) (turned s)
@@ -201,11 +176,7 @@ module _ (script : Script) (own : Owner) (n : Naming) (b : Board) (c : Configura
   ephemeral_named y mine there true e = (k, with_at_here n.ephemerals k (Some x) ∙ ap (λ z. Some z) (sym (eqb-true y x e)))
   ephemeral_named y mine there false e =
       let was = shown.ephemeral_named y (sym (owned_elsewhere b x fresh accounted own earlier y e) ∙ mine) (sym (kept b x fresh accounted y e) ∙ there) in
-      (was.0, still (was.0 == k) refl was.1)
-    where
-      still : {i : ℕ} (p : Bool) → (i == k) ≡ p → n.ephemerals i ≡ Some y → with_at n.ephemerals k (Some x) i ≡ Some y
-      still {i = i} true same bound = absurd (none_is_some y (sym (ap n.ephemerals (eqb-true i k same) ∙ unbound_ephemeral) ∙ bound))
-      still {i = i} false other bound = with_at_kept n.ephemerals k (Some x) i other ∙ bound
+      (was.0, bound_still was.0 y was.1)
 
   pub created_shown : Shown script (owned_at own after) names after next
   created_shown = record {

@@ -1,8 +1,8 @@
 -- An ephemeral is created for a name that is bound to none: as if it first stood in the null context, Inactive, without a Remote and with
 -- nothing cut. The board with it shows the configuration in which the name stands there, and it is owned.
-use Rattle.mg_safety.proofs.Words.{◌≡◌, ◌∙◌, ◌&&◌, ◌||◌, ℕ, Bool, true, false, not, Some, None, is_some, refl, sym, ap, true≢false, eqb-true, if◌then◌else◌}
-use Rattle.mg_safety.proofs.Words.{◌==◌, TermId, Line, Eph, Inactive, Null, Row, Board, same_term, exists, place_of, place_in, with_at, Configuration, with_of}
-use Rattle.mg_safety.proofs.Words.{given, without_cuts, none_is_some, the_some}
+use Rattle.mg_safety.proofs.Words.{◌≡◌, ◌∙◌, ◌&&◌, ◌||◌, ℕ, Bool, true, false, not, Some, None, is_some, refl, sym, ap, if◌then◌else◌, ◌==◌, TermId, Line, Eph}
+use Rattle.mg_safety.proofs.Words.{Inactive, Null, Row, Board, same_term, exists, place_of, place_in, with_at, Configuration, with_of, given, without_cuts}
+use Rattle.mg_safety.proofs.Words.{none_is_some, the_some, different, not_both, or_right, and_from, false_from_ne_true}
 use Rattle.mg_model.specs.declared.commands.Termination.TheVariants as termination
 use Rattle.mg_safety.proofs.InvariantWords.{Naming, IsAccounted, Owner, owned_at, AreBuilt}
 use Rattle.mg_safety.proofs.Commands.Binding.{with_at_here, with_at_kept, with_at_some, given_new, given_still}
@@ -31,11 +31,7 @@ module _ (b : Board) (x : ℕ) (fresh : b.used_ephemeral x ≡ false) (accounted
 
   -- what was given, or exists, isn't the fresh ephemeral
   pub given_apart : (y : ℕ) → b.used_ephemeral y ≡ true → (y == x) ≡ false
-  given_apart y before = go (y == x) refl
-    where
-      go : (p : Bool) → (y == x) ≡ p → p ≡ false
-      go true same = absurd (true≢false (sym before ∙ ap b.used_ephemeral (eqb-true y x same) ∙ fresh))
-      go false other = refl
+  given_apart y before = different y x (λ same. not_both before (ap b.used_ephemeral same ∙ fresh))
 
   pub stands_apart : (y : ℕ) → exists b (Eph y) ≡ true → (y == x) ≡ false
   stands_apart y stands = given_apart y (accounted.ephemerals y stands)
@@ -45,12 +41,8 @@ module _ (b : Board) (x : ℕ) (fresh : b.used_ephemeral x ≡ false) (accounted
 
   pub accounted_created : IsAccounted (with_created b x)
   accounted_created = accounted_after b (with_created b x) (Eph x) first_row created_row accounted
-      (λ y same. ap (given true x b.used_ephemeral) (sym (ap number same)) ∙ given_new x b.used_ephemeral)
+      (λ y same. let one : y ≡ x = cc in ap (given true x b.used_ephemeral) one ∙ given_new x b.used_ephemeral)
       (λ real. absurd (real refl))
-    where
-      number : TermId → ℕ
-      number (Line l) = l.0
-      number (Eph y) = y
 
   pub built_created : (n m : Naming) (k : ℕ) → AreBuilt n m b
       → AreBuilt (with_ephemeral_name n k x) (with_ephemeral_name m k x) (with_created b x)
@@ -83,12 +75,9 @@ module _ (b : Board) (x : ℕ) (fresh : b.used_ephemeral x ≡ false) (accounted
 
   module _ (own : Owner) (earlier : (y : ℕ) → own.before y ≡ true → b.used_ephemeral y ≡ true) where
     pub created_owned : owned_at own (with_created b x) (Eph x) ≡ true
-    created_owned = go (own.created x) (own.before x) refl
-      where
-        go : (p q : Bool) → own.before x ≡ q → (p || (given true x b.used_ephemeral x && not q)) ≡ true
-        go true q e = refl
-        go false true e = absurd (true≢false (sym (earlier x e) ∙ fresh))
-        go false false e = ap (λ r. r && true) (given_new x b.used_ephemeral)
+    created_owned = or_right (own.created x) (given true x b.used_ephemeral x && not (own.before x))
+        (and_from (given true x b.used_ephemeral x) (not (own.before x)) (given_new x b.used_ephemeral)
+        (ap not (false_from_ne_true (own.before x) (λ e. not_both (earlier x e) fresh))))
 
     given_elsewhere : (y : ℕ) → (y == x) ≡ false → given true x b.used_ephemeral y ≡ b.used_ephemeral y
     given_elsewhere y other = ap (λ p. p || b.used_ephemeral y) other

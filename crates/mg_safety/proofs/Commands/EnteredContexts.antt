@@ -1,10 +1,10 @@
 -- What is known of the context into which a command places its termination, and of the place at which Modify finds one: a context that
 -- exists is live in the configuration and something owned stands in it; a created one is fresh.
-use Rattle.mg_safety.proofs.Words.{◌≡◌, ◌∙◌, ◌&&◌, ◌<◌, ℕ, Bool, true, false, Some, None, is_some, refl, sym, ap, inr, arith, eqb-true, eq-eqb, and_from}
-use Rattle.mg_safety.proofs.Words.{if◌then◌else◌, ◌==◌, unwrap_or, TermId, Place, NullContext, Context, Termination, In, Board, exists, place_of, Configuration}
-use Rattle.mg_safety.proofs.Words.{IsWellFormed, is_in, is_live, place_exists, stands_at, choose, all, is_context_number, place_known, Script, IsScript, IsSlot}
-use Rattle.mg_safety.proofs.Words.{none_is_some, some_of}
-use Rattle.mg_safety.proofs.InvariantWords.{Naming, term_of, Shown, IsAccounted, Owner, owned_at, AreBuilt, known_by, context_for, place_for}
+use Rattle.mg_safety.proofs.Words.{◌≡◌, ◌∙◌, ◌&&◌, ◌<◌, ℕ, true, false, Some, None, is_some, refl, sym, ap, inr, arith, and_from, ◌==◌, unwrap_or, TermId}
+use Rattle.mg_safety.proofs.Words.{Place, NullContext, Context, Termination, In, Board, exists, place_of, Configuration, IsWellFormed, is_in, is_live}
+use Rattle.mg_safety.proofs.Words.{place_exists, stands_at, choose, all, is_context_number, place_known, Script, IsScript, IsSlot, none_is_some, some_of}
+use Rattle.mg_safety.proofs.Words.{Command, where_false, different, Chosen, ContextExists, target, same_itself, subst}
+use Rattle.mg_safety.proofs.InvariantWords.{Naming, term_of, Shown, IsAccounted, Owner, owned_at, AreBuilt, known_by, context_for, place_for, IsReady}
 use Rattle.mg_safety.proofs.Commands.Binding.{with_context, with_given, with_at_some, with_at_kept, given_new, not_fresh}
 use Rattle.mg_safety.proofs.Commands.Carrying.{IsEntered, entered_before}
 use Rattle.mg_safety.proofs.Commands.InForce.{MayExist, context_in_force, someone_in, owned_in_context, live_of, in_named, null_named}
@@ -12,24 +12,16 @@ use Rattle.mg_safety.proofs.Commands.InForce.{MayExist, context_in_force, someon
 -- ---- numbers of contexts
 
 -- a name that commands may use is bound to a number
-pub known_context : (m : Naming) (j : ℕ) → is_some (m.contexts j) ≡ true → (x : ℕ) × (m.contexts j ≡ Some x) × (context_for m j ≡ x)
+known_context : (m : Naming) (j : ℕ) → is_some (m.contexts j) ≡ true → (x : ℕ) × (m.contexts j ≡ Some x) × (context_for m j ≡ x)
 known_context m j known =
     let x = some_of (m.contexts j) known in
     (x.0, x.1, ap (λ o. unwrap_or o all) x.1)
 
-pub real_not_null : (x : ℕ) → is_context_number x → x ≡ 0 → ⊥
+real_not_null : (x : ℕ) → is_context_number x → x ≡ 0 → ⊥
 real_not_null x real null = let positive : 0 < x = real.0 in omega (arith, positive, null)
 
-pub real_not_choose : (x : ℕ) → is_context_number x → x ≡ choose → ⊥
+real_not_choose : (x : ℕ) → is_context_number x → x ≡ choose → ⊥
 real_not_choose x real is = let below : x < choose = real.1 in omega (arith, below, is)
-
--- the target of a command that doesn't name CHOOSE
-pub target_named : (x y : ℕ) → is_context_number x → (if x == choose then y else x) ≡ x
-target_named x y real = go (x == choose) refl
-  where
-    go : (p : Bool) → (x == choose) ≡ p → (if p then y else x) ≡ x
-    go true e = absurd (real_not_choose x real (eqb-true x choose e))
-    go false e = refl
 
 -- ---- a context that exists
 
@@ -38,7 +30,7 @@ pub record IsExisting (own : Owner) (n m : Naming) (b : Board) (c : Configuratio
   pub live : is_live (c.context j) ≡ true
   pub entered : IsEntered own n m b b.used_context x
 
-pub existing_context : (script : Script) → IsScript script → (own : Owner) (n m : Naming) (b : Board) (c : Configuration) (j x : ℕ)
+existing_context : (script : Script) → IsScript script → (own : Owner) (n m : Naming) (b : Board) (c : Configuration) (j x : ℕ)
     → Shown script (owned_at own b) n b c → IsWellFormed c → IsAccounted b → AreBuilt n m b → m.contexts j ≡ Some x → MayExist b x
     → IsExisting own n m b c j x
 existing_context script is_script own n m b c j x shown well_formed accounted built named may =
@@ -50,6 +42,26 @@ existing_context script is_script own n m b c j x shown well_formed accounted bu
       live = live_of script is_script c well_formed j one.0 one.1 one.2;
       entered = entered_before own n m b x there.0 accounted built (real_not_null x (built.context_real j x named).0) there.1 there.2;
     }
+
+-- the context that a command names, by the names that it is built with
+module _ (script : Script) (is_script : IsScript script) (own : Owner) (n m : Naming) (b : Board) (c : Configuration) (command : Command)
+    (ready : IsReady script own n m b c command) (j : ℕ) (known : is_some (m.contexts j) ≡ true) where
+  number : (x : ℕ) × (m.contexts j ≡ Some x) × (context_for m j ≡ x)
+  number = known_context m j known
+
+  pub named_existing : MayExist b (context_for m j) → IsExisting own n m b c j (context_for m j)
+  named_existing may = subst (IsExisting own n m b c j) (sym number.2) (existing_context script is_script own n m b c j number.0
+      ready.shown ready.well_formed ready.accounted ready.built number.1 (subst (MayExist b) number.2 may))
+
+  not_choose : context_for m j ≡ choose → ⊥
+  not_choose is = real_not_choose number.0 (ready.built.context_real j number.0 number.1).0 (sym number.2 ∙ is)
+
+  -- an Add by that name goes there
+  pub target_existing : (chosen : Chosen) → ((context_for m j ≡ choose → ⊥) × (ContextExists b (context_for m j) → ⊥) → ⊥)
+      → IsExisting own n m b c j (target (record { 0 = context_for m j }) chosen)
+  target_existing chosen may = subst (IsExisting own n m b c j)
+      (sym (where_false (context_for m j == choose) chosen.context (context_for m j) (different (context_for m j) choose not_choose)))
+      (named_existing (λ lacks. may (not_choose, lacks)))
 
 -- ---- a context that is created
 
@@ -79,4 +91,4 @@ modified_place script is_script own n m b c shown well_formed built t u slot nam
     context_in_force n m b built j x.0 x.1 (λ none. none (real_not_null x.0 (built.context_real j x.0 x.1).0, (u, there))) in
     let spot : c.spot t ≡ In j = in_named script (owned_at own b) n b c shown t u slot named j x.0 bound there in
     and_from (is_live (c.context j)) (is_in (c.spot t) j) (live_of script is_script c well_formed j t slot spot)
-    (ap (λ s. is_in s j) spot ∙ eq-eqb j j refl)
+    (ap (λ s. is_in s j) spot ∙ same_itself j)

@@ -3,12 +3,12 @@
 use Rattle.mg_safety.proofs.Words.{◌≡◌, ◌∙◌, ◌<◌, ◌≤◌, ◌⊎◌, ℕ, zero, suc, Bool, true, false, not, length, Option, Some, None, is_some, refl, sym, ap, inl, inr}
 use Rattle.mg_safety.proofs.Words.{arith, true≢false, ◌==◌, unwrap_or, get_or, list_any, eqb-true, eq-eqb, list_any_at, TermId, Line, Eph, Termination, Spot}
 use Rattle.mg_safety.proofs.Words.{Absent, Null, In, Board, exists, place_of, place_in, ContextExists, Configuration, IsWellFormed, is_in, is_null, is_present}
-use Rattle.mg_safety.proofs.Words.{is_live, terminations, is_elsewhere, termination_known, Script, IsScript, IsSlot, false_not_true, same_test, some_is_none}
-use Rattle.mg_safety.proofs.Words.{some_of, the_some, is_in_is}
+use Rattle.mg_safety.proofs.Words.{is_live, terminations, is_elsewhere, termination_known, Script, IsScript, IsSlot, false_not_true, same_test, some_of}
+use Rattle.mg_safety.proofs.Words.{the_some, is_in_is, different}
 use Rattle.mg_model.specs.declared.commands.Termination.TheVariants as termination
 use Rattle.mg_names.specs.declared.identifiers.LineNo.{LineNo}
 use Rattle.mg_safety.proofs.InvariantWords.{Naming, Shown, AreBuilt, row_on, term_of, eph_of, number_at, known_by, term_for, ephemeral_for}
-use Rattle.mg_safety.proofs.Shared.Components.{is_in_self}
+use Rattle.mg_safety.proofs.Shared.Components.{is_in_self, eph_is}
 
 -- ---- names and terminations
 
@@ -17,37 +17,20 @@ pub name_stands : (script : Script) (owned : TermId → Bool) (n : Naming) (b : 
     → (t : Termination) → IsSlot script t → (u : TermId) → term_of n t ≡ Some u → exists b u ≡ true
 name_stands script owned n b c shown (termination.Line i) slot u e =
     ap (exists b) (sym (the_some (Line (record { 0 = n.lines i })) u e)) ∙ shown.line_stands i slot
-name_stands script owned n b c shown (termination.Ephemeral k) slot u e = go (n.ephemerals k) refl
-  where
-    go : (o : Option ℕ) → n.ephemerals k ≡ o → exists b u ≡ true
-    go None is = absurd (some_is_none u (sym e ∙ ap eph_of is))
-    go (Some x) is = ap (exists b) (the_some u (Eph x) (sym e ∙ ap eph_of is)) ∙ shown.ephemeral_stands k x is
-
--- what a bound name of an ephemeral is bound to
-ephemeral_bound : (o : Option ℕ) (x : ℕ) → eph_of o ≡ Some (Eph x) → o ≡ Some x
-ephemeral_bound None x e = absurd (some_is_none (Eph x) (sym e))
-ephemeral_bound (Some y) x e = ap (λ (t : Option TermId). Some (number t)) e
-  where
-    number : Option TermId → ℕ
-    number None = 0
-    number (Some (Line l)) = 0
-    number (Some (Eph z)) = z
+name_stands script owned n b c shown (termination.Ephemeral k) slot u e =
+    let x = eph_is (n.ephemerals k) u e in ap (exists b) x.2 ∙ shown.ephemeral_stands k x.0 x.1
 
 -- a name of an ephemeral stands for no line
 not_line : (o : Option ℕ) (l : LineNo) → eph_of o ≡ Some (Line l) → ⊥
-not_line None l e = some_is_none (Line l) (sym e)
-not_line (Some y) l e = true≢false (ap is_ephemeral e)
-  where
-    is_ephemeral : Option TermId → Bool
-    is_ephemeral None = false
-    is_ephemeral (Some (Line m)) = false
-    is_ephemeral (Some (Eph z)) = true
+not_line None l e = cc
+not_line (Some y) l e = cc
 
 -- no two names stand for one termination
 pub names_once : (script : Script) (owned : TermId → Bool) (n : Naming) (b : Board) (c : Configuration) → Shown script owned n b c
     → (t u : Termination) → IsSlot script t → IsSlot script u → (v : TermId) → term_of n t ≡ Some v → term_of n u ≡ Some v → t ≡ u
 names_once script owned n b c shown (termination.Line i) (termination.Line j) slot also v e f =
-    ap (λ n. termination.Line n) (shown.line_once i j slot also (ap line_number (the_some (Line (record { 0 = n.lines i })) (Line (record { 0 = n.lines j })) (e ∙ sym f))))
+    let one : Line (record { 0 = n.lines i }) ≡ Line (record { 0 = n.lines j }) = the_some _ _ (e ∙ sym f) in
+    ap (λ n. termination.Line n) (shown.line_once i j slot also (ap line_number one))
   where
     line_number : TermId → ℕ
     line_number (Line l) = l.0
@@ -56,12 +39,12 @@ names_once script owned n b c shown (termination.Line i) (termination.Ephemeral 
     absurd (not_line (n.ephemerals k) (record { 0 = n.lines i }) (f ∙ sym e))
 names_once script owned n b c shown (termination.Ephemeral k) (termination.Line i) slot also v e f =
     absurd (not_line (n.ephemerals k) (record { 0 = n.lines i }) (e ∙ sym f))
-names_once script owned n b c shown (termination.Ephemeral k) (termination.Ephemeral l) slot also v e f = go (n.ephemerals k) refl
-  where
-    go : (o : Option ℕ) → n.ephemerals k ≡ o → termination.Ephemeral k ≡ termination.Ephemeral l
-    go None is = absurd (some_is_none v (sym e ∙ ap eph_of is))
-    go (Some x) is = ap (λ n. termination.Ephemeral n) (shown.ephemeral_once k l x is
-        (ephemeral_bound (n.ephemerals l) x (f ∙ sym e ∙ ap eph_of is)))
+names_once script owned n b c shown (termination.Ephemeral k) (termination.Ephemeral l) slot also v e f =
+    let x = eph_is (n.ephemerals k) v e in
+    let y = eph_is (n.ephemerals l) v f in
+    let same : Eph y.0 ≡ Eph x.0 = sym y.2 ∙ x.2 in
+    let number : y.0 ≡ x.0 = cc in
+    ap (λ n. termination.Ephemeral n) (shown.ephemeral_once k l x.0 x.1 (y.1 ∙ ap (λ z. Some z) number))
 
 -- ---- names in force
 
@@ -130,12 +113,11 @@ module _ (script : Script) (owned : TermId → Bool) (n : Naming) (b : Board) (c
         positive = (shown.context_real j x bound).0.0
 
         go : (s : Spot) → c.spot t ≡ s → c.spot t ≡ In j
-        go Absent e = let null : 0 ≡ x = ap (number_at n) (sym e) ∙ sym place_named ∙ at in absurd (omega (arith, null, positive))
-        go Null e = let null : 0 ≡ x = ap (number_at n) (sym e) ∙ sym place_named ∙ at in absurd (omega (arith, null, positive))
         go (In i) e =
             let y = in_number t i slot e in
             let same : y.0 ≡ x = ap (λ o. unwrap_or o 0) (sym y.1) ∙ ap (number_at n) (sym e) ∙ sym place_named ∙ at in
             e ∙ ap (λ k. In k) (shown.context_once i j x (y.1 ∙ ap (λ z. Some z) same) bound)
+        go s e = let null : 0 ≡ x = ap (number_at n) (sym e) ∙ sym place_named ∙ at in absurd (omega (arith, null, positive))
 
     pub placed_named : (j x : ℕ) → n.contexts j ≡ Some x → c.spot t ≡ In j → place_of b u ≡ x
     placed_named j x bound at = place_named ∙ ap (number_at n) at ∙ ap (λ o. unwrap_or o 0) bound
@@ -144,14 +126,9 @@ module _ (script : Script) (owned : TermId → Bool) (n : Naming) (b : Board) (c
     elsewhere_named j x bound not_null not_there = go (c.spot t) refl
       where
         go : (s : Spot) → c.spot t ≡ s → is_elsewhere s j ≡ true
-        go Absent e = absurd (not_null (place_named ∙ ap (number_at n) e))
-        go Null e = absurd (not_null (place_named ∙ ap (number_at n) e))
-        go (In i) e = differs (i == j) refl
-          where
-            differs : (p : Bool) → (i == j) ≡ p → not p ≡ true
-            differs false other = refl
-            differs true same = absurd (not_there (place_named ∙ ap (number_at n) e
-                ∙ ap (λ k. unwrap_or (n.contexts k) 0) (eqb-true i j same) ∙ ap (λ o. unwrap_or o 0) bound))
+        go (In i) e = ap not (different i j (λ same. not_there (place_named ∙ ap (number_at n) e
+            ∙ ap (λ k. unwrap_or (n.contexts k) 0) same ∙ ap (λ o. unwrap_or o 0) bound)))
+        go s e = absurd (not_null (place_named ∙ ap (number_at n) e))
 
   -- standing in the context is the same test on the board and in the configuration
   pub same_place : (j x : ℕ) → n.contexts j ≡ Some x → (t : Termination) → IsSlot script t → (u : TermId) → term_of n t ≡ Some u
@@ -214,8 +191,8 @@ module _ (script : Script) (owned : TermId → Bool) (n : Naming) (b : Board) (c
       go (termination.Ephemeral k) declared where_it_is = by_name (n.ephemerals k) refl
         where
           by_name : (o : Option ℕ) → n.ephemerals k ≡ o → (u : TermId) × (owned u ≡ true) × (place_of b u ≡ x)
-          by_name None e =
-              absurd (false_not_true (ap (λ r. is_some (row_on b (eph_of r))) (sym e) ∙ shown.stands (termination.Ephemeral k) declared ∙ ap is_present where_it_is))
+          by_name None e = absurd (false_not_true
+              (ap (λ r. is_some (row_on b (eph_of r))) (sym e) ∙ shown.stands (termination.Ephemeral k) declared ∙ ap is_present where_it_is))
           by_name (Some y) e = (
             Eph y,
             shown.ephemeral_owned k y e,
@@ -247,7 +224,8 @@ some_passes script is_script test (termination.Ephemeral k) slot passes =
     let most : length script.ephemerals ≤ 4 = is_script.ephemerals in
     below_four (λ k. test (termination.Ephemeral k) ≡ true → list_any test terminations ≡ true)
     (passes_at test 4 (omega arith) (termination.Ephemeral 0) refl) (passes_at test 5 (omega arith) (termination.Ephemeral 1) refl)
-    (passes_at test 6 (omega arith) (termination.Ephemeral 2) refl) (passes_at test 7 (omega arith) (termination.Ephemeral 3) refl) k (omega (arith, slot, most)) passes
+    (passes_at test 6 (omega arith) (termination.Ephemeral 2) refl) (passes_at test 7 (omega arith) (termination.Ephemeral 3) refl)
+    k (omega (arith, slot, most)) passes
 
 -- the context where a declared termination stands is live
 pub live_of : (script : Script) → IsScript script → (c : Configuration) → IsWellFormed c → (j : ℕ) (t : Termination) → IsSlot script t

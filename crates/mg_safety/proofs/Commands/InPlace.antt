@@ -3,10 +3,11 @@ use Rattle.mg_safety.proofs.Words.{◌≡◌, ◌∙◌, ℕ, true, Some, refl, 
 use Rattle.mg_safety.proofs.Words.{remote_of, Configuration, Chosen, row_at, Script, IsSlot}
 use Rattle.mg_model.specs.Items.{effect}
 use Rattle.mg_safety.proofs.InvariantWords.{Naming, term_of, Shown, IsAccounted, Owner, owned_at, AreBuilt}
-use Rattle.mg_safety.proofs.Commands.Carrying.{Carries, entered_before, owned_named, carried}
+use Rattle.mg_safety.proofs.Commands.Carrying.{Carries, entered_before, carried}
 use Rattle.mg_safety.proofs.Commands.InForce.{place_named, present_named}
 use Rattle.mg_safety.proofs.Commands.OneRow.{HasOneRow}
 use Rattle.mg_safety.proofs.Commands.Setting.{IsSet, set_in_place}
+use Rattle.mg_safety.proofs.Events.Others.{name_owned}
 
 -- the row of a termination with what a command sets on it
 abbrev pub row_with : Board → TermId → ℕ → Settings → Row
@@ -32,4 +33,4 @@ carried_in_place script own n m b c next t u p settings chosen shown accounted b
     (present_named script (owned_at own b) n b c shown t u slot named ∙ stood)
     (sym at ∙ place_named script (owned_at own b) n b c shown t u slot named) sets spots contexts)
     (λ x. refl) one (inl stood) (λ v w first second. refl) (λ v other mine. mine)
-    (λ real. entered_before own n m b p u accounted built real (owned_named script (owned_at own b) n b c shown t u slot named) at)
+    (λ real. entered_before own n m b p u accounted built real (name_owned script (owned_at own b) n shown.line_owned shown.ephemeral_owned t slot u named) at)

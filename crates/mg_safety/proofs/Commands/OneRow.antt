@@ -1,7 +1,7 @@
 -- What a board is after the row of one termination was changed: what exists, what was given, what names that are in force no more
 -- name, and what was owned.
-use Rattle.mg_safety.proofs.Words.{◌≡◌, ◌∙◌, ℕ, Bool, true, false, Some, None, is_some, refl, sym, ap, inl, inr, ◌⊎◌, true≢false, eqb-true, if◌then◌else◌}
-use Rattle.mg_safety.proofs.Words.{TermId, Line, Eph, Row, Board, same_term, exists, place_of, place_in, same_term_is}
+use Rattle.mg_safety.proofs.Words.{◌≡◌, ◌∙◌, ℕ, Bool, true, false, Some, None, is_some, refl, sym, ap, inl, inr, ◌⊎◌, eqb-true, if◌then◌else◌, TermId, Line}
+use Rattle.mg_safety.proofs.Words.{Eph, Row, Board, same_term, exists, place_of, place_in, same_term_is, cases_Bool, false_from_ne_true, not_both}
 use Rattle.mg_safety.proofs.InvariantWords.{Naming, IsAccounted, Owner, owned_at, AreBuilt, ChangesOwned}
 
 -- ---- one row changed
@@ -20,11 +20,10 @@ module _ (b after : Board) (u : TermId) (r : Row) (one : HasOneRow b after u r) 
   row_elsewhere v e = one.row v ∙ ap (λ p. if p then Some r else b.row v) e
 
   pub exists_as_before : exists b u ≡ true → (v : TermId) → exists after v ≡ exists b v
-  exists_as_before stood v = go (same_term v u) refl
-    where
-      go : (p : Bool) → same_term v u ≡ p → exists after v ≡ exists b v
-      go true e = ap is_some (row_here v e) ∙ sym (ap (λ t. exists b t) (same_term_is v u e) ∙ stood)
-      go false e = ap is_some (row_elsewhere v e)
+  exists_as_before stood v = elim (cases_Bool (same_term v u)) [
+    | inl e ↦ ap is_some (row_here v e) ∙ sym (ap (λ t. exists b t) (same_term_is v u e) ∙ stood)
+    | inr e ↦ ap is_some (row_elsewhere v e)
+  ]
 
   pub accounted_after : IsAccounted b → ((x : ℕ) → u ≡ Eph x → after.used_ephemeral x ≡ true)
       → ((r.place.0 ≡ 0 → ⊥) → after.used_context r.place.0 ≡ true) → IsAccounted after
@@ -82,11 +81,7 @@ module _ (b after : Board) (u : TermId) (r : Row) (one : HasOneRow b after u r) 
   }
     where
       another : (t : TermId) → owned_at own after t ≡ false → same_term t u ≡ false
-      another t other = go (same_term t u) refl
-        where
-          go : (p : Bool) → same_term t u ≡ p → p ≡ false
-          go true e = absurd (true≢false (sym mine ∙ ap (λ v. owned_at own after v) (sym (same_term_is t u e)) ∙ other))
-          go false e = refl
+      another t other = false_from_ne_true (same_term t u) (λ e. not_both mine (ap (λ v. owned_at own after v) (sym (same_term_is t u e)) ∙ other))
 
       place : (t : TermId) (p : Bool) → same_term t u ≡ p → owned_at own after t ≡ true → (place_of after t ≡ 0 → ⊥)
           → ((w : TermId) × (owned_at own b w ≡ true) × (place_of b w ≡ place_of after t)) ⊎ (b.used_context (place_of after t) ≡ false)

@@ -3,16 +3,13 @@
 use Rattle.mg_safety.proofs.Words.{◌≡◌, ◌∙◌, ℕ, Bool, true, false, not, Option, Some, None, is_some, refl, sym, ap, subst, length, ◌<◌, eqb-true, eq-eqb, ◌==◌}
 use Rattle.mg_safety.proofs.Words.{TermId, Line, Eph, Termination, Remote, Unset, Gone, To, In, Row, Board, same_term, exists, place_of, place_in, mode_in}
 use Rattle.mg_safety.proofs.Words.{remote_in, Configuration, is_same, is_present, is_free, Script, IsSlot, same_test, none_is_some, the_some, is_same_is}
-use Rattle.mg_safety.proofs.Words.{same_term_is, same_term_self}
+use Rattle.mg_safety.proofs.Words.{same_term_is, same_term_self, different}
 use Rattle.mg_model.specs.declared.commands.Termination.TheVariants as termination
 use Rattle.mg_safety.proofs.InvariantWords.{Naming, eph_of, term_of, row_on, cut_on, number_at, RemoteReads, Shown}
 use Rattle.mg_safety.proofs.Commands.OneRow.{HasOneRow, row_here, row_elsewhere, exists_as_before}
+use Rattle.mg_safety.proofs.Shared.Components.{eph_is}
 
 -- ---- names
-
-pub eph_is : (o : Option ℕ) (u : TermId) → eph_of o ≡ Some u → (x : ℕ) × (o ≡ Some x) × (u ≡ Eph x)
-eph_is None u e = absurd (none_is_some u e)
-eph_is (Some x) u e = (x, refl, sym (the_some (Eph x) u e))
 
 -- what a name stands for, if anything, is this termination
 abbrev pub is_term : Option TermId → TermId → Bool
@@ -42,11 +39,7 @@ term_test script owned n b c shown (termination.Ephemeral k) (termination.Epheme
     ap (is_term (eph_of (n.ephemerals i))) x.2 ∙ by_name x.0 x.1 (n.ephemerals i) refl
   where
     by_name : (x : ℕ) → n.ephemerals k ≡ Some x → (o : Option ℕ) → n.ephemerals i ≡ o → is_term (eph_of o) (Eph x) ≡ (i == k)
-    by_name x bound None e = sym (unbound (i == k) refl)
-      where
-        unbound : (p : Bool) → (i == k) ≡ p → p ≡ false
-        unbound true same = absurd (none_is_some x (sym e ∙ ap n.ephemerals (eqb-true i k same) ∙ bound))
-        unbound false same = refl
+    by_name x bound None e = sym (different i k (λ same. none_is_some x (sym e ∙ ap n.ephemerals same ∙ bound)))
     by_name x bound (Some y) e = tests_agree y x i k
         (λ same. shown.ephemeral_once i k x (e ∙ ap (λ z. Some z) same) bound)
         (λ same. the_some y x (sym e ∙ ap n.ephemerals same ∙ bound))

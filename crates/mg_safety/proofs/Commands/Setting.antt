@@ -1,10 +1,10 @@
 -- What a command sets on its termination, in the configuration and on the board: the mode, the Remote, the cuts that it forgets, and where
 -- the termination stands.
-use Rattle.mg_safety.proofs.Words.{◌≡◌, ◌∙◌, ◌||◌, ℕ, Bool, true, false, Option, Some, None, is_some, refl, sym, ap, subst, true≢false, length, ◌<◌}
-use Rattle.mg_safety.proofs.Words.{if◌then◌else◌, unwrap_or, option_map, TermId, Eph, Mode, EphemeralOptions, LineOptions, RemoteOption, NoneGiven, Peer}
-use Rattle.mg_safety.proofs.Words.{Termination, Remote, Unset, Gone, To, Spot, In, Row, Board, same_term, exists, mode_of, mode_in, remote_of, remote_in}
-use Rattle.mg_safety.proofs.Words.{with_at, Configuration, is_same, is_present, is_free, with_of, without_cuts_of, row_at, without_cuts, Script, IsSlot}
-use Rattle.mg_safety.proofs.Words.{false_either_way, is_same_self, is_same_turned, same_term_turned}
+use Rattle.mg_safety.proofs.Words.{◌≡◌, ◌∙◌, ◌||◌, ℕ, Bool, true, false, Option, Some, None, is_some, refl, sym, ap, subst, length, ◌<◌, if◌then◌else◌}
+use Rattle.mg_safety.proofs.Words.{unwrap_or, option_map, TermId, Eph, Mode, EphemeralOptions, LineOptions, RemoteOption, NoneGiven, Peer, Termination, Remote}
+use Rattle.mg_safety.proofs.Words.{Unset, Gone, To, Spot, In, Row, Board, same_term, exists, mode_of, mode_in, remote_of, remote_in, with_at, Configuration}
+use Rattle.mg_safety.proofs.Words.{is_same, is_present, is_free, with_of, without_cuts_of, row_at, without_cuts, Script, IsSlot, false_either_way, is_same_self}
+use Rattle.mg_safety.proofs.Words.{is_same_turned, same_term_turned}
 use Rattle.mg_model.specs.declared.commands.Termination.TheVariants as termination
 use Rattle.mg_model.specs.Effects as effects
 use Rattle.mg_model.specs.Items as items
@@ -126,14 +126,10 @@ line_set script owned n b after c next i p u o shown slot named modes remotes cu
       ∙ with_of_here c.mode (termination.Line i) (unwrap_or o.mode (c.mode (termination.Line i)))
       ∙ ap (unwrap_or o.mode) (shown.mode (termination.Line i) slot ∙ ap (λ q. mode_in (row_on b q)) named);
   mode_kept = λ s other. modes s ∙ with_of_kept c.mode (termination.Line i) (unwrap_or o.mode (c.mode (termination.Line i))) s other;
-  remote = λ k same. absurd (true≢false (ap is_line (sym same)));
+  remote = λ k same. absurd (cc);
   remote_kept = λ k other. remotes k;
   cut = cuts;
 }
-  where
-    is_line : Termination → Bool
-    is_line (termination.Line i) = true
-    is_line (termination.Ephemeral k) = false
 
 -- ---- an ephemeral
 
@@ -172,8 +168,8 @@ ephemeral_set script owned n m b after c next k x p o mode remote shown slot bou
       ∙ with_of_here c.mode (termination.Ephemeral k) (unwrap_or o.mode (c.mode (termination.Ephemeral k)))
       ∙ ap (unwrap_or o.mode) (shown.mode (termination.Ephemeral k) slot ∙ ap (λ q. mode_in (row_on b (eph_of q))) bound ∙ was_mode);
   mode_kept = λ s other. modes s ∙ with_of_kept c.mode (termination.Ephemeral k) (unwrap_or o.mode (c.mode (termination.Ephemeral k))) s other;
-  remote = λ i same. subst (λ value. RemoteReads after n value (items.remote_set (option_map (remote_for m) o.remote) remote))
-      (sym (remotes i ∙ ap (with_at c.remote k (effects.remote_set o.remote (c.remote k))) (ap number same)
+  remote = λ i same. let one : i ≡ k = cc in subst (λ value. RemoteReads after n value (items.remote_set (option_map (remote_for m) o.remote) remote))
+      (sym (remotes i ∙ ap (with_at c.remote k (effects.remote_set o.remote (c.remote k))) one
       ∙ with_at_here c.remote k (effects.remote_set o.remote (c.remote k))))
       (remote_reads n m after o.remote (c.remote k) remote peer
       (read_as_before n b after existing given (c.remote k) remote
@@ -181,7 +177,3 @@ ephemeral_set script owned n m b after c next k x p o mode remote shown slot bou
   remote_kept = λ i other. remotes i ∙ with_at_kept c.remote k (effects.remote_set o.remote (c.remote k)) i other;
   cut = cuts;
 }
-  where
-    number : Termination → ℕ
-    number (termination.Line i) = i
-    number (termination.Ephemeral i) = i

@@ -1,17 +1,16 @@
 -- The two forms of Subtract carry over: a termination leaves its context, and all of a context do.
-use Rattle.mg_safety.proofs.Words.{◌≡◌, ◌∙◌, ℕ, Bool, true, false, List, Option, Some, None, is_some, get_or, refl, sym, ap, subst, ◌==◌, ◌&&◌, not}
-use Rattle.mg_safety.proofs.Words.{if◌then◌else◌, unwrap_or, Contains, eqb-true, eq-eqb, and_parts, and_from, true_from_ne_false, Any-from_list_any}
-use Rattle.mg_safety.proofs.Words.{list_any_at, UnknownContext, UnknownTermination, NotInContext, ContextValue, Free, TermId, Eph, all, Command, Subtract}
-use Rattle.mg_safety.proofs.Words.{SubtractAll, Termination, In, is_listed, Board, exists, place_of, same_term, ContextExists, with_at, Configuration, is_same}
-use Rattle.mg_safety.proofs.Words.{is_in, is_free, is_live, is_legal, effect, Done, Lists, subtracts, without, termination_known, Script, IsSlot, at_another}
-use Rattle.mg_safety.proofs.Words.{not_both, same_test, where_true, where_false, some_is_none, some_of, the_some, is_same_is, is_same_self, same_term_is}
-use Rattle.mg_safety.proofs.Words.{same_term_self}
+use Rattle.mg_safety.proofs.Words.{◌≡◌, ◌∙◌, ℕ, Bool, true, false, List, Option, Some, None, is_some, refl, sym, ap, subst, ◌==◌, ◌&&◌, not, if◌then◌else◌}
+use Rattle.mg_safety.proofs.Words.{unwrap_or, eqb-true, eq-eqb, and_parts, and_from, true_from_ne_false, UnknownContext, UnknownTermination, NotInContext}
+use Rattle.mg_safety.proofs.Words.{ContextValue, Free, TermId, Eph, all, Command, Subtract, SubtractAll, Termination, In, is_listed, Board, exists, place_of}
+use Rattle.mg_safety.proofs.Words.{same_term, ContextExists, with_at, Configuration, is_same, is_in, is_free, is_live, is_legal, effect, Done, Lists, subtracts}
+use Rattle.mg_safety.proofs.Words.{without, termination_known, Script, IsSlot, at_another, not_both, same_test, where_false, some_is_none, some_of, the_some}
+use Rattle.mg_safety.proofs.Words.{is_same_is, is_same_self, same_term_is, same_term_self, same_turned}
 use Rattle.mg_model.specs.declared.commands.Termination.TheVariants as termination
 use Rattle.mg_safety.proofs.InvariantWords.{IsReady, IsCarried, IsCarriedOver, Naming, Shown, Owner, owned_at, term_of, eph_of, known_by, context_for, term_for}
 use Rattle.mg_safety.proofs.InvariantWords.{item_for, named_after, built_after}
-use Rattle.mg_safety.proofs.Shared.Components.{is_in_self}
+use Rattle.mg_safety.proofs.Shared.Components.{is_in_self, listed_test, and_true}
 use Rattle.mg_safety.proofs.Commands.InForce.{MayExist, names_once, in_named, same_place, context_in_force, live_context, term_in_force}
-use Rattle.mg_safety.proofs.Commands.Leaving.{Leaves, names_left, configuration_left, shown_left}
+use Rattle.mg_safety.proofs.Commands.Leaving.{Leaves, names_left, configuration_left, shown_left, stays_bound}
 use Rattle.mg_safety.proofs.Commands.LeavingChanges.{accounted_left, built_left, leaving_owned, changes_left}
 
 -- what a command carries over by which terminations leave
@@ -25,11 +24,11 @@ carried_left script own n m contexts ephemerals b c left values command done rea
     let gone : TermId → Bool = subtracts b (item_for m command) in
     record {
       legal = legal;
-      shown = rw (named, configured) (shown_left script own n contexts ephemerals b c gone left values ready.shown ready.accounted leaving);
+      shown = rw (named, configured) (shown_left script own n contexts ephemerals b c gone left values ready.shown leaving ready.accounted);
       accounted = accounted_left b gone ready.accounted;
-      built = rw (named, built) (built_left script (owned_at own b) n m contexts ephemerals b c gone left values ready.shown leaving ready.built);
+      built = rw (named, built) (built_left script own n contexts ephemerals b c gone left values ready.shown leaving m ready.built);
       changes = changes_left script own n contexts ephemerals b c gone left values ready.shown leaving;
-      leaving = leaving_owned script (owned_at own b) n contexts ephemerals b c gone left values ready.shown leaving;
+      leaving = leaving_owned script own n contexts ephemerals b c gone left values ready.shown leaving;
     }
 
 -- ---- one termination
@@ -57,8 +56,7 @@ ephemerals_left n (termination.Ephemeral k) = with_at n.ephemerals k None
 unbound_left : (n : Naming) (t : Termination) (k : ℕ)
     → ephemerals_left n t k ≡ (if is_same t (termination.Ephemeral k) then None else n.ephemerals k)
 unbound_left n (termination.Line i) k = refl
-unbound_left n (termination.Ephemeral i) k = ap (λ p. if p then None else n.ephemerals k)
-    (same_test (k == i) (i == k) (λ e. eq-eqb i k (sym (eqb-true k i e))) (λ e. eq-eqb k i (sym (eqb-true i k e))))
+unbound_left n (termination.Ephemeral i) k = ap (λ p. if p then None else n.ephemerals k) (same_turned k i)
 
 named_left : (n : Naming) (j : ℕ) (t : Termination) (done : Done)
     → named_after n (Subtract j t) done ≡ names_left n n.contexts (ephemerals_left n t)
@@ -88,15 +86,6 @@ subtract_carried j t script ok own n m b c after done ready executed =
 
 -- ---- all terminations of a context
 
--- a number is listed exactly where the list contains it
-listed_is : (numbers : List ℕ) (x : ℕ) → is_listed numbers (Some x) ≡ true → Contains numbers x
-listed_is numbers x e =
-    let any = Any-from_list_any (λ other. other == x) numbers e in
-    subst (λ y. Contains numbers y) (eqb-true any.1 x any.4) (any.0, any.2, any.3)
-
-is_listed_by : (numbers : List ℕ) (x : ℕ) → Contains numbers x → is_listed numbers (Some x) ≡ true
-is_listed_by numbers x there = list_any_at (λ other. other == x) numbers there.0 x there.1 (eq-eqb (get_or numbers there.0 x) x there.2)
-
 if_none : (p : Bool) → (if◌then◌else◌ {A = Option ℕ} p None None) ≡ None
 if_none true = refl
 if_none false = refl
@@ -106,11 +95,9 @@ listed_stood : (script : Script) (owned : TermId → Bool) (n : Naming) (b : Boa
     → (j x : ℕ) → n.contexts j ≡ Some x → (numbers : List ℕ) → Lists (λ y. (place_of b (Eph y) == x) && exists b (Eph y)) numbers
     → (k y : ℕ) → n.ephemerals k ≡ Some y → is_listed numbers (Some y) ≡ is_in (c.spot (termination.Ephemeral k)) j
 listed_stood script owned n b c shown j x bound numbers lists k y is =
-    let same : (place_of b (Eph y) == x) ≡ is_in (c.spot (termination.Ephemeral k)) j =
-    same_place script owned n b c shown j x bound (termination.Ephemeral k) (shown.ephemeral_slot k y is) (Eph y) (ap eph_of is) in
-    same_test (is_listed numbers (Some y)) (is_in (c.spot (termination.Ephemeral k)) j)
-    (λ e. sym same ∙ (and_parts (place_of b (Eph y) == x) (exists b (Eph y)) ((lists.exactly y).0 (listed_is numbers y e))).0)
-    (λ e. is_listed_by numbers y ((lists.exactly y).1 (and_from (place_of b (Eph y) == x) (exists b (Eph y)) (same ∙ e) (shown.ephemeral_stands k y is))))
+    listed_test (λ z. (place_of b (Eph z) == x) && exists b (Eph z)) numbers lists y
+    ∙ and_true (place_of b (Eph y) == x) (exists b (Eph y)) (shown.ephemeral_stands k y is)
+    ∙ same_place script owned n b c shown j x bound (termination.Ephemeral k) (shown.ephemeral_slot k y is) (Eph y) (ap eph_of is)
 
 all_leave : (script : Script) (owned : TermId → Bool) (n : Naming) (b : Board) (c : Configuration) → Shown script owned n b c
     → (j x : ℕ) → n.contexts j ≡ Some x → (numbers : List ℕ) → Lists (λ y. (place_of b (Eph y) == x) && exists b (Eph y)) numbers
@@ -120,7 +107,7 @@ all_leave script owned n b c shown j x bound numbers lists = record {
   agree = same_place script owned n b c shown j x bound;
   slots = λ v leaving. shown.members j x v bound (eqb-true (place_of b v) x leaving);
   unbound = λ k. unbound k (n.ephemerals k) refl;
-  stay_bound = λ i y is. stay i y is (i == j) refl;
+  stay_bound = λ i y is. (stays_bound (i == j) (n.contexts i) (with_at n.contexts j None i) y refl is).1;
   in_use = λ u i slot stays is. at_another j i None (n.contexts i) (λ e. not_both (is_in_self (c.spot u) j (is ∙ ap (λ y. In y) e)) stays);
   bound = λ i. values i (i == j);
   dropped = λ i y v is lost stays at. lose i y v is lost stays at (i == j) refl;
@@ -130,10 +117,6 @@ all_leave script owned n b c shown j x bound numbers lists = record {
         → (if is_listed numbers o then None else o) ≡ (if is_in (c.spot (termination.Ephemeral k)) j then None else o)
     unbound k None is = if_none (is_listed numbers None) ∙ sym (if_none (is_in (c.spot (termination.Ephemeral k)) j))
     unbound k (Some y) is = ap (λ p. if p then None else Some y) (listed_stood script owned n b c shown j x bound numbers lists k y is)
-
-    stay : (i y : ℕ) → with_at n.contexts j None i ≡ Some y → (p : Bool) → (i == j) ≡ p → n.contexts i ≡ Some y
-    stay i y is true e = absurd (some_is_none y (sym is ∙ where_true (i == j) None (n.contexts i) e))
-    stay i y is false e = sym (where_false (i == j) None (n.contexts i) e) ∙ is
 
     values : (i : ℕ) (p : Bool) → is_some (if p then None else n.contexts i) ≡ not (is_free (if p then Free else c.context i))
     values i true = refl

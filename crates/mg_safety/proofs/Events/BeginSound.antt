@@ -1,7 +1,6 @@
 -- A call that begins on the lines of one that has ended keeps the world sound.
-use Rattle.mg_safety.proofs.Words.{◌≡◌, ◌∙◌, ℕ, Bool, true, false, List, Some, None, length, refl, sym, ap, subst, arith, inl, inr, ◌<◌, ◌≤◌, ◌==◌, eqb-true}
-use Rattle.mg_safety.proofs.Words.{eqb-false, Agent, begun, Entry, Gateway, CallLink, last_executed, Reply, SentNote, Script, World, Begins, HasEnded, MayBegin}
-use Rattle.mg_safety.proofs.Words.{the_some, at_one, at_another}
+use Rattle.mg_safety.proofs.Words.{◌≡◌, ◌∙◌, ℕ, true, false, List, Some, None, length, sym, ap, subst, arith, inl, inr, ◌<◌, ◌≤◌, Agent, begun, Entry, Gateway}
+use Rattle.mg_safety.proofs.Words.{CallLink, last_executed, Reply, SentNote, Script, World, Begins, HasEnded, MayBegin, the_some, at_one, at_another, cases_eq}
 use Rattle.mg_model.specs.Gateway as gateway
 use Rattle.mg_safety.proofs.InvariantWords.{IsKnown, IsOpen, IsReached, IsReplySound, IsNoteSound, IsAboveFloor, CallIsSound, GatewayIsSound, IsSound, IsClosed}
 use Rattle.mg_safety.proofs.InvariantWords.{KeepsSound}
@@ -37,15 +36,13 @@ module _ (script : Script) (entries : List Entry) (closed : IsClosed script entr
   -- ---- which calls are known, and which are open
 
   known_after : (call : ℕ) → IsKnown w call → IsKnown after call
-  known_after call known = by_old (call == old) refl known
-    where
-      by_old : (test : Bool) → (call == old) ≡ test → IsKnown w call → IsKnown after call
-      by_old true e known = inr (subst (λ n. later.retired n ≡ true) (sym (eqb-true call old e)) (at_one old true (g.retired old)))
-      by_old false e (inl there) = inl (
-        there.0,
-        agent_other script w new old call a (eqb-false call old e) (not_new call there.0 there.1) ∙ there.1,
-      )
-      by_old false e (inr gone) = inr (at_another old call true (g.retired call) (eqb-false call old e) ∙ gone)
+  known_after call known = elim (cases_eq call old) [
+    | inl is ↦ inr (subst (λ n. later.retired n ≡ true) (sym is) (at_one old true (g.retired old)))
+    | inr not_old ↦ elim known [
+      | inl there ↦ inl (there.0, agent_other script w new old call a not_old (not_new call there.0 there.1) ∙ there.1)
+      | inr gone ↦ inr (at_another old call true (g.retired call) not_old ∙ gone)
+    ]
+  ]
 
   -- what was sent by a call that is open after and was known before is of one that is neither
   record IsNeither (call : ℕ) : Type 0 where

@@ -1,18 +1,16 @@
 -- Where a call begins on the lines of one that has ended, the new call is shown the opening configuration, and each other call what it was shown.
-use Rattle.mg_safety.proofs.Words.{◌≡◌, ◌∙◌, ℕ, Bool, false, List, Option, Some, None, length, refl, sym, ap, subst, arith, inl, inr, true≢false, ◌<◌, ◌≤◌, ◌⊎◌}
-use Rattle.mg_safety.proofs.Words.{IsTrue, eq-eqb, false_from_ne_true, TermId, Line, Eph, Spot, Null, Agent, begun, Board, Configuration, is_in, Entry, Gateway}
-use Rattle.mg_safety.proofs.Words.{CallLink, MayBegin, last_executed, list_of, Request, Script, opening, state_of, World, HasEnded, some_is_none, the_some}
-use Rattle.mg_safety.proofs.Words.{not_both}
-use Rattle.mg_names.specs.declared.phases.LinkPhase as phases
+use Rattle.mg_safety.proofs.Words.{◌≡◌, ◌∙◌, ℕ, Bool, false, List, Option, Some, None, length, refl, sym, ap, subst, arith, inl, inr, true≢false, ◌<◌, ◌⊎◌}
+use Rattle.mg_safety.proofs.Words.{IsTrue, false_from_ne_true, TermId, Line, Eph, Spot, Null, Agent, begun, Board, Configuration, is_in, Entry, Gateway}
+use Rattle.mg_safety.proofs.Words.{CallLink, MayBegin, list_of, Script, opening, state_of, World, HasEnded, some_is_none, the_some, not_both, same_itself}
 use Rattle.mg_model.specs.declared.commands.Termination.TheVariants as termination
 use Rattle.mg_model.specs.Gateway as gateway
-use Rattle.mg_safety.proofs.InvariantWords.{Naming, naming, Seen, LinesShown, IsAt, IsCurrent, IsLost, IsSentBy, IsKnown, CallIsSound, IsSound, is_call}
-use Rattle.mg_safety.proofs.InvariantWords.{owned_in, IsClosed}
+use Rattle.mg_safety.proofs.InvariantWords.{Naming, naming, Seen, LinesShown, IsCurrent, IsLost, IsKnown, CallIsSound, IsSound, is_call, owned_in, IsClosed}
 use Rattle.mg_safety.proofs.Agents.AgentSound.{at_rest}
 use Rattle.mg_safety.proofs.Agents.Entering.{not_resting}
 use Rattle.mg_safety.proofs.Events.Others.{is_call_of, created_only}
 use Rattle.mg_safety.proofs.Events.Handover.{handed_own, handed_other, still_owns, link_other, none_executed, executed_other, world_begun}
 use Rattle.mg_safety.proofs.Invariant.OpeningShown.{AreCleared, events_armed, opening_shown}
+use Rattle.mg_safety.proofs.Events.StillSound.{current_still, sent_still}
 
 -- what a call is shown does not depend on how it is said what it owns
 seen_by : (script : Script) (owned also : TermId → Bool) (n : Naming) (b : Board) (c : Configuration) → ((t : TermId) → also t ≡ owned t)
@@ -74,7 +72,8 @@ module _ (script : Script) (entries : List Entry) (closed : IsClosed script entr
   -- ---- the new call
 
   -- the old call is cleared: its lines stand in the null context, where nothing is cut
-  no_cut : (i j : ℕ) → i < length script.lines → j < length script.lines → g.board.cut (Line (record { 0 = a.lines i })) (Line (record { 0 = a.lines j })) ≡ false
+  no_cut : (i j : ℕ) → i < length script.lines → j < length script.lines
+      → g.board.cut (Line (record { 0 = a.lines i })) (Line (record { 0 = a.lines j })) ≡ false
   no_cut i j first second =
       let k = current in
       let rest = at_rest script g a k.e k.c.link ended.at_rest k.at in
@@ -90,7 +89,7 @@ module _ (script : Script) (entries : List Entry) (closed : IsClosed script entr
   cleared = record {
     rows = λ i within. may.rows (a.lines i) (was.held i within);
     no_cut = no_cut;
-    own = λ i within. ap (λ (o : Option ℕ). is_call o new) (handed_own old new (g.holder (a.lines i)) (was.held i within)) ∙ eq-eqb new new refl;
+    own = λ i within. ap (λ (o : Option ℕ). is_call o new) (handed_own old new (g.holder (a.lines i)) (was.held i within)) ∙ same_itself new;
     once = was.once;
     no_ephemeral = λ x is standing.
         let made = sound.gateway.created x standing in
@@ -139,45 +138,16 @@ module _ (script : Script) (entries : List Entry) (closed : IsClosed script entr
     its : CallIsSound script entries w other one
     its = sound.calls other one there
 
-    link_is : later.link one.call ≡ g.link one.call
-    link_is = subst (λ n. later.link n ≡ g.link n) (sym its.numbered) (link_other g old new other not_old not_new)
-
-    executed_is : last_executed later one.call ≡ last_executed g one.call
-    executed_is = subst (λ n. last_executed later n ≡ last_executed g n) (sym its.numbered) (executed_other g old new other not_old not_new)
-
-    at_still : (e : Agent) (link : phases.LinkPhase) → IsAt script g one e link → IsAt script later one e link
-    at_still e link (inl sent) = inl (record {
-      request = sent.request;
-      outstanding = sent.outstanding;
-      above = let above = sent.above in let same = executed_is in omega (arith, above, same);
-      effective = sent.effective;
-      link_is = sent.link_is;
-    })
-    at_still e link (inr (inl answered)) = inr (inl (record {
-      request = answered.request;
-      outstanding = answered.outstanding;
-      answer = answered.answer;
-      kept = ap (λ (l : CallLink). l.last) link_is ∙ answered.kept;
-      number = answered.number;
-      effective = answered.effective;
-      link_is = answered.link_is;
-    }))
-    at_still e link (inr (inr rests)) = inr (inr rests)
+    last : (later.link one.call).last ≡ (g.link one.call).last
+    last = subst (λ n. (later.link n).last ≡ (g.link n).last) (sym its.numbered)
+        (ap (λ (l : CallLink). l.last) (link_other g old new other not_old not_new))
 
     owns : (t : TermId) → owned_in later one.call t ≡ owned_in g one.call t
     owns = subst (λ n. (t : TermId) → owned_in later n t ≡ owned_in g n t) (sym its.numbered) (still_owns g old new other not_old not_new)
 
     part_still : IsCurrent script entries g one ⊎ IsLost script g one → IsCurrent script entries later one ⊎ IsLost script later one
-    part_still (inl k) = inl (record {
-      association = k.association;
-      c = k.c;
-      e = k.e;
-      stands = k.stands;
-      state = k.state;
-      at = at_still k.e k.c.link k.at;
-      shown = seen_by script (owned_in g one.call) (owned_in later one.call) (naming k.e) g.board k.c owns k.shown;
-      lines_shown = record { events = k.lines_shown.events; silent = k.lines_shown.silent; expected = k.lines_shown.expected };
-    })
+    part_still (inl k) = inl (current_still script g later one refl last entries k
+        (seen_by script (owned_in g one.call) (owned_in later one.call) (naming k.e) g.board k.c owns k.shown) k.lines_shown)
     part_still (inr lost) = inr (record {
       association = lost.association;
       rows = lost.rows;
@@ -185,19 +155,9 @@ module _ (script : Script) (entries : List Entry) (closed : IsClosed script entr
       playing = lost.playing;
       request = lost.request;
       no_ephemeral = lost.no_ephemeral;
-      no_reply = ap (λ (l : CallLink). l.last) link_is ∙ lost.no_reply;
+      no_reply = last ∙ lost.no_reply;
       no_cut = lost.no_cut;
     })
-
-    sent_still : (request : Request) → IsSentBy g one request → IsSentBy later one request
-    sent_still request sent = record {
-      association = sent.association;
-      number = sent.number;
-      outstanding = λ present. elim (sent.outstanding present) [
-        | inl is ↦ inl is
-        | inr settled ↦ (let old_is : request.number ≤ last_executed g one.call = settled in let same = executed_is in inr (omega (arith, old_is, same)))
-      ];
-    }
 
     pub other_sound : CallIsSound script entries after other one
     other_sound = record {
@@ -206,7 +166,7 @@ module _ (script : Script) (entries : List Entry) (closed : IsClosed script entr
       next = let below = its.next in let same = executed_other g old new other not_old not_new in omega (arith, below, same);
       held = λ i within. handed_other old new other (g.holder (one.lines i)) (its.held i within) not_old;
       once = its.once;
-      requests = λ request among of. sent_still request (its.requests request among of);
+      requests = λ request among of. sent_still script g later one refl last request (its.requests request among of);
       outstanding = its.outstanding;
       part = part_still its.part;
     }

@@ -107,7 +107,8 @@ repeat_sound script entries w request after sound among r =
       };
     })
 
-pub execute_sound : RequestsRun → OthersStayShown → OwnersAgree → OtherLost → (request : Request) (refusal : Option ChosenRefusal) → KeepsSound (λ script w after. Contains w.requests request × Executes w request refusal after)
+pub execute_sound : RequestsRun → OthersStayShown → OwnersAgree → OtherLost → (request : Request) (refusal : Option ChosenRefusal)
+    → KeepsSound (λ script w after. Contains w.requests request × Executes w request refusal after)
 execute_sound run shown agree lost request refusal script entries is_script closed w after sound occurs = by_case occurs.1
   where
     by_case : Executes w request refusal after → IsSound script entries after

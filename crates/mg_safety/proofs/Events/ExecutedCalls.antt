@@ -1,19 +1,19 @@
 -- The calls after a request was executed: the request's own call is answered, and each other call is as it was.
-use Rattle.mg_safety.proofs.Words.{◌≡◌, ◌∙◌, ◌<◌, ◌++◌, ℕ, Bool, true, false, List, ◌∷◌, length, Option, Some, refl, sym, ap, subst, arith, inl, inr, eqb-true}
-use Rattle.mg_safety.proofs.Words.{eqb-false, ◌==◌, unwrap_or, Failure, Agent, after_results, built_by, Board, IsSettled, Entry, Gateway, CallLink}
-use Rattle.mg_safety.proofs.Words.{last_executed, reply_of, after_request, sent_notes, LineRow, Request, Running, Script, World, with_gateway}
-use Rattle.mg_names.specs.declared.phases.LinkPhase as phases
-use Rattle.mg_safety.proofs.InvariantWords.{naming, owned_at, is_call, owner_of, owned_in, IsAt, IsCurrent, IsLost, IsSentBy, CallIsSound, IsSound, IsOwnChange}
+use Rattle.mg_safety.proofs.Words.{◌≡◌, ◌∙◌, ◌<◌, ◌++◌, ℕ, false, List, ◌∷◌, length, Option, Some, refl, sym, ap, subst, arith, inl, inr, Failure, Agent}
+use Rattle.mg_safety.proofs.Words.{after_results, built_by, Board, IsSettled, Entry, Gateway, CallLink, last_executed, reply_of, after_request, sent_notes}
+use Rattle.mg_safety.proofs.Words.{LineRow, Request, Running, Script, World, with_gateway, cases_eq, the_some}
+use Rattle.mg_safety.proofs.InvariantWords.{naming, owned_at, is_call, owner_of, owned_in, IsCurrent, IsLost, IsSentBy, CallIsSound, IsSound, IsOwnChange}
 use Rattle.mg_safety.proofs.InvariantWords.{OthersStayShown, OwnersAgree}
 use Rattle.mg_safety.proofs.Agents.EffectiveAgent.{same_lines}
 use Rattle.mg_safety.proofs.Requests.Ending.{seen_at_end}
 use Rattle.mg_safety.proofs.Events.Executing.{not_call_of, HasRun, link_own, link_other, executed_own, executed_other, run_changes}
+use Rattle.mg_safety.proofs.Events.StillSound.{current_still, sent_still}
 
 -- a lost call stays lost while another call's request runs
 abbrev pub OtherLost : Type 0
 OtherLost =
-    (script : Script) (g : Gateway) (end : Board) (after : Gateway) (call : ℕ) (b : Agent) → IsLost script g b → IsOwnChange g end after call → (call ≡ b.call → ⊥)
-    → after.association ≡ g.association → ((i : ℕ) → i < length script.lines → g.holder (b.lines i) ≡ Some b.call)
+    (script : Script) (g : Gateway) (end : Board) (after : Gateway) (call : ℕ) (b : Agent) → IsLost script g b → IsOwnChange g end after call
+    → (call ≡ b.call → ⊥) → after.association ≡ g.association → ((i : ℕ) → i < length script.lines → g.holder (b.lines i) ≡ Some b.call)
     → ((l : ℕ) → is_call (g.holder l) call ≡ false → after.line l ≡ g.line l) → after.link b.call ≡ g.link b.call → IsLost script after b
 
 -- the world after a request was executed, with its reply and its notes sent
@@ -25,15 +25,17 @@ world_after w request end settled failure = record (with_gateway w (after_reques
 
 module _ (script : Script) (entries : List Entry) (w : World) (request : Request) (end : Running) (settled : Board) (failure : Option Failure)
     (sound : IsSound script entries w) (h : HasRun script entries w request end failure) (is_settled : IsSettled end.board settled) where
+  abbrev later : Gateway
+  later = after_request w.gateway request end settled failure
+
+  changes : IsOwnChange w.gateway end.board later request.call
+  changes = run_changes script entries w request end settled failure sound.floor sound.gateway h is_settled
+
   -- ---- the call itself
 
-  own_current : OwnersAgree → IsCurrent script entries (after_request w.gateway request end settled failure) h.agent
+  own_current : OwnersAgree → IsCurrent script entries later h.agent
   own_current agree =
-      let g = w.gateway in
-      let a = h.agent in
       let run = h.run in
-      let changes = subst (IsOwnChange w.gateway end.board (after_request w.gateway request end settled failure)) (sym h.call)
-      (run_changes script entries w request end settled failure sound.floor sound.gateway h is_settled) in
       record {
         association = sym h.outstanding.association ∙ h.association;
         c = run.c;
@@ -44,29 +46,27 @@ module _ (script : Script) (entries : List Entry) (w : World) (request : Request
           request = request;
           outstanding = h.outstanding;
           answer = reply_of request end failure;
-          kept = ap (λ n. ((after_request w.gateway request end settled failure).link n).last) h.call ∙ link_own w.gateway request end settled failure;
+          kept = ap (λ n. (later.link n).last) h.call ∙ link_own w.gateway request end settled failure;
           number = refl;
           effective = refl;
           link_is = run.link;
         }));
-        shown = seen_at_end script (owned_at (owner_of g h.agent.call) end.board) (owned_in (after_request g request end settled failure) h.agent.call)
+        shown = seen_at_end script (owned_at (owner_of w.gateway h.agent.call) end.board) (owned_in later h.agent.call)
             (naming (after_results h.agent (built_by script h.agent h.agent.state) end.results request.number)) end.board settled run.c run.shown is_settled
-            (agree g end.board (after_request g request end settled failure) h.agent.call run.accounted changes);
+            (agree w.gateway end.board later h.agent.call run.accounted (subst (IsOwnChange w.gateway end.board later) (sym h.call) changes));
         lines_shown = run.lines_shown;
       }
 
-  own_sent : (one : Request) → IsSentBy w.gateway h.agent one → IsSentBy (after_request w.gateway request end settled failure) h.agent one
+  own_sent : (one : Request) → IsSentBy w.gateway h.agent one → IsSentBy later h.agent one
   own_sent one sent = record {
     association = sent.association;
     number = sent.number;
     outstanding = λ present. elim (sent.outstanding present) [
       | inl phase ↦ inl phase
-      | inr done ↦ (
-          let own : last_executed (after_request w.gateway request end settled failure) h.agent.call ≡ request.number =
-          ap (last_executed (after_request w.gateway request end settled failure)) h.call ∙ executed_own w.gateway request end settled failure in
+      | inr done ↦ (let own : last_executed later h.agent.call ≡ request.number =
+          ap (last_executed later) h.call ∙ executed_own w.gateway request end settled failure in
           let before : last_executed w.gateway h.agent.call ≡ last_executed w.gateway request.call = ap (last_executed w.gateway) h.call in
-          let newer = h.newer in
-          inr (omega (arith, own, before, newer, done)))
+          let newer = h.newer in inr (omega (arith, own, before, newer, done)))
     ];
   }
 
@@ -94,64 +94,26 @@ module _ (script : Script) (entries : List Entry) (w : World) (request : Request
     line_kept : (l : ℕ) → w.gateway.holder l ≡ Some b.call → end.line l ≡ w.gateway.line l
     line_kept l held = h.run.other_lines l (not_call_of (w.gateway.holder l) b.call h.agent.call held (λ e. unlike (e ∙ h.call)))
 
-    other_at : (e : Agent) (link : phases.LinkPhase) → IsAt script w.gateway b e link → IsAt script (after_request w.gateway request end settled failure) b e link
-    other_at e link (inl s) = inl (record {
-      request = s.request;
-      outstanding = s.outstanding;
-      above = let same = executed_other w.gateway request end settled failure b.call unlike in let above = s.above in omega (arith, same, above);
-      effective = s.effective;
-      link_is = s.link_is;
-    })
-    other_at e link (inr (inl s)) = inr (inl (record {
-      request = s.request;
-      outstanding = s.outstanding;
-      answer = s.answer;
-      kept = ap (λ (x : CallLink). x.last) (link_other w.gateway request end settled failure b.call unlike) ∙ s.kept;
-      number = s.number;
-      effective = s.effective;
-      link_is = s.link_is;
-    }))
-    other_at e link (inr (inr s)) = inr (inr s)
+    last : (later.link b.call).last ≡ (w.gateway.link b.call).last
+    last = ap (λ (x : CallLink). x.last) (link_other w.gateway request end settled failure b.call unlike)
 
-    other_current : OthersStayShown → IsCurrent script entries w.gateway b → IsCurrent script entries (after_request w.gateway request end settled failure) b
+    other_current : OthersStayShown → IsCurrent script entries w.gateway b → IsCurrent script entries later b
     other_current stay k =
         let held : (i : ℕ) → i < length script.lines → w.gateway.holder (k.e.lines i) ≡ Some b.call = λ i within.
         ap (λ (lines : ℕ → ℕ). w.gateway.holder (lines i)) (same_lines script w.gateway b k.e k.c.link k.at)
         ∙ (sound.calls other b there).held i within ∙ ap Some (sym numbered) in
-        record {
-          association = k.association;
-          c = k.c;
-          e = k.e;
-          stands = k.stands;
-          state = k.state;
-          at = other_at k.e k.c.link k.at;
-          shown = stay script w.gateway end.board (after_request w.gateway request end settled failure) request.call b.call (naming k.e) k.c
-              (run_changes script entries w request end settled failure sound.floor sound.gateway h is_settled) (λ e. unlike (sym e)) k.shown;
-          lines_shown = record {
-            events = λ i within. ap (λ (row : LineRow). row.list) (line_kept (k.e.lines i) (held i within)) ∙ k.lines_shown.events i within;
-            silent = λ i within quiet. ap (λ (row : LineRow). row.playing) (line_kept (k.e.lines i) (held i within))
-                ∙ k.lines_shown.silent i within quiet;
-            expected = λ i q within is. ap (λ (row : LineRow). row.request) (line_kept (k.e.lines i) (held i within))
-                ∙ k.lines_shown.expected i q within is;
-          };
-        }
+        current_still script w.gateway later b refl last entries k
+        (stay script w.gateway end.board later request.call b.call (naming k.e) k.c changes (λ e. unlike (sym e)) k.shown) (record {
+          events = λ i within. ap (λ (row : LineRow). row.list) (line_kept (k.e.lines i) (held i within)) ∙ k.lines_shown.events i within;
+          silent = λ i within quiet. ap (λ (row : LineRow). row.playing) (line_kept (k.e.lines i) (held i within)) ∙ k.lines_shown.silent i within quiet;
+          expected = λ i q within is. ap (λ (row : LineRow). row.request) (line_kept (k.e.lines i) (held i within)) ∙ k.lines_shown.expected i q within is;
+        })
 
-    other_lost : OtherLost → IsLost script w.gateway b → IsLost script (after_request w.gateway request end settled failure) b
-    other_lost stay lost = stay script w.gateway end.board (after_request w.gateway request end settled failure) request.call b lost
-        (run_changes script entries w request end settled failure sound.floor sound.gateway h is_settled) (λ e. unlike (sym e)) refl
+    other_lost : OtherLost → IsLost script w.gateway b → IsLost script later b
+    other_lost stay lost = stay script w.gateway end.board later request.call b lost changes (λ e. unlike (sym e)) refl
         (λ i within. (sound.calls other b there).held i within ∙ ap Some (sym numbered))
         (λ l apart. h.run.other_lines l (ap (is_call (w.gateway.holder l)) h.call ∙ apart))
         (link_other w.gateway request end settled failure b.call unlike)
-
-    other_sent : (one : Request) → IsSentBy w.gateway b one → IsSentBy (after_request w.gateway request end settled failure) b one
-    other_sent one sent = record {
-      association = sent.association;
-      number = sent.number;
-      outstanding = λ present. elim (sent.outstanding present) [
-        | inl phase ↦ inl phase
-        | inr done ↦ (let same = executed_other w.gateway request end settled failure b.call unlike in inr (omega (arith, same, done)))
-      ];
-    }
 
     other_sound : OthersStayShown → OtherLost → CallIsSound script entries (world_after w request end settled failure) other b
     other_sound shown lost = let old = sound.calls other b there in record {
@@ -160,22 +122,16 @@ module _ (script : Script) (entries : List Entry) (w : World) (request : Request
       next = let same = executed_other w.gateway request end settled failure other (λ e. apart (sym e)) in let below = old.next in omega (arith, same, below);
       held = old.held;
       once = old.once;
-      requests = λ one among of. other_sent one (old.requests one among of);
+      requests = λ one among of. sent_still script w.gateway later b refl last one (old.requests one among of);
       outstanding = old.outstanding;
-      part = elim old.part [
-        | inl k ↦ inl (other_current shown k)
-        | inr gone ↦ inr (other_lost lost gone)
-      ];
+      part = elim old.part [ inl k ↦ inl (other_current shown k) | inr gone ↦ inr (other_lost lost gone) ];
     }
 
   pub calls_after : OthersStayShown → OwnersAgree → OtherLost → (call : ℕ) (a : Agent) → w.agent call ≡ Some a
       → CallIsSound script entries (world_after w request end settled failure) call a
-  calls_after shown agree lost call a there = go (request.call == call) refl
-    where
-      go : (same : Bool) → (request.call == call) ≡ same → CallIsSound script entries (world_after w request end settled failure) call a
-      go true e =
-          let one : request.call ≡ call = eqb-true request.call call e in
-          let same : h.agent ≡ a = ap (λ (o : Option Agent). unwrap_or o a) (sym h.open_call ∙ ap w.agent one ∙ there) in
-          subst (λ n. CallIsSound script entries (world_after w request end settled failure) n a) one
-          (subst (CallIsSound script entries (world_after w request end settled failure) request.call) same (own_sound agree))
-      go false e = other_sound call a there (eqb-false request.call call e) shown lost
+  calls_after shown agree lost call a there = elim (cases_eq request.call call) [
+    | inl one ↦ (let same : h.agent ≡ a = the_some h.agent a (sym h.open_call ∙ ap w.agent one ∙ there) in
+        subst (λ n. CallIsSound script entries (world_after w request end settled failure) n a) one
+        (subst (CallIsSound script entries (world_after w request end settled failure) request.call) same (own_sound agree)))
+    | inr apart ↦ other_sound call a there apart shown lost
+  ]

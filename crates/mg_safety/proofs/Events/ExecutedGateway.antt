@@ -1,12 +1,12 @@
 -- The gateway after a request was executed, and the messages that were sent: what was created is the call's, what its lines expect is bounded by
 -- the request's number, and its reply is the kept one.
 use Rattle.mg_safety.proofs.Words.{◌≡◌, ◌∙◌, ◌+◌, ◌<◌, ◌≤◌, ℕ, Bool, true, false, List, [], ◌∷◌, Option, Some, None, is_some, refl, sym, ap, subst, arith, inl}
-use Rattle.mg_safety.proofs.Words.{inr, eqb-true, eqb-false, Contains-append_left, Contains-append_right, Contains-append_cases, ◌==◌, if◌then◌else◌, Contains}
-use Rattle.mg_safety.proofs.Words.{unwrap_or, ◌⊎◌, Failure, TermId, Line, Eph, Row, Agent, after_results, built_by, Board, exists, place_of, place_in}
-use Rattle.mg_safety.proofs.Words.{remote_of, remote_in, IsSettled, Entry, CallLink, last_executed, reply_of, after_request, creator_after, sent_notes}
-use Rattle.mg_safety.proofs.Words.{number_of, LineRow, Note, Request, Reply, SentNote, Running, RaisedNote, note_on, Script, World, only_one, none_is_some}
-use Rattle.mg_safety.proofs.InvariantWords.{naming, IsAccounted, list_raises, is_call, IsKnown, IsOpen, IsReached, IsReplySound, IsNoteStanding, IsNoteSound}
-use Rattle.mg_safety.proofs.InvariantWords.{GatewayIsSound, IsSound, IsOwnChange, LineGoes}
+use Rattle.mg_safety.proofs.Words.{inr, Contains-append_left, Contains-append_right, Contains-append_cases, if◌then◌else◌, Contains, Failure, TermId, Line, Eph}
+use Rattle.mg_safety.proofs.Words.{Row, Agent, after_results, built_by, Board, exists, place_of, place_in, remote_of, remote_in, IsSettled, Entry, CallLink}
+use Rattle.mg_safety.proofs.Words.{last_executed, reply_of, after_request, creator_after, sent_notes, number_of, LineRow, Note, Request, Reply, SentNote}
+use Rattle.mg_safety.proofs.Words.{Running, RaisedNote, note_on, Script, World, only_one, none_is_some, cases_eq, the_some, none_in, Gateway}
+use Rattle.mg_safety.proofs.InvariantWords.{naming, IsAccounted, list_raises, is_call, IsKnown, IsOpen, IsReached, IsReplySound, IsNoteSound, GatewayIsSound}
+use Rattle.mg_safety.proofs.InvariantWords.{IsSound, IsOwnChange, LineGoes}
 use Rattle.mg_safety.proofs.Events.Others.{is_call_of}
 use Rattle.mg_safety.proofs.Events.StayApart.{stay_apart}
 use Rattle.mg_safety.proofs.Events.Executing.{not_call_of, HasRun, link_own, link_other, executed_own, executed_other, executed_more, run_changes}
@@ -26,7 +26,7 @@ record IsSentFrom (call association : ℕ) (notes : List RaisedNote) (sent : Sen
 
 sent_from : (call association count : ℕ) (notes : List RaisedNote) (sent : SentNote) → Contains (sent_notes call association count notes) sent
     → IsSentFrom call association notes sent
-sent_from call association count [] sent there = absurd (let nothing : there.0 < 0 = there.1 in omega (arith, nothing))
+sent_from call association count [] sent there = absurd (none_in sent there)
 sent_from call association count (n ∷ more) sent there =
     let one : SentNote = record { call = call; association = association; number = count + 1; line = n.line; note = n.note } in
     elim (Contains-append_cases (one ∷ []) (sent_notes call association (count + 1) more) sent there) [
@@ -71,20 +71,29 @@ creator_new stands before was call there fresh = rw (there, fresh) refl
 same_descriptor : (row after : LineRow) (number q : ℕ) → LineGoes number row after → after.request ≡ Some q → q < number
     → (after.list ≡ row.list) × (row.request ≡ Some q)
 same_descriptor row after number q (inl armed) is below =
-    let same : number ≡ q = ap (λ (o : Option ℕ). unwrap_or o q) (sym armed ∙ is) in absurd (omega (arith, same, below))
+    let same : number ≡ q = the_some number q (sym armed ∙ is) in absurd (omega (arith, same, below))
 same_descriptor row after number q (inr (inl emptied)) is below = absurd (none_is_some q (sym emptied ∙ is))
 same_descriptor row after number q (inr (inr stays)) is below = (stays.0, sym stays.1 ∙ is)
 
 -- a RequestID of the call's line is no more than the request's number
 bounded : (row after : LineRow) (number q : ℕ) → LineGoes number row after → after.request ≡ Some q → (row.request ≡ Some q → q < number) → q ≤ number
 bounded row after number q (inl armed) is within =
-    let same : number ≡ q = ap (λ (o : Option ℕ). unwrap_or o q) (sym armed ∙ is) in omega (arith, same)
+    let same : number ≡ q = the_some number q (sym armed ∙ is) in omega (arith, same)
 bounded row after number q (inr (inl emptied)) is within = absurd (none_is_some q (sym emptied ∙ is))
 bounded row after number q (inr (inr stays)) is within = let old : q < number = within (sym stays.1 ∙ is) in omega (arith, old)
 
 module _ (script : Script) (entries : List Entry) (w : World) (request : Request) (end : Running) (settled : Board) (failure : Option Failure)
     (sound : IsSound script entries w) (h : HasRun script entries w request end failure) (there : Contains w.requests request)
     (is_settled : IsSettled end.board settled) where
+  abbrev later : Gateway
+  later = after_request w.gateway request end settled failure
+
+  changes : IsOwnChange w.gateway end.board later request.call
+  changes = run_changes script entries w request end settled failure sound.floor sound.gateway h is_settled
+
+  executed_now : (call : ℕ) → call ≡ request.call → last_executed later call ≡ request.number
+  executed_now call one = ap (last_executed later) one ∙ executed_own w.gateway request end settled failure
+
   -- what the lines of the request's call could raise until now is below its number
   reached_below : (q : ℕ) → IsReached sound.floor w.gateway request.call q → q < request.number
   reached_below q (inl before) = let floor = (sound.floors request.call h.agent h.open_call).requests request there refl in omega (arith, before, floor)
@@ -133,75 +142,60 @@ module _ (script : Script) (entries : List Entry) (w : World) (request : Request
   apart_after : (x y one other : ℕ) → creator_after w.gateway request end x ≡ Some one → creator_after w.gateway request end y ≡ Some other → (one ≡ other → ⊥)
       → remote_of settled (Eph x) ≡ Some y → remote_of settled (Eph y) ≡ Some x → ⊥
   apart_after x y one other of_one of_other differ there back =
-      let own = subst (IsOwnChange w.gateway end.board (after_request w.gateway request end settled failure)) (sym h.call)
-      (run_changes script entries w request end settled failure sound.floor sound.gateway h is_settled) in
       let names = naming (after_results h.agent (built_by script h.agent h.agent.state) end.results request.number) in
-      stay_apart script w.gateway end.board (after_request w.gateway request end settled failure) h.agent.call own h.run.accounted names h.run.c h.run.shown
-      sound.gateway.apart x y one other (sym (settled_stands (Eph x)) ∙ creator_stands x one of_one) (sym (settled_stands (Eph y)) ∙ creator_stands y other of_other)
+      stay_apart script w.gateway end.board later h.agent.call (subst (IsOwnChange w.gateway end.board later) (sym h.call) changes)
+      h.run.accounted names h.run.c h.run.shown
+      sound.gateway.apart x y one other (sym (settled_stands (Eph x)) ∙ creator_stands x one of_one)
+      (sym (settled_stands (Eph y)) ∙ creator_stands y other of_other)
       of_one of_other differ (ap remote_in (sym (settled_row (Eph x))) ∙ there) (ap remote_in (sym (settled_row (Eph y))) ∙ back)
 
   unheld : (l : ℕ) (row : Row) → w.gateway.holder l ≡ None → settled.row (Line (record { 0 = l })) ≡ Some row → row.place.0 ≡ 0
   unheld l row free is = sound.gateway.unheld l row free
-      (sym (h.run.changes.row (Line (record { 0 = l })) (ap (λ (o : Option ℕ). is_call o h.agent.call) free)) ∙ (sym (settled_row (Line (record { 0 = l }))) ∙ is))
+      (sym (h.run.changes.row (Line (record { 0 = l })) (ap (λ (o : Option ℕ). is_call o h.agent.call) free))
+      ∙ (sym (settled_row (Line (record { 0 = l }))) ∙ is))
 
   request_ids : (l call q : ℕ) → w.gateway.holder l ≡ Some call → (end.line l).request ≡ Some q
-      → IsReached sound.floor (after_request w.gateway request end settled failure) call q
-  request_ids l call q held is = go (call == request.call) refl
-    where
-      go : (same : Bool) → (call == request.call) ≡ same → IsReached sound.floor (after_request w.gateway request end settled failure) call q
-      go true e =
-          let one : call ≡ request.call = eqb-true call request.call e in
-          let own : last_executed (after_request w.gateway request end settled failure) call ≡ request.number =
-          ap (last_executed (after_request w.gateway request end settled failure)) one ∙ executed_own w.gateway request end settled failure in
-          let below : q ≤ request.number = bounded (w.gateway.line l) (end.line l) request.number q
-          (h.run.own_lines l) is (λ stood. reached_below q (sound.gateway.request_ids l request.call q (held ∙ ap Some one) stood)) in
-          inr (omega (arith, own, below))
-      go false e =
-          let apart = eqb-false call request.call e in
-          let same = executed_other w.gateway request end settled failure call apart in
-          elim (sound.gateway.request_ids l call q held (ap (λ (row : LineRow). row.request) (sym (other_line l call held apart)) ∙ is)) [
-            | inl before ↦ inl before
-            | inr executed ↦ (let below : q ≤ last_executed w.gateway call = executed in inr (omega (arith, same, below)))
-          ]
+      → IsReached sound.floor later call q
+  request_ids l call q held is = elim (cases_eq call request.call) [
+    | inl one ↦ (let own = executed_now call one in
+        let below : q ≤ request.number = bounded (w.gateway.line l) (end.line l) request.number q
+        (h.run.own_lines l) is (λ stood. reached_below q (sound.gateway.request_ids l request.call q (held ∙ ap Some one) stood)) in
+        inr (omega (arith, own, below)))
+    | inr apart ↦ (let same = executed_other w.gateway request end settled failure call apart in
+        elim (sound.gateway.request_ids l call q held (ap (λ (row : LineRow). row.request) (sym (other_line l call held apart)) ∙ is)) [
+          | inl before ↦ inl before
+          | inr executed ↦ (let below : q ≤ last_executed w.gateway call = executed in inr (omega (arith, same, below)))
+        ])
+  ]
 
   -- ---- replies
 
-  kept : (call : ℕ) (answer : Reply) → ((after_request w.gateway request end settled failure).link call).last ≡ Some answer
+  kept : (call : ℕ) (answer : Reply) → (later.link call).last ≡ Some answer
       → (answer.call ≡ call) × (answer.association ≡ w.gateway.association)
-  kept call answer is = go (call == request.call) refl
-    where
-      go : (same : Bool) → (call == request.call) ≡ same → (answer.call ≡ call) × (answer.association ≡ w.gateway.association)
-      go true e =
-          let one : call ≡ request.call = eqb-true call request.call e in
-          let the_answer : reply_of request end failure ≡ answer = ap (λ (o : Option Reply). unwrap_or o answer)
-          (sym (ap (λ n. ((after_request w.gateway request end settled failure).link n).last) one ∙ link_own w.gateway request end settled failure) ∙ is) in
-          (sym (ap (λ (r : Reply). r.call) the_answer) ∙ sym one, sym (ap (λ (r : Reply). r.association) the_answer) ∙ h.association)
-      go false e = sound.gateway.kept call answer
-          (ap (λ (x : CallLink). x.last) (sym (link_other w.gateway request end settled failure call (eqb-false call request.call e))) ∙ is)
+  kept call answer is = elim (cases_eq call request.call) [
+    | inl one ↦ (let the_answer : reply_of request end failure ≡ answer = the_some (reply_of request end failure) answer
+        (sym (ap (λ n. (later.link n).last) one ∙ link_own w.gateway request end settled failure) ∙ is) in
+        (sym (ap (λ (r : Reply). r.call) the_answer) ∙ sym one, sym (ap (λ (r : Reply). r.association) the_answer) ∙ h.association))
+    | inr apart ↦ sound.gateway.kept call answer
+        (ap (λ (x : CallLink). x.last) (sym (link_other w.gateway request end settled failure call apart)) ∙ is)
+  ]
 
-  reply_after : (answer : Reply) → IsReplySound w.gateway answer → IsReplySound (after_request w.gateway request end settled failure) answer
+  reply_after : (answer : Reply) → IsReplySound w.gateway answer → IsReplySound later answer
   reply_after answer old = record {
     association = old.association;
-    kept = λ present. go (old.kept present) (answer.call == request.call) refl;
+    kept = λ present. elim (old.kept present) [
+      | inl last ↦ elim (cases_eq answer.call request.call) [
+        | inl one ↦ (let own = executed_now answer.call one in
+            let number : last_executed w.gateway request.call ≡ answer.number = ap (last_executed w.gateway) (sym one) ∙ ap number_of last in
+            let newer = h.newer in inr (omega (arith, own, number, newer)))
+        | inr apart ↦ inl (ap (λ (x : CallLink). x.last) (link_other w.gateway request end settled failure answer.call apart) ∙ last)
+      ]
+      | inr older ↦ (let before : answer.number < last_executed w.gateway answer.call = older in
+          let more = executed_more w.gateway request end settled failure h.newer answer.call in inr (omega (arith, before, more)))
+    ];
   }
-    where
-      go : ((w.gateway.link answer.call).last ≡ Some answer) ⊎ (answer.number < last_executed w.gateway answer.call)
-          → (same : Bool) → (answer.call == request.call) ≡ same
-          → (((after_request w.gateway request end settled failure).link answer.call).last ≡ Some answer)
-          ⊎ (answer.number < last_executed (after_request w.gateway request end settled failure) answer.call)
-      go (inl last) true e =
-          let one : answer.call ≡ request.call = eqb-true answer.call request.call e in
-          let own : last_executed (after_request w.gateway request end settled failure) answer.call ≡ request.number =
-          ap (last_executed (after_request w.gateway request end settled failure)) one ∙ executed_own w.gateway request end settled failure in
-          let number : last_executed w.gateway request.call ≡ answer.number = ap (last_executed w.gateway) (sym one) ∙ ap number_of last in
-          let newer = h.newer in
-          inr (omega (arith, own, number, newer))
-      go (inl last) false e = inl (ap (λ (x : CallLink). x.last)
-          (link_other w.gateway request end settled failure answer.call (eqb-false answer.call request.call e)) ∙ last)
-      go (inr older) same e =
-          let more = executed_more w.gateway request end settled failure h.newer answer.call in inr (omega (arith, older, more))
 
-  reply_new : IsReplySound (after_request w.gateway request end settled failure) (reply_of request end failure)
+  reply_new : IsReplySound later (reply_of request end failure)
   reply_new = record {
     association = let present = h.association in omega (arith, present);
     kept = λ present. inl (link_own w.gateway request end settled failure);
@@ -210,14 +204,13 @@ module _ (script : Script) (entries : List Entry) (w : World) (request : Request
   -- ---- notes
 
   note_new : (sent : SentNote) → Contains (sent_notes request.call request.association (w.gateway.link request.call).notes end.notes) sent
-      → IsKnown w sent.call × (IsOpen w sent.call → IsNoteSound sound.floor (after_request w.gateway request end settled failure) sent)
+      → IsKnown w sent.call × (IsOpen w sent.call → IsNoteSound sound.floor later sent)
   note_new sent among =
       let from : IsSentFrom request.call request.association end.notes sent =
       sent_from request.call request.association (w.gateway.link request.call).notes end.notes sent among in
       let raised = h.run.notes from.line from.note from.among in
       let number : sent.note.request ≡ request.number = ap (λ (n : Note). n.request) from.note_is ∙ raised.1 in
-      let own : last_executed (after_request w.gateway request end settled failure) sent.call ≡ request.number =
-      ap (last_executed (after_request w.gateway request end settled failure)) from.of_call ∙ executed_own w.gateway request end settled failure in (
+      let own = executed_now sent.call from.of_call in (
         subst (IsKnown w) (sym from.of_call) (sound.gateway.requests request there),
         λ is_open. record {
           association = let of = from.of_association in let present = h.association in omega (arith, of, present);
@@ -232,7 +225,7 @@ module _ (script : Script) (entries : List Entry) (w : World) (request : Request
         },
       )
 
-  note_after : (sent : SentNote) → IsNoteSound sound.floor w.gateway sent → IsNoteSound sound.floor (after_request w.gateway request end settled failure) sent
+  note_after : (sent : SentNote) → IsNoteSound sound.floor w.gateway sent → IsNoteSound sound.floor later sent
   note_after sent old = record {
     association = old.association;
     standing = λ present. record {
@@ -242,22 +235,17 @@ module _ (script : Script) (entries : List Entry) (w : World) (request : Request
         | inr executed ↦ (let below : sent.note.request ≤ last_executed w.gateway sent.call = executed in
             let more = executed_more w.gateway request end settled failure h.newer sent.call in inr (omega (arith, below, more)))
       ];
-      raised = λ is. go (old.standing present) is (sent.call == request.call) refl;
+      raised = λ is. elim (cases_eq sent.call request.call) [
+        | inl one ↦ (let below = reached_below sent.note.request
+            (subst (λ n. IsReached sound.floor w.gateway n sent.note.request) one (old.standing present).number) in
+            let stays = same_descriptor (w.gateway.line sent.line) (end.line sent.line) request.number sent.note.request (h.run.own_lines sent.line) is below in
+            ap (λ list. list_raises list sent.note.kind) stays.0 ∙ (old.standing present).raised stays.1)
+        | inr apart ↦ (let same = other_line sent.line sent.call (old.standing present).held apart in
+            ap (λ (row : LineRow). list_raises row.list sent.note.kind) same
+            ∙ (old.standing present).raised (ap (λ (row : LineRow). row.request) (sym same) ∙ is))
+      ];
     };
   }
-    where
-      go : IsNoteStanding sound.floor w.gateway sent → (end.line sent.line).request ≡ Some sent.note.request → (same : Bool) → (sent.call == request.call) ≡ same
-          → list_raises (end.line sent.line).list sent.note.kind ≡ true
-      go was is true e =
-          let one : sent.call ≡ request.call = eqb-true sent.call request.call e in
-          let below = reached_below sent.note.request (subst (λ n. IsReached sound.floor w.gateway n sent.note.request) one was.number) in
-          let stays = same_descriptor (w.gateway.line sent.line) (end.line sent.line) request.number sent.note.request
-          (h.run.own_lines sent.line) is below in
-          ap (λ list. list_raises list sent.note.kind) stays.0 ∙ was.raised stays.1
-      go was is false e =
-          let same = other_line sent.line sent.call was.held (eqb-false sent.call request.call e) in
-          ap (λ (row : LineRow). list_raises row.list sent.note.kind) same
-          ∙ was.raised (ap (λ (row : LineRow). row.request) (sym same) ∙ is)
 
   pub gateway_after : GatewayIsSound script sound.floor (world_after w request end settled failure)
   gateway_after = record {
@@ -274,7 +262,7 @@ module _ (script : Script) (entries : List Entry) (w : World) (request : Request
     replies = λ answer among. elim (Contains-append_cases (reply_of request end failure ∷ []) w.replies answer among) [
       | inl new ↦ (let one = only_one (reply_of request end failure) answer new in (
         subst (λ (x : Reply). IsKnown w x.call) one (sound.gateway.requests request there),
-        λ is_open. subst (IsReplySound (after_request w.gateway request end settled failure)) one reply_new,
+        λ is_open. subst (IsReplySound later) one reply_new,
       ))
       | inr before ↦ (let was = sound.gateway.replies answer before in (was.0, λ is_open. reply_after answer (was.1 is_open)))
     ];

@@ -1,8 +1,8 @@
 -- A request that is executed: it is the outstanding one of a current call, and what the gateway is after it, link by link and owner by owner.
-use Rattle.mg_safety.proofs.Words.{◌≡◌, ◌∙◌, ◌<◌, ◌≤◌, ℕ, Bool, true, false, List, Option, Some, None, refl, sym, ap, subst, arith, inl, inr, true≢false}
-use Rattle.mg_safety.proofs.Words.{eqb-true, eqb-false, ◌==◌, ◌+◌, if◌then◌else◌, length, ◌⊎◌, Eph, ChosenRefusal, Failure, Sent, Agent, awaits_reply, Board}
-use Rattle.mg_safety.proofs.Words.{IsSettled, exists, Entry, Gateway, CallLink, last_executed, start_of, reply_of, after_request, number_of, Request}
-use Rattle.mg_safety.proofs.Words.{RequestCommand, Running, Script, World, IsScript, at_another, at_one}
+use Rattle.mg_safety.proofs.Words.{◌≡◌, ◌∙◌, ◌<◌, ◌≤◌, ℕ, Bool, true, false, List, Option, Some, None, refl, sym, ap, subst, arith, inl, inr, true≢false, ◌+◌}
+use Rattle.mg_safety.proofs.Words.{if◌then◌else◌, length, ◌⊎◌, Eph, ChosenRefusal, Failure, Sent, Agent, awaits_reply, Board, IsSettled, exists, Entry, Gateway}
+use Rattle.mg_safety.proofs.Words.{CallLink, last_executed, start_of, reply_of, after_request, number_of, Request, RequestCommand, Running, Script, World}
+use Rattle.mg_safety.proofs.Words.{IsScript, at_another, at_one, cases_eq, different}
 use Rattle.mg_model.specs.RequestRun.{RunsFrom}
 use Rattle.mg_safety.proofs.InvariantWords.{naming, Seen, LinesShown, IsAccounted, ChangesOwned, is_call, owner_of, owned_in, IsOutstanding, IsAt, IsCurrent}
 use Rattle.mg_safety.proofs.InvariantWords.{IsLost, IsSentBy, CallIsSound, GatewayIsSound, IsClosed, IsRunOf, RequestsRun, IsOwnChange}
@@ -12,11 +12,7 @@ use Rattle.mg_safety.proofs.Agents.AgentSound.{pass_quiet, rest_quiet}
 -- ---- whose a line is
 
 pub not_call_of : (o : Option ℕ) (one call : ℕ) → o ≡ Some one → (one ≡ call → ⊥) → is_call o call ≡ false
-not_call_of o one call is apart = ap (λ (x : Option ℕ). is_call x call) is ∙ differ (one == call) refl
-  where
-    differ : (same : Bool) → (one == call) ≡ same → same ≡ false
-    differ true e = absurd (apart (eqb-true one call e))
-    differ false e = refl
+not_call_of o one call is apart = ap (λ (x : Option ℕ). is_call x call) is ∙ different one call apart
 
 -- ---- the request is the outstanding one
 
@@ -105,18 +101,14 @@ module _ (g : Gateway) (request : Request) (end : Running) (settled : Board) (fa
   pub executed_other : (call : ℕ) → (call ≡ request.call → ⊥) → last_executed (after_request g request end settled failure) call ≡ last_executed g call
   executed_other call apart = ap (λ (link : CallLink). number_of link.last) (link_other call apart)
 
-  pub executed_more : last_executed g request.call < request.number → (call : ℕ) → last_executed g call ≤ last_executed (after_request g request end settled failure) call
-  executed_more newer call = go (call == request.call) refl
-    where
-      go : (same : Bool) → (call == request.call) ≡ same → last_executed g call ≤ last_executed (after_request g request end settled failure) call
-      go true e =
-          let one : call ≡ request.call = eqb-true call request.call e in
-          let own : last_executed (after_request g request end settled failure) call ≡ request.number =
-          ap (last_executed (after_request g request end settled failure)) one ∙ executed_own in
-          let before : last_executed g call ≡ last_executed g request.call = ap (last_executed g) one in
-          omega (arith, own, before, newer)
-      go false e =
-          let other = executed_other call (eqb-false call request.call e) in omega (arith, other)
+  pub executed_more : last_executed g request.call < request.number → (call : ℕ)
+      → last_executed g call ≤ last_executed (after_request g request end settled failure) call
+  executed_more newer call = elim (cases_eq call request.call) [
+    | inl one ↦ (let own : last_executed (after_request g request end settled failure) call ≡ request.number =
+        ap (last_executed (after_request g request end settled failure)) one ∙ executed_own in
+        let before : last_executed g call ≡ last_executed g request.call = ap (last_executed g) one in omega (arith, own, before, newer))
+    | inr apart ↦ (let other = executed_other call apart in omega (arith, other))
+  ]
 
 -- a number that isn't used is no ephemeral's
 pub unused_absent : (stood used : Bool) → (stood ≡ true → used ≡ true) → used ≡ false → stood ≡ false

@@ -1,8 +1,8 @@
 -- What a call that begins on the lines of another changes: who holds the lines, whose agents and links there are, and which RequestIDs count as
 -- there before it. A call with the number of neither is as it was.
-use Rattle.mg_safety.proofs.Words.{◌≡◌, ◌∙◌, ℕ, Bool, true, false, Option, Some, None, refl, sym, ap, arith, inl, inr, zero, suc, ◌<◌, ◌≤◌, ◌⊎◌, ◌==◌}
-use Rattle.mg_safety.proofs.Words.{if◌then◌else◌, eqb-true, eqb-false, TermId, Line, Eph, Agent, begun, Gateway, CallLink, handed_over, last_executed}
-use Rattle.mg_safety.proofs.Words.{number_of, Reply, Script, World, none_is_some, the_some, some_is_none, at_one, at_another, different}
+use Rattle.mg_safety.proofs.Words.{◌≡◌, ◌∙◌, ℕ, Option, Some, None, refl, sym, ap, arith, inl, inr, zero, suc, ◌<◌, ◌≤◌, ◌⊎◌, ◌==◌, if◌then◌else◌, eqb-true}
+use Rattle.mg_safety.proofs.Words.{eqb-false, TermId, Line, Eph, Agent, begun, Gateway, CallLink, handed_over, last_executed, number_of, Reply, Script, World}
+use Rattle.mg_safety.proofs.Words.{none_is_some, the_some, some_is_none, at_one, at_another, different, cases_eq, by_test, where_true, eq-eqb}
 use Rattle.mg_model.specs.Gateway as gateway
 use Rattle.mg_safety.proofs.InvariantWords.{is_call, owned_in, IsReached}
 
@@ -18,12 +18,10 @@ handed_other old new one o is apart = ap (handed_over old new) is ∙ ap (λ (n 
 pub handed_from : (old new : ℕ) (o : Option ℕ) (call : ℕ) → handed_over old new o ≡ Some call
     → ((o ≡ Some old) × (call ≡ new)) ⊎ ((o ≡ Some call) × (call ≡ old → ⊥))
 handed_from old new None call is = absurd (none_is_some call is)
-handed_from old new (Some one) call is = by_test (one == old) refl (the_some (if one == old then new else one) call is)
-  where
-    by_test : (test : Bool) → (one == old) ≡ test → (if test then new else one) ≡ call
-        → ((Some one ≡ Some old) × (call ≡ new)) ⊎ ((Some one ≡ Some call) × (call ≡ old → ⊥))
-    by_test true e same = inl (ap (λ (n : ℕ). Some n) (eqb-true one old e), sym same)
-    by_test false e same = inr (ap (λ (n : ℕ). Some n) same, λ is_old. eqb-false one old e (same ∙ is_old))
+handed_from old new (Some one) call is =
+    by_test (λ n. n ≡ call → ((Some one ≡ Some old) × (call ≡ new)) ⊎ ((Some one ≡ Some call) × (call ≡ old → ⊥))) new one (one == old)
+    (λ e same. inl (ap (λ (n : ℕ). Some n) (eqb-true one old e), sym same))
+    (λ e same. inr (ap (λ (n : ℕ). Some n) same, λ is_old. eqb-false one old e (same ∙ is_old))) (the_some (if one == old then new else one) call is)
 
 pub handed_none : (old new : ℕ) (o : Option ℕ) → handed_over old new o ≡ None → o ≡ None
 handed_none old new None is = refl
@@ -32,11 +30,8 @@ handed_none old new (Some one) is = absurd (some_is_none (if one == old then new
 -- another call owns what it owned
 pub still_holds : (old new other : ℕ) (o : Option ℕ) → (other ≡ old → ⊥) → (other ≡ new → ⊥) → is_call (handed_over old new o) other ≡ is_call o other
 still_holds old new other None not_old not_new = refl
-still_holds old new other (Some one) not_old not_new = by_test (one == old) refl
-  where
-    by_test : (test : Bool) → (one == old) ≡ test → ((if test then new else one) == other) ≡ (one == other)
-    by_test true e = different new other (λ is. not_new (sym is)) ∙ sym (different one other (λ is. not_old (sym is ∙ eqb-true one old e)))
-    by_test false e = refl
+still_holds old new other (Some one) not_old not_new = by_test (λ n. (n == other) ≡ (one == other)) new one (one == old)
+    (λ e. different new other (λ is. not_new (sym is)) ∙ sym (different one other (λ is. not_old (sym is ∙ eqb-true one old e)))) (λ e. refl)
 
 pub still_owns : (g : Gateway) (old new other : ℕ) → (other ≡ old → ⊥) → (other ≡ new → ⊥) → (t : TermId)
     → owned_in (gateway.begun g old new) other t ≡ owned_in g other t
@@ -69,18 +64,16 @@ executed_other g old new other not_old not_new = ap (λ (link : CallLink). numbe
 -- a reply that is kept after is one that was kept, of a call that is neither
 pub kept_from : (g : Gateway) (old new call : ℕ) (answer : Reply) → (new ≡ old → ⊥) → ((gateway.begun g old new).link call).last ≡ Some answer
     → (g.link call).last ≡ Some answer
-kept_from g old new call answer differ is = by_old (call == old) refl
+kept_from g old new call answer differ is = elim (cases_eq call old) [
+  | inl e ↦ none (ap (gateway.begun g old new).link e ∙ link_old g old new)
+  | inr not_old ↦ elim (cases_eq call new) [
+    | inl e ↦ none (ap (gateway.begun g old new).link e ∙ link_new g old new differ)
+    | inr not_new ↦ sym (ap (λ (link : CallLink). link.last) (link_other g old new call not_old not_new)) ∙ is
+  ]
+]
   where
     none : {P : Type 0} → (gateway.begun g old new).link call ≡ nothing_kept → P
     none e = absurd (none_is_some answer (sym (ap (λ (link : CallLink). link.last) e) ∙ is))
-
-    by_new : (test : Bool) → (call == new) ≡ test → (call ≡ old → ⊥) → (g.link call).last ≡ Some answer
-    by_new true e not_old = none (ap (gateway.begun g old new).link (eqb-true call new e) ∙ link_new g old new differ)
-    by_new false e not_old = sym (ap (λ (link : CallLink). link.last) (link_other g old new call not_old (eqb-false call new e))) ∙ is
-
-    by_old : (test : Bool) → (call == old) ≡ test → (g.link call).last ≡ Some answer
-    by_old true e = none (ap (gateway.begun g old new).link (eqb-true call old e) ∙ link_old g old new)
-    by_old false e = by_new (call == new) refl (eqb-false call old e)
 
 -- ---- agents
 
@@ -101,17 +94,14 @@ agent_other script w new old other a not_old not_new =
 -- an agent after is the new call's, or one that was there, of another call
 pub agent_from : (script : Script) (w : World) (new old call : ℕ) (a one : Agent) → (world_begun script w new old a).agent call ≡ Some one
     → ((call ≡ new) × (begun script new a ≡ one)) ⊎ ((call ≡ new → ⊥) × (call ≡ old → ⊥) × (w.agent call ≡ Some one))
-agent_from script w new old call a one = by_new (call == new) refl
-  where
-    by_old : (test : Bool) → (call == old) ≡ test → (call ≡ new → ⊥) → (if test then None else w.agent call) ≡ Some one
-        → ((call ≡ new) × (begun script new a ≡ one)) ⊎ ((call ≡ new → ⊥) × (call ≡ old → ⊥) × (w.agent call ≡ Some one))
-    by_old true e not_new is = absurd (none_is_some one is)
-    by_old false e not_new is = inr (not_new, eqb-false call old e, is)
-
-    by_new : (test : Bool) → (call == new) ≡ test → (if test then Some (begun script new a) else if call == old then None else w.agent call) ≡ Some one
-        → ((call ≡ new) × (begun script new a ≡ one)) ⊎ ((call ≡ new → ⊥) × (call ≡ old → ⊥) × (w.agent call ≡ Some one))
-    by_new true e is = inl (eqb-true call new e, the_some (begun script new a) one is)
-    by_new false e is = by_old (call == old) refl (eqb-false call new e) is
+agent_from script w new old call a one is = elim (cases_eq call new) [
+  | inl e ↦ inl (e, the_some (begun script new a) one (sym (ap (world_begun script w new old a).agent e ∙ agent_new script w new old a) ∙ is))
+  | inr not_new ↦ elim (cases_eq call old) [
+    | inl e ↦ absurd (none_is_some one (sym (where_true (call == old) None (w.agent call) (eq-eqb call old e))
+        ∙ sym (at_another new call (Some (begun script new a)) (if call == old then None else w.agent call) not_new) ∙ is))
+    | inr not_old ↦ inr (not_new, not_old, sym (agent_other script w new old call a not_old not_new) ∙ is)
+  ]
+]
 
 -- ---- RequestIDs that were there before a call began
 

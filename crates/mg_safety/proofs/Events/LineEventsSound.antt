@@ -1,13 +1,13 @@
 -- An event of a line keeps the world sound: the board, the holders and the kept replies stay, each line's descriptor stays, and the note that
 -- is raised is one of the descriptor that stands.
-use Rattle.mg_safety.proofs.Words.{◌≡◌, ◌∙◌, ◌+◌, ◌++◌, ℕ, Bool, true, false, List, [], ◌∷◌, length, Option, Some, None, refl, sym, ap, subst, arith, ◌<◌, ◌≤◌}
-use Rattle.mg_safety.proofs.Words.{◌⊎◌, inl, inr, zero, suc, get_or, ◌==◌, if◌then◌else◌, Contains, eqb-true, Contains-append_cases, Agent, awaits_reply}
-use Rattle.mg_safety.proofs.Words.{Configuration, Entry, LineEvent, Gateway, last_executed, with_line, with_notes, notes_from, number_of, LineRow, Note}
-use Rattle.mg_safety.proofs.Words.{Outcome, silent, Request, Reply, SentNote, Script, World, LineOccurs, with_gateway}
-use Rattle.mg_names.specs.declared.phases.LinkPhase as phases
-use Rattle.mg_safety.proofs.InvariantWords.{LinesShown, list_raises, IsAt, IsCurrent, IsLost, IsSentBy, IsKnown, IsOpen, IsReached, CallIsSound, IsReplySound}
-use Rattle.mg_safety.proofs.InvariantWords.{IsNoteStanding, IsNoteSound, GatewayIsSound, IsSound, KeepsSound}
+use Rattle.mg_safety.proofs.Words.{◌≡◌, ◌∙◌, ◌+◌, ◌++◌, ℕ, List, length, Option, Some, None, refl, sym, ap, subst, arith, ◌<◌, ◌≤◌, ◌⊎◌, inl, inr, ◌==◌}
+use Rattle.mg_safety.proofs.Words.{Contains, eqb-true, Contains-append_cases, Agent, Configuration, Entry, LineEvent, Gateway, last_executed, with_line}
+use Rattle.mg_safety.proofs.Words.{with_notes, notes_from, number_of, LineRow, Note, Outcome, silent, Reply, SentNote, Script, World, LineOccurs, with_gateway}
+use Rattle.mg_safety.proofs.Words.{by_test, only_one, none_in, CallLink}
+use Rattle.mg_safety.proofs.InvariantWords.{LinesShown, list_raises, IsCurrent, IsLost, IsKnown, IsOpen, IsReached, CallIsSound, IsReplySound, IsNoteStanding}
+use Rattle.mg_safety.proofs.InvariantWords.{IsNoteSound, GatewayIsSound, IsSound, KeepsSound}
 use Rattle.mg_safety.proofs.Events.RowAfterEvent.{IsRowAfter, row_after}
+use Rattle.mg_safety.proofs.Events.StillSound.{current_still, sent_still}
 
 -- what an event leaves of a line
 record IsKept (row after : LineRow) : Type 0 where
@@ -23,15 +23,10 @@ record IsNew (g : Gateway) (call l : ℕ) (note : Option Note) (sent : SentNote)
   note_is : note ≡ Some sent.note
 
 new_note : (g : Gateway) (call l : ℕ) (note : Option Note) (sent : SentNote) → Contains (notes_from g call l note) sent → IsNew g call l note sent
-new_note g call l None sent among = absurd (let below : among.0 < 0 = among.1 in omega (arith, below))
-new_note g call l (Some n) sent among = at_first among.0 among.1 among.2
-  where
-    one : SentNote
-    one = record { call = call; association = g.association; number = (g.link call).notes + 1; line = l; note = n }
-
-    at_first : (place : ℕ) → place < 1 → get_or (one ∷ []) place sent ≡ sent → IsNew g call l (Some n) sent
-    at_first zero within is = subst (IsNew g call l (Some n)) is (record { call_is = refl; association_is = refl; line_is = refl; note_is = refl })
-    at_first (suc place) within is = absurd (let below : suc place < 1 = within in omega (arith, below))
+new_note g call l None sent among = absurd (none_in sent among)
+new_note g call l (Some n) sent among = subst (IsNew g call l (Some n))
+    (only_one (record { call = call; association = g.association; number = (g.link call).notes + 1; line = l; note = n }) sent among)
+    (record { call_is = refl; association_is = refl; line_is = refl; note_is = refl })
 
 -- the world after an event of a line that a call holds, with its note
 abbrev world_after : World → (l call count : ℕ) → Outcome → World
@@ -56,20 +51,15 @@ module _ (script : Script) (entries : List Entry) (w : World) (sound : IsSound s
   -- ---- lines and kept replies
 
   line_kept : (m : ℕ) → IsKept (g.line m) (later.line m)
-  line_kept m = at (m == l) refl
-    where
-      at : (test : Bool) → (m == l) ≡ test → IsKept (g.line m) (if test then outcome.row else g.line m)
-      at true e = subst (λ k. IsKept (g.line k) outcome.row) (sym (eqb-true m l e))
-          (record { list = is_after.list; request = is_after.request; silence = is_after.silence })
-      at false e = record { list = refl; request = refl; silence = λ still. still }
+  line_kept m = by_test (IsKept (g.line m)) outcome.row (g.line m) (m == l)
+      (λ e. subst (λ k. IsKept (g.line k) outcome.row) (sym (eqb-true m l e))
+      (record { list = is_after.list; request = is_after.request; silence = is_after.silence }))
+      (λ e. record { list = refl; request = refl; silence = λ still. still })
 
   last_kept : (one : ℕ) → (later.link one).last ≡ (g.link one).last
-  last_kept one = at (one == call) refl
-    where
-      at : (test : Bool) → (one == call) ≡ test
-          → (if test then record { last = (g.link call).last; notes = (g.link call).notes + count } else g.link one).last ≡ (g.link one).last
-      at true e = ap (λ k. (g.link k).last) (sym (eqb-true one call e))
-      at false e = refl
+  last_kept one = by_test (λ (link : CallLink). link.last ≡ (g.link one).last)
+      (record { last = (g.link call).last; notes = (g.link call).notes + count }) (g.link one) (one == call)
+      (λ e. ap (λ k. (g.link k).last) (sym (eqb-true one call e))) (λ e. refl)
 
   executed_kept : (one : ℕ) → last_executed later one ≡ last_executed g one
   executed_kept one = ap number_of (last_kept one)
@@ -143,25 +133,6 @@ module _ (script : Script) (entries : List Entry) (w : World) (sound : IsSound s
 
   -- ---- calls
 
-  at_kept : (a e : Agent) (link : phases.LinkPhase) → IsAt script g a e link → IsAt script later a e link
-  at_kept a e link (inl sent) = inl (record {
-    request = sent.request;
-    outstanding = sent.outstanding;
-    above = subst (λ n. n < sent.request.number) (sym (executed_kept a.call)) sent.above;
-    effective = sent.effective;
-    link_is = sent.link_is;
-  })
-  at_kept a e link (inr (inl answered)) = inr (inl (record {
-    request = answered.request;
-    outstanding = answered.outstanding;
-    answer = answered.answer;
-    kept = last_kept a.call ∙ answered.kept;
-    number = answered.number;
-    effective = answered.effective;
-    link_is = answered.link_is;
-  }))
-  at_kept a e link (inr (inr rests)) = inr (inr rests)
-
   lines_kept : (e : Agent) (c : Configuration) → LinesShown script e g.line c → LinesShown script e later.line c
   lines_kept e c shown = record {
     events = λ i within. (line_kept (e.lines i)).list ∙ shown.events i within;
@@ -170,16 +141,7 @@ module _ (script : Script) (entries : List Entry) (w : World) (sound : IsSound s
   }
 
   part_kept : (a : Agent) → IsCurrent script entries g a ⊎ IsLost script g a → IsCurrent script entries later a ⊎ IsLost script later a
-  part_kept a (inl current) = inl (record {
-    association = current.association;
-    c = current.c;
-    e = current.e;
-    stands = current.stands;
-    state = current.state;
-    at = at_kept a current.e current.c.link current.at;
-    shown = current.shown;
-    lines_shown = lines_kept current.e current.c current.lines_shown;
-  })
+  part_kept a (inl k) = inl (current_still script g later a refl (last_kept a.call) entries k k.shown (lines_kept k.e k.c k.lines_shown))
   part_kept a (inr lost) = inr (record {
     association = lost.association;
     rows = lost.rows;
@@ -191,18 +153,6 @@ module _ (script : Script) (entries : List Entry) (w : World) (sound : IsSound s
     no_cut = lost.no_cut;
   })
 
-  sent_kept : (a : Agent) (request : Request) → IsSentBy g a request → IsSentBy later a request
-  sent_kept a request sent = record {
-    association = sent.association;
-    number = sent.number;
-    outstanding = λ same. of_call (sent.outstanding same);
-  }
-    where
-      of_call : (a.phase ≡ awaits_reply request) ⊎ (request.number ≤ last_executed g a.call)
-          → (a.phase ≡ awaits_reply request) ⊎ (request.number ≤ last_executed later a.call)
-      of_call (inl awaits) = inl awaits
-      of_call (inr older) = inr (subst (λ n. request.number ≤ n) (sym (executed_kept a.call)) older)
-
   call_sound : (one : ℕ) (a : Agent) → w.agent one ≡ Some a → CallIsSound script entries after one a
   call_sound one a there =
       let was = sound.calls one a there in
@@ -212,7 +162,7 @@ module _ (script : Script) (entries : List Entry) (w : World) (sound : IsSound s
         next = subst (λ n. n < a.next) (sym (executed_kept one)) was.next;
         held = was.held;
         once = was.once;
-        requests = λ request among of. sent_kept a request (was.requests request among of);
+        requests = λ request among of. sent_still script g later a refl (last_kept a.call) request (was.requests request among of);
         outstanding = was.outstanding;
         part = part_kept a was.part;
       }
@@ -230,7 +180,8 @@ line_sound l event script entries is_script closed w after sound occurs =
     let h = occurs.happens in
     let is : after ≡ world_after w l h.call (length occurs.sent) h.outcome =
     occurs.after_is ∙ ap (λ (g : Gateway). record (with_gateway w g) { notes = occurs.sent ++ w.notes }) h.after_is
-    ∙ ap (λ (sent : List SentNote). record (with_gateway w (with_notes (with_line w.gateway l h.outcome.row) h.call (length occurs.sent))) { notes = sent ++ w.notes })
-    h.notes_are in
+    ∙ ap (λ (sent : List SentNote). record (with_gateway w (with_notes (with_line w.gateway l h.outcome.row) h.call (length occurs.sent))) {
+      notes = sent ++ w.notes;
+    }) h.notes_are in
     subst (IsSound script entries) (sym is)
     (after_sound script entries w sound l h.call (length occurs.sent) h.outcome h.held (row_after (w.gateway.line l) event h.outcome h.happens))

@@ -2,11 +2,12 @@
 use Rattle.mg_safety.proofs.Words.{◌≡◌, ◌∙◌, ◌<◌, ℕ, Bool, true, false, Option, Some, None, is_some, length, refl, sym, ap, subst, arith, inl, inr, true≢false}
 use Rattle.mg_safety.proofs.Words.{◌&&◌, ◌||◌, not, if◌then◌else◌, eqb-true, eq-eqb, or_right, false_from_ne_true, In, TermId, Line, Eph, Termination, Row}
 use Rattle.mg_safety.proofs.Words.{Agent, Board, exists, place_of, place_in, mode_in, remote_in, Configuration, Gateway, CallLink, LineRow, Script, IsSlot}
-use Rattle.mg_safety.proofs.Words.{not_both, different, some_is_none, the_some}
+use Rattle.mg_safety.proofs.Words.{not_both, different, the_some}
 use Rattle.mg_model.specs.declared.commands.Termination.TheVariants as termination
-use Rattle.mg_safety.proofs.InvariantWords.{Naming, Seen, RemoteSeen, owned_at, row_on, cut_on, term_of, eph_of, is_call, owner_of, owned_in, IsLost}
-use Rattle.mg_safety.proofs.InvariantWords.{IsOwnChange, OthersStayShown, OwnersAgree}
+use Rattle.mg_safety.proofs.InvariantWords.{Naming, Seen, RemoteSeen, owned_at, row_on, cut_on, term_of, is_call, owner_of, owned_in, IsLost, IsOwnChange}
+use Rattle.mg_safety.proofs.InvariantWords.{OthersStayShown, OwnersAgree}
 use Rattle.mg_safety.proofs.Requests.Starting.{spot_used}
+use Rattle.mg_safety.proofs.Shared.Components.{eph_is}
 
 -- ---- whose a termination is
 
@@ -86,11 +87,8 @@ pub name_owned : (script : Script) (owned : TermId → Bool) (n : Naming)
     → ((i : ℕ) → i < length script.lines → owned (Line (record { 0 = n.lines i })) ≡ true) → ((k x : ℕ) → n.ephemerals k ≡ Some x → owned (Eph x) ≡ true)
     → (t : Termination) → IsSlot script t → (u : TermId) → term_of n t ≡ Some u → owned u ≡ true
 name_owned script owned n lines ephemerals (termination.Line i) slot u e = ap owned (sym (the_some (Line (record { 0 = n.lines i })) u e)) ∙ lines i slot
-name_owned script owned n lines ephemerals (termination.Ephemeral k) slot u e = go (n.ephemerals k) refl
-  where
-    go : (o : Option ℕ) → n.ephemerals k ≡ o → owned u ≡ true
-    go None is = absurd (some_is_none u (sym e ∙ ap eph_of is))
-    go (Some x) is = ap owned (the_some u (Eph x) (sym e ∙ ap eph_of is)) ∙ ephemerals k x is
+name_owned script owned n lines ephemerals (termination.Ephemeral k) slot u e =
+    let x = eph_is (n.ephemerals k) u e in ap owned x.2 ∙ ephemerals k x.0 x.1
 
 -- the rows and the cuts of names are those before, where those of what is owned are
 row_stays : (b after : Board) (owned : TermId → Bool) → ((u : TermId) → owned u ≡ true → after.row u ≡ b.row u)
@@ -142,7 +140,8 @@ others_stay script g end after call other n c own apart seen =
       in_bound = seen.in_bound;
       mode = λ t slot. seen.mode t slot ∙ sym (ap mode_in (rows t slot));
       remote = λ k slot. subst (λ (o : Option Row). RemoteSeen n (c.remote k) (remote_in o)) (sym (rows (termination.Ephemeral k) slot)) (seen.remote k slot);
-      cut = λ t u slot also. seen.cut t u slot also ∙ sym (cut_stays g.board after.board (owned_in g other) cut (term_of n t) (term_of n u) (mine t slot) (mine u also));
+      cut = λ t u slot also. seen.cut t u slot also
+          ∙ sym (cut_stays g.board after.board (owned_in g other) cut (term_of n t) (term_of n u) (mine t slot) (mine u also));
       bound = seen.bound;
       line_stands = λ i slot. ap is_some (row (Line (record { 0 = n.lines i })) (seen.line_owned i slot)) ∙ seen.line_stands i slot;
       line_owned = λ i slot. still_owned g end after call other own apart (Line (record { 0 = n.lines i })) ∙ seen.line_owned i slot;

@@ -1,10 +1,10 @@
 -- The row of a line after something happened on it: its Events descriptor and its RequestID stay, a silent line stays silent, and a note that
 -- is raised has the descriptor's RequestID and a kind that the list raises.
 use Rattle.mg_safety.proofs.Words.{◌≡◌, ◌∙◌, ℕ, Bool, true, false, List, [], ◌∷◌, Option, Some, None, refl, sym, ap, subst, if◌then◌else◌, option_map, list_any}
-use Rattle.mg_safety.proofs.Words.{or_right, Kind, Signal, Ring, DialTone, RingingTone, BusyTone, CongestionTone, Hook, On, Off, DigitMap, LineEvent}
-use Rattle.mg_safety.proofs.Words.{outcome_of, OnHook, OffHook, Flash, Digits, ListItem, LineRow, Note, Outcome, silent, is_hook, is_flash, map_in, kind_of}
-use Rattle.mg_safety.proofs.Words.{stays, detected, is_on, same_hook, hooked, flashed, kind_by, note_by, note_of, taken, dialled_by, dialled, paused_by, paused}
-use Rattle.mg_safety.proofs.Words.{without_signal, signal_ended, any_too, none_is_some, the_some}
+use Rattle.mg_safety.proofs.Words.{or_right, Kind, Signal, Ring, Hook, On, Off, DigitMap, LineEvent, outcome_of, OnHook, OffHook, Flash, Digits, ListItem}
+use Rattle.mg_safety.proofs.Words.{LineRow, Note, Outcome, silent, is_hook, is_flash, map_in, kind_of, stays, detected, is_on, same_hook, hooked, flashed}
+use Rattle.mg_safety.proofs.Words.{kind_by, note_by, note_of, taken, dialled_by, dialled, paused_by, paused, without_signal, signal_ended, any_too}
+use Rattle.mg_safety.proofs.Words.{none_is_some, the_some, false_not_true}
 use Rattle.mg_names.specs.declared.kinds.Kind.TheVariants as kind
 use Rattle.mg_model.specs.declared.line_events.LineEvent.TheVariants as event
 use Rattle.mg_names.specs.declared.symbols.Symbol.{Symbol}
@@ -34,28 +34,19 @@ gives_none row outcome e = absurd (none_is_some outcome e)
 
 hook_raises : (h : Hook) (item : ListItem) → is_hook h item ≡ true → raises_kind (kind_of h) item ≡ true
 hook_raises On (OnHook strict) e = refl
-hook_raises On (OffHook strict) e = e
-hook_raises On Flash e = e
-hook_raises On (Digits map) e = e
-hook_raises Off (OnHook strict) e = e
 hook_raises Off (OffHook strict) e = refl
-hook_raises Off Flash e = e
-hook_raises Off (Digits map) e = e
+hook_raises h item e = absurd (false_not_true e)
 
 flash_raises : (item : ListItem) → is_flash item ≡ true → raises_kind kind.Fl item ≡ true
-flash_raises (OnHook strict) e = e
-flash_raises (OffHook strict) e = e
 flash_raises Flash e = refl
-flash_raises (Digits map) e = e
+flash_raises item e = absurd (false_not_true e)
 
 map_raises : (list : List ListItem) (map : DigitMap) (method : Method) → map_in list ≡ Some map → list_raises list (kind_by method) ≡ true
 map_raises [] map method e = absurd (none_is_some map e)
-map_raises (OnHook strict ∷ more) map method e = or_right (raises_kind (kind_by method) (OnHook strict)) (list_raises more (kind_by method)) (map_raises more map method e)
-map_raises (OffHook strict ∷ more) map method e = or_right (raises_kind (kind_by method) (OffHook strict)) (list_raises more (kind_by method)) (map_raises more map method e)
-map_raises (Flash ∷ more) map method e = or_right (raises_kind (kind_by method) Flash) (list_raises more (kind_by method)) (map_raises more map method e)
 map_raises (Digits first ∷ more) map Unambiguous e = refl
 map_raises (Digits first ∷ more) map Full e = refl
 map_raises (Digits first ∷ more) map Partial e = refl
+map_raises (item ∷ more) map method e = or_right (raises_kind (kind_by method) item) (list_raises more (kind_by method)) (map_raises more map method e)
 
 -- ---- what each event gives
 
@@ -145,14 +136,12 @@ paused_gives row = by_map (map_in row.list) refl row.digits
     by_map : (map : Option DigitMap) → map_in row.list ≡ map → (digits : Dialling) → Gives row (paused_by row map digits)
     by_map None e digits = gives_none row
     by_map (Some map) e completed = gives_none row
-    by_map (Some map) e (collecting symbols) = gives row (taken row (with_pause map (collecting symbols))) (taken_so row map (with_pause map (collecting symbols)) e)
+    by_map (Some map) e (collecting symbols) =
+        gives row (taken row (with_pause map (collecting symbols))) (taken_so row map (with_pause map (collecting symbols)) e)
 
 silent_still : (signal : Signal) → without_signal silent signal ≡ silent
 silent_still Ring = refl
-silent_still DialTone = refl
-silent_still RingingTone = refl
-silent_still BusyTone = refl
-silent_still CongestionTone = refl
+silent_still signal = refl
 
 ended_gives : (row : LineRow) (signal : Signal) → Gives row (signal_ended row signal)
 ended_gives row signal = where_it_plays (plays row.playing signal)

@@ -27,7 +27,8 @@ module _ (script : Script) (g : Gateway) (end : Board) (after : Gateway) (call :
   -- what the call's ephemerals name, and exists, is the call's
   names_own : (x y : ℕ) → exists end (Eph x) ≡ true → after.creator x ≡ Some call → remote_of end (Eph x) ≡ Some y → exists end (Eph y) ≡ true
       → after.creator y ≡ Some call
-  names_own x y there is remote stands = at (c.remote named.0) refl (subst (RemoteReads end n (c.remote named.0)) reads (shown.remote named.0 (shown.ephemeral_slot named.0 x named.1)))
+  names_own x y there is remote stands = at (c.remote named.0) refl
+      (subst (RemoteReads end n (c.remote named.0)) reads (shown.remote named.0 (shown.ephemeral_slot named.0 x named.1)))
     where
       named : (k : ℕ) × (n.ephemerals k ≡ Some x)
       named = shown.ephemeral_named x (owned_of x there is) there

@@ -39,12 +39,15 @@ commands_carry (SubtractAll j) = subtract_all_carried j
 commands_carry (SetTopology j t u topology) = topology_carried j t u topology
 
 others_lost : OtherLost
-others_lost script g end after call b lost change differ association held lines link = other_lost script g end after b call lost change differ association held lines link
+others_lost script g end after call b lost change differ association held lines link =
+    other_lost script g end after b call lost change differ association held lines link
 
 call_sound : (call : ℕ) (happens : CallEvent) → KeepsSound (λ script w after. OccursTo script w call happens after)
-call_sound call (to_call.OnLine line event) script entries is_script closes w after sound occurs = line_sound line.0 event script entries is_script closes w after sound occurs.1
+call_sound call (to_call.OnLine line event) script entries is_script closes w after sound occurs =
+    line_sound line.0 event script entries is_script closes w after sound occurs.1
 call_sound call (to_call.Execute number chosen) script entries is_script closes w after sound (request, of_call, executes) =
-    execute_sound (requests_run commands_carry) others_stay owners_agree others_lost request chosen script entries is_script closes w after sound (of_call.0, executes)
+    execute_sound (requests_run commands_carry) others_stay owners_agree others_lost request chosen script entries is_script closes w after sound
+    (of_call.0, executes)
 call_sound call (to_call.Reply number) script entries is_script closes w after sound (answer, of_call, steps) =
     reply_sound answer script entries is_script closes w after sound
     (of_call.0, subst (λ (c : ℕ). AgentSteps w c (λ a. replied script a answer) after) (sym of_call.1) steps)
@@ -52,9 +55,11 @@ call_sound call to_call.Pass script entries is_script closes w after sound occur
 call_sound call (to_call.Note number) script entries is_script closes w after sound (sent, of_call, steps) =
     note_sound sent script entries is_script closes w after sound
     (of_call.0, subst (λ (c : ℕ). AgentSteps w c (λ a. noted script a (line_places script) sent) after) (sym of_call.1) steps)
-call_sound call (to_call.Begin old) script entries is_script closes w after sound occurs = begin_sound call old.0 script entries is_script closes w after sound occurs
+call_sound call (to_call.Begin old) script entries is_script closes w after sound occurs =
+    begin_sound call old.0 script entries is_script closes w after sound occurs
 call_sound call to_call.Timer script entries is_script closes w after sound occurs = timer_sound call script entries is_script closes w after sound occurs
-call_sound call (to_call.Hear association) script entries is_script closes w after sound occurs = hear_sound call association.0 script entries is_script closes w after sound occurs
+call_sound call (to_call.Hear association) script entries is_script closes w after sound occurs =
+    hear_sound call association.0 script entries is_script closes w after sound occurs
 
 event_sound : (event : Event) → KeepsSound (λ script w after. Occurs script w event after)
 event_sound (OfCall call happens) = call_sound call.0 happens

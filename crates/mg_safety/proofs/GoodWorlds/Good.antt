@@ -3,23 +3,18 @@
 use Rattle.mg_safety.proofs.Words.{◌≡◌, ◌∙◌, ℕ, true, false, List, [], ◌∷◌, length, Option, Some, None, is_some, refl, sym, ap, subst, arith, true≢false, ◌<◌}
 use Rattle.mg_safety.proofs.Words.{◌⊎◌, inl, inr, map, not, ◌&&◌, ◌||◌, IsTrue, eq-eqb, false_from_ne_true, TermId, Line, Eph, Exact, Termination, Row}
 use Rattle.mg_safety.proofs.Words.{EventItem, Agent, list_item, exists, place_in, Configuration, is_present, Entry, OffHook, silent, Script, state_of, items_of}
-use Rattle.mg_safety.proofs.Words.{is_armed_list, is_marked, World, IsMarkedPair, HasEnded, IsReleased, none_is_some, the_some}
+use Rattle.mg_safety.proofs.Words.{is_armed_list, is_marked, World, IsMarkedPair, HasEnded, IsReleased, none_is_some, the_some, false_not_true, some_of}
 use Rattle.mg_model.specs.declared.commands.Termination.TheVariants as termination
 use Rattle.mg_model.specs.declared.transitions.EventItem.TheVariants as item
 use Rattle.mg_model.specs.Media as media
 use Rattle.mg_model.specs.Obligations as obligations
 use Rattle.mg_model.specs.Paths as paths
-use Rattle.mg_names.specs.declared.strictness.Strict.TheVariants.{State}
 use Rattle.mg_safety.proofs.InvariantWords.{Naming, naming, eph_of, row_on, number_at, Stands, IsCurrent, IsLost, IsSound, owned_in, is_call, IsClosed}
 use Rattle.mg_safety.proofs.InvariantWords.{SoundIsGood}
 use Rattle.mg_safety.proofs.Agents.AgentSound.{at_rest}
 use Rattle.mg_safety.proofs.Agents.EffectiveAgent.{same_lines}
 use Rattle.mg_safety.proofs.GoodWorlds.GoodPaths.{IsNamed, NoStranger, path_shown, path_starts_outside}
 use Rattle.mg_safety.proofs.Events.Others.{is_call_of, created_only}
-
-some_row : (row : Option Row) → is_some row ≡ true → (r : Row) × (row ≡ Some r)
-some_row None e = absurd (true≢false (sym e))
-some_row (Some r) e = (r, refl)
 
 at_null : (row : Option Row) → ((r : Row) → row ≡ Some r → r.place.0 ≡ 0) → place_in row ≡ 0
 at_null None all = refl
@@ -51,13 +46,8 @@ line_of script n (termination.Ephemeral k) l named =
 -- ---- a list that is armed for off-hook alone
 
 armed_is : (script : Script) (items : List (EventItem ℕ)) → IsTrue (is_armed_list items) → map (list_item script) items ≡ OffHook Exact ∷ []
-armed_is script [] e = absurd (true≢false (sym e))
 armed_is script (item.OffHook Exact ∷ []) e = refl
-armed_is script (item.OffHook Exact ∷ other ∷ more) e = absurd (true≢false (sym e))
-armed_is script (item.OffHook State ∷ more) e = absurd (true≢false (sym e))
-armed_is script (item.OnHook strict ∷ more) e = absurd (true≢false (sym e))
-armed_is script (item.Flash ∷ more) e = absurd (true≢false (sym e))
-armed_is script (item.Digits m ∷ more) e = absurd (true≢false (sym e))
+armed_is script items e = absurd (false_not_true e)
 
 module _ (script : Script) (entries : List Entry) (closed : IsClosed script entries) (w : World) (sound : IsSound script entries w) where
   -- ---- joined lines
@@ -102,8 +92,8 @@ module _ (script : Script) (entries : List Entry) (closed : IsClosed script entr
           let same = same_lines script w.gateway a current.e current.c.link current.at in
           let start : IsNamed script (naming current.e) (termination.Line i) (Line (record { 0 = l })) =
           record { slot = within; is = ap (λ (n : ℕ). Some (Line (record { 0 = n }))) (ap (λ (lines : ℕ → ℕ). lines i) same ∙ is) } in
-          let found = path_shown script (owned_in w.gateway a.call) (naming current.e) w.gateway.board current.c current.shown (no_stranger a.call) (termination.Line i)
-          (Line (record { 0 = l })) (Line (record { 0 = m })) path.crossings start path.goes in
+          let found = path_shown script (owned_in w.gateway a.call) (naming current.e) w.gateway.board current.c current.shown (no_stranger a.call)
+          (termination.Line i) (Line (record { 0 = l })) (Line (record { 0 = m })) path.crossings start path.goes in
           let last = line_of script (naming current.e) found.to m found.named in
           record {
             call = call;
@@ -163,7 +153,8 @@ module _ (script : Script) (entries : List Entry) (closed : IsClosed script entr
 
   -- ---- calls that have ended
 
-  module _ (call : ℕ) (a : Agent) (numbered : a.call ≡ call) (current : IsCurrent script entries w.gateway a) (cleared : obligations.IsCleared script current.c) where
+  module _ (call : ℕ) (a : Agent) (numbered : a.call ≡ call) (current : IsCurrent script entries w.gateway a)
+      (cleared : obligations.IsCleared script current.c) where
     abbrev names : Naming
     names = naming current.e
 
@@ -188,7 +179,7 @@ module _ (script : Script) (entries : List Entry) (closed : IsClosed script entr
     in_null : (i : ℕ) → i < length script.lines → (row : Row) × (row_at (a.lines i) ≡ Some row) × (row.place.0 ≡ 0)
     in_null i within =
         let stands : is_some (row_at (a.lines i)) ≡ true = ap (λ l. is_some (row_at l)) (sym (same_line i)) ∙ current.shown.line_stands i within in
-        let found = some_row (row_at (a.lines i)) stands in
+        let found = some_of (row_at (a.lines i)) stands in
         let placed : place_in (row_at (a.lines i)) ≡ 0 =
         ap (λ l. place_in (row_at l)) (sym (same_line i)) ∙ current.shown.place (termination.Line i) within ∙ ap (number_at names) (cleared.in_null i within) in
         (found.0, found.1, ap place_in (sym found.1) ∙ placed)

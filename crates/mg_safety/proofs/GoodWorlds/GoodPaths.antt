@@ -2,14 +2,15 @@
 -- the gateway shows of the call: each hop, each crossing, and so each path.
 use Rattle.mg_safety.proofs.Words.{◌≡◌, ◌∙◌, ℕ, Bool, true, false, List, [], ◌∷◌, Option, Some, None, is_some, refl, sym, ap, subst, arith, true≢false, ◌==◌}
 use Rattle.mg_safety.proofs.Words.{◌&&◌, not, IsTrue, unwrap_or, eqb-true, eq-eqb, false_from_ne_true, common_steps, TermId, Line, Eph, Termination, Remote}
-use Rattle.mg_safety.proofs.Words.{Unset, Gone, To, Spot, Absent, Null, In, Board, same_term, exists, place_of, place_in, mode_of, mode_in, remote_of}
-use Rattle.mg_safety.proofs.Words.{remote_in, Configuration, is_same, is_in, is_present, is_to, is_number, passes_in, passes_out, is_shared, Script, IsSlot}
-use Rattle.mg_safety.proofs.Words.{all_three, none_is_some, the_some, three_parts, is_same_is, same_term_self}
+use Rattle.mg_safety.proofs.Words.{Unset, Gone, To, Spot, In, Board, same_term, exists, place_of, place_in, mode_of, mode_in, remote_of, remote_in}
+use Rattle.mg_safety.proofs.Words.{Configuration, is_same, is_in, is_present, is_to, is_number, passes_in, passes_out, is_shared, Script, IsSlot, all_three}
+use Rattle.mg_safety.proofs.Words.{none_is_some, the_some, three_parts, is_same_is, same_term_self, not_both}
 use Rattle.mg_model.specs.declared.commands.Termination.TheVariants as termination
 use Rattle.mg_model.specs.Media as media
 use Rattle.mg_model.specs.Paths.{hops, crosses, goes_over}
 use Rattle.mg_safety.proofs.InvariantWords.{Naming, eph_of, term_of, row_on, cut_on, number_at, RemoteSeen, Seen}
 use Rattle.mg_safety.proofs.Shared.Sides.{receives_is, sends_is}
+use Rattle.mg_safety.proofs.Shared.Components.{eph_is}
 
 -- a slot of the script stands for a termination of the gateway
 pub record IsNamed (script : Script) (n : Naming) (u : Termination) (t : TermId) : Type 0 where
@@ -26,15 +27,6 @@ number_is : (o : Option ℕ) (i : ℕ) → is_number o i ≡ true → o ≡ Some
 number_is None i e = absurd (true≢false (sym e))
 number_is (Some j) i e = ap (λ (z : ℕ). Some z) (eqb-true j i e)
 
-abbrev ephemeral_in : Option TermId → Option ℕ
-ephemeral_in None = None
-ephemeral_in (Some (Line l)) = None
-ephemeral_in (Some (Eph x)) = Some x
-
-read_back : (o : Option ℕ) → ephemeral_in (eph_of o) ≡ o
-read_back None = refl
-read_back (Some x) = refl
-
 -- a slot that stands for an ephemeral is one of an ephemeral
 record IsEphemeral (n : Naming) (u : Termination) (x : ℕ) : Type 0 where
   k : ℕ
@@ -42,8 +34,11 @@ record IsEphemeral (n : Naming) (u : Termination) (x : ℕ) : Type 0 where
   bound : n.ephemerals k ≡ Some x
 
 ephemeral_slot : (n : Naming) (u : Termination) (x : ℕ) → term_of n u ≡ Some (Eph x) → IsEphemeral n u x
-ephemeral_slot n (termination.Line i) x e = absurd (none_is_some x (ap ephemeral_in e))
-ephemeral_slot n (termination.Ephemeral k) x e = record { k = k; slot_is = refl; bound = sym (read_back (n.ephemerals k)) ∙ ap ephemeral_in e }
+ephemeral_slot n (termination.Line i) x e = absurd (cc)
+ephemeral_slot n (termination.Ephemeral k) x e =
+    let y = eph_is (n.ephemerals k) (Eph x) e in
+    let same : y.0 ≡ x = (let one : Eph x ≡ Eph y.0 = y.2 in cc) in
+    record { k = k; slot_is = refl; bound = y.1 ∙ ap (λ (z : ℕ). Some z) same }
 
 -- ---- what hops and crossings ask
 
@@ -127,21 +122,16 @@ module _ (script : Script) (owned : TermId → Bool) (n : Naming) (b : Board) (c
       reads = sym (ap (λ o. place_in (row_on b o)) named.is) ∙ shown.place u named.slot
 
       at : (spot : Spot) → c.spot u ≡ spot → IsInside u t
-      at Absent e = absurd (outside (reads ∙ ap (number_at n) e))
-      at Null e = absurd (outside (reads ∙ ap (number_at n) e))
       at (In j) e = record {
         j = j;
         spot_is = e;
         bound = some_is (n.contexts j) (place_of b t) (shown.in_bound u j named.slot e) (reads ∙ ap (number_at n) e);
       }
+      at spot e = absurd (outside (reads ∙ ap (number_at n) e))
 
   unlike : (u v : Termination) (t s : TermId) → Named u t → Named v s → same_term t s ≡ false → is_same u v ≡ false
-  unlike u v t s first second differ = false_from_ne_true (is_same u v) same_then
-    where
-      same_then : is_same u v ≡ true → ⊥
-      same_then e =
-          let one : t ≡ s = the_some t s (sym first.is ∙ ap (term_of n) (is_same_is u v e) ∙ second.is) in
-          true≢false (sym (same_term_self t) ∙ ap (same_term t) one ∙ differ)
+  unlike u v t s first second differ = false_from_ne_true (is_same u v) (λ e. not_both (same_term_self t)
+      (ap (same_term t) (the_some t s (sym first.is ∙ ap (term_of n) (is_same_is u v e) ∙ second.is)) ∙ differ))
 
   mode_is : (u : Termination) (t : TermId) → Named u t → c.mode u ≡ mode_of b t
   mode_is u t named = shown.mode u named.slot ∙ ap (λ o. mode_in (row_on b o)) named.is
@@ -174,7 +164,8 @@ module _ (script : Script) (owned : TermId → Bool) (n : Naming) (b : Board) (c
         named = other;
         hop = hop_made (is_same u member.0) (is_shared (c.spot u) (c.spot member.0)) (passes_in (c.mode u)) (passes_out (c.mode member.0)) (c.cut u member.0)
             (unlike u member.0 t s named other p.differ) (shared u member.0 t s p.together first second)
-            (ap passes_in (mode_is u t named) ∙ (sym (receives_is (mode_of b t)) ∙ p.goes_in)) (ap passes_out (mode_is member.0 s other) ∙ (sym (sends_is (mode_of b s)) ∙ p.goes_out))
+            (ap passes_in (mode_is u t named) ∙ (sym (receives_is (mode_of b t)) ∙ p.goes_in))
+            (ap passes_out (mode_is member.0 s other) ∙ (sym (sends_is (mode_of b s)) ∙ p.goes_out))
             (cut_is u member.0 t s named other ∙ p.not_cut);
       }
 
@@ -256,6 +247,7 @@ module _ (script : Script) (owned : TermId → Bool) (n : Naming) (b : Board) (c
         to = rest.to;
         named = rest.named;
         crossings = (from.k, crossed.to) ∷ rest.crossings;
-        path = all_three (hops c u (termination.Ephemeral from.k)) (crosses c from.k crossed.to) (goes_over c (termination.Ephemeral crossed.to) rest.crossings rest.to)
+        path = all_three (hops c u (termination.Ephemeral from.k)) (crosses c from.k crossed.to)
+            (goes_over c (termination.Ephemeral crossed.to) rest.crossings rest.to)
             (subst (λ v. IsTrue (hops c u v)) from.slot_is first.hop) crossed.crossing rest.path;
       }

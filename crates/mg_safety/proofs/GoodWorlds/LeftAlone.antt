@@ -32,7 +32,8 @@ untouched w after call same = record {
 steps_alone : (w after : World) (call other : ℕ) (step : Agent → Option Agent) → AgentSteps w call step after → IsLeftAlone w after other
 steps_alone w after call other step s = untouched w after other (ap (λ (v : World). v.gateway.board) s.after_is)
 
-module _ (script : Script) (entries : List Entry) (is_script : IsScript script) (closes : IsClosed script entries) (w after : World) (sound : IsSound script entries w) where
+module _ (script : Script) (entries : List Entry) (is_script : IsScript script) (closes : IsClosed script entries) (w after : World)
+    (sound : IsSound script entries w) where
   executed_alone : (call other : ℕ) (number : ℕ) (request : Request) (chosen : Option ChosenRefusal) → IsRequestOf w call number request
       → IsFirst w request chosen after → (call ≡ other → ⊥) → IsLeftAlone w after other
   executed_alone call other number request chosen of_call f differ = record {
@@ -52,8 +53,8 @@ module _ (script : Script) (entries : List Entry) (is_script : IsScript script) 
       cuts t u = ap (λ (v : World). v.gateway.board.cut t u) f.after_is ∙ ap (λ (g : Gateway). g.board.cut t u) f.executed.after_is
 
       not_its : (t : TermId) → IsOwnedBy w other t → owned_at (owner_of w.gateway request.call) f.executed.end.board t ≡ false
-      not_its t its = apart_at w.gateway f.executed.end.board (after_request w.gateway request f.executed.end f.executed.settled f.executed.failure) request.call other own (λ same. differ (sym of_call.1 ∙ same)) t (owned w other t its)
-          f.executed.end.board
+      not_its t its = apart_at w.gateway f.executed.end.board (after_request w.gateway request f.executed.end f.executed.settled f.executed.failure)
+          request.call other own (λ same. differ (sym of_call.1 ∙ same)) t (owned w other t its) f.executed.end.board
 
   event_alone : (call other : ℕ) (happens : CallEvent) → OccursTo script w call happens after → (call ≡ other → ⊥) → IsLeftAlone w after other
   event_alone call other (to_call.OnLine line event) (held, occurs) differ =

@@ -1,11 +1,12 @@
 -- What a step of an agent sends has the next number of its call, and no step changes its lines.
-use Rattle.mg_safety.proofs.Words.{◌≡◌, ◌+◌, ◌<◌, ℕ, Bool, true, false, List, [], length, Option, Some, None, refl, sym, ap, subst, arith, true≢false, ◌==◌}
-use Rattle.mg_safety.proofs.Words.{◌&&◌, not, if◌then◌else◌, nat_lt, nat_le, Contains, Failure, arrival, is_new, answers, Agent, inbox_of, Phase, awaits_reply}
-use Rattle.mg_safety.proofs.Words.{awaits_pass, resting, entered_with, entered, entered_or_rests, entered_if, entered_or_stays, built_by, request_of}
-use Rattle.mg_safety.proofs.Words.{after_results, leads_on, replied_to, replied, passed_in, passed, may_accept, target_of, line_in, noted, is_resting, timed}
-use Rattle.mg_safety.proofs.Words.{forgotten, heard, last_number, with_at, Request, Reply, SentNote, Script, state_of, is_empty, sent_in, none_in, only_one}
-use Rattle.mg_safety.proofs.Words.{the_some, none_is_some, and_first, and_second}
+use Rattle.mg_safety.proofs.Words.{◌≡◌, ◌+◌, ◌<◌, ℕ, Bool, true, false, List, [], length, Option, Some, None, refl, sym, ap, subst, arith, ◌==◌, ◌&&◌, not}
+use Rattle.mg_safety.proofs.Words.{if◌then◌else◌, nat_lt, Contains, Failure, arrival, is_new, answers, Agent, inbox_of, Phase, awaits_reply, awaits_pass}
+use Rattle.mg_safety.proofs.Words.{resting, entered, entered_or_rests, entered_if, entered_or_stays, built_by, request_of, after_results, leads_on, replied_to}
+use Rattle.mg_safety.proofs.Words.{replied, passed_in, passed, may_accept, target_of, line_in, noted, is_resting, timed, forgotten, heard, with_at, Request}
+use Rattle.mg_safety.proofs.Words.{Reply, SentNote, Script, state_of, sent_in, none_in, only_one, the_some, none_is_some, and_first, and_second, false_not_true}
+use Rattle.mg_safety.proofs.Words.{inl, inr}
 use Rattle.mg_safety.proofs.Agents.EffectiveAgent.{results_keep}
+use Rattle.mg_safety.proofs.Agents.Entering.{enters}
 
 -- a request that is outstanding in a phase is of this call and has this number
 abbrev IsNext : (call number : ℕ) → Phase → Type 0
@@ -27,25 +28,18 @@ gives_none call next lines b e = absurd (none_is_some b e)
 gives : (call next : ℕ) (lines : ℕ → ℕ) (c : Agent) → GoesOn call next lines c → GivesNext call next lines (Some c)
 gives call next lines c goes b e = subst (GoesOn call next lines) (the_some c b e) goes
 
-entered_next : (script : Script) (a : Agent) (state : ℕ) (empty : Bool) → GivesNext a.call a.next a.lines (entered_with script a state empty)
-entered_next script a state true =
-    gives a.call a.next a.lines (record a { state = state; phase = awaits_pass })
-    (record { call_is = refl; lines_are = refl; next_is = omega arith; sent = λ request among. absurd (none_in request among) })
-entered_next script a state false = numbered (nat_le a.next last_number)
-  where
-    numbered : (room : Bool) → GivesNext a.call a.next a.lines (if room
-        then Some (record a { state = state; phase = awaits_reply (request_of script a state); next = a.next + 1 }) else None)
-    numbered true = gives a.call a.next a.lines (record a { state = state; phase = awaits_reply (request_of script a state); next = a.next + 1 }) (record {
-      call_is = refl;
-      lines_are = refl;
-      next_is = omega arith;
-      sent = λ request among. let is = only_one (request_of script a state) request among in
-          (ap (λ (r : Request). r.call) (sym is), (ap (λ (r : Request). r.number) (sym is), omega arith));
-    })
-    numbered false = gives_none a.call a.next a.lines
-
 enters_next : (script : Script) (a : Agent) (state : ℕ) → GivesNext a.call a.next a.lines (entered script a state)
-enters_next script a state = entered_next script a state (is_empty (built_by script a state))
+enters_next script a state b is = elim (enters script a state b is) [
+  | inl passes ↦ subst (GoesOn a.call a.next a.lines) passes.1
+      (record { call_is = refl; lines_are = refl; next_is = omega arith; sent = λ request among. absurd (none_in request among) })
+  | inr asks ↦ subst (GoesOn a.call a.next a.lines) asks.1 (record {
+    call_is = refl;
+    lines_are = refl;
+    next_is = omega arith;
+    sent = λ request among. let is = only_one (request_of script a state) request among in
+        (ap (λ (r : Request). r.call) (sym is), (ap (λ (r : Request). r.number) (sym is), omega arith));
+  })
+]
 
 rests_next : (script : Script) (a : Agent) (target : Option ℕ) → GivesNext a.call a.next a.lines (entered_or_rests script a target)
 rests_next script a None = gives a.call a.next a.lines (record a { phase = resting })
@@ -66,28 +60,23 @@ replied_next script a reply = in_phase a.phase
     answered : (request : Request) (fits : Bool) → GivesNext a.call a.next a.lines (if fits
         then leads_on script a (after_results a (built_by script a a.state) reply.results reply.number) reply.failure else None)
     answered request true =
+        let bound = after_results a (built_by script a a.state) reply.results reply.number in
         let keeps = results_keep a (built_by script a a.state) reply.results reply.number in
-        subst (λ call. GivesNext call a.next a.lines (leads_on script a (after_results a (built_by script a a.state) reply.results reply.number) reply.failure)) keeps.call
-        (subst (λ next. GivesNext (after_results a (built_by script a a.state) reply.results reply.number).call next a.lines
-        (leads_on script a (after_results a (built_by script a a.state) reply.results reply.number) reply.failure)) keeps.next
-        (subst (λ lines. GivesNext (after_results a (built_by script a a.state) reply.results reply.number).call
-        (after_results a (built_by script a a.state) reply.results reply.number).next lines
-        (leads_on script a (after_results a (built_by script a a.state) reply.results reply.number) reply.failure)) keeps.lines
-        (leads_next script a (after_results a (built_by script a a.state) reply.results reply.number) reply.failure)))
+        let led = leads_on script a bound reply.failure in
+        subst (λ call. GivesNext call a.next a.lines led) keeps.call (subst (λ next. GivesNext bound.call next a.lines led) keeps.next
+        (subst (λ lines. GivesNext bound.call bound.next lines led) keeps.lines (leads_next script a bound reply.failure)))
     answered request false = gives_none a.call a.next a.lines
 
     in_phase : (phase : Phase) → GivesNext a.call a.next a.lines (replied_to script a phase reply)
     in_phase (awaits_reply request) = answered request (answers reply request)
-    in_phase awaits_pass = gives_none a.call a.next a.lines
-    in_phase resting = gives_none a.call a.next a.lines
+    in_phase phase = gives_none a.call a.next a.lines
 
 pub passed_next : (script : Script) (a : Agent) → GivesNext a.call a.next a.lines (passed script a)
 passed_next script a = in_phase a.phase
   where
     in_phase : (phase : Phase) → GivesNext a.call a.next a.lines (passed_in script a phase)
     in_phase awaits_pass = rests_next script a (state_of script a.state).ok
-    in_phase (awaits_reply request) = gives_none a.call a.next a.lines
-    in_phase resting = gives_none a.call a.next a.lines
+    in_phase phase = gives_none a.call a.next a.lines
 
 pub timed_next : (script : Script) (a : Agent) → GivesNext a.call a.next a.lines (timed script a)
 timed_next script a = at_rest (is_resting a.phase)
@@ -105,9 +94,8 @@ heard_next script a association = newer (nat_lt a.association association)
 
 -- a call at rest has no request outstanding
 rest_silent : (phase : Phase) → is_resting phase ≡ true → sent_in phase ≡ []
-rest_silent resting at_rest = refl
-rest_silent awaits_pass at_rest = refl
-rest_silent (awaits_reply sent) at_rest = absurd (true≢false (sym at_rest))
+rest_silent (awaits_reply sent) at_rest = absurd (false_not_true at_rest)
+rest_silent phase at_rest = refl
 
 pub noted_next : (script : Script) (a : Agent) (slots : List ℕ) (sent : SentNote) → GivesNext a.call a.next a.lines (noted script a slots sent)
 noted_next script a slots sent = accepted (may_accept script a sent) refl

@@ -1,8 +1,8 @@
 -- In every world of every run a message is named by its call and its number.
-use Rattle.mg_safety.proofs.Words.{◌≡◌, ◌∙◌, ◌==◌, ℕ, Bool, true, false, List, [], ◌∷◌, Some, None, refl, sym, ap, subst, arith, inl, inr, Contains, eqb-true}
-use Rattle.mg_safety.proofs.Words.{eqb-false, CallEvent, Event, OfCall, Restart, Agent, begun, opened, replied, passed, noted, timed, heard, Gateway, CallLink}
-use Rattle.mg_safety.proofs.Words.{restarted, Request, Reply, SentNote, Script, line_places, World, Opened, IsOpening, OccursTo, Occurs, Begins, with_gateway}
-use Rattle.mg_safety.proofs.Words.{none_is_some, some_is_none, the_some, not_both, at_one, at_another, none_in}
+use Rattle.mg_safety.proofs.Words.{◌≡◌, ◌∙◌, ℕ, Bool, true, false, List, [], ◌∷◌, Some, None, sym, ap, subst, arith, inl, inr, Contains, CallEvent, Event}
+use Rattle.mg_safety.proofs.Words.{OfCall, Restart, Agent, begun, opened, replied, passed, noted, timed, heard, Gateway, CallLink, restarted, Request, Reply}
+use Rattle.mg_safety.proofs.Words.{SentNote, Script, line_places, World, Opened, IsOpening, OccursTo, Occurs, Begins, with_gateway, none_is_some, some_is_none}
+use Rattle.mg_safety.proofs.Words.{the_some, not_both, at_one, at_another, cases_eq, nothing_in}
 use Rattle.mg_model.specs.declared.events.CallEvent.TheVariants as to_call
 use Rattle.mg_model.specs.Gateway as gateway
 use Rattle.mg_model.specs.World.{Runs}
@@ -32,12 +32,13 @@ module _ (script : Script) (w : World) (was : IsNumbered w) (new old : ℕ) (a :
   not_known (inr gone) = not_both gone not_retired
 
   known_still : (c : ℕ) → IsKnown w c → IsKnown begun_world c
-  known_still c known = by_old (c == old) refl known
-    where
-      by_old : (test : Bool) → (c == old) ≡ test → IsKnown w c → IsKnown begun_world c
-      by_old true e known = inr (subst (λ n. later.retired n ≡ true) (sym (eqb-true c old e)) (at_one old true (w.gateway.retired old)))
-      by_old false e (inl x) = inl (x.0, agent_other script w new old c a (eqb-false c old e) (λ is. not_known (inl (x.0, ap w.agent (sym is) ∙ x.1))) ∙ x.1)
-      by_old false e (inr gone) = inr (at_another old c true (w.gateway.retired c) (eqb-false c old e) ∙ gone)
+  known_still c known = elim (cases_eq c old) [
+    | inl is ↦ inr (subst (λ n. later.retired n ≡ true) (sym is) (at_one old true (w.gateway.retired old)))
+    | inr not_old ↦ elim known [
+      | inl x ↦ inl (x.0, agent_other script w new old c a not_old (λ is. not_known (inl (x.0, ap w.agent (sym is) ∙ x.1))) ∙ x.1)
+      | inr gone ↦ inr (at_another old c true (w.gateway.retired c) not_old ∙ gone)
+    ]
+  ]
 
   -- what is known, and not retired after, is neither call
   record IsNeither (c : ℕ) : Type 0 where
@@ -116,7 +117,8 @@ restart_numbered w was = record {
 
 occurs_numbered : (script : Script) (w after : World) (call : ℕ) (happens : CallEvent) → IsNumbered w → OccursTo script w call happens after → IsNumbered after
 occurs_numbered script w after call (to_call.OnLine line event) was occurs = line_numbered w was line.0 event after occurs.1
-occurs_numbered script w after call (to_call.Execute number chosen) was (request, of_call, executes) = execute_numbered w after request chosen was of_call.0 executes
+occurs_numbered script w after call (to_call.Execute number chosen) was (request, of_call, executes) =
+    execute_numbered w after request chosen was of_call.0 executes
 occurs_numbered script w after call (to_call.Reply number) was (answer, of_call, steps) =
     agent_numbered w after call (λ a. replied script a answer) (λ a. replied_next script a answer) was steps
 occurs_numbered script w after call to_call.Pass was occurs = agent_numbered w after call (passed script) (passed_next script) was occurs
@@ -141,7 +143,8 @@ runs_numbered script (event ∷ more) w end was runs = runs_numbered script more
 pub opening_numbered : (script : Script) (calls : List Opened) (w : World) → IsOpening script calls w → IsNumbered w
 opening_numbered script calls w opens = record {
   agents = λ c b is. let its = opens.agents.no_other c b is in
-      ap (λ (x : Agent). x.call) (the_some b (opened script its.0.call its.0.lines) (sym is ∙ ap w.agent (sym its.2) ∙ opens.agents.opened its.0 its.1)) ∙ its.2;
+      ap (λ (x : Agent). x.call) (the_some b (opened script its.0.call its.0.lines)
+      (sym is ∙ ap w.agent (sym its.2) ∙ opens.agents.opened its.0 its.1)) ∙ its.2;
   open_calls = λ c b is. ap (λ (retired : ℕ → Bool). retired c) opens.gateway.none_retired;
   held = λ l c is. let its = (opens.lines.held l c).0 is in
       (opened script its.one.call its.one.lines, ap w.agent (sym its.is_call) ∙ opens.agents.opened its.one its.among);
@@ -166,13 +169,13 @@ opening_numbered script calls w opens = record {
 }
   where
     no_request : (r : Request) → Contains w.requests r → ⊥
-    no_request r among = none_in r (subst (λ l. Contains l r) opens.messages.no_request among)
+    no_request r = nothing_in r w.requests opens.messages.no_request
 
     no_answer : (x : Reply) → Contains w.replies x → ⊥
-    no_answer x among = none_in x (subst (λ l. Contains l x) opens.messages.no_answer among)
+    no_answer x = nothing_in x w.replies opens.messages.no_answer
 
     no_note : (n : SentNote) → Contains w.notes n → ⊥
-    no_note n among = none_in n (subst (λ l. Contains l n) opens.messages.no_note among)
+    no_note n = nothing_in n w.notes opens.messages.no_note
 
 pub named_by_number : MessagesAreNamedByNumber
 named_by_number script calls events opening end opens runs =

@@ -1,8 +1,8 @@
 -- Lists of messages that are named by their numbers, and what keeps them so: a request with the next number of its agent, a reply to a request
 -- that is executed or the kept one, and notes that are numbered on.
-use Rattle.mg_safety.proofs.Words.{◌≡◌, ◌∙◌, ◌+◌, ◌<◌, ◌≤◌, ◌++◌, ◌==◌, ◌⊎◌, ℕ, Bool, true, false, List, [], ◌∷◌, length, Option, Some, None, refl, sym, ap}
-use Rattle.mg_safety.proofs.Words.{subst, arith, inl, inr, Contains, eqb-true, eqb-false, Contains-append_cases, Agent, CallLink, sent_notes, notes_from}
-use Rattle.mg_safety.proofs.Words.{Gateway, number_of, Note, Request, Reply, SentNote, RaisedNote, the_some, none_in, only_one}
+use Rattle.mg_safety.proofs.Words.{◌≡◌, ◌∙◌, ◌+◌, ◌<◌, ◌≤◌, ◌++◌, ◌⊎◌, ℕ, Bool, false, List, [], ◌∷◌, length, Option, Some, None, refl, sym, ap, subst, arith}
+use Rattle.mg_safety.proofs.Words.{inl, inr, Contains, Contains-append_cases, Agent, CallLink, sent_notes, notes_from, Gateway, number_of, Note, Request, Reply}
+use Rattle.mg_safety.proofs.Words.{SentNote, RaisedNote, the_some, none_in, only_one, cases_eq}
 use Rattle.mg_safety.specs.MessageNumbers.{AreOnce}
 
 -- ---- lists in which each stands once
@@ -105,17 +105,19 @@ notes_added known retired link later notes new call last on call_known open_call
   ];
   counted = λ n among still. elim (Contains-append_cases new notes n among) [
     | inl at ↦ subst (λ c. n.number ≤ (later c).notes) (sym (on.of_call n at)) (let most = on.most n at in omega (arith, most, is))
-    | inr there ↦ by_call n (was.counted n there still) (n.call == call) refl
+    | inr there ↦ by_call n (was.counted n there still)
   ];
   once = both_once (λ (n : SentNote). n.call) (λ (n : SentNote). n.number) new notes on.once was.once
       (λ x y at there same also. absurd (above x y at there same also));
 }
   where
-    by_call : (n : SentNote) → n.number ≤ (link n.call).notes → (test : Bool) → (n.call == call) ≡ test → n.number ≤ (later n.call).notes
-    by_call n below true e = let here = eqb-true n.call call e in
-        subst (λ c. n.number ≤ (later c).notes) (sym here)
-        (let small : n.number ≤ (link call).notes = subst (λ c. n.number ≤ (link c).notes) here below in let grows = on.grows in omega (arith, small, grows, is))
-    by_call n below false e = let same = others n.call (eqb-false n.call call e) in omega (arith, below, same)
+    by_call : (n : SentNote) → n.number ≤ (link n.call).notes → n.number ≤ (later n.call).notes
+    by_call n below = elim (cases_eq n.call call) [
+      | inl here ↦ subst (λ c. n.number ≤ (later c).notes) (sym here)
+          (let small : n.number ≤ (link call).notes = subst (λ c. n.number ≤ (link c).notes) here below in
+          let grows = on.grows in omega (arith, small, grows, is))
+      | inr apart ↦ (let same = others n.call apart in omega (arith, below, same))
+    ]
 
     above : (x y : SentNote) → Contains new x → Contains notes y → x.call ≡ y.call → x.number ≡ y.number → ⊥
     above x y at there same also =
@@ -152,7 +154,8 @@ pub one_association : (requests : List Request) → AreOnce (λ (r : Request). r
 one_association requests once x y (r, at, call, number, association) (s, there, its_call, its_number, its_association) same also =
     sym association ∙ ap (λ (q : Request). q.association) (once r s at there (call ∙ same ∙ sym its_call) (number ∙ also ∙ sym its_number)) ∙ its_association
 
-pub still_answered : (requests more : List Request) → ((r : Request) → Contains requests r → Contains more r) → (x : Reply) → IsAnswered requests x → IsAnswered more x
+pub still_answered : (requests more : List Request) → ((r : Request) → Contains requests r → Contains more r)
+    → (x : Reply) → IsAnswered requests x → IsAnswered more x
 still_answered requests more grow x (r, at, call, number, association) = (r, grow r at, call, number, association)
 
 -- where the kept replies stay, and requests are only added

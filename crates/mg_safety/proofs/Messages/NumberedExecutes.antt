@@ -1,8 +1,8 @@
 -- A request that reaches the gateway keeps messages numbered: its reply is the first with its number, or the kept one once more.
-use Rattle.mg_safety.proofs.Words.{◌≡◌, ◌∙◌, ◌+◌, ◌<◌, ◌≤◌, ◌++◌, ◌==◌, ◌⊎◌, ℕ, Bool, true, false, List, [], ◌∷◌, length, Option, Some, if◌then◌else◌, refl}
-use Rattle.mg_safety.proofs.Words.{sym, ap, subst, arith, inl, inr, Contains, eqb-true, eqb-false, Contains-append_cases, ChosenRefusal, Gateway, CallLink}
-use Rattle.mg_safety.proofs.Words.{IsExecutedBy, last_executed, after_request, reply_of, Request, Reply, SentNote, World, with_gateway, IsFirst, IsRepeat}
-use Rattle.mg_safety.proofs.Words.{Executes, the_some, at_one, at_another, fresh_is_open, fresh_at, kept_at, number_of, only_one}
+use Rattle.mg_safety.proofs.Words.{◌≡◌, ◌∙◌, ◌+◌, ◌<◌, ◌≤◌, ◌++◌, ◌==◌, ◌⊎◌, ℕ, false, List, [], ◌∷◌, length, Option, Some, refl, sym, ap, subst, arith, inl}
+use Rattle.mg_safety.proofs.Words.{inr, Contains, eqb-true, eqb-false, Contains-append_cases, ChosenRefusal, Gateway, CallLink, IsExecutedBy, last_executed}
+use Rattle.mg_safety.proofs.Words.{after_request, reply_of, Request, Reply, SentNote, World, with_gateway, IsFirst, IsRepeat, Executes, the_some, at_one}
+use Rattle.mg_safety.proofs.Words.{at_another, fresh_is_open, fresh_at, kept_at, number_of, only_one, by_test}
 use Rattle.mg_safety.proofs.InvariantWords.{IsKnown}
 use Rattle.mg_safety.proofs.Messages.Numbered.{one_once, both_once, AreNumberedOn, sent_on, notes_added, IsAnswered, RepliesAreNumbered, one_association}
 use Rattle.mg_safety.proofs.Messages.Numbered.{reply_again}
@@ -48,21 +48,13 @@ module _ (w : World) (was : IsNumbered w) (request : Request) (among : Contains 
 
   -- what is kept of a call: the new reply, or what was kept of another one
   kept_at_call : (c : ℕ) (k : Reply) → (later.link c).last ≡ Some k → ((c ≡ call) × (reply ≡ k)) ⊎ ((c ≡ call → ⊥) × ((w.gateway.link c).last ≡ Some k))
-  kept_at_call c k is = by_test (c == call) refl is
-    where
-      by_test : (test : Bool) → (c == call) ≡ test → (if test then changed else w.gateway.link c).last ≡ Some k
-          → ((c ≡ call) × (reply ≡ k)) ⊎ ((c ≡ call → ⊥) × ((w.gateway.link c).last ≡ Some k))
-      by_test true e here = inl (eqb-true c call e, the_some reply k here)
-      by_test false e here = inr (eqb-false c call e, here)
+  kept_at_call c k is = by_test (λ (l : CallLink). l.last ≡ Some k → ((c ≡ call) × (reply ≡ k)) ⊎ ((c ≡ call → ⊥) × ((w.gateway.link c).last ≡ Some k)))
+      changed (w.gateway.link c) (c == call) (λ e here. inl (eqb-true c call e, the_some reply k here)) (λ e here. inr (eqb-false c call e, here)) is
 
   still_below : (y : Reply) → y.number ≤ number_of (w.gateway.link y.call).last → y.number ≤ number_of (later.link y.call).last
-  still_below y below = by_test (y.call == call) refl
-    where
-      by_test : (test : Bool) → (y.call == call) ≡ test → y.number ≤ number_of (if test then changed else w.gateway.link y.call).last
-      by_test true e =
-          let small : y.number ≤ last_executed w.gateway call = subst (λ c. y.number ≤ number_of (w.gateway.link c).last) (eqb-true y.call call e) below in
-          let above = newer in omega (arith, small, above)
-      by_test false e = below
+  still_below y below = by_test (λ (l : CallLink). y.number ≤ number_of l.last) changed (w.gateway.link y.call) (y.call == call)
+      (λ e. let small : y.number ≤ last_executed w.gateway call = subst (λ c. y.number ≤ number_of (w.gateway.link c).last) (eqb-true y.call call e) below in
+      let above = newer in omega (arith, small, above)) (λ e. below)
 
   by_case : (y : Reply) (P : Reply → Type 0) → P reply → (Contains w.replies y → P y) → Contains (reply ∷ w.replies) y → P y
   by_case y P first old there = elim (Contains-append_cases (reply ∷ []) w.replies y there) [
@@ -94,10 +86,12 @@ module _ (w : World) (was : IsNumbered w) (request : Request) (among : Contains 
     kept = kept_after;
     answered = λ y there. by_case y (IsAnswered w.requests) is_answered (was.replies.answered y) there;
     past = λ y there. by_case y (λ (z : Reply). z.association ≤ w.gateway.association) (let now = current in omega (arith, now)) (was.replies.past y) there;
-    executed = λ y there. by_case y (λ (z : Reply). w.gateway.retired z.call ≡ false → z.association ≡ w.gateway.association → z.number ≤ number_of (later.link z.call).last)
+    executed = λ y there. by_case y
+        (λ (z : Reply). w.gateway.retired z.call ≡ false → z.association ≡ w.gateway.association → z.number ≤ number_of (later.link z.call).last)
         (λ open_call now. subst (λ (link : CallLink). request.number ≤ number_of link.last) (sym (at_one call changed (w.gateway.link call))) (omega arith))
         (λ old open_call now. still_below y (was.replies.executed y old open_call now)) there;
-    same_kept = λ y k there. by_case y (λ (z : Reply). (later.link z.call).last ≡ Some k → z.number ≡ k.number → z ≡ k) (λ is also. new_same k is) (old_same y k) there;
+    same_kept = λ y k there. by_case y (λ (z : Reply). (later.link z.call).last ≡ Some k → z.number ≡ k.number → z ≡ k)
+        (λ is also. new_same k is) (old_same y k) there;
     once = both_once (λ (y : Reply). y.call) (λ (y : Reply). y.number) (reply ∷ []) w.replies (one_once (λ (y : Reply). y.call) (λ (y : Reply). y.number) reply)
         was.replies.once (λ y z at old same also. let is = only_one reply y at in
         absurd (none_before z old (sym same ∙ ap (λ (v : Reply). v.call) (sym is)) (sym also ∙ ap (λ (v : Reply). v.number) (sym is))));
@@ -123,7 +117,10 @@ first_numbered w after request chosen was among f =
     let x = f.executed in
     subst IsNumbered (sym (f.after_is
     ∙ ap (λ (g : Gateway). record (with_gateway w g) { replies = f.answer ∷ w.replies; notes = f.sent ++ w.notes }) x.after_is
-    ∙ ap (λ (a : Reply). record (with_gateway w (after_request w.gateway request x.end x.settled x.failure)) { replies = a ∷ w.replies; notes = f.sent ++ w.notes }) x.reply_is))
+    ∙ ap (λ (a : Reply). record (with_gateway w (after_request w.gateway request x.end x.settled x.failure)) {
+      replies = a ∷ w.replies;
+      notes = f.sent ++ w.notes;
+    }) x.reply_is))
     (executed_numbered w was request among chosen f.gateway f.answer f.sent x)
 
 repeat_numbered : (w after : World) (request : Request) → IsNumbered w → IsRepeat w request after → IsNumbered after

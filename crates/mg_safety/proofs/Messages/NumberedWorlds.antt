@@ -1,14 +1,15 @@
 -- A world in which messages are numbered; a step of an agent and an event of a line keep it so.
-use Rattle.mg_safety.proofs.Words.{◌≡◌, ◌∙◌, ◌+◌, ◌<◌, ◌++◌, ◌==◌, ◌⊎◌, ℕ, Bool, true, false, List, length, Option, Some, if◌then◌else◌, refl, sym, ap, subst}
-use Rattle.mg_safety.proofs.Words.{arith, inl, inr, Contains, eqb-true, eqb-false, Contains-append_cases, Contains-append_right, LineEvent, Agent, Phase}
-use Rattle.mg_safety.proofs.Words.{awaits_reply, awaits_pass, resting, Gateway, CallLink, with_line, with_notes, Request, World, AgentSteps, agent_steps}
-use Rattle.mg_safety.proofs.Words.{sent_in, with_gateway, LineOccurs, the_some, at_one, at_another}
+use Rattle.mg_safety.proofs.Words.{◌≡◌, ◌∙◌, ◌+◌, ◌<◌, ◌++◌, ◌==◌, ◌⊎◌, ℕ, false, List, length, Option, Some, if◌then◌else◌, refl, sym, ap, subst, arith, inl}
+use Rattle.mg_safety.proofs.Words.{inr, Contains, eqb-true, Contains-append_cases, Contains-append_right, LineEvent, Agent, Phase, awaits_reply, Gateway}
+use Rattle.mg_safety.proofs.Words.{CallLink, with_line, with_notes, Request, World, AgentSteps, agent_steps, sent_in, with_gateway, LineOccurs, at_one}
+use Rattle.mg_safety.proofs.Words.{at_another, by_test}
 use Rattle.mg_model.specs.Gateway as gateway
 use Rattle.mg_safety.proofs.InvariantWords.{IsKnown}
 use Rattle.mg_safety.specs.MessageNumbers.{AreOnce}
 use Rattle.mg_safety.proofs.Messages.AgentNumbers.{GoesOn, GivesNext}
 use Rattle.mg_safety.proofs.Messages.Numbered.{none_once, one_once, both_once, AreNumberedOn, line_on, NotesAreNumbered, notes_stay, notes_added}
 use Rattle.mg_safety.proofs.Messages.Numbered.{RequestsAreNumbered, RepliesAreNumbered, replies_stay}
+use Rattle.mg_safety.proofs.Agents.AgentSteps.{stepped_agent}
 
 pub record IsNumbered (w : World) : Type 0 where
   pub agents : (call : ℕ) (a : Agent) → w.agent call ≡ Some a → a.call ≡ call
@@ -25,31 +26,19 @@ added new old x among = Contains-append_right new old x among
 
 sent_once : (phase : Phase) → AreOnce (λ (r : Request). r.call) (λ (r : Request). r.number) (sent_in phase)
 sent_once (awaits_reply request) = one_once (λ (r : Request). r.call) (λ (r : Request). r.number) request
-sent_once awaits_pass = none_once (λ (r : Request). r.call) (λ (r : Request). r.number)
-sent_once resting = none_once (λ (r : Request). r.call) (λ (r : Request). r.number)
+sent_once phase = none_once (λ (r : Request). r.call) (λ (r : Request). r.number)
 
-module _ (w : World) (was : IsNumbered w) (call : ℕ) (before a : Agent) (there : w.agent call ≡ Some before) (goes : GoesOn before.call before.next before.lines a) where
+module _ (w : World) (was : IsNumbered w) (call : ℕ) (before a : Agent) (there : w.agent call ≡ Some before)
+    (goes : GoesOn before.call before.next before.lines a) where
   abbrev stepped : World
   stepped = agent_steps w call a
 
   of_call : before.call ≡ call
   of_call = was.agents call before there
 
-  -- an agent after is the call's, or one that was there
-  agent_at : (c : ℕ) (b : Agent) → stepped.agent c ≡ Some b → ((c ≡ call) × (a ≡ b)) ⊎ ((c ≡ call → ⊥) × (w.agent c ≡ Some b))
-  agent_at c b is = by_test (c == call) refl is
-    where
-      by_test : (test : Bool) → (c == call) ≡ test → (if test then Some a else w.agent c) ≡ Some b
-          → ((c ≡ call) × (a ≡ b)) ⊎ ((c ≡ call → ⊥) × (w.agent c ≡ Some b))
-      by_test true e here = inl (eqb-true c call e, the_some a b here)
-      by_test false e here = inr (eqb-false c call e, here)
-
   still_there : (c : ℕ) (b : Agent) → w.agent c ≡ Some b → (x : Agent) × (stepped.agent c ≡ Some x)
-  still_there c b is = by_test (c == call)
-    where
-      by_test : (test : Bool) → (x : Agent) × ((if test then Some a else w.agent c) ≡ Some x)
-      by_test true = (a, refl)
-      by_test false = (b, is)
+  still_there c b is =
+      by_test (λ (o : Option Agent). (x : Agent) × (o ≡ Some x)) (Some a) (w.agent c) (c == call) (λ here. (a, refl)) (λ other. (b, is))
 
   known_still : (c : ℕ) → IsKnown w c → IsKnown stepped c
   known_still c (inl (b, is)) = inl (still_there c b is)
@@ -62,8 +51,8 @@ module _ (w : World) (was : IsNumbered w) (call : ℕ) (before a : Agent) (there
       | inr old ↦ known_still r.call (was.requests.each_known r old)
     ];
     below = λ r b among is. elim (Contains-append_cases (sent_in a.phase) w.requests r among) [
-      | inl at ↦ new_below r b at (agent_at r.call b is)
-      | inr old ↦ old_below r b old (agent_at r.call b is)
+      | inl at ↦ new_below r b at (stepped_agent w call a r.call b is)
+      | inr old ↦ old_below r b old (stepped_agent w call a r.call b is)
     ];
     once = both_once (λ (r : Request). r.call) (λ (r : Request). r.number) (sent_in a.phase) w.requests (sent_once a.phase) was.requests.once
         (λ x y at old same also. absurd (
@@ -73,14 +62,16 @@ module _ (w : World) (was : IsNumbered w) (call : ℕ) (before a : Agent) (there
         omega (arith, number, small, also)));
   }
     where
-      new_below : (r : Request) (b : Agent) → Contains (sent_in a.phase) r → ((r.call ≡ call) × (a ≡ b)) ⊎ ((r.call ≡ call → ⊥) × (w.agent r.call ≡ Some b)) → r.number < b.next
+      new_below : (r : Request) (b : Agent) → Contains (sent_in a.phase) r
+          → ((r.call ≡ call) × (a ≡ b)) ⊎ ((r.call ≡ call → ⊥) × (w.agent r.call ≡ Some b)) → r.number < b.next
       new_below r b at (inl here) =
           let facts = goes.sent r at in
           let number : r.number ≡ before.next = facts.1.0 in let above : before.next < a.next = facts.1.1 in
           subst (λ (x : Agent). r.number < x.next) here.1 (omega (arith, number, above))
       new_below r b at (inr other) = absurd (other.0 ((goes.sent r at).0 ∙ of_call))
 
-      old_below : (r : Request) (b : Agent) → Contains w.requests r → ((r.call ≡ call) × (a ≡ b)) ⊎ ((r.call ≡ call → ⊥) × (w.agent r.call ≡ Some b)) → r.number < b.next
+      old_below : (r : Request) (b : Agent) → Contains w.requests r
+          → ((r.call ≡ call) × (a ≡ b)) ⊎ ((r.call ≡ call → ⊥) × (w.agent r.call ≡ Some b)) → r.number < b.next
       old_below r b old (inl here) =
           let small = was.requests.below r before old (ap w.agent here.0 ∙ there) in let grows = goes.next_is in
           subst (λ (x : Agent). r.number < x.next) here.1 (omega (arith, small, grows))
@@ -88,11 +79,11 @@ module _ (w : World) (was : IsNumbered w) (call : ℕ) (before a : Agent) (there
 
   pub step_numbered : IsNumbered stepped
   step_numbered = record {
-    agents = λ c b is. elim (agent_at c b is) [
+    agents = λ c b is. elim (stepped_agent w call a c b is) [
       | inl here ↦ ap (λ (x : Agent). x.call) (sym here.1) ∙ goes.call_is ∙ of_call ∙ sym here.0
       | inr other ↦ was.agents c b other.1
     ];
-    open_calls = λ c b is. elim (agent_at c b is) [
+    open_calls = λ c b is. elim (stepped_agent w call a c b is) [
       | inl here ↦ ap w.gateway.retired here.0 ∙ was.open_calls call before there
       | inr other ↦ was.open_calls c b other.1
     ];
@@ -111,12 +102,10 @@ agent_numbered w after call step next was s =
 
 -- ---- a link that is changed at one call
 
-link_last : (g : Gateway) (call : ℕ) (link : CallLink) → link.last ≡ (g.link call).last → (c : ℕ) → (if c == call then link else g.link c).last ≡ (g.link c).last
-link_last g call link same c = by_test (c == call) refl
-  where
-    by_test : (test : Bool) → (c == call) ≡ test → (if test then link else g.link c).last ≡ (g.link c).last
-    by_test true e = same ∙ ap (λ n. (g.link n).last) (sym (eqb-true c call e))
-    by_test false e = refl
+link_last : (g : Gateway) (call : ℕ) (link : CallLink) → link.last ≡ (g.link call).last → (c : ℕ)
+    → (if c == call then link else g.link c).last ≡ (g.link c).last
+link_last g call link same c = by_test (λ (l : CallLink). l.last ≡ (g.link c).last) link (g.link c) (c == call)
+    (λ e. same ∙ ap (λ n. (g.link n).last) (sym (eqb-true c call e))) (λ e. refl)
 
 -- ---- an event of a line
 

@@ -29,7 +29,8 @@ abbrev steps_left : Script → Configuration → ℕ → List Command → List S
 steps_left script c place left = refusals script c place left ++ execution (executed script c left)
 
 -- a request of an agent is at a place: what was done, and the commands that are left
-record IsUnderway (script : Script) (entries : List Entry) (g : Gateway) (a : Agent) (number : ℕ) (r : Running) (place : ℕ) (left : List Command) (made : Made) (e : Agent) (c : Configuration) : Type 0 where
+record IsUnderway (script : Script) (entries : List Entry) (g : Gateway) (a : Agent) (number : ℕ) (r : Running)
+    (place : ℕ) (left : List Command) (made : Made) (e : Agent) (c : Configuration) : Type 0 where
   -- the results so far, and the agent as it will be once it has taken them
   count : length r.results ≡ place
   follows : (more : List Done) → after_results a (built_by script a a.state) (r.results ++ more) number ≡ after_results e left more number
@@ -112,7 +113,8 @@ module _ (script : Script) (is_script : IsScript script) (entries : List Entry) 
 
     taken_on : (later : List Done) → after_results a (built_by script a a.state) ((r.results ++ done ∷ []) ++ later) number
         ≡ after_results (after_result e command done number) more later number
-    taken_on later = ap (λ results. after_results a (built_by script a a.state) results number) (append_assoc r.results (done ∷ []) later) ∙ u.follows (done ∷ later)
+    taken_on later = ap (λ results. after_results a (built_by script a a.state) results number) (append_assoc r.results (done ∷ []) later)
+        ∙ u.follows (done ∷ later)
 
     -- the request after a command
     next_underway : IsUnderway script entries g a number
@@ -122,13 +124,17 @@ module _ (script : Script) (is_script : IsScript script) (entries : List Entry) 
       count = length-append r.results (done ∷ []) ∙ ap (λ n. n + 1) u.count;
       follows = taken_on;
       made_below = made_below_next made command place u.made_below;
-      shown = subst (λ (n : Naming). Shown script (owned_at (owner_of g a.call) board) n board (effect script c command)) (sym (named_on e command done number)) carried.shown;
-      lines_shown = lines_carried script (owner_of g a.call) e a made r c number u.shown u.built u.lines_shown command board done declared_next carried.legal ran;
+      shown = subst (λ (n : Naming). Shown script (owned_at (owner_of g a.call) board) n board (effect script c command))
+          (sym (named_on e command done number)) carried.shown;
+      lines_shown = lines_carried script (owner_of g a.call) e a made r c number u.shown u.built u.lines_shown command board done
+          declared_next carried.legal ran;
       accounted = carried.accounted;
       built = subst (λ (m : Naming). AreBuilt (naming (after_result e command done number)) m board) (sym names_on)
-          (subst (λ (n : Naming). AreBuilt n (built_after (naming_at a made r.results) command done) board) (sym (named_on e command done number)) carried.built);
+          (subst (λ (n : Naming). AreBuilt n (built_after (naming_at a made r.results) command done) board)
+          (sym (named_on e command done number)) carried.built);
       known = subst (λ (names : Names). AreKnown names more)
-          (known_on (naming_at a made r.results) command done (binds (naming_at a made r.results) r.board board command done ran) ∙ ap known_by (sym names_on)) u.known.1;
+          (known_on (naming_at a made r.results) command done (binds (naming_at a made r.results) r.board board command done ran)
+          ∙ ap known_by (sym names_on)) u.known.1;
       declared = All-tail (IsCommandOf script) command more u.declared;
       once = and_second _ _ u.once;
       unbound = all_unbound script c command carried.legal more (and_first _ _ u.once) (and_second _ _ u.unbound);
@@ -141,13 +147,16 @@ module _ (script : Script) (is_script : IsScript script) (entries : List Entry) 
       own_lines = λ l. goes_on number (g.line l) (r.line l)
           (line_after r (command_of script a made command) (item_for (naming_at a made r.results) command) number l) (u.own_lines l)
           (line_goes r (command_of script a made command) (item_for (naming_at a made r.results) command) number l);
-      notes = notes_carried (owner_of g a.call).held r (command_of script a made command) (item_for (naming_at a made r.results) command) number describing u.notes;
+      notes = notes_carried (owner_of g a.call).held r (command_of script a made command) (item_for (naming_at a made r.results) command) number
+          describing u.notes;
     }
 
   -- a command that was executed
-  went : CommandsCarry → (r next : Running) (place : ℕ) (refusal : Option ChosenRefusal) (command : Command) (more : List Command) (made : Made) (e : Agent) (c : Configuration)
+  went : CommandsCarry → (r next : Running) (place : ℕ) (refusal : Option ChosenRefusal) (command : Command) (more : List Command) (made : Made)
+      (e : Agent) (c : Configuration)
       → IsUnderway script entries g a number r place (command ∷ more) made e c → (x : Succeeds r (command_of script a made command) place refusal number next)
-      → IsUnderway script entries g a number next (place + 1) more (made_after made command place) (after_result e command x.done number) (effect script c command)
+      → IsUnderway script entries g a number next (place + 1) more (made_after made command place) (after_result e command x.done number)
+      (effect script c command)
   went carry r next place refusal command more made e c u x =
       let m = naming_at a made r.results in
       let same = item_is script a made r.results command in
@@ -159,16 +168,16 @@ module _ (script : Script) (is_script : IsScript script) (entries : List Entry) 
       (next_underway r place command more made e c u x.board x.done ran carried)
 
   -- the commands that are left run
-  runs_on : CommandsCarry → (refusal : Option ChosenRefusal) (end : Running) (failure : Option Failure) (left : List Command) (r : Running) (place : ℕ) (made : Made) (e : Agent)
-      (c : Configuration) → IsUnderway script entries g a number r place left made e c
+  runs_on : CommandsCarry → (refusal : Option ChosenRefusal) (end : Running) (failure : Option Failure) (left : List Command) (r : Running) (place : ℕ)
+      (made : Made) (e : Agent) (c : Configuration) → IsUnderway script entries g a number r place left made e c
       → RunsFrom number refusal r place (commands_of script a made place left) end failure → IsRunOf script entries g a number end failure
   unfolding RunsFrom
   runs_on carry refusal end failure [] r place made e c u runs =
       subst (λ (last : Running). IsRunOf script entries g a number last failure) (sym runs.0)
       (ended r place [] made e c Answered failure u (u.steps (Execute, with_link c Answered) (first_in _ [])) (ap link_of (sym runs.1)))
   runs_on carry refusal end failure (command ∷ more) r place made e c u (inl (next, executes, rest)) =
-      runs_on carry refusal end failure more next (place + 1) (made_after made command place) (after_result e command executes.done number) (effect script c command)
-      (went carry r next place refusal command more made e c u executes) rest
+      runs_on carry refusal end failure more next (place + 1) (made_after made command place) (after_result e command executes.done number)
+      (effect script c command) (went carry r next place refusal command more made e c u executes) rest
   runs_on carry refusal end failure (command ∷ more) r place made e c u (inr (code, fails, last, is)) =
       subst (λ (last : Running). IsRunOf script entries g a number last failure) (sym last)
       (ended r place (command ∷ more) made e c Failed failure u (u.steps (Refuse place, with_link c Failed) (first_in _ _)) (ap link_of (sym is)))
@@ -190,7 +199,8 @@ underway_at_start : (script : Script) → IsScript script → (entries : List En
     → LinesShown script a g.line c → IsAccounted g.board → (number : ℕ)
     → IsUnderway script entries g a number (start_of g) 0 (built_by script a a.state) none_made a c
 underway_at_start script is entries closed g a c stands sent state seen lines_shown accounted number =
-    let shown = shown_at_start script (owned_in g a.call) (naming a) g.board c seen stands.covered.1.1.1 stands.of_script accounted (closed.live c stands (inl sent)) in
+    let shown = shown_at_start script (owned_in g a.call) (naming a) g.board c seen stands.covered.1.1.1 stands.of_script accounted
+    (closed.live c stands (inl sent)) in
     let names = bound_agree script (owned_in g a.call) a g.board c seen stands.of_script in
     let commands = (state_of script a.state).commands in
     let unbound : names_unbound script c ≡ true = closed.unbound c stands sent in

@@ -1,18 +1,15 @@
 -- One command and the lines: they show what the command makes of the configuration; a line is armed, emptied or left by it; and the lines
 -- of others stay.
-use Rattle.mg_safety.proofs.Words.{◌≡◌, ◌∙◌, ◌<◌, ℕ, Bool, true, false, length, Some, None, is_some, refl, sym, ap, subst, eqb-true, eq-eqb, ◌==◌, ◌&&◌}
-use Rattle.mg_safety.proofs.Words.{if◌then◌else◌, unwrap_or, Command, AddLine, AddEphemeral, ModifyLine, ModifyEphemeral, MoveLine, MoveEphemeral, Subtract}
-use Rattle.mg_safety.proofs.Words.{SubtractAll, SetTopology, Empty, LineOptions, Agent, Made, line_descriptors, expected_if, is_listed, command_of}
-use Rattle.mg_safety.proofs.Words.{after_result, Board, place_of, with_at, Configuration, is_in, is_live, plays_after, is_legal, effect, Done, IsExecuted}
-use Rattle.mg_safety.proofs.Words.{LineRow, cleared, Running, described_row, line_after, on_line, Script, IsCommandOf, same_test, same_turned}
+use Rattle.mg_safety.proofs.Words.{◌≡◌, ◌∙◌, ◌<◌, ℕ, true, false, length, Some, None, is_some, sym, ap, subst, eqb-true, eq-eqb, ◌==◌, if◌then◌else◌, unwrap_or}
+use Rattle.mg_safety.proofs.Words.{Command, AddLine, ModifyLine, MoveLine, Subtract, SubtractAll, Empty, LineOptions, Agent, Made, line_descriptors}
+use Rattle.mg_safety.proofs.Words.{expected_if, is_listed, command_of, after_result, Board, place_of, with_at, Configuration, is_in, is_live, plays_after}
+use Rattle.mg_safety.proofs.Words.{is_legal, effect, Done, IsExecuted, LineRow, cleared, Running, described_row, line_after, on_line, Script, IsCommandOf}
+use Rattle.mg_safety.proofs.Words.{same_test, same_turned}
 use Rattle.mg_names.specs.declared.identifiers.TermId.TheVariants as term
 use Rattle.mg_model.specs.declared.commands.Termination.TheVariants as termination
 use Rattle.mg_safety.proofs.InvariantWords.{naming, naming_at, Shown, LinesShown, Owner, owned_at, AreBuilt, item_for, context_for}
-use Rattle.mg_safety.proofs.Requests.RunLines.{AreShown, leaves_test, listed_test, described_lines, cleared_lines}
-
-and_true : (x y : Bool) → y ≡ true → (x && y) ≡ x
-and_true true y e = e
-and_true false y e = refl
+use Rattle.mg_safety.proofs.Requests.RunLines.{AreShown, leaves_test, described_lines, cleared_lines}
+use Rattle.mg_safety.proofs.Shared.Components.{and_true, listed_test}
 
 from_shown : (script : Script) (e : Agent) (line : ℕ → LineRow) (c : Configuration) → LinesShown script e line c
     → AreShown script e.lines e.expected line c.events c.plays
@@ -29,7 +26,8 @@ module _ (script : Script) (own : Owner) (e a : Agent) (made : Made) (r : Runnin
   stay = from_shown script e r.line c lines_shown
 
   once : (x : ℕ) → x < length script.lines → (i : ℕ) → i < length script.lines → a.lines x ≡ a.lines i → x ≡ i
-  once x inside i within same = shown.line_once x i inside within (ap (λ (lines : ℕ → ℕ). lines x) (sym built.lines) ∙ same ∙ ap (λ (lines : ℕ → ℕ). lines i) built.lines)
+  once x inside i within same = shown.line_once x i inside within
+      (ap (λ (lines : ℕ → ℕ). lines x) (sym built.lines) ∙ same ∙ ap (λ (lines : ℕ → ℕ). lines i) built.lines)
 
   by_descriptors : (x : ℕ) (o : LineOptions) → x < length script.lines
       → AreShown script e.lines (expected_if (is_some o.events) e.expected x number)
@@ -61,8 +59,8 @@ module _ (script : Script) (own : Owner) (e a : Agent) (made : Made) (r : Runnin
       (λ i. if is_in (c.spot (termination.Line i)) j then Empty else c.events i) (λ i. if is_in (c.spot (termination.Line i)) j then false else c.plays i)
   by_subtract_all j done after live x =
       let m = naming_at a made r.results in
-      let leaves_of : (i : ℕ) → i < length script.lines → (place_of r.board (term.Line (record { 0 = e.lines i })) == context_for m j) ≡ is_in (c.spot (termination.Line i)) j
-      = leaves_test script (owned_at own r.board) (naming e) m r.board c shown built j live in
+      let leaves_of : (i : ℕ) → i < length script.lines
+      → (place_of r.board (term.Line (record { 0 = e.lines i })) == context_for m j) ≡ is_in (c.spot (termination.Line i)) j = leaves_test script (owned_at own r.board) (naming e) m r.board c shown built j live in
       cleared_lines script e.lines e.expected (λ i. if is_listed done.lines (Some (e.lines i)) then None else e.expected i) r.line c.events c.plays stay
       (λ l. place_of r.board (term.Line (record { 0 = l })) == context_for m j) (λ i. is_in (c.spot (termination.Line i)) j) leaves_of
       (λ i within. ap (λ test. if test then None else e.expected i) (listed_test _ done.lines x.result.lines (e.lines i)
@@ -74,12 +72,8 @@ module _ (script : Script) (own : Owner) (e a : Agent) (made : Made) (r : Runnin
       → LinesShown script (after_result e command done number)
       (line_after r (command_of script a made command) (item_for (naming_at a made r.results) command) number) (effect script c command)
   lines_carried (AddLine create j x o) after done declared legal ran = to_shown script _ _ _ (by_descriptors x o declared.1)
-  lines_carried (AddEphemeral create j k o) after done declared legal ran = to_shown script _ _ _ stay
   lines_carried (ModifyLine place x o) after done declared legal ran = to_shown script _ _ _ (by_descriptors x o declared.1)
-  lines_carried (ModifyEphemeral place k o) after done declared legal ran = to_shown script _ _ _ stay
   lines_carried (MoveLine j x o) after done declared legal ran = to_shown script _ _ _ (by_descriptors x o declared.1)
-  lines_carried (MoveEphemeral j k o) after done declared legal ran = to_shown script _ _ _ stay
   lines_carried (Subtract j (termination.Line x)) after done declared legal ran = to_shown script _ _ _ (by_subtract x declared.1)
-  lines_carried (Subtract j (termination.Ephemeral k)) after done declared legal ran = to_shown script _ _ _ stay
   lines_carried (SubtractAll j) after done declared legal ran = to_shown script _ _ _ (by_subtract_all j done after legal ran)
-  lines_carried (SetTopology j t u topology) after done declared legal ran = to_shown script _ _ _ stay
+  lines_carried command after done declared legal ran = to_shown script _ _ _ stay

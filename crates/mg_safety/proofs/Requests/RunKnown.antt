@@ -1,14 +1,13 @@
 -- The names that a built request may use: they are those that its commands are built with, at each place; and what was kept of a state's
 -- commands is as declared, creates no name twice, and creates names that were unbound.
-use Rattle.mg_safety.proofs.Words.{◌≡◌, ◌∙◌, ◌<◌, ◌≤◌, ℕ, Bool, true, false, List, [], ◌∷◌, length, Option, Some, None, is_some, refl, sym, ap, arith}
-use Rattle.mg_safety.proofs.Words.{true≢false, inl, inr, zero, suc, fun_ext, cases_lt, and_from, All-nil, All-cons, All-head, All-tail, ◌==◌, ◌⊎◌, not}
-use Rattle.mg_safety.proofs.Words.{if◌then◌else◌, unwrap_or, slice_get, All, list_all, TermId, Command, AddLine, AddEphemeral, ModifyLine, ModifyEphemeral}
-use Rattle.mg_safety.proofs.Words.{MoveLine, MoveEphemeral, Subtract, SubtractAll, SetTopology, Agent, bound_by, bound_if, Board, Configuration, is_present}
-use Rattle.mg_safety.proofs.Words.{is_free, Done, IsExecuted, bound_names, Names, uses_known, with_name, names_after, created_context, created_ephemeral, built}
-use Rattle.mg_safety.proofs.Words.{Script, State, state_of, no_state, IsScript, IsCommandOf, IsStateOf, creates_apart, create_once, and_first, and_second}
-use Rattle.mg_safety.proofs.Words.{by_test}
+use Rattle.mg_safety.proofs.Words.{◌≡◌, ◌∙◌, ℕ, Bool, true, false, List, [], ◌∷◌, Option, Some, None, is_some, refl, sym, ap, inl, inr, zero, suc, fun_ext}
+use Rattle.mg_safety.proofs.Words.{and_from, All-nil, All-cons, All-head, All-tail, ◌==◌, not, if◌then◌else◌, unwrap_or, slice_get, All, list_all, TermId}
+use Rattle.mg_safety.proofs.Words.{Command, AddLine, AddEphemeral, Agent, bound_by, bound_if, Board, Configuration, is_present, is_free, Done, IsExecuted}
+use Rattle.mg_safety.proofs.Words.{bound_names, Names, uses_known, with_name, names_after, created_context, created_ephemeral, built, Script, State, state_of}
+use Rattle.mg_safety.proofs.Words.{no_state, IsScript, IsCommandOf, IsStateOf, creates_apart, create_once, and_first, and_second, by_test, none_is_some}
 use Rattle.mg_model.specs.declared.commands.Termination.TheVariants as termination
 use Rattle.mg_safety.proofs.InvariantWords.{Naming, naming, Seen, known_by, item_for, built_after, eph_of, row_on, IsOfScript}
+use Rattle.mg_safety.proofs.Certificate.Declared.{slot_or_not}
 
 -- ---- what a command creates is in its result
 
@@ -17,7 +16,7 @@ pub record IsBinding (command : Command) (done : Done) : Type 0 where
   pub ephemeral : (k : ℕ) → created_ephemeral command ≡ Some k → is_some done.ephemeral ≡ true
 
 none_created : {P : Type 0} (i : ℕ) → None ≡ Some i → P
-none_created i e = absurd (true≢false (sym (ap is_some e)))
+none_created i e = absurd (none_is_some i e)
 
 nothing_created : (command : Command) (done : Done) → created_context command ≡ None → created_ephemeral command ≡ None → IsBinding command done
 nothing_created command done no_context no_ephemeral = record {
@@ -26,26 +25,10 @@ nothing_created command done no_context no_ephemeral = record {
 }
 
 pub binds : (m : Naming) (b after : Board) (command : Command) (done : Done) → IsExecuted b (item_for m command) after done → IsBinding command done
-binds m b after (AddLine true j i o) done x = record {
-  context = λ n e. ap is_some x.result.context;
-  ephemeral = λ n e. none_created n e;
-}
-binds m b after (AddLine false j i o) done x = nothing_created (AddLine false j i o) done refl refl
-binds m b after (AddEphemeral true j k o) done x = record {
-  context = λ n e. ap is_some x.result.context;
-  ephemeral = λ n e. ap is_some x.result.ephemeral;
-}
-binds m b after (AddEphemeral false j k o) done x = record {
-  context = λ n e. none_created n e;
-  ephemeral = λ n e. ap is_some x.result.ephemeral;
-}
-binds m b after (ModifyLine place i o) done x = nothing_created (ModifyLine place i o) done refl refl
-binds m b after (ModifyEphemeral place k o) done x = nothing_created (ModifyEphemeral place k o) done refl refl
-binds m b after (MoveLine j i o) done x = nothing_created (MoveLine j i o) done refl refl
-binds m b after (MoveEphemeral j k o) done x = nothing_created (MoveEphemeral j k o) done refl refl
-binds m b after (Subtract j t) done x = nothing_created (Subtract j t) done refl refl
-binds m b after (SubtractAll j) done x = nothing_created (SubtractAll j) done refl refl
-binds m b after (SetTopology j t u topology) done x = nothing_created (SetTopology j t u topology) done refl refl
+binds m b after (AddLine true j i o) done x = record { context = λ n e. ap is_some x.result.context; ephemeral = λ n e. none_created n e }
+binds m b after (AddEphemeral true j k o) done x = record { context = λ n e. ap is_some x.result.context; ephemeral = λ n e. ap is_some x.result.ephemeral }
+binds m b after (AddEphemeral false j k o) done x = record { context = λ n e. none_created n e; ephemeral = λ n e. ap is_some x.result.ephemeral }
+binds m b after command done x = nothing_created command done refl refl
 
 -- ---- the names that are known are those that are bound
 
@@ -77,13 +60,7 @@ known_on m (AddEphemeral create i x o) done binding =
     (with_name (known_by m).ephemerals (Some x)) (λ k. is_some (bound_if true m.ephemerals x done.ephemeral k))
     (context_at_name m.contexts create i done.context binding.context)
     (context_at_name m.ephemerals true x done.ephemeral binding.ephemeral)
-known_on m (ModifyLine place i o) done binding = refl
-known_on m (ModifyEphemeral place k o) done binding = refl
-known_on m (MoveLine j i o) done binding = refl
-known_on m (MoveEphemeral j k o) done binding = refl
-known_on m (Subtract j t) done binding = refl
-known_on m (SubtractAll j) done binding = refl
-known_on m (SetTopology j t u topology) done binding = refl
+known_on m command done binding = refl
 
 -- ---- what is kept of a state's commands
 
@@ -146,20 +123,13 @@ module _ (script : Script) (owned : TermId → Bool) (a : Agent) (b : Board) (c 
   ephemeral_bound : (k : ℕ) → is_some (a.ephemerals k) ≡ is_present (c.spot (termination.Ephemeral k))
   ephemeral_bound k = go (a.ephemerals k) refl
     where
-      within_slots : (x : ℕ) → a.ephemerals k ≡ Some x → k < length script.ephemerals
-          → true ≡ is_present (c.spot (termination.Ephemeral k))
-      within_slots x e within =
-          sym (ap (λ o. is_some (row_on b (eph_of o))) e ∙ shown.ephemeral_stands k x e) ∙ shown.stands (termination.Ephemeral k) within
-
-      unbound : a.ephemerals k ≡ None → (k < length script.ephemerals) ⊎ (length script.ephemerals ≤ k)
-          → false ≡ is_present (c.spot (termination.Ephemeral k))
-      unbound e (inl within) = sym (ap (λ o. is_some (row_on b (eph_of o))) e) ∙ shown.stands (termination.Ephemeral k) within
-      unbound e (inr past) = sym (ap is_present (of_script.spot (termination.Ephemeral k) (λ within.
-          absurd (let below : k < length script.ephemerals = within in omega (arith, below, past)))))
-
       go : (o : Option ℕ) → a.ephemerals k ≡ o → is_some o ≡ is_present (c.spot (termination.Ephemeral k))
-      go (Some x) e = within_slots x e (shown.ephemeral_slot k x e)
-      go None e = unbound e (cases_lt k (length script.ephemerals))
+      go (Some x) e = sym (ap (λ o. is_some (row_on b (eph_of o))) e ∙ shown.ephemeral_stands k x e)
+          ∙ shown.stands (termination.Ephemeral k) (shown.ephemeral_slot k x e)
+      go None e = elim (slot_or_not script (termination.Ephemeral k)) [
+        | inl slot ↦ sym (ap (λ o. is_some (row_on b (eph_of o))) e) ∙ shown.stands (termination.Ephemeral k) slot
+        | inr undeclared ↦ sym (ap is_present (of_script.spot (termination.Ephemeral k) undeclared))
+      ]
 
   pub bound_agree : bound_by a ≡ bound_names c
   bound_agree = names_agree (λ j. is_some (a.contexts j)) (λ j. not (is_free (c.context j))) (λ k. is_some (a.ephemerals k))

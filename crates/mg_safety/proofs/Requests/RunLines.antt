@@ -1,11 +1,11 @@
 -- The lines while a request runs: one command takes the lines that show a configuration to lines that show what it makes of it; a line is
 -- armed, emptied or left by it; and the lines of others stay.
 use Rattle.mg_safety.proofs.Words.{◌≡◌, ◌∙◌, ◌<◌, ℕ, Bool, true, false, List, [], ◌∷◌, length, Option, Some, None, is_some, refl, sym, ap, arith, true≢false}
-use Rattle.mg_safety.proofs.Words.{eqb-true, eq-eqb, Contains-append_right, list_any_at, ◌==◌, ◌||◌, not, if◌then◌else◌, unwrap_or, option_map, Contains}
-use Rattle.mg_safety.proofs.Words.{list_any, ContextValue, Free, Live, Stale, TermId, Signal, Ring, DialTone, RingingTone, BusyTone, CongestionTone, all}
-use Rattle.mg_safety.proofs.Words.{EventsName, Empty, Spot, Absent, Null, In, SignalSet, expected_if, is_listed, list_of, names_signal, set_of, Board, place_of}
-use Rattle.mg_safety.proofs.Words.{with_at, Configuration, is_in, is_live, is_free, plays_after, Lists, ListItem, LineRow, Outcome, armed, cleared, silent}
-use Rattle.mg_safety.proofs.Words.{is_standing, with_signals, with_events, Script, signals_of, is_empty, by_test, same_test, some_of, the_some}
+use Rattle.mg_safety.proofs.Words.{eqb-true, eq-eqb, ◌==◌, not, if◌then◌else◌, unwrap_or, option_map, list_any, ContextValue, Live, TermId, Signal, Ring}
+use Rattle.mg_safety.proofs.Words.{DialTone, RingingTone, BusyTone, CongestionTone, all, EventsName, Empty, Spot, In, SignalSet, expected_if, list_of}
+use Rattle.mg_safety.proofs.Words.{names_signal, set_of, Board, place_of, with_at, Configuration, is_in, is_live, is_free, plays_after, ListItem, LineRow}
+use Rattle.mg_safety.proofs.Words.{Outcome, armed, cleared, silent, is_standing, with_signals, with_events, Script, signals_of, is_empty, by_test, same_test}
+use Rattle.mg_safety.proofs.Words.{some_of, the_some, different, false_not_true}
 use Rattle.mg_names.specs.declared.identifiers.TermId.TheVariants as term
 use Rattle.mg_model.specs.declared.commands.Termination.TheVariants as termination
 use Rattle.mg_model.specs.declared.commands.SignalsName.{SignalsName}
@@ -30,13 +30,13 @@ armed_request row list number = by_test (λ (o : Outcome). o.row.request ≡ Som
 armed_silent : (row : LineRow) (list : List ListItem) (number : ℕ) → row.playing ≡ silent → (armed row list number).row.playing ≡ silent
 armed_silent row list number e = by_test (λ (o : Outcome). o.row.playing ≡ silent) _ _ (list_any (is_standing row.hook) list) (λ was. refl) (λ was. e)
 
-signals_list : (script : Script) (row : LineRow) (signals : Option SignalsName) → (with_signals row (option_map (set_of script) signals)).list ≡ row.list
-signals_list script row None = refl
-signals_list script row (Some name) = refl
+pub set_list : (row : LineRow) (signals : Option SignalSet) → (with_signals row signals).list ≡ row.list
+set_list row None = refl
+set_list row (Some set) = refl
 
-signals_request : (script : Script) (row : LineRow) (signals : Option SignalsName) → (with_signals row (option_map (set_of script) signals)).request ≡ row.request
-signals_request script row None = refl
-signals_request script row (Some name) = refl
+pub set_request : (row : LineRow) (signals : Option SignalSet) → (with_signals row signals).request ≡ row.request
+set_request row None = refl
+set_request row (Some set) = refl
 
 -- a set of no signals is silent
 abbrev set_from : List Signal → SignalSet
@@ -61,7 +61,7 @@ module _ (script : Script) (row : LineRow) (signals : Option SignalsName) (numbe
   new_list : (events : Option EventsName) (was : EventsName) → row.list ≡ list_of script was
       → (with_events (with_signals row (option_map (set_of script) signals)) (option_map (list_of script) events) number).row.list
       ≡ list_of script (unwrap_or events was)
-  new_list None was e = signals_list script row signals ∙ e
+  new_list None was e = set_list row (option_map (set_of script) signals) ∙ e
   new_list (Some name) was e = armed_list (with_signals row (option_map (set_of script) signals)) (list_of script name) number
 
   new_playing : (events : Option EventsName) (was : Bool) → (was ≡ false → row.playing ≡ silent) → plays_after script signals was ≡ false
@@ -73,7 +73,7 @@ module _ (script : Script) (row : LineRow) (signals : Option SignalsName) (numbe
   new_request : (events : Option EventsName) (was : Option ℕ) → ((q : ℕ) → was ≡ Some q → row.request ≡ Some q)
       → (q : ℕ) → (if is_some events then Some number else was) ≡ Some q
       → (with_events (with_signals row (option_map (set_of script) signals)) (option_map (list_of script) events) number).row.request ≡ Some q
-  new_request None was before q e = signals_request script row signals ∙ before q e
+  new_request None was before q e = set_request row (option_map (set_of script) signals) ∙ before q e
   new_request (Some name) was before q e = armed_request (with_signals row (option_map (set_of script) signals)) (list_of script name) number ∙ e
 
 -- ---- a command for a line
@@ -86,13 +86,8 @@ expects_at false expects x number i = by_test (λ (o : Option ℕ). expects i �
 
 -- two lines of the call are one on the gateway exactly where they are one
 line_test : (lines : ℕ → ℕ) (x i : ℕ) → (lines x ≡ lines i → x ≡ i) → (lines x == lines i) ≡ (i == x)
-line_test lines x i once = by_equality (i == x) refl (lines x == lines i) refl
-  where
-    by_equality : (same : Bool) → (i == x) ≡ same → (one : Bool) → (lines x == lines i) ≡ one → one ≡ same
-    by_equality true e true d = refl
-    by_equality false e false d = refl
-    by_equality true e false d = absurd (true≢false (sym (eq-eqb (lines x) (lines i) (ap lines (sym (eqb-true i x e)))) ∙ d))
-    by_equality false e true d = absurd (true≢false (sym (eq-eqb i x (sym (once (eqb-true (lines x) (lines i) d)))) ∙ e))
+line_test lines x i once = same_test (lines x == lines i) (i == x) (λ e. eq-eqb i x (sym (once (eqb-true (lines x) (lines i) e))))
+    (λ e. eq-eqb (lines x) (lines i) (ap lines (sym (eqb-true i x e))))
 
 -- the row of a line by these descriptors
 abbrev row_by : Script → Option EventsName → Option SignalsName → LineRow → ℕ → LineRow
@@ -166,25 +161,22 @@ module _ (script : Script) (lines : ℕ → ℕ) (expects after : ℕ → Option
 
 live_bound : (value : ContextValue) → is_live value ≡ true → not (is_free value) ≡ true
 live_bound Live e = refl
-live_bound Free e = absurd (true≢false (sym e))
-live_bound Stale e = absurd (true≢false (sym e))
+live_bound value e = absurd (false_not_true e)
 
 module _ (script : Script) (owned : TermId → Bool) (n m : Naming) (b : Board) (c : Configuration) (shown : Shown script owned n b c)
     (built : AreBuilt n m b) (j : ℕ) (live : is_live (c.context j) ≡ true) where
   null_apart : (x : ℕ) → n.contexts j ≡ Some x → (0 == x) ≡ false
-  null_apart x e = same_test (0 == x) false (λ zero. let above : 0 < x = (shown.context_real j x e).0.0 in
-      let is : 0 ≡ x = eqb-true 0 x zero in absurd (omega (arith, above, is))) (λ no. absurd (true≢false (sym no)))
+  null_apart x e = different 0 x (λ is. let above : 0 < x = (shown.context_real j x e).0.0 in omega (arith, above, is))
 
   in_test : (x : ℕ) → n.contexts j ≡ Some x → (spot : Spot) → ((i : ℕ) → spot ≡ In i → is_some (n.contexts i) ≡ true)
       → (number_at n spot == x) ≡ is_in spot j
-  in_test x e Absent bound = null_apart x e
-  in_test x e Null bound = null_apart x e
   in_test x e (In i) bound = by_number (some_of (n.contexts i) (bound i refl))
     where
       by_number : (y : ℕ) × (n.contexts i ≡ Some y) → (unwrap_or (n.contexts i) 0 == x) ≡ (i == j)
       by_number (y, is) = ap (λ o. unwrap_or o 0 == x) is ∙ same_test (y == x) (i == j)
           (λ same. eq-eqb i j (shown.context_once i j x (is ∙ ap (λ z. Some z) (eqb-true y x same)) e))
           (λ same. eq-eqb y x (the_some y x (sym is ∙ ap n.contexts (eqb-true i j same) ∙ e)))
+  in_test x e spot bound = null_apart x e
 
   pub leaves_test : (i : ℕ) → i < length script.lines
       → (place_of b (term.Line (record { 0 = n.lines i })) == context_for m j) ≡ is_in (c.spot (termination.Line i)) j
@@ -193,19 +185,3 @@ module _ (script : Script) (owned : TermId → Bool) (n m : Naming) (b : Board) 
       ap (λ p. p == context_for m j) (shown.place (termination.Line i) within)
       ∙ ap (λ o. number_at n (c.spot (termination.Line i)) == unwrap_or o all) (built.context j bound.0 bound.1)
       ∙ in_test bound.0 bound.1 (c.spot (termination.Line i)) (λ k e. shown.in_bound (termination.Line i) k within e)
-
--- a number is in a list of those that pass a test exactly where it passes
-found : (numbers : List ℕ) (n : ℕ) → list_any (λ other. other == n) numbers ≡ true → Contains numbers n
-found [] n e = absurd (true≢false (sym e))
-found (x ∷ numbers) n e = at_first (x == n) refl e (found numbers n)
-  where
-    at_first : (is : Bool) → (x == n) ≡ is → (is || list_any (λ other. other == n) numbers) ≡ true
-        → (list_any (λ other. other == n) numbers ≡ true → Contains numbers n) → Contains (x ∷ numbers) n
-    at_first true is any later = (0, omega arith, eqb-true x n is)
-    at_first false is any later = Contains-append_right (x ∷ []) numbers n (later any)
-
-pub listed_test : (test : ℕ → Bool) (numbers : List ℕ) → Lists test numbers → (n : ℕ) → is_listed numbers (Some n) ≡ test n
-listed_test test numbers lists n = same_test (list_any (λ other. other == n) numbers) (test n)
-    (λ listed. (lists.exactly n).0 (found numbers n listed))
-    (λ passes. let among = (lists.exactly n).1 passes in
-    list_any_at (λ other. other == n) numbers among.0 n among.1 (eq-eqb _ n among.2))

@@ -16,7 +16,8 @@ context_or_is : (results : List Done) (made bound : Option ℕ) → context_at r
 context_or_is results (Some place) bound = refl
 context_or_is results None bound = refl
 
-ephemeral_or_is : (results : List Done) (made bound : Option ℕ) → ephemeral_at results (ephemeral_or made bound) ≡ unwrap_or (ephemeral_made results made bound) 0
+ephemeral_or_is : (results : List Done) (made bound : Option ℕ)
+    → ephemeral_at results (ephemeral_or made bound) ≡ unwrap_or (ephemeral_made results made bound) 0
 ephemeral_or_is results (Some place) bound = refl
 ephemeral_or_is results None bound = refl
 
@@ -61,16 +62,8 @@ module _ (script : Script) (a : Agent) (made : Made) (results : List Done) where
 
 -- they go on as the agent takes the results
 pub named_on : (e : Agent) (command : Command) (done : Done) (number : ℕ) → naming (after_result e command done number) ≡ named_after (naming e) command done
-named_on e (AddLine create j i o) done number = refl
-named_on e (AddEphemeral create j k o) done number = refl
-named_on e (ModifyLine place i o) done number = refl
-named_on e (ModifyEphemeral place k o) done number = refl
-named_on e (MoveLine j i o) done number = refl
-named_on e (MoveEphemeral j k o) done number = refl
 named_on e (Subtract j (termination.Line i)) done number = refl
-named_on e (Subtract j (termination.Ephemeral k)) done number = refl
-named_on e (SubtractAll j) done number = refl
-named_on e (SetTopology j t u topology) done number = refl
+named_on e command done number = refl
 
 -- ---- the names that later commands are built with
 
@@ -154,19 +147,11 @@ module _ (results : List Done) (done : Done) where
     same_ephemerals k = ephemeral_kept (made.ephemerals k) (a.ephemerals k) (below.ephemerals k)
 
     same_names : naming_at a made (results ++ done ∷ []) ≡ naming_at a made results
-    same_names =
-        namings_agree a.lines _ _ _ _ (fun_ext same_contexts) (fun_ext same_ephemerals)
+    same_names = namings_agree a.lines _ _ _ _ (fun_ext same_contexts) (fun_ext same_ephemerals)
 
     pub built_on : (command : Command)
         → naming_at a (made_after made command (length results)) (results ++ done ∷ []) ≡ built_after (naming_at a made results) command done
-    built_on (AddLine create i l o) =
-        namings_agree a.lines _ _ _ _ (fun_ext (context_on create i)) (fun_ext same_ephemerals)
-    built_on (AddEphemeral create i k o) =
-        namings_agree a.lines _ _ _ _ (fun_ext (context_on create i)) (fun_ext (λ x. ephemeral_new (made.ephemerals x) (a.ephemerals x) (x == k) (below.ephemerals x)))
-    built_on (ModifyLine place i o) = same_names
-    built_on (ModifyEphemeral place k o) = same_names
-    built_on (MoveLine j i o) = same_names
-    built_on (MoveEphemeral j k o) = same_names
-    built_on (Subtract j t) = same_names
-    built_on (SubtractAll j) = same_names
-    built_on (SetTopology j t u topology) = same_names
+    built_on (AddLine create i l o) = namings_agree a.lines _ _ _ _ (fun_ext (context_on create i)) (fun_ext same_ephemerals)
+    built_on (AddEphemeral create i k o) = namings_agree a.lines _ _ _ _ (fun_ext (context_on create i))
+        (fun_ext (λ x. ephemeral_new (made.ephemerals x) (a.ephemerals x) (x == k) (below.ephemerals x)))
+    built_on command = same_names

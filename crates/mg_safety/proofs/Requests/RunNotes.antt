@@ -1,30 +1,23 @@
 -- What a request does to each line, and its notes: a line is armed, emptied or left by each command, the lines of others stay, and each note
 -- that is to be sent is of a line of the call, has the request's number, and is one that the line's list can raise if its descriptor stands.
-use Rattle.mg_safety.proofs.Words.{◌≡◌, ◌∙◌, ◌<◌, ℕ, Bool, true, false, List, [], ◌∷◌, ◌++◌, length, Option, Some, None, is_some, refl, sym, ap, subst, arith}
+use Rattle.mg_safety.proofs.Words.{◌≡◌, ◌∙◌, ◌<◌, ℕ, Bool, true, false, List, [], ◌∷◌, ◌++◌, length, Option, Some, None, is_some, refl, sym, ap, subst}
 use Rattle.mg_safety.proofs.Words.{true≢false, inl, inr, eqb-true, eq-eqb, false_from_ne_true, Contains-append_cases, Contains-append_left}
 use Rattle.mg_safety.proofs.Words.{Contains-append_right, ◌==◌, ◌&&◌, ◌||◌, not, if◌then◌else◌, unwrap_or, Contains, filter, list_any, Command, AddLine}
-use Rattle.mg_safety.proofs.Words.{AddEphemeral, ModifyLine, ModifyEphemeral, MoveLine, MoveEphemeral, Subtract, SubtractAll, SetTopology, Item, Hook, On, Off}
-use Rattle.mg_safety.proofs.Words.{SignalSet, Agent, Made, command_of, Board, Configuration, Done, subtracts, OnHook, OffHook, Flash, Digits, ListItem, LineRow}
-use Rattle.mg_safety.proofs.Words.{Note, Outcome, armed, cleared, is_standing, kind_of, RequestCommand, LineDescriptors, RaisedNote, Running, note_on}
-use Rattle.mg_safety.proofs.Words.{with_signals, with_events, with_descriptors, descriptors_for, described_row, line_after, is_line, has_new_events, note_from}
-use Rattle.mg_safety.proofs.Words.{raised, standing, Script, IsCommandOf, any_too, only_one, by_test}
+use Rattle.mg_safety.proofs.Words.{ModifyLine, MoveLine, Item, Hook, On, Off, SignalSet, Agent, Made, command_of, Board, Configuration, Done, subtracts, OnHook}
+use Rattle.mg_safety.proofs.Words.{OffHook, ListItem, LineRow, Note, Outcome, armed, cleared, is_standing, kind_of, RequestCommand, LineDescriptors, RaisedNote}
+use Rattle.mg_safety.proofs.Words.{Running, note_on, with_signals, with_events, with_descriptors, descriptors_for, described_row, line_after, is_line}
+use Rattle.mg_safety.proofs.Words.{has_new_events, note_from, raised, standing, Script, IsCommandOf, any_too, only_one, by_test, false_not_true, none_in}
+use Rattle.mg_safety.proofs.Words.{none_is_some, not_both}
 use Rattle.mg_names.specs.declared.identifiers.TermId.TheVariants as term
 use Rattle.mg_safety.proofs.InvariantWords.{naming, naming_at, Shown, Owner, owned_at, AreBuilt, raises_kind, list_raises, LineGoes}
-use Rattle.mg_safety.proofs.Requests.RunLines.{armed_list, armed_request}
+use Rattle.mg_safety.proofs.Requests.RunLines.{armed_list, armed_request, set_list, set_request}
 
 -- ---- each line
 
-set_list : (row : LineRow) (signals : Option SignalSet) → (with_signals row signals).list ≡ row.list
-set_list row None = refl
-set_list row (Some set) = refl
-
-set_request : (row : LineRow) (signals : Option SignalSet) → (with_signals row signals).request ≡ row.request
-set_request row None = refl
-set_request row (Some set) = refl
-
 -- descriptors without Events leave list and RequestID
 kept_by_descriptors : (row : LineRow) (signals : Option SignalSet) (events : Option (List ListItem)) (number : ℕ) → is_some events ≡ false
-    → ((with_events (with_signals row signals) events number).row.list ≡ row.list) × ((with_events (with_signals row signals) events number).row.request ≡ row.request)
+    → ((with_events (with_signals row signals) events number).row.list ≡ row.list)
+    × ((with_events (with_signals row signals) events number).row.request ≡ row.request)
 kept_by_descriptors row signals None number e = (set_list row signals, set_request row signals)
 kept_by_descriptors row signals (Some list) number e = absurd (true≢false e)
 
@@ -58,20 +51,12 @@ module _ (script : Script) (own : Owner) (e a : Agent) (made : Made) (results : 
   line_held x l inside same =
       ap own.held (sym (eqb-true (a.lines x) l same) ∙ ap (λ (lines : ℕ → ℕ). lines x) built.lines) ∙ shown.line_owned x inside
 
-  no_line : {P : Type 0} → false ≡ true → P
-  no_line e = absurd (true≢false (sym e))
-
   pub described_held : (command : Command) → IsCommandOf script command → (l : ℕ) → is_line (descriptors_for (command_of script a made command)) l ≡ true
       → own.held l ≡ true
   described_held (AddLine create j x o) declared l same = line_held x l declared.1 same
-  described_held (AddEphemeral create j k o) declared l same = no_line same
   described_held (ModifyLine place x o) declared l same = line_held x l declared.1 same
-  described_held (ModifyEphemeral place k o) declared l same = no_line same
   described_held (MoveLine j x o) declared l same = line_held x l declared.1 same
-  described_held (MoveEphemeral j k o) declared l same = no_line same
-  described_held (Subtract j t) declared l same = no_line same
-  described_held (SubtractAll j) declared l same = no_line same
-  described_held (SetTopology j t u topology) declared l same = no_line same
+  described_held command declared l same = absurd (false_not_true same)
 
 undescribed : (d : Option LineDescriptors) (row : LineRow) (l number : ℕ) → is_line d l ≡ false → described_row d row l number ≡ row
 undescribed None row l number e = refl
@@ -84,7 +69,8 @@ pub other_line : (held : ℕ → Bool) (r : Running) (command : RequestCommand) 
 other_line held r command item number leaving describing l other =
     by_test (λ (row : LineRow). row ≡ r.line l) (cleared (r.line l)) (described_row (descriptors_for command) (r.line l) l number)
     (subtracts r.board item (term.Line (record { 0 = l }))) (λ e. absurd (true≢false (sym (leaving l e) ∙ other)))
-    (λ e. undescribed (descriptors_for command) (r.line l) l number (false_from_ne_true (is_line (descriptors_for command) l) (λ is. true≢false (sym (describing l is) ∙ other))))
+    (λ e. undescribed (descriptors_for command) (r.line l) l number
+    (false_from_ne_true (is_line (descriptors_for command) l) (λ is. not_both (describing l is) other)))
 
 -- ---- the notes
 
@@ -97,17 +83,12 @@ abbrev pub AreNotes : (ℕ → Bool) → ℕ → (ℕ → LineRow) → List Rais
 AreNotes held number line notes = (l : ℕ) (note : Note) → Contains notes (note_on l note) → (held l ≡ true) × IsRaised number (line l) note
 
 pub no_notes : {P : Type 0} (l : ℕ) (note : Note) → Contains {X = RaisedNote} [] (note_on l note) → P
-no_notes l note among = absurd (let below : among.0 < 0 = among.1 in omega (arith, below))
+no_notes l note among = absurd (none_in (note_on l note) among)
 
 standing_raises : (hook : Hook) (item : ListItem) → is_standing hook item ≡ true → raises_kind (kind_of hook) item ≡ true
 standing_raises On (OnHook strict) e = refl
-standing_raises On (OffHook strict) e = absurd (true≢false (sym e))
-standing_raises On Flash e = absurd (true≢false (sym e))
-standing_raises On (Digits map) e = absurd (true≢false (sym e))
-standing_raises Off (OnHook strict) e = absurd (true≢false (sym e))
 standing_raises Off (OffHook strict) e = refl
-standing_raises Off Flash e = absurd (true≢false (sym e))
-standing_raises Off (Digits map) e = absurd (true≢false (sym e))
+standing_raises hook item e = absurd (false_not_true e)
 
 -- a note of a new descriptor
 armed_note : (row : LineRow) (list : List ListItem) (number : ℕ) (note : Note) → (armed row list number).note ≡ Some note
@@ -119,7 +100,7 @@ armed_note row list number note = by_test (λ (o : Outcome). o.note ≡ Some not
       subst (λ (n : Note). list_raises list n.kind ≡ true) is
           (any_too (is_standing row.hook) (raises_kind (kind_of row.hook)) (standing_raises row.hook) list stands),
     ))
-    (λ stands e. absurd (true≢false (sym (ap is_some e))))
+    (λ none e. absurd (none_is_some note e))
 
 descriptors_note : (row : LineRow) (signals : Option SignalSet) (events : Option (List ListItem)) (number : ℕ) (note : Note)
     → (with_events (with_signals row signals) events number).note ≡ Some note → IsRaised number (with_events (with_signals row signals) events number).row note
@@ -130,7 +111,7 @@ descriptors_note row signals (Some list) number note e =
 
 -- what a filter keeps
 kept_by : (test : RaisedNote → Bool) (notes : List RaisedNote) (n : RaisedNote) → Contains (filter test notes) n → Contains notes n × (test n ≡ true)
-kept_by test [] n = λ among. absurd (let below : among.0 < 0 = among.1 in omega (arith, below))
+kept_by test [] n = λ among. absurd (none_in n among)
 kept_by test (x ∷ notes) n = by_test (λ (kept : List RaisedNote). Contains kept n → Contains (x ∷ notes) n × (test n ≡ true))
     (x ∷ filter test notes) (filter test notes) (test x)
     (λ passes among. elim (Contains-append_cases (x ∷ []) (filter test notes) n among) [
@@ -152,9 +133,8 @@ kept_rows (Some on) row l number e = at_line (on.line == l) e
     at_line false none = (refl, refl)
 
 neither : (x y : Bool) → not (x || y) ≡ true → (x ≡ false) × (y ≡ false)
-neither true y e = absurd (true≢false (sym e))
-neither false true e = absurd (true≢false (sym e))
 neither false false e = (refl, refl)
+neither x y e = absurd (false_not_true e)
 
 still_raised : (number : ℕ) (row after : LineRow) (note : Note) → (after.list ≡ row.list) × (after.request ≡ row.request)
     → IsRaised number row note → IsRaised number after note
@@ -172,8 +152,8 @@ module _ (held : ℕ → Bool) (r : Running) (command : RequestCommand) (item : 
   on_row : (l : ℕ) (note : Note) → note.request ≡ number
       → (subtracts r.board item (term.Line (record { 0 = l })) ≡ false → IsRaised number (described_row (descriptors_for command) (r.line l) l number) note)
       → IsRaised number (line_after r command item number l) note
-  on_row l note is stays = by_test (λ (row : LineRow). IsRaised number row note) (cleared (r.line l)) (described_row (descriptors_for command) (r.line l) l number)
-      (subtracts r.board item (term.Line (record { 0 = l }))) (λ e. (is, λ armed. absurd (true≢false (sym (ap is_some armed))))) stays
+  on_row l note is stays = by_test (λ (row : LineRow). IsRaised number row note) (cleared (r.line l))
+      (described_row (descriptors_for command) (r.line l) l number) (subtracts r.board item (term.Line (record { 0 = l }))) (λ e. (is, λ armed. absurd (true≢false (sym (ap is_some armed))))) stays
 
   raised_on : (d : Option LineDescriptors) → ((l : ℕ) → is_line d l ≡ true → held l ≡ true) → (l : ℕ) (note : Note)
       → Contains (raised r d number) (note_on l note) → (held l ≡ true) × IsRaised number (described_row d (r.line l) l number) note
@@ -191,7 +171,8 @@ module _ (held : ℕ → Bool) (r : Running) (command : RequestCommand) (item : 
   notes_carried describing before l note among =
       elim (Contains-append_cases (standing r command item) (raised r (descriptors_for command) number) (note_on l note) among) [
         | inl stands ↦
-            let kept = kept_by (λ (n : RaisedNote). not (subtracts r.board item (term.Line (record { 0 = n.line })) || has_new_events (descriptors_for command) n.line)) r.notes (note_on l note) stands in
+            let kept = kept_by (λ (n : RaisedNote).
+            not (subtracts r.board item (term.Line (record { 0 = n.line })) || has_new_events (descriptors_for command) n.line)) r.notes (note_on l note) stands in
             let tests = neither (subtracts r.board item (term.Line (record { 0 = l }))) (has_new_events (descriptors_for command) l) kept.1 in
             let was = before l note kept.0 in (
               was.0,

@@ -1,11 +1,11 @@
 -- What goes on from command to command of a request: changes of what is owned compose, the names that later commands create stay unbound,
 -- and a configuration is shown, and is well formed, whatever its link is.
 use Rattle.mg_safety.proofs.Words.{◌≡◌, ◌∙◌, ℕ, Bool, true, false, List, [], ◌∷◌, Option, Some, None, refl, sym, ap, true≢false, inl, inr, eqb-true, eq-eqb}
-use Rattle.mg_safety.proofs.Words.{and_from, false_from_ne_true, ◌==◌, ◌&&◌, ◌||◌, ◌⊎◌, not, if◌then◌else◌, list_all, ContextValue, Free, Live, Stale, TermId}
-use Rattle.mg_safety.proofs.Words.{Line, Eph, Command, AddLine, AddEphemeral, ModifyLine, ModifyEphemeral, MoveLine, MoveEphemeral, Subtract, SubtractAll}
-use Rattle.mg_safety.proofs.Words.{SetTopology, Termination, Spot, Absent, Null, In, Agent, Board, place_of, with_at, Configuration, IsWellFormed, is_same}
-use Rattle.mg_safety.proofs.Words.{is_in, is_live, is_free, is_present, value_of, is_legal, effect, is_elsewhere, LineRow, created_context, created_ephemeral}
-use Rattle.mg_safety.proofs.Words.{Script, creates_unbound, with_link, is_apart, creates_apart, and_first, and_second, by_test}
+use Rattle.mg_safety.proofs.Words.{and_from, false_from_ne_true, ◌==◌, ◌&&◌, ◌||◌, ◌⊎◌, not, if◌then◌else◌, list_all, ContextValue, Free, Live, TermId, Line}
+use Rattle.mg_safety.proofs.Words.{Eph, Command, AddLine, AddEphemeral, MoveLine, MoveEphemeral, Subtract, SubtractAll, Termination, Spot, Absent, In, Agent}
+use Rattle.mg_safety.proofs.Words.{Board, place_of, with_at, Configuration, IsWellFormed, is_same, is_in, is_live, is_free, is_present, value_of, is_legal}
+use Rattle.mg_safety.proofs.Words.{effect, is_elsewhere, LineRow, created_context, created_ephemeral, Script, creates_unbound, with_link, is_apart}
+use Rattle.mg_safety.proofs.Words.{creates_apart, and_first, and_second, by_test, false_not_true}
 use Rattle.mg_names.specs.declared.phases.LinkPhase as phases
 use Rattle.mg_model.specs.declared.commands.Termination.TheVariants as termination
 use Rattle.mg_safety.proofs.InvariantWords.{Naming, Shown, Seen, LinesShown, Owner, owned_at, ChangesOwned}
@@ -16,7 +16,7 @@ given_more : (created given before after : Bool) → (given ≡ true → after �
     → (created || (after && not before)) ≡ true
 given_more true given before after more e = refl
 given_more false true before after more e = rw (more refl) e
-given_more false false before after more e = absurd (true≢false (sym e))
+given_more false false before after more e = absurd (false_not_true e)
 
 owned_more : (own : Owner) (b after : Board) → ((x : ℕ) → b.used_ephemeral x ≡ true → after.used_ephemeral x ≡ true)
     → (t : TermId) → owned_at own b t ≡ true → owned_at own after t ≡ true
@@ -78,26 +78,16 @@ ephemeral_absent c (Some k) = not (is_present (c.spot (termination.Ephemeral k))
 unbound_is : (c : Configuration) (command : Command)
     → creates_unbound c command ≡ (context_free c (created_context command) && ephemeral_absent c (created_ephemeral command))
 unbound_is c (AddLine true j i o) = refl
-unbound_is c (AddLine false j i o) = refl
 unbound_is c (AddEphemeral true j k o) = refl
-unbound_is c (AddEphemeral false j k o) = refl
-unbound_is c (ModifyLine place i o) = refl
-unbound_is c (ModifyEphemeral place k o) = refl
-unbound_is c (MoveLine j i o) = refl
-unbound_is c (MoveEphemeral j k o) = refl
-unbound_is c (Subtract j t) = refl
-unbound_is c (SubtractAll j) = refl
-unbound_is c (SetTopology j t u topology) = refl
+unbound_is c command = refl
 
 free_stays : (value : ContextValue) (stands : Bool) → is_free value ≡ true → is_free (value_of value stands) ≡ true
 free_stays Free stands e = refl
-free_stays Live stands e = absurd (true≢false (sym e))
-free_stays Stale stands e = absurd (true≢false (sym e))
+free_stays value stands e = absurd (false_not_true e)
 
 not_live : (value : ContextValue) → is_live value ≡ true → is_free value ≡ true → ⊥
-not_live Free live free = true≢false (sym live)
-not_live Live live free = true≢false (sym free)
-not_live Stale live free = true≢false (sym free)
+not_live Free live free = false_not_true live
+not_live value live free = false_not_true free
 
 -- a command puts a termination into j, and i is another name
 put_free : (contexts : ℕ → ContextValue) (i j : ℕ) (value : ContextValue) (stands : Bool) → is_free (contexts i) ≡ true → (i ≡ j → ⊥)
@@ -119,39 +109,30 @@ live_apart contexts i j live free same = not_live (contexts j) live (ap (λ n. i
 context_kept : (script : Script) (c : Configuration) (command : Command) (i : ℕ) → is_legal c command ≡ true
     → is_apart (created_context command) (Some i) ≡ true → is_free (c.context i) ≡ true → is_free ((effect script c command).context i) ≡ true
 context_kept script c (AddLine true j x o) i legal apart free = put_free c.context i j Live _ free (not_same i j apart)
-context_kept script c (AddLine false j x o) i legal apart free = put_free c.context i j Live _ free
-    (live_apart c.context i j (and_first _ _ legal) free)
+context_kept script c (AddLine false j x o) i legal apart free = put_free c.context i j Live _ free (live_apart c.context i j (and_first _ _ legal) free)
 context_kept script c (AddEphemeral true j k o) i legal apart free = put_free c.context i j Live _ free (not_same i j apart)
 context_kept script c (AddEphemeral false j k o) i legal apart free = put_free c.context i j Live _ free
     (live_apart c.context i j (and_first _ _ legal) free)
-context_kept script c (ModifyLine place x o) i legal apart free = free
-context_kept script c (ModifyEphemeral place k o) i legal apart free = free
 context_kept script c (MoveLine j x o) i legal apart free = put_free c.context i j Live _ free (live_apart c.context i j (and_first _ _ legal) free)
 context_kept script c (MoveEphemeral j k o) i legal apart free = put_free c.context i j Live _ free
     (live_apart c.context i j (and_first _ _ (and_first _ _ legal)) free)
 context_kept script c (Subtract j t) i legal apart free = free_stays (c.context i) _ free
-context_kept script c (SubtractAll j) i legal apart free =
-    freed c.context i j _ free
-context_kept script c (SetTopology j t u topology) i legal apart free = free
+context_kept script c (SubtractAll j) i legal apart free = freed c.context i j _ free
+context_kept script c command i legal apart free = free
 
 absent_stays : (spots : Termination → Spot) (k : ℕ) (test : Bool) (spot : Spot) → (test ≡ true → not (is_present spot) ≡ true)
     → not (is_present (spots (termination.Ephemeral k))) ≡ true → not (is_present (if test then spot else spots (termination.Ephemeral k))) ≡ true
 absent_stays spots k test spot new absent = by_test (λ (s : Spot). not (is_present s) ≡ true) spot (spots (termination.Ephemeral k)) test new (λ e. absent)
 
 elsewhere_present : (spot : Spot) (j : ℕ) → is_elsewhere spot j ≡ true → not (is_present spot) ≡ true → ⊥
-elsewhere_present Absent j elsewhere absent = true≢false (sym elsewhere)
-elsewhere_present Null j elsewhere absent = true≢false (sym absent)
-elsewhere_present (In i) j elsewhere absent = true≢false (sym absent)
+elsewhere_present Absent j elsewhere absent = false_not_true elsewhere
+elsewhere_present spot j elsewhere absent = false_not_true absent
 
 ephemeral_kept : (script : Script) (c : Configuration) (command : Command) (k : ℕ) → is_legal c command ≡ true
     → is_apart (created_ephemeral command) (Some k) ≡ true → not (is_present (c.spot (termination.Ephemeral k))) ≡ true
     → not (is_present ((effect script c command).spot (termination.Ephemeral k))) ≡ true
-ephemeral_kept script c (AddLine create j x o) k legal apart absent = absent
 ephemeral_kept script c (AddEphemeral create j x o) k legal apart absent = absent_stays c.spot k (k == x) (In j)
     (λ same. absurd (not_same k x apart (eqb-true k x same))) absent
-ephemeral_kept script c (ModifyLine place x o) k legal apart absent = absent
-ephemeral_kept script c (ModifyEphemeral place x o) k legal apart absent = absent
-ephemeral_kept script c (MoveLine j x o) k legal apart absent = absent
 ephemeral_kept script c (MoveEphemeral j x o) k legal apart absent = absent_stays c.spot k (k == x) (In j)
     (λ same. absurd (elsewhere_present (c.spot (termination.Ephemeral x)) j (and_second _ _ (and_first _ _ legal))
     (ap (λ n. not (is_present (c.spot (termination.Ephemeral n)))) (sym (eqb-true k x same)) ∙ absent))) absent
@@ -159,7 +140,7 @@ ephemeral_kept script c (Subtract j t) k legal apart absent =
     absent_stays c.spot k (is_same t (termination.Ephemeral k)) Absent (λ same. refl) absent
 ephemeral_kept script c (SubtractAll j) k legal apart absent =
     absent_stays c.spot k (is_in (c.spot (termination.Ephemeral k)) j) Absent (λ same. refl) absent
-ephemeral_kept script c (SetTopology j t u topology) k legal apart absent = absent
+ephemeral_kept script c command k legal apart absent = absent
 
 module _ (script : Script) (c : Configuration) (command : Command) (legal : is_legal c command ≡ true) where
   contexts_kept : (created : Option ℕ) → is_apart (created_context command) created ≡ true → context_free c created ≡ true
@@ -251,12 +232,5 @@ seen_still script owned n b c state link s = record {
 
 -- a command leaves the state
 pub effect_state : (script : Script) (c : Configuration) (command : Command) → (effect script c command).state ≡ c.state
-effect_state script c (AddLine create j i o) = refl
-effect_state script c (AddEphemeral create j k o) = refl
-effect_state script c (ModifyLine place i o) = refl
-effect_state script c (ModifyEphemeral place k o) = refl
-effect_state script c (MoveLine j i o) = refl
-effect_state script c (MoveEphemeral j k o) = refl
-effect_state script c (Subtract j t) = refl
 effect_state script c (SubtractAll j) = refl
-effect_state script c (SetTopology j t u topology) = refl
+effect_state script c command = refl

@@ -1,39 +1,17 @@
 -- The start of a request. No name is stale then and no Remote is gone, so whatever is seen is shown as long as the request runs.
-use Rattle.mg_safety.proofs.Words.{◌≡◌, ◌∙◌, ◌<◌, ◌≤◌, ℕ, Bool, true, false, List, [], ◌∷◌, length, Option, Some, None, is_some, refl, sym, ap, subst, arith}
-use Rattle.mg_safety.proofs.Words.{true≢false, inl, inr, ◌⊎◌, ◌||◌, not, unwrap_or, list_any, cases_lt, ContextValue, Free, Live, Stale, TermId, Termination}
-use Rattle.mg_safety.proofs.Words.{Remote, Unset, Gone, To, Spot, Absent, Null, In, IsSlot, Board, place_of, place_in, remote_in, Configuration, IsWellFormed}
-use Rattle.mg_safety.proofs.Words.{is_in, is_free, is_live, terminations, IsLive, Script, is_in_is}
-use Rattle.mg_model.specs.declared.commands.Termination.TheVariants as termination
+use Rattle.mg_safety.proofs.Words.{◌≡◌, ◌∙◌, ◌<◌, ℕ, Bool, true, false, Option, Some, None, is_some, refl, sym, ap, subst, arith, true≢false, inl, inr, not}
+use Rattle.mg_safety.proofs.Words.{unwrap_or, ContextValue, Free, Live, Stale, TermId, Termination, Remote, Unset, Gone, To, Absent, In, IsSlot, Board}
+use Rattle.mg_safety.proofs.Words.{place_of, place_in, remote_in, Configuration, IsWellFormed, is_in, is_free, is_live, terminations, IsLive, Script, is_in_is}
+use Rattle.mg_safety.proofs.Words.{Any-from_list_any}
 use Rattle.mg_safety.proofs.InvariantWords.{Naming, Shown, Seen, RemoteReads, RemoteSeen, IsAccounted, row_on, term_of, eph_of, number_at, IsOfScript}
-
-first_or : {A : Type 0} (p : A → Bool) (x : A) (b : Bool) (rest : Bool) → p x ≡ b → (b || rest) ≡ true → (rest ≡ true → (y : A) × (p y ≡ true))
-    → (y : A) × (p y ≡ true)
-first_or p x true rest is e later = (x, is)
-first_or p x false rest is e later = later e
-
-any_found : {A : Type 0} (p : A → Bool) (xs : List A) → list_any p xs ≡ true → (x : A) × (p x ≡ true)
-any_found p [] e = absurd (true≢false (sym e))
-any_found p (x ∷ xs) e = first_or p x (p x) (list_any p xs) refl e (any_found p xs)
-
-abbrev is_absent : Spot → Bool
-is_absent Absent = true
-is_absent Null = false
-is_absent (In j) = false
+use Rattle.mg_safety.proofs.Certificate.Declared.{slot_or_not}
 
 -- what is in a context is a slot of the script
 slot_of : (script : Script) (c : Configuration) → IsOfScript script c → (t : Termination) (j : ℕ) → c.spot t ≡ In j → IsSlot script t
-slot_of script c of_script (termination.Line i) j e = at (cases_lt i (length script.lines))
-  where
-    at : (i < length script.lines) ⊎ (length script.lines ≤ i) → i < length script.lines
-    at (inl within) = within
-    at (inr past) = absurd (true≢false (sym (ap is_absent (sym e ∙ of_script.spot (termination.Line i) (λ within.
-        absurd (let below : i < length script.lines = within in omega (arith, below, past)))))))
-slot_of script c of_script (termination.Ephemeral k) j e = at (cases_lt k (length script.ephemerals))
-  where
-    at : (k < length script.ephemerals) ⊎ (length script.ephemerals ≤ k) → k < length script.ephemerals
-    at (inl within) = within
-    at (inr past) = absurd (true≢false (sym (ap is_absent (sym e ∙ of_script.spot (termination.Ephemeral k) (λ within.
-        absurd (let below : k < length script.ephemerals = within in omega (arith, below, past)))))))
+slot_of script c of_script t j e = elim (slot_or_not script t) [
+  | inl slot ↦ slot
+  | inr undeclared ↦ (let apart : In j ≡ Absent = sym e ∙ of_script.spot t undeclared in absurd (cc))
+]
 
 module _ (script : Script) (owned : TermId → Bool) (n : Naming) (b : Board) (c : Configuration) (seen : Seen script owned n b c)
     (accounted : IsAccounted b) where
@@ -56,9 +34,9 @@ module _ (script : Script) (owned : TermId → Bool) (n : Naming) (b : Board) (c
 
   stander : (j : ℕ) → c.context j ≡ Live → Stander j
   stander j live =
-      let some = any_found (λ t. is_in (c.spot t) j) terminations (sym (formed.live j) ∙ ap is_live live) in
-      let at = is_in_is (c.spot some.0) j some.1 in
-      record { v = some.0; slot = slot_of script c of_script some.0 j at; at = at }
+      let some = Any-from_list_any (λ t. is_in (c.spot t) j) terminations (sym (formed.live j) ∙ ap is_live live) in
+      let at = is_in_is (c.spot some.1) j some.4 in
+      record { v = some.1; slot = slot_of script c of_script some.1 j at; at = at }
 
   module _ (names : IsLive c) where
     -- a name that is bound is live

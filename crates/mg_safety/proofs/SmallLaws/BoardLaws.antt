@@ -1,25 +1,17 @@
 -- What a command leaves alone, and where a path stays.
-use Rattle.mg_safety.proofs.Words.{◌≡◌, ◌∙◌, ℕ, Bool, true, false, [], ◌∷◌, refl, sym, ap, arith, true≢false, ◌==◌, ◌&&◌, not, IsTrue, eqb-true, common_steps}
-use Rattle.mg_safety.proofs.Words.{TermId, Line, Eph, Add, Modify, Move, Board, same_term, place_of, mode_of, without_cuts, share_context, hops, crosses}
-use Rattle.mg_safety.proofs.Words.{goes_over, receives, sends, three_parts, same_term_is}
+use Rattle.mg_safety.proofs.Words.{◌≡◌, ◌∙◌, ℕ, Bool, false, [], ◌∷◌, refl, ap, arith, ◌==◌, ◌&&◌, not, IsTrue, common_steps, TermId, Line, Eph, Add, Modify}
+use Rattle.mg_safety.proofs.Words.{Move, Board, same_term, place_of, mode_of, without_cuts, share_context, hops, crosses, goes_over, receives, sends}
+use Rattle.mg_safety.proofs.Words.{three_parts, same_term_is, false_from_ne_true, not_both, different, same_term_turned}
 use Rattle.mg_model.specs.declared.items.Added.TheVariants as added
 use Rattle.mg_model.specs.declared.items.Item.TheVariants.{Subtract, SubtractAll, SetTopology}
 use Rattle.mg_safety.specs.Laws.{CommandsKeepOthers, AreClosed, PathsStayInside}
 
 -- another termination than one of these
 differs : (mine : TermId → Bool) (t u : TermId) → IsTrue (mine t) → mine u ≡ false → same_term u t ≡ false
-differs mine t u among other = go (same_term u t) refl
-  where
-    go : (b : Bool) → same_term u t ≡ b → b ≡ false
-    go true e = absurd (true≢false (sym (ap mine (same_term_is u t e) ∙ among) ∙ other))
-    go false e = refl
+differs mine t u among other = false_from_ne_true (same_term u t) (λ e. not_both (ap mine (same_term_is u t e) ∙ among) other)
 
 differs_back : (mine : TermId → Bool) (t u : TermId) → IsTrue (mine t) → mine u ≡ false → same_term t u ≡ false
-differs_back mine t u among other = go (same_term t u) refl
-  where
-    go : (b : Bool) → same_term t u ≡ b → b ≡ false
-    go true e = absurd (true≢false (sym (ap mine (sym (same_term_is t u e)) ∙ among) ∙ other))
-    go false e = refl
+differs_back mine t u among other = same_term_turned t u ∙ differs mine t u among other
 
 cut_kept : (cut : TermId → TermId → Bool) (leaves : TermId → Bool) (u v : TermId) → leaves u ≡ false → leaves v ≡ false
     → without_cuts leaves cut u v ≡ cut u v
@@ -28,11 +20,7 @@ cut_kept cut leaves u v first second = rw (first, second) refl
 -- who doesn't stand in a context whose terminations are all among these
 elsewhere : (mine : TermId → Bool) (b : Board) (c : ℕ) → ((t : TermId) → place_of b t ≡ c → IsTrue (mine t)) → (u : TermId) → mine u ≡ false
     → (place_of b u == c) ≡ false
-elsewhere mine b c all u other = go (place_of b u == c) refl
-  where
-    go : (test : Bool) → (place_of b u == c) ≡ test → test ≡ false
-    go true e = absurd (true≢false (sym (all u (eqb-true (place_of b u) c e)) ∙ other))
-    go false e = refl
+elsewhere mine b c all u other = different (place_of b u) c (λ e. not_both (all u e) other)
 
 pub commands_keep : CommandsKeepOthers
 commands_keep mine b (Add context (added.Line l) settings) chosen among = record {

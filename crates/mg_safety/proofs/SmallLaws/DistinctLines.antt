@@ -1,7 +1,7 @@
 -- At each moment no line is of two calls: whoever has a line holds it on the gateway, and a call that begins is handed the lines of the old one.
-use Rattle.mg_safety.proofs.Words.{◌≡◌, ◌∙◌, ◌<◌, ◌==◌, ℕ, Bool, true, false, List, [], ◌∷◌, length, Option, Some, if◌then◌else◌, refl, sym, ap, subst, inl}
-use Rattle.mg_safety.proofs.Words.{inr, eqb-true, CallEvent, Event, OfCall, Restart, Agent, opened, replied, passed, noted, timed, heard, Gateway, Script}
-use Rattle.mg_safety.proofs.Words.{line_places, World, Opened, IsOpening, AgentSteps, agent_steps, Begins, OccursTo, Occurs, the_some, line_held}
+use Rattle.mg_safety.proofs.Words.{◌≡◌, ◌∙◌, ◌<◌, ◌==◌, ℕ, List, [], ◌∷◌, length, Option, Some, sym, ap, subst, inl, inr, eqb-true, CallEvent, Event, OfCall}
+use Rattle.mg_safety.proofs.Words.{Restart, Agent, opened, replied, passed, noted, timed, heard, Gateway, Script, line_places, World, Opened, IsOpening}
+use Rattle.mg_safety.proofs.Words.{AgentSteps, agent_steps, Begins, OccursTo, Occurs, the_some, line_held, by_test}
 use Rattle.mg_model.specs.declared.events.CallEvent.TheVariants as to_call
 use Rattle.mg_model.specs.World.{Runs}
 use Rattle.mg_safety.specs.Laws.{LinesStayDistinct}
@@ -21,16 +21,13 @@ steps_held : (script : Script) (w after : World) (call : ℕ) (step : Agent → 
     → AreHeld script w → AgentSteps w call step after → AreHeld script after
 steps_held script w after call step next held s = subst (AreHeld script) (sym s.after_is) stepped
   where
-    its : (other : ℕ) (a : Agent) (test : Bool) → (other == call) ≡ test → (if test then Some s.agent else w.agent other) ≡ Some a → (i : ℕ)
-        → i < length script.lines → w.gateway.holder (a.lines i) ≡ Some other
-    its other a true e is i within =
-        ap (λ (b : Agent). w.gateway.holder (b.lines i)) (sym (the_some s.agent a is))
-        ∙ ap (λ (lines : ℕ → ℕ). w.gateway.holder (lines i)) (next s.before s.agent s.steps).lines_are
-        ∙ held call s.before s.open_call i within ∙ ap (λ (n : ℕ). Some n) (sym (eqb-true other call e))
-    its other a false e is i within = held other a is i within
-
     stepped : AreHeld script (agent_steps w call s.agent)
-    stepped other a is i within = its other a (other == call) refl is i within
+    stepped other a is i within =
+        by_test (λ (o : Option Agent). o ≡ Some a → w.gateway.holder (a.lines i) ≡ Some other) (Some s.agent) (w.agent other) (other == call)
+        (λ e here. ap (λ (b : Agent). w.gateway.holder (b.lines i)) (sym (the_some s.agent a here))
+        ∙ ap (λ (lines : ℕ → ℕ). w.gateway.holder (lines i)) (next s.before s.agent s.steps).lines_are
+        ∙ held call s.before s.open_call i within ∙ ap (λ (n : ℕ). Some n) (sym (eqb-true other call e)))
+        (λ e there. held other a there i within) is
 
 begins_held : (script : Script) (w after : World) (new old : ℕ) → AreHeld script w → Begins script w new old after → AreHeld script after
 begins_held script w after new old held x = subst (AreHeld script) (sym x.after_is) begun_held
@@ -44,7 +41,8 @@ begins_held script w after new old held x = subst (AreHeld script) (sym x.after_
 
 -- ---- events
 
-call_held : (script : Script) (w after : World) (call : ℕ) (happens : CallEvent) → AreHeld script w → OccursTo script w call happens after → AreHeld script after
+call_held : (script : Script) (w after : World) (call : ℕ) (happens : CallEvent) → AreHeld script w → OccursTo script w call happens after
+    → AreHeld script after
 call_held script w after call (to_call.OnLine line event) held x =
     held_still script w after (ap (λ (v : World). v.agent) x.1.after_is)
     (ap (λ (v : World). v.gateway.holder) x.1.after_is ∙ ap (λ (g : Gateway). g.holder) x.1.happens.after_is) held

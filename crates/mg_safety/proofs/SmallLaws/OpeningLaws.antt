@@ -42,9 +42,15 @@ module _ (script : Script) (calls : List Opened) (w : World) (o : IsOpening scri
       let lines : (i : ℕ) → a.lines i ≡ one.0.lines i = λ i. ap (λ (x : Agent). x.lines i) same in
       record {
         no_ephemeral = λ k of. ap is_some (o.gateway.no_ephemeral k);
-        in_null = λ i within. (null_row, ap (λ l. w.gateway.board.row (Line (record { 0 = l }))) (lines i) ∙ line_stands script calls w.gateway o.lines one.0 one.1 i within, refl);
-        is_silent = λ i within. ap (λ l. (w.gateway.line l).playing) (lines i) ∙ ap (λ (r : LineRow). r.playing) (line_armed script calls w.gateway o.lines one.0 one.1 i within);
-        is_armed = λ i within. ap (λ l. (w.gateway.line l).list) (lines i) ∙ ap (λ (r : LineRow). r.list) (line_armed script calls w.gateway o.lines one.0 one.1 i within);
+        in_null = λ i within. (
+          null_row,
+          ap (λ l. w.gateway.board.row (Line (record { 0 = l }))) (lines i) ∙ line_stands script calls w.gateway o.lines one.0 one.1 i within,
+          refl,
+        );
+        is_silent = λ i within. ap (λ l. (w.gateway.line l).playing) (lines i)
+            ∙ ap (λ (r : LineRow). r.playing) (line_armed script calls w.gateway o.lines one.0 one.1 i within);
+        is_armed = λ i within. ap (λ l. (w.gateway.line l).list) (lines i)
+            ∙ ap (λ (r : LineRow). r.list) (line_armed script calls w.gateway o.lines one.0 one.1 i within);
       }
 
 pub openings_good : OpeningsAreGood
