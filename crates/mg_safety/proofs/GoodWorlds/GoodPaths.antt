@@ -1,7 +1,7 @@
 -- Media that starts at a termination that a call names stays at what the call names, and goes there as media goes in the configuration that
 -- the gateway shows of the call: each hop, each crossing, and so each path.
 use Rattle.mg_safety.proofs.Words.{◌≡◌, ◌∙◌, ℕ, Bool, true, false, List, [], ◌∷◌, Option, Some, None, is_some, refl, sym, ap, subst, arith, true≢false, ◌==◌}
-use Rattle.mg_safety.proofs.Words.{◌&&◌, not, IsTrue, unwrap_or, eqb-true, eq-eqb, false_from_ne_true, common_steps, TermId, Line, Eph, Termination, Remote}
+use Rattle.mg_safety.proofs.Words.{◌&&◌, not, IsTrue, unwrap_or, eqb-true, eq-eqb, false_from_ne_true, common_steps, TermId, Eph, Termination, Remote}
 use Rattle.mg_safety.proofs.Words.{Unset, Gone, To, Spot, In, Board, same_term, exists, place_of, place_in, mode_of, mode_in, remote_of, remote_in}
 use Rattle.mg_safety.proofs.Words.{Configuration, is_same, is_in, is_present, is_to, is_number, passes_in, passes_out, is_shared, Script, IsSlot, all_three}
 use Rattle.mg_safety.proofs.Words.{none_is_some, the_some, three_parts, is_same_is, same_term_self, not_both}

@@ -1,5 +1,5 @@
 -- The start of a request. No name is stale then and no Remote is gone, so whatever is seen is shown as long as the request runs.
-use Rattle.mg_safety.proofs.Words.{◌≡◌, ◌∙◌, ◌<◌, ℕ, Bool, true, false, Option, Some, None, is_some, refl, sym, ap, subst, arith, true≢false, inl, inr, not}
+use Rattle.mg_safety.proofs.Words.{◌≡◌, ◌∙◌, ◌<◌, ℕ, Bool, true, Option, Some, None, is_some, refl, sym, ap, subst, arith, true≢false, inl, inr, not}
 use Rattle.mg_safety.proofs.Words.{unwrap_or, ContextValue, Free, Live, Stale, TermId, Termination, Remote, Unset, Gone, To, Absent, In, IsSlot, Board}
 use Rattle.mg_safety.proofs.Words.{place_of, place_in, remote_in, Configuration, IsWellFormed, is_in, is_free, is_live, terminations, IsLive, Script, is_in_is}
 use Rattle.mg_safety.proofs.Words.{Any-from_list_any}
