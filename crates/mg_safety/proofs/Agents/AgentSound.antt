@@ -1,8 +1,8 @@
 -- What an agent does of itself keeps the world sound: an empty request passes, and its timer ends.
-use Rattle.mg_safety.proofs.Words.{◌≡◌, ◌∙◌, ◌<◌, ℕ, Bool, true, false, List, Some, None, refl, sym, subst, arith, inl, inr, Contains-append_right}
-use Rattle.mg_safety.proofs.Words.{if◌then◌else◌, Contains, ◌⊎◌, Answered, Resting, Agent, Phase, awaits_reply, awaits_pass, resting, entered_or_rests}
-use Rattle.mg_safety.proofs.Words.{entered_if, passed_in, passed, is_resting, timed, Entry, Gateway, last_executed, Request, Script, entering, observations}
-use Rattle.mg_safety.proofs.Words.{flat_map, state_of, line_places, World, AgentSteps, none_is_some, is_resting_is}
+use Rattle.mg_safety.proofs.Words.{◌≡◌, ◌∙◌, ◌<◌, ℕ, List, Some, None, refl, sym, subst, arith, inl, inr, Contains-append_right, Contains, ◌⊎◌, Answered}
+use Rattle.mg_safety.proofs.Words.{Resting, Agent, Phase, awaits_reply, awaits_pass, resting, entered_or_rests, entered_if, passed_in, passed, is_resting}
+use Rattle.mg_safety.proofs.Words.{timed, Entry, Gateway, last_executed, Request, Script, entering, observations, flat_map, state_of, line_places, World}
+use Rattle.mg_safety.proofs.Words.{AgentSteps, none_is_some, is_resting_is, by_test, Option}
 use Rattle.mg_names.specs.declared.phases.LinkPhase as phases
 use Rattle.mg_model.specs.declared.steps.StepName.TheVariants as names
 use Rattle.mg_model.specs.Steps as steps
@@ -78,11 +78,11 @@ pass_sound call script entries is_script closed w after sound s = agent_goes scr
 
 -- ---- the timer ends
 
-times : (script : Script) (a b : Agent) (at_rest : Bool) → is_resting a.phase ≡ at_rest
-    → (if at_rest then entered_if script a (state_of script a.state).timer else None) ≡ Some b
-    → (a.phase ≡ resting) × (entered_if script a (state_of script a.state).timer ≡ Some b)
-times script a b true e is = (is_resting_is a.phase e, is)
-times script a b false e is = absurd (none_is_some b is)
+times : (script : Script) (a b : Agent) → timed script a ≡ Some b → (a.phase ≡ resting) × (entered_if script a (state_of script a.state).timer ≡ Some b)
+times script a b =
+    let led = entered_if script a (state_of script a.state).timer in
+    by_test (λ (o : Option Agent). o ≡ Some b → (a.phase ≡ resting) × (led ≡ Some b)) led None (is_resting a.phase)
+    (λ e is. (is_resting_is a.phase e, is)) (λ e is. absurd (none_is_some b is))
 
 timer_goes : (script : Script) (entries : List Entry) → IsClosed script entries → (w : World) (call : ℕ) (a b : Agent) → CallIsSound script entries w call a
     → timed script a ≡ Some b → Goes script entries w.gateway a b
@@ -90,7 +90,7 @@ timer_goes script entries closed w call a b sound is = by_part sound.part
   where
     by_part : IsCurrent script entries w.gateway a ⊎ IsLost script w.gateway a → Goes script entries w.gateway a b
     by_part (inl k) =
-        let taken = times script a b (is_resting a.phase) refl is in
+        let taken = times script a b is in
         let rest = at_rest script w.gateway a k.e k.c.link taken.0 k.at in
         let above : last_executed w.gateway a.call < a.next = subst (λ n. last_executed w.gateway n < a.next) (sym sound.numbered) sound.next in
         goes_on script entries w.gateway a a b refl refl (omega arith) refl (if_follows script a (state_of script a.state).timer b taken.1)
@@ -102,7 +102,7 @@ timer_goes script entries closed w call a b sound is = by_part sound.part
         (entering script k.c names.Timer (state_of script k.c.state).timer) step
         (subst (λ n. Contains (entering script k.c names.Timer (state_of script n).timer) step) (sym k.state) among))) taken.1))
     by_part (inr lost) =
-        let taken = times script a b (is_resting a.phase) refl is in
+        let taken = times script a b is in
         lost_goes script entries w.gateway a a b lost refl refl refl refl (if_follows script a (state_of script a.state).timer b taken.1)
 
 pub timer_sound : (call : ℕ) → KeepsSound (λ script w after. AgentSteps w call (timed script) after)

@@ -1,8 +1,8 @@
 -- An agent that hears of a newer association keeps the world sound: it was lost, so it owns nothing, and of the gateway's own association the
 -- gateway shows the configuration in which nothing is used.
-use Rattle.mg_safety.proofs.Words.{◌≡◌, ◌∙◌, ◌<◌, ◌≤◌, ℕ, Bool, true, false, List, [], length, Option, Some, None, refl, sym, ap, subst, arith, inl, inr}
-use Rattle.mg_safety.proofs.Words.{eq-or-lt_of_le, common_steps, if◌then◌else◌, nat_lt, ◌⊎◌, Answered, Empty, Agent, entered, forgotten, heard, list_of}
-use Rattle.mg_safety.proofs.Words.{Configuration, Entry, Gateway, last_executed, Script, World, AgentSteps, none_is_some, by_test, EventsName, same_itself}
+use Rattle.mg_safety.proofs.Words.{◌≡◌, ◌∙◌, ◌<◌, ◌≤◌, ℕ, List, [], length, Option, Some, None, refl, sym, ap, subst, arith, inl, inr, eq-or-lt_of_le, nat_lt}
+use Rattle.mg_safety.proofs.Words.{◌⊎◌, Answered, Empty, Agent, entered, forgotten, heard, list_of, Configuration, Entry, Gateway, last_executed, Script, World}
+use Rattle.mg_safety.proofs.Words.{AgentSteps, none_is_some, by_test, EventsName, same_itself, ltb-true}
 use Rattle.mg_model.specs.Steps as steps
 use Rattle.mg_safety.proofs.InvariantWords.{Seen, LinesShown, IsOfScript, is_call, owned_in, IsCurrent, IsLost, CallIsSound, IsClosed, KeepsSound}
 use Rattle.mg_safety.proofs.Agents.Entering.{enters_follows, enters_current}
@@ -50,13 +50,10 @@ module _ (script : Script) (g : Gateway) (a : Agent) (lost : IsLost script g a)
 
 hears : (script : Script) (a b : Agent) (association : ℕ) → heard script a association ≡ Some b
     → (a.association < association) × (entered script (forgotten a association) script.restart ≡ Some b)
-hears script a b association is = by_order (nat_lt a.association association) refl is
-  where
-    by_order : (newer : Bool) → nat_lt a.association association ≡ newer
-        → (if newer then entered script (forgotten a association) script.restart else None) ≡ Some b
-        → (a.association < association) × (entered script (forgotten a association) script.restart ≡ Some b)
-    by_order true e is = (grind (arith, common_steps, e), is)
-    by_order false e is = absurd (none_is_some b is)
+hears script a b association =
+    let led = entered script (forgotten a association) script.restart in
+    by_test (λ (o : Option Agent). o ≡ Some b → (a.association < association) × (led ≡ Some b)) led None (nat_lt a.association association)
+    (λ newer is. (ltb-true a.association association newer, is)) (λ older is. absurd (none_is_some b is))
 
 hear_current : (script : Script) (entries : List Entry) → IsClosed script entries → (w : World) (call association : ℕ) (a b : Agent)
     → CallIsSound script entries w call a → IsLost script w.gateway a → association ≡ w.gateway.association

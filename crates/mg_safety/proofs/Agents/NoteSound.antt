@@ -1,10 +1,10 @@
 -- An agent that accepts a note keeps the world sound: the note that leads on is raised by the list that stands, so where it leads is an
 -- observation of the configuration.
-use Rattle.mg_safety.proofs.Words.{◌≡◌, ◌∙◌, ◌<◌, ℕ, Bool, true, false, List, Option, Some, None, refl, sym, ap, subst, arith, inl, inr, true≢false, Contains}
-use Rattle.mg_safety.proofs.Words.{eqb-true, ◌==◌, ◌&&◌, not, if◌then◌else◌, ◌⊎◌, Resting, Inbox, arrival, is_new, arrives_new, was_seen, is_old, Agent}
-use Rattle.mg_safety.proofs.Words.{inbox_of, resting, entered_or_stays, is_resting, line_in, may_accept, noted, target_of, list_of, with_at, Configuration}
-use Rattle.mg_safety.proofs.Words.{Entry, Gateway, last_executed, SentNote, Script, state_of, items_of, raises, target_in, line_places, World, AgentSteps}
-use Rattle.mg_safety.proofs.Words.{none_is_some, the_some, and_second, is_resting_is, three_parts}
+use Rattle.mg_safety.proofs.Words.{◌≡◌, ◌∙◌, ◌<◌, ℕ, true, List, Option, Some, None, refl, sym, ap, subst, arith, inl, inr, Contains, eqb-true, ◌==◌, not}
+use Rattle.mg_safety.proofs.Words.{if◌then◌else◌, ◌⊎◌, Resting, Inbox, arrival, is_new, arrives_new, was_seen, is_old, Agent, inbox_of, resting}
+use Rattle.mg_safety.proofs.Words.{entered_or_stays, is_resting, line_in, may_accept, noted, target_of, list_of, with_at, Configuration, Entry, Gateway}
+use Rattle.mg_safety.proofs.Words.{last_executed, SentNote, Script, state_of, items_of, raises, target_in, line_places, World, AgentSteps, none_is_some}
+use Rattle.mg_safety.proofs.Words.{the_some, and_second, is_resting_is, three_parts, by_test, false_not_true}
 use Rattle.mg_model.specs.declared.steps.StepName.TheVariants as names
 use Rattle.mg_model.specs.Steps as steps
 use Rattle.mg_safety.proofs.InvariantWords.{Stands, IsCurrent, IsLost, IsNoteSound, IsNoteStanding, CallIsSound, IsClosed, KeepsSound}
@@ -24,29 +24,20 @@ record IsAccepted (script : Script) (a b : Agent) (sent : SentNote) : Type 0 whe
   association : sent.association ≡ a.association
   leads : entered_or_stays script (accepting a sent.number) (target_of script a (line_in a sent.line (line_places script)) sent.note) ≡ Some b
 
-first_and_third : (p q r : Bool) → (p && q && r) ≡ true → (p ≡ true) × (r ≡ true)
-first_and_third p q r e = let parts = three_parts p q r e in (parts.0, parts.2)
-
 -- what is new to an inbox is of its association
 new_is_ours : (inbox : Inbox) (association number : ℕ) → is_new (arrival inbox association number) ≡ true → association ≡ inbox.association
-new_is_ours inbox association number e = by_test (association == inbox.association) (inbox.accepted number) refl e
-  where
-    by_test : (ours seen : Bool) → (association == inbox.association) ≡ ours
-        → is_new (if ours then (if seen then was_seen else arrives_new) else is_old) ≡ true → association ≡ inbox.association
-    by_test true seen same e = eqb-true association inbox.association same
-    by_test false seen same e = absurd (true≢false (sym e))
+new_is_ours inbox association number = by_test (λ (a : _). is_new a ≡ true → association ≡ inbox.association)
+    (if inbox.accepted number then was_seen else arrives_new) is_old (association == inbox.association)
+    (λ ours new. eqb-true association inbox.association ours) (λ older new. absurd (false_not_true new))
 
 accepts : (script : Script) (a b : Agent) (sent : SentNote) → noted script a (line_places script) sent ≡ Some b → IsAccepted script a b sent
-accepts script a b sent is = by_case (may_accept script a sent) refl is
-  where
-    by_case : (may : Bool) → may_accept script a sent ≡ may → (if may
-        then entered_or_stays script (accepting a sent.number) (target_of script a (line_in a sent.line (line_places script)) sent.note)
-        else None) ≡ Some b → IsAccepted script a b sent
-    by_case true e is =
-        let both = first_and_third (is_resting a.phase) (not (state_of script a.state).is_end)
-        (is_new (arrival (inbox_of a) sent.association sent.number)) (and_second (sent.call == a.call) _ e) in
-        record { phase = is_resting_is a.phase both.0; association = new_is_ours (inbox_of a) sent.association sent.number both.1; leads = is }
-    by_case false e is = absurd (none_is_some b is)
+accepts script a b sent = by_test (λ (o : Option Agent). o ≡ Some b → IsAccepted script a b sent)
+    (entered_or_stays script (accepting a sent.number) (target_of script a (line_in a sent.line (line_places script)) sent.note)) None
+    (may_accept script a sent)
+    (λ e is. let parts = three_parts (is_resting a.phase) (not (state_of script a.state).is_end)
+    (is_new (arrival (inbox_of a) sent.association sent.number)) (and_second (sent.call == a.call) _ e) in
+    record { phase = is_resting_is a.phase parts.0; association = new_is_ours (inbox_of a) sent.association sent.number parts.2; leads = is })
+    (λ e is. absurd (none_is_some b is))
 
 -- ---- the agent after it
 

@@ -28,37 +28,21 @@ module _ (script : Script) where
 
   module _ (c : Configuration) (o : IsOfScript script c) where
     of_settled : IsOfScript script (settled c)
-    of_settled = record {
-      spot = o.spot;
-      mode = o.mode;
-      events = o.events;
-      plays = o.plays;
-      context = λ j past. ap (λ (v : ContextValue). value_of v (stands_in c.spot j)) (o.context j past);
-      remote = o.remote;
-      cut = o.cut;
-    }
+    of_settled =
+        let context = λ (j : ℕ) (past : length script.contexts ≤ j). ap (λ (v : ContextValue). value_of v (stands_in c.spot j)) (o.context j past) in
+        record { spot = o.spot; mode = o.mode; events = o.events; plays = o.plays; context = context; remote = o.remote; cut = o.cut }
 
     of_context : (j : ℕ) (value : ContextValue) → IsContext script j → IsOfScript script (record c { context = with_at c.context j value })
-    of_context j value declared = record {
-      spot = o.spot;
-      mode = o.mode;
-      events = o.events;
-      plays = o.plays;
-      context = λ i past. where_false (i == j) value (c.context i) (other_number (length script.contexts) j i declared past) ∙ o.context i past;
-      remote = o.remote;
-      cut = o.cut;
-    }
+    of_context j value declared =
+        let context = λ (i : ℕ) (past : length script.contexts ≤ i).
+        where_false (i == j) value (c.context i) (other_number (length script.contexts) j i declared past) ∙ o.context i past in
+        record { spot = o.spot; mode = o.mode; events = o.events; plays = o.plays; context = context; remote = o.remote; cut = o.cut }
 
     of_spot : (t : Termination) (j : ℕ) → IsSlot script t → IsOfScript script (record c { spot = with_of c.spot t (In j) })
-    of_spot t j declared = record {
-      spot = λ u undeclared. where_false (is_same u t) (In j) (c.spot u) (other_termination t u declared undeclared) ∙ o.spot u undeclared;
-      mode = o.mode;
-      events = o.events;
-      plays = o.plays;
-      context = o.context;
-      remote = o.remote;
-      cut = o.cut;
-    }
+    of_spot t j declared =
+        let spot = λ (u : Termination) (undeclared : IsSlot script u → ⊥).
+        where_false (is_same u t) (In j) (c.spot u) (other_termination t u declared undeclared) ∙ o.spot u undeclared in
+        record { spot = spot; mode = o.mode; events = o.events; plays = o.plays; context = o.context; remote = o.remote; cut = o.cut }
 
     of_line_options : (i : ℕ) (options : LineOptions) → i < length script.lines → IsOfScript script (with_line_options script c i options)
     of_line_options i options below = record {
@@ -75,28 +59,21 @@ module _ (script : Script) where
     }
 
     of_ephemeral_options : (k : ℕ) (options : EphemeralOptions) → k < length script.ephemerals → IsOfScript script (with_ephemeral_options c k options)
-    of_ephemeral_options k options below = record {
-      spot = o.spot;
-      mode = λ u undeclared. where_false (is_same u (Ephemeral k)) (unwrap_or options.mode (c.mode (Ephemeral k))) (c.mode u)
-          (other_termination (Ephemeral k) u below undeclared) ∙ o.mode u undeclared;
-      events = o.events;
-      plays = o.plays;
-      context = o.context;
-      remote = λ n past. where_false (n == k) (remote_set options.remote (c.remote k)) (c.remote n)
-          (other_number (length script.ephemerals) k n below past) ∙ o.remote n past;
-      cut = o.cut;
-    }
+    of_ephemeral_options k options below =
+        let mode = λ (u : Termination) (undeclared : IsSlot script u → ⊥). where_false (is_same u (Ephemeral k))
+        (unwrap_or options.mode (c.mode (Ephemeral k))) (c.mode u) (other_termination (Ephemeral k) u below undeclared) ∙ o.mode u undeclared in
+        let remote = λ (n : ℕ) (past : length script.ephemerals ≤ n). where_false (n == k) (remote_set options.remote (c.remote k)) (c.remote n)
+        (other_number (length script.ephemerals) k n below past) ∙ o.remote n past in
+        record { spot = o.spot; mode = mode; events = o.events; plays = o.plays; context = o.context; remote = remote; cut = o.cut }
+
+    -- cuts that are fewer, or of what the script declares
+    of_cuts : (cuts : Termination → Termination → Bool) → ((t u : Termination) → (AreSlots script t u → ⊥) → cuts t u ≡ false)
+        → IsOfScript script (record c { cut = cuts })
+    of_cuts cuts none = record { spot = o.spot; mode = o.mode; events = o.events; plays = o.plays; context = o.context; remote = o.remote; cut = none }
 
     of_fewer_cuts : (leaves : Termination → Bool) → IsOfScript script (record c { cut = without_cuts_of leaves c.cut })
-    of_fewer_cuts leaves = record {
-      spot = o.spot;
-      mode = o.mode;
-      events = o.events;
-      plays = o.plays;
-      context = o.context;
-      remote = o.remote;
-      cut = λ t u undeclared. if_either (leaves t || leaves u) false (c.cut t u) false refl (o.cut t u undeclared);
-    }
+    of_fewer_cuts leaves = of_cuts (without_cuts_of leaves c.cut)
+        (λ t u undeclared. if_either (leaves t || leaves u) false (c.cut t u) false refl (o.cut t u undeclared))
 
     -- terminations that the script declares are subtracted
     of_without : (leaves : Termination → Bool) → ((t : Termination) → (IsSlot script t → ⊥) → leaves t ≡ false)
@@ -112,16 +89,8 @@ module _ (script : Script) where
     }
 
     of_cut : (t u : Termination) (value : Bool) → AreSlots script t u → IsOfScript script (record c { cut = with_pair c.cut t u value })
-    of_cut t u value slots = record {
-      spot = o.spot;
-      mode = o.mode;
-      events = o.events;
-      plays = o.plays;
-      context = o.context;
-      remote = o.remote;
-      cut = λ x y undeclared. where_false (is_same x t && is_same y u) value (c.cut x y)
-          (false_from_ne_true (is_same x t && is_same y u) (λ e. undeclared (they_are x y e))) ∙ o.cut x y undeclared;
-    }
+    of_cut t u value slots = of_cuts (with_pair c.cut t u value) (λ x y undeclared. where_false (is_same x t && is_same y u) value (c.cut x y)
+        (false_from_ne_true (is_same x t && is_same y u) (λ e. undeclared (they_are x y e))) ∙ o.cut x y undeclared)
       where
         they_are : (x y : Termination) → (is_same x t && is_same y u) ≡ true → AreSlots script x y
         they_are x y e =

@@ -90,11 +90,7 @@ module _ (script : Script) (own : Owner) (n m built_by : Naming) (before : Board
   stood = shown_between.ephemeral_stands k x named
 
   one : HasOneRow middle end (Eph x) row
-  one = record {
-    row = λ v. if_twice (same_term v (Eph x)) (Some row) (Some first_row) (before.row v);
-    used_context = more;
-    used_ephemeral = λ y e. e;
-  }
+  one = record { row = λ v. if_twice (same_term v (Eph x)) (Some row) (Some first_row) (before.row v); used_context = more; used_ephemeral = λ y e. e }
 
   row_read : middle.row (Eph x) ≡ Some first_row
   row_read = row_here (with_contexts before numbers) middle (Eph x) first_row (created_row (with_contexts before numbers) x fresh accounted) (Eph x)
@@ -114,11 +110,7 @@ module _ (script : Script) (own : Owner) (n m built_by : Naming) (before : Board
       (λ s. if_twice (is_same s name) (In j) Null (c.spot s))
       (λ i. free_as_before (with_at c.context j Live i) (stands_in (with_of c.spot name (In j)) i)))
       (λ y. refl)
-      (record {
-        row = λ v. refl;
-        used_context = λ y e. more y (still y e);
-        used_ephemeral = λ y e. given_still true x before.used_ephemeral y e;
-      })
+      (record { row = λ v. refl; used_context = λ y e. more y (still y e); used_ephemeral = λ y e. given_still true x before.used_ephemeral y e })
       (inr (x, refl, fresh)) (cuts_outside before.cut (Eph x)) (owned_back (with_contexts before numbers) x fresh accounted own earlier)
       (λ real. record { was_given = entered.was_given; in_force = entered.in_force; stood = entered.stood })
 

@@ -1,16 +1,16 @@
 -- The row of a line after something happened on it: its Events descriptor and its RequestID stay, a silent line stays silent, and a note that
 -- is raised has the descriptor's RequestID and a kind that the list raises.
-use Rattle.mg_safety.proofs.Words.{◌≡◌, ◌∙◌, ℕ, Bool, true, false, List, [], ◌∷◌, Option, Some, None, refl, sym, ap, subst, if◌then◌else◌, option_map, list_any}
-use Rattle.mg_safety.proofs.Words.{or_right, Kind, Signal, Ring, Hook, On, Off, DigitMap, LineEvent, outcome_of, OnHook, OffHook, Flash, Digits, ListItem}
-use Rattle.mg_safety.proofs.Words.{LineRow, Note, Outcome, silent, is_hook, is_flash, map_in, kind_of, stays, detected, is_on, same_hook, hooked, flashed}
-use Rattle.mg_safety.proofs.Words.{kind_by, note_by, note_of, taken, dialled_by, dialled, paused_by, paused, without_signal, signal_ended, any_too}
-use Rattle.mg_safety.proofs.Words.{none_is_some, the_some, false_not_true}
+use Rattle.mg_safety.proofs.Words.{◌≡◌, ◌∙◌, ℕ, true, List, [], ◌∷◌, Option, Some, None, refl, sym, ap, subst, if◌then◌else◌, option_map, list_any, or_right}
+use Rattle.mg_safety.proofs.Words.{Kind, Signal, Ring, Hook, On, Off, DigitMap, LineEvent, outcome_of, OnHook, OffHook, Flash, Digits, ListItem, LineRow, Note}
+use Rattle.mg_safety.proofs.Words.{Outcome, silent, is_hook, is_flash, map_in, kind_of, stays, detected, is_on, same_hook, hooked, flashed, kind_by, note_by}
+use Rattle.mg_safety.proofs.Words.{note_of, taken, dialled_by, dialled, paused_by, paused, without_signal, signal_ended, any_too, none_is_some, the_some}
+use Rattle.mg_safety.proofs.Words.{false_not_true, by_test, SignalSet}
 use Rattle.mg_names.specs.declared.kinds.Kind.TheVariants as kind
 use Rattle.mg_model.specs.declared.line_events.LineEvent.TheVariants as event
 use Rattle.mg_names.specs.declared.symbols.Symbol.{Symbol}
 use Rattle.mg_model.specs.declared.line_events.Method.{Method}
 use Rattle.mg_model.specs.declared.line_events.Method.TheVariants.{Unambiguous, Full, Partial}
-use Rattle.mg_model.specs.DigitMaps.{Dialling, collecting, completed, Collected, Completion, with_symbol, with_pause}
+use Rattle.mg_model.specs.DigitMaps.{Dialling, completed, Collected, Completion, with_symbol, with_pause}
 use Rattle.mg_model.specs.LineEvents.{plays}
 use Rattle.mg_safety.proofs.InvariantWords.{raises_kind, list_raises}
 
@@ -74,29 +74,22 @@ detected_so row h what raises = record {
 }
 
 hooked_gives : (row : LineRow) (h : Hook) → Gives row (hooked row h)
-hooked_gives row h = where_it_is (same_hook row.hook h)
-  where
-    named : (test : Bool) → list_any (is_hook h) row.list ≡ test
-        → Gives row (if test then Some (detected (record row { hook = h }) (kind_of h)) else Some (stays (record row { hook = h })))
-    named true e = gives row (detected (record row { hook = h }) (kind_of h))
-        (detected_so row h (kind_of h) (any_too (is_hook h) (raises_kind (kind_of h)) (hook_raises h) row.list e))
-    named false e = gives row (stays (record row { hook = h })) (stays_so row h)
-
-    where_it_is : (test : Bool) → Gives row (if test then None
-        else if list_any (is_hook h) row.list then Some (detected (record row { hook = h }) (kind_of h)) else Some (stays (record row { hook = h })))
-    where_it_is true = gives_none row
-    where_it_is false = named (list_any (is_hook h) row.list) refl
+hooked_gives row h =
+    let named = Some (detected (record row { hook = h }) (kind_of h)) in
+    let unnamed = Some (stays (record row { hook = h })) in
+    by_test (Gives row) None (if list_any (is_hook h) row.list then named else unnamed) (same_hook row.hook h) (λ same. gives_none row)
+    (λ other. by_test (Gives row) named unnamed (list_any (is_hook h) row.list)
+    (λ e. gives row (detected (record row { hook = h }) (kind_of h))
+    (detected_so row h (kind_of h) (any_too (is_hook h) (raises_kind (kind_of h)) (hook_raises h) row.list e)))
+    (λ e. gives row (stays (record row { hook = h })) (stays_so row h)))
 
 flashed_gives : (row : LineRow) → Gives row (flashed row)
-flashed_gives row = where_it_is (is_on row.hook)
-  where
-    named : (test : Bool) → list_any is_flash row.list ≡ test → Gives row (if test then Some (detected row kind.Fl) else Some (stays row))
-    named true e = gives row (detected row kind.Fl) (detected_so row row.hook kind.Fl (any_too is_flash (raises_kind kind.Fl) flash_raises row.list e))
-    named false e = gives row (stays row) (stays_so row row.hook)
-
-    where_it_is : (test : Bool) → Gives row (if test then None else if list_any is_flash row.list then Some (detected row kind.Fl) else Some (stays row))
-    where_it_is true = gives_none row
-    where_it_is false = named (list_any is_flash row.list) refl
+flashed_gives row =
+    let named = Some (detected row kind.Fl) in
+    by_test (Gives row) None (if list_any is_flash row.list then named else Some (stays row)) (is_on row.hook) (λ on. gives_none row)
+    (λ off. by_test (Gives row) named (Some (stays row)) (list_any is_flash row.list)
+    (λ e. gives row (detected row kind.Fl) (detected_so row row.hook kind.Fl (any_too is_flash (raises_kind kind.Fl) flash_raises row.list e)))
+    (λ e. gives row (stays row) (stays_so row row.hook)))
 
 -- a digit map that is completed is one of the list
 completed_by : (row : LineRow) (map : DigitMap) (request : Option ℕ) (completion : Option Completion) → map_in row.list ≡ Some map → (n : Note)
@@ -111,24 +104,17 @@ taken_so : (row : LineRow) (map : DigitMap) (collected : Collected) → map_in r
 taken_so row map collected listed = record {
   list = refl;
   request = refl;
-  silence = λ e. still collected.kept e;
+  silence = λ e. by_test (λ (playing : SignalSet). playing ≡ silent) silent row.playing collected.kept (λ kept. refl) (λ left. e);
   note = completed_by row map row.request collected.completion listed;
 }
-  where
-    still : (kept : Bool) → row.playing ≡ silent → (if kept then silent else row.playing) ≡ silent
-    still true e = refl
-    still false e = e
 
 dialled_gives : (row : LineRow) (s : Symbol) → Gives row (dialled row s)
-dialled_gives row s = where_it_is (is_on row.hook)
+dialled_gives row s = by_test (Gives row) None (Some (dialled_by row (map_in row.list) s)) (is_on row.hook) (λ on. gives_none row)
+    (λ off. gives row (dialled_by row (map_in row.list) s) (by_map (map_in row.list) refl))
   where
     by_map : (map : Option DigitMap) → map_in row.list ≡ map → IsRowAfter row (dialled_by row map s)
     by_map None e = stays_so row row.hook
     by_map (Some map) e = taken_so row map (with_symbol map row.digits s) e
-
-    where_it_is : (test : Bool) → Gives row (if test then None else Some (dialled_by row (map_in row.list) s))
-    where_it_is true = gives_none row
-    where_it_is false = gives row (dialled_by row (map_in row.list) s) (by_map (map_in row.list) refl)
 
 paused_gives : (row : LineRow) → Gives row (paused row)
 paused_gives row = by_map (map_in row.list) refl row.digits
@@ -136,27 +122,21 @@ paused_gives row = by_map (map_in row.list) refl row.digits
     by_map : (map : Option DigitMap) → map_in row.list ≡ map → (digits : Dialling) → Gives row (paused_by row map digits)
     by_map None e digits = gives_none row
     by_map (Some map) e completed = gives_none row
-    by_map (Some map) e (collecting symbols) =
-        gives row (taken row (with_pause map (collecting symbols))) (taken_so row map (with_pause map (collecting symbols)) e)
+    by_map (Some map) e digits = gives row (taken row (with_pause map digits)) (taken_so row map (with_pause map digits) e)
 
 silent_still : (signal : Signal) → without_signal silent signal ≡ silent
 silent_still Ring = refl
 silent_still signal = refl
 
 ended_gives : (row : LineRow) (signal : Signal) → Gives row (signal_ended row signal)
-ended_gives row signal = where_it_plays (plays row.playing signal)
-  where
-    ended_so : IsRowAfter row (stays (record row { playing = without_signal row.playing signal }))
-    ended_so = record {
+ended_gives row signal =
+    let ended = stays (record row { playing = without_signal row.playing signal }) in
+    by_test (Gives row) (Some ended) None (plays row.playing signal) (λ played. gives row ended (record {
       list = refl;
       request = refl;
       silence = λ e. ap (λ set. without_signal set signal) e ∙ silent_still signal;
       note = λ n e. absurd (none_is_some n e);
-    }
-
-    where_it_plays : (test : Bool) → Gives row (if test then Some (stays (record row { playing = without_signal row.playing signal })) else None)
-    where_it_plays true = gives row (stays (record row { playing = without_signal row.playing signal })) ended_so
-    where_it_plays false = gives_none row
+    })) (λ not_played. gives_none row)
 
 pub row_after : (row : LineRow) (event : LineEvent) (outcome : Outcome) → outcome_of row event ≡ Some outcome → IsRowAfter row outcome
 row_after row (event.Hook h) = hooked_gives row h

@@ -209,7 +209,4 @@ module _ (script : Script) (entries : List Entry) (closed : IsClosed script entr
           absurd (omega (arith, before, now))
 
 pub sound_good : SoundIsGood
-sound_good script entries is_script closed w sound = record {
-  joined = joined script entries closed w sound;
-  ended = ended script entries closed w sound;
-}
+sound_good script entries is_script closed w sound = record { joined = joined script entries closed w sound; ended = ended script entries closed w sound }

@@ -122,11 +122,7 @@ module _ (script : Script) (owned : TermId → Bool) (n : Naming) (b : Board) (c
       reads = sym (ap (λ o. place_in (row_on b o)) named.is) ∙ shown.place u named.slot
 
       at : (spot : Spot) → c.spot u ≡ spot → IsInside u t
-      at (In j) e = record {
-        j = j;
-        spot_is = e;
-        bound = some_is (n.contexts j) (place_of b t) (shown.in_bound u j named.slot e) (reads ∙ ap (number_at n) e);
-      }
+      at (In j) e = record { j = j; spot_is = e; bound = some_is (n.contexts j) (place_of b t) (shown.in_bound u j named.slot e) (reads ∙ ap (number_at n) e) }
       at spot e = absurd (outside (reads ∙ ap (number_at n) e))
 
   unlike : (u v : Termination) (t s : TermId) → Named u t → Named v s → same_term t s ≡ false → is_same u v ≡ false

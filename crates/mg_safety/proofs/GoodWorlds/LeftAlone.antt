@@ -24,10 +24,7 @@ owned w call (Eph x) created =
 
 -- the board is the same
 untouched : (w after : World) (call : ℕ) → after.gateway.board ≡ w.gateway.board → IsLeftAlone w after call
-untouched w after call same = record {
-  row = λ t its. ap (λ (b : Board). b.row t) same;
-  cut = λ t u its also. ap (λ (b : Board). b.cut t u) same;
-}
+untouched w after call same = record { row = λ t its. ap (λ (b : Board). b.row t) same; cut = λ t u its also. ap (λ (b : Board). b.cut t u) same }
 
 steps_alone : (w after : World) (call other : ℕ) (step : Agent → Option Agent) → AgentSteps w call step after → IsLeftAlone w after other
 steps_alone w after call other step s = untouched w after other (ap (λ (v : World). v.gateway.board) s.after_is)

@@ -31,11 +31,7 @@ is_call (Some one) call = one == call
 
 -- what a call owns when no request runs
 abbrev pub owner_of : Gateway → ℕ → Owner
-owner_of g call = record {
-  held = λ l. is_call (g.holder l) call;
-  created = λ x. is_call (g.creator x) call;
-  before = g.board.used_ephemeral;
-}
+owner_of g call = record { held = λ l. is_call (g.holder l) call; created = λ x. is_call (g.creator x) call; before = g.board.used_ephemeral }
 
 abbrev pub owned_in : Gateway → ℕ → TermId → Bool
 owned_in g call = owned_at (owner_of g call) g.board

@@ -4,7 +4,7 @@ use Rattle.mg_safety.proofs.Words.{if◌then◌else◌, nat_lt, Contains, Failur
 use Rattle.mg_safety.proofs.Words.{resting, entered, entered_or_rests, entered_if, entered_or_stays, built_by, request_of, after_results, leads_on, replied_to}
 use Rattle.mg_safety.proofs.Words.{replied, passed_in, passed, may_accept, target_of, line_in, noted, is_resting, timed, forgotten, heard, with_at, Request}
 use Rattle.mg_safety.proofs.Words.{Reply, SentNote, Script, state_of, sent_in, none_in, only_one, the_some, none_is_some, and_first, and_second, false_not_true}
-use Rattle.mg_safety.proofs.Words.{inl, inr}
+use Rattle.mg_safety.proofs.Words.{inl, inr, by_test}
 use Rattle.mg_safety.proofs.Agents.EffectiveAgent.{results_keep}
 use Rattle.mg_safety.proofs.Agents.Entering.{enters}
 
@@ -79,18 +79,12 @@ passed_next script a = in_phase a.phase
     in_phase phase = gives_none a.call a.next a.lines
 
 pub timed_next : (script : Script) (a : Agent) → GivesNext a.call a.next a.lines (timed script a)
-timed_next script a = at_rest (is_resting a.phase)
-  where
-    at_rest : (rests : Bool) → GivesNext a.call a.next a.lines (if rests then entered_if script a (state_of script a.state).timer else None)
-    at_rest true = if_next script a (state_of script a.state).timer
-    at_rest false = gives_none a.call a.next a.lines
+timed_next script a = by_test (GivesNext a.call a.next a.lines) (entered_if script a (state_of script a.state).timer) None (is_resting a.phase)
+    (λ rests. if_next script a (state_of script a.state).timer) (λ other. gives_none a.call a.next a.lines)
 
 pub heard_next : (script : Script) (a : Agent) (association : ℕ) → GivesNext a.call a.next a.lines (heard script a association)
-heard_next script a association = newer (nat_lt a.association association)
-  where
-    newer : (is_newer : Bool) → GivesNext a.call a.next a.lines (if is_newer then entered script (forgotten a association) script.restart else None)
-    newer true = enters_next script (forgotten a association) script.restart
-    newer false = gives_none a.call a.next a.lines
+heard_next script a association = by_test (GivesNext a.call a.next a.lines) (entered script (forgotten a association) script.restart) None
+    (nat_lt a.association association) (λ newer. enters_next script (forgotten a association) script.restart) (λ older. gives_none a.call a.next a.lines)
 
 -- a call at rest has no request outstanding
 rest_silent : (phase : Phase) → is_resting phase ≡ true → sent_in phase ≡ []

@@ -73,10 +73,7 @@ pub record IsMadeBelow (made : Made) (count : ℕ) : Type 0 where
   pub ephemerals : (k place : ℕ) → made.ephemerals k ≡ Some place → place < count
 
 pub none_below : IsMadeBelow none_made 0
-none_below = record {
-  contexts = λ j place e. absurd (true≢false (sym (ap is_some e)));
-  ephemerals = λ k place e. absurd (true≢false (sym (ap is_some e)));
-}
+none_below = record { contexts = λ j place e. absurd (true≢false (sym (ap is_some e))); ephemerals = λ k place e. absurd (true≢false (sym (ap is_some e))) }
 
 below_next : (made : ℕ → Option ℕ) (created : Option ℕ) (count : ℕ) → ((j place : ℕ) → made j ≡ Some place → place < count)
     → (j place : ℕ) → at_place made created count j ≡ Some place → place < count + 1

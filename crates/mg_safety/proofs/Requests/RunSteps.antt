@@ -171,13 +171,7 @@ module _ (script : Script) (c : Configuration) (command : Command) (legal : is_l
 -- ---- the link of a configuration
 
 pub formed_with_link : (c : Configuration) (link : phases.LinkPhase) → IsWellFormed (with_link c link) → IsWellFormed c
-formed_with_link c link f = record {
-  live = f.live;
-  absent_mode = f.absent_mode;
-  absent_remote = f.absent_remote;
-  named = f.named;
-  cut_within = f.cut_within;
-}
+formed_with_link c link f = record { live = f.live; absent_mode = f.absent_mode; absent_remote = f.absent_remote; named = f.named; cut_within = f.cut_within }
 
 -- the board and the lines show neither the state nor the link
 pub shown_still : (script : Script) (owned : TermId → Bool) (n : Naming) (b : Board) (c : Configuration) (state : ℕ) (link : phases.LinkPhase)
