@@ -3,8 +3,9 @@
 use Rattle.mg_safety.proofs.Words.{◌≡◌, ◌∙◌, ◌<◌, ◌&&◌, ◌||◌, ℕ, Bool, true, false, not, Option, Some, None, is_some, refl, sym, ap, subst, true≢false, arith}
 use Rattle.mg_safety.proofs.Words.{eqb-true, eq-eqb, if◌then◌else◌, ◌==◌, unwrap_or, Live, TermId, Termination, Spot, Absent, Null, In, Board, place_of}
 use Rattle.mg_safety.proofs.Words.{with_at, Configuration, is_free, given, is_context_number, Script, IsSlot, false_not_true, none_is_some, none_of, the_some}
-use Rattle.mg_safety.proofs.Words.{different, or_right, cases_Bool, where_true, by_test, ContextValue, inl, inr}
+use Rattle.mg_safety.proofs.Words.{different, or_right, cases_Bool, where_true, by_test, ContextValue, inl, inr, denied}
 use Rattle.mg_safety.proofs.InvariantWords.{Naming, term_of, number_at, Shown, IsAccounted, AreBuilt}
+use Rattle.mg_safety.proofs.Shared.ShownParts.{shown_with}
 
 -- ---- tests
 
@@ -27,27 +28,12 @@ with_at_some f i v k o P e new old = elim (cases_Bool (k == i)) [
 -- a context that is bound may be written as live
 pub shown_live : (script : Script) (owned : TermId → Bool) (n : Naming) (b : Board) (c : Configuration) (j x : ℕ) → Shown script owned n b c
     → n.contexts j ≡ Some x → Shown script owned n b (record c { context = with_at c.context j Live })
-shown_live script owned n b c j x shown bound = record {
-  stands = shown.stands;
-  place = shown.place;
-  in_bound = shown.in_bound;
-  mode = shown.mode;
-  remote = shown.remote;
-  cut = shown.cut;
-  bound = λ i. by_test (λ (v : ContextValue). is_some (n.contexts i) ≡ not (is_free v)) Live (c.context i) (i == j)
-      (λ same. ap (λ k. is_some (n.contexts k)) (eqb-true i j same) ∙ ap is_some bound) (λ other. shown.bound i);
-  line_stands = shown.line_stands;
-  line_owned = shown.line_owned;
-  line_once = shown.line_once;
-  context_real = shown.context_real;
-  context_once = shown.context_once;
-  members = shown.members;
-  ephemeral_slot = shown.ephemeral_slot;
-  ephemeral_stands = shown.ephemeral_stands;
-  ephemeral_owned = shown.ephemeral_owned;
-  ephemeral_once = shown.ephemeral_once;
-  ephemeral_named = shown.ephemeral_named;
-}
+shown_live script owned n b c j x shown bound =
+    let free : (i : ℕ) → is_free (with_at c.context j Live i) ≡ is_free (c.context i) = λ i.
+    by_test (λ (v : ContextValue). is_free v ≡ is_free (c.context i)) Live (c.context i) (i == j)
+    (λ same. sym (denied (is_free (c.context i)) (sym (shown.bound i) ∙ ap (λ k. is_some (n.contexts k)) (eqb-true i j same) ∙ ap is_some bound)))
+    (λ other. refl) in
+    shown_with script owned owned n b c (λ t. refl) b.cut c.state c.link (with_at c.context j Live) c.cut free shown.cut shown
 
 -- ---- a fresh number
 

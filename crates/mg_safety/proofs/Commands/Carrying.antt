@@ -8,6 +8,7 @@ use Rattle.mg_safety.proofs.InvariantWords.{item_for}
 use Rattle.mg_safety.proofs.Commands.OneRow.{HasOneRow, accounted_after, built_as_before, changes_as_owned}
 use Rattle.mg_safety.proofs.Commands.Placing.{HasOneName, placed_shown}
 use Rattle.mg_safety.proofs.Events.Others.{name_owned}
+use Rattle.mg_safety.proofs.Shared.ShownParts.{shown_with}
 
 -- what holds after a command, but that it is legal
 pub record Carries (script : Script) (own : Owner) (n m : Naming) (b after : Board) (next : Configuration) : Type 0 where
@@ -32,33 +33,10 @@ entered_before own n m b p w accounted built real mine at = record {
 }
 
 -- owning goes by what was given of ephemerals alone
-owned_given : (own : Owner) (b after : Board) → ((x : ℕ) → after.used_ephemeral x ≡ b.used_ephemeral x) → (t : TermId)
+pub owned_given : (own : Owner) (b after : Board) → ((x : ℕ) → after.used_ephemeral x ≡ b.used_ephemeral x) → (t : TermId)
     → owned_at own after t ≡ owned_at own b t
 owned_given own b after same (Line l) = refl
 owned_given own b after same (Eph x) = ap (λ p. own.created x || (p && not (own.before x))) (same x)
-
-shown_owned : (script : Script) (owned other : TermId → Bool) (n : Naming) (b : Board) (c : Configuration) → ((t : TermId) → other t ≡ owned t)
-    → Shown script owned n b c → Shown script other n b c
-shown_owned script owned other n b c same shown = record {
-  stands = shown.stands;
-  place = shown.place;
-  in_bound = shown.in_bound;
-  mode = shown.mode;
-  remote = shown.remote;
-  cut = shown.cut;
-  bound = shown.bound;
-  line_stands = shown.line_stands;
-  line_owned = λ i slot. same (Line (record { 0 = n.lines i })) ∙ shown.line_owned i slot;
-  line_once = shown.line_once;
-  context_real = shown.context_real;
-  context_once = shown.context_once;
-  members = shown.members;
-  ephemeral_slot = shown.ephemeral_slot;
-  ephemeral_stands = shown.ephemeral_stands;
-  ephemeral_owned = λ k x bound. same (Eph x) ∙ shown.ephemeral_owned k x bound;
-  ephemeral_once = shown.ephemeral_once;
-  ephemeral_named = λ x mine. shown.ephemeral_named x (sym (same (Eph x)) ∙ mine);
-}
 
 -- before is the board before the command, b the one on which what it creates was given out
 pub carried : (script : Script) (own : Owner) (n m : Naming) (before b after : Board) (c next : Configuration) (t : Termination) (u : TermId) (r : Row)
@@ -71,8 +49,8 @@ pub carried : (script : Script) (own : Owner) (n m : Naming) (before b after : B
 carried script own n m before b after c next t u r shown accounted built slot named stood one changed same first existed cuts back entered =
     let owned : (v : TermId) → owned_at own after v ≡ owned_at own b v = owned_given own b after same in
     record {
-      shown = shown_owned script (owned_at own b) (owned_at own after) n after next owned
-          (placed_shown script (owned_at own b) n b after c next t u r shown slot named stood one changed);
+      shown = shown_with script (owned_at own b) (owned_at own after) n after next owned after.cut next.state next.link next.context next.cut
+          (λ j. refl) changed.cut (placed_shown script (owned_at own b) n b after c next t u r shown slot named stood one changed);
       accounted = accounted_after b after u r one accounted
           (λ x is. one.used_ephemeral x (accounted.ephemerals x (ap (λ v. exists b v) (sym is) ∙ stood)))
           (λ real. one.used_context r.place.0 (entered real).was_given);

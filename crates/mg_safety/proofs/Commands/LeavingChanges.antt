@@ -7,6 +7,7 @@ use Rattle.mg_safety.proofs.InvariantWords.{Naming, Shown, Owner, owned_at, AreB
 use Rattle.mg_safety.proofs.Commands.InForce.{name_stands}
 use Rattle.mg_safety.proofs.Commands.Leaving.{Leaves, names_left, exists_after, not_after, place_before, ephemeral_agrees, stays_bound}
 use Rattle.mg_safety.proofs.Events.Others.{name_owned}
+use Rattle.mg_safety.proofs.Commands.Carrying.{owned_given}
 
 pub accounted_left : (b : Board) (gone : TermId → Bool) → IsAccounted b → IsAccounted (without b gone)
 accounted_left b gone accounted = record {
@@ -17,8 +18,7 @@ accounted_left b gone accounted = record {
 }
 
 same_owner : (own : Owner) (b : Board) (gone : TermId → Bool) (t : TermId) → owned_at own (without b gone) t ≡ owned_at own b t
-same_owner own b gone (Line l) = refl
-same_owner own b gone (Eph x) = refl
+same_owner own b gone = owned_given own b (without b gone) (λ x. refl)
 
 -- a line that leaves stands in the null context
 line_same : (b : Board) (gone : TermId → Bool) (l : ℕ) → (gone (Line (record { 0 = l })) ≡ true → exists b (Line (record { 0 = l })) ≡ true)

@@ -1,16 +1,18 @@
 -- Topology carries over: the pair is cut in the configuration as on the board, and nothing else changes.
 use Rattle.mg_safety.proofs.Words.{◌≡◌, ◌∙◌, ℕ, Bool, true, false, Option, Some, None, is_some, refl, sym, ap, subst, inl, true≢false, ◌==◌, ◌&&◌, ◌||◌, not}
 use Rattle.mg_safety.proofs.Words.{if◌then◌else◌, unwrap_or, eqb-true, and_parts, and_from, or_left, or_right, false_from_ne_true, true_from_ne_false}
-use Rattle.mg_safety.proofs.Words.{UnknownContext, UnknownTermination, NotInContext, TermId, Line, Eph, Topology, all, SetTopology, Termination, Board, exists}
-use Rattle.mg_safety.proofs.Words.{place_of, same_term, Configuration, is_same, is_in, is_live, with_pair, cuts_forward, cuts_backward, with_cut}
-use Rattle.mg_safety.proofs.Words.{first_receives, termination_known, Script, IsSlot, not_both, same_test, some_is_none, some_of, the_some, is_same_is}
-use Rattle.mg_safety.proofs.Words.{is_same_self, same_term_is, same_term_self}
+use Rattle.mg_safety.proofs.Words.{UnknownContext, UnknownTermination, NotInContext, TermId, Topology, all, SetTopology, Termination, Board, exists, place_of}
+use Rattle.mg_safety.proofs.Words.{same_term, Configuration, is_same, is_in, is_live, with_pair, cuts_forward, cuts_backward, with_cut, first_receives}
+use Rattle.mg_safety.proofs.Words.{termination_known, Script, IsSlot, not_both, same_test, some_is_none, some_of, the_some, is_same_is, is_same_self}
+use Rattle.mg_safety.proofs.Words.{same_term_is, same_term_self}
 use Rattle.mg_safety.proofs.InvariantWords.{IsCarried, IsCarriedOver, Naming, Shown, Owner, owned_at, cut_on, term_of, known_by, context_for, term_for}
 use Rattle.mg_safety.proofs.InvariantWords.{ChangesOwned, IsAccounted, AreBuilt}
 use Rattle.mg_safety.proofs.Shared.Sides.{forward_is, backward_is}
 use Rattle.mg_safety.proofs.Shared.Components.{is_in_self}
 use Rattle.mg_safety.proofs.Commands.InForce.{MayExist, names_once, in_named, context_in_force, live_context, term_in_force}
 use Rattle.mg_safety.proofs.Events.Others.{name_owned}
+use Rattle.mg_safety.proofs.Shared.ShownParts.{shown_with}
+use Rattle.mg_safety.proofs.Commands.Carrying.{owned_given}
 
 -- ---- the pair
 
@@ -63,30 +65,18 @@ pair_after script owned n b c shown t u slot also v w e f forward backward x y o
 abbrev with_cuts : Configuration → Termination → Termination → Bool → Bool → Configuration
 with_cuts c t u forward backward = record c { cut = with_pair (with_pair c.cut t u forward) u t backward }
 
+same_owner : (own : Owner) (b : Board) (v w : TermId) (forward backward : Bool) (t : TermId)
+    → owned_at own (set_both b v w forward backward) t ≡ owned_at own b t
+same_owner own b v w forward backward = owned_given own b (set_both b v w forward backward) (λ x. refl)
+
 shown_after : (script : Script) (own : Owner) (n : Naming) (b : Board) (c : Configuration) → Shown script (owned_at own b) n b c
     → (t u : Termination) → IsSlot script t → IsSlot script u → (v w : TermId) → term_of n t ≡ Some v → term_of n u ≡ Some w
     → (forward backward : Bool)
     → Shown script (owned_at own (set_both b v w forward backward)) n (set_both b v w forward backward) (with_cuts c t u forward backward)
-shown_after script own n b c shown t u slot also v w e f forward backward = record {
-  stands = shown.stands;
-  place = shown.place;
-  in_bound = shown.in_bound;
-  mode = shown.mode;
-  remote = shown.remote;
-  cut = pair_after script (owned_at own b) n b c shown t u slot also v w e f forward backward;
-  bound = shown.bound;
-  line_stands = shown.line_stands;
-  line_owned = shown.line_owned;
-  line_once = shown.line_once;
-  context_real = shown.context_real;
-  context_once = shown.context_once;
-  members = shown.members;
-  ephemeral_slot = shown.ephemeral_slot;
-  ephemeral_stands = shown.ephemeral_stands;
-  ephemeral_owned = shown.ephemeral_owned;
-  ephemeral_once = shown.ephemeral_once;
-  ephemeral_named = shown.ephemeral_named;
-}
+shown_after script own n b c shown t u slot also v w e f forward backward =
+    shown_with script (owned_at own b) (owned_at own (set_both b v w forward backward)) n b c (same_owner own b v w forward backward)
+    (set_both b v w forward backward).cut c.state c.link c.context (with_cuts c t u forward backward).cut (λ j. refl)
+    (pair_after script (owned_at own b) n b c shown t u slot also v w e f forward backward) shown
 
 accounted_after : (b : Board) (v w : TermId) (forward backward : Bool) → IsAccounted b → IsAccounted (set_both b v w forward backward)
 accounted_after b v w forward backward accounted = record { ephemerals = accounted.ephemerals; contexts = accounted.contexts }
@@ -101,11 +91,6 @@ built_names n m b v w forward backward built = record {
   ephemeral_lost = built.ephemeral_lost;
   ephemeral_given = built.ephemeral_given;
 }
-
-same_owner : (own : Owner) (b : Board) (v w : TermId) (forward backward : Bool) (t : TermId)
-    → owned_at own (set_both b v w forward backward) t ≡ owned_at own b t
-same_owner own b v w forward backward (Line l) = refl
-same_owner own b v w forward backward (Eph x) = refl
 
 cut_unset : (own : Owner) (b : Board) (v w : TermId) (forward backward : Bool) → owned_at own b v ≡ true → owned_at own b w ≡ true
     → (x y : TermId) → owned_at own b x ≡ false → (set_both b v w forward backward).cut x y ≡ b.cut x y

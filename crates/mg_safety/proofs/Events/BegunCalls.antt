@@ -1,40 +1,17 @@
 -- Where a call begins on the lines of one that has ended, the new call is shown the opening configuration, and each other call what it was shown.
-use Rattle.mg_safety.proofs.Words.{◌≡◌, ◌∙◌, ℕ, Bool, false, List, Option, Some, None, length, refl, sym, ap, subst, arith, inl, inr, true≢false, ◌<◌, ◌⊎◌}
-use Rattle.mg_safety.proofs.Words.{IsTrue, false_from_ne_true, TermId, Line, Eph, Spot, Null, Agent, begun, Board, Configuration, is_in, Entry, Gateway}
-use Rattle.mg_safety.proofs.Words.{CallLink, MayBegin, list_of, Script, opening, state_of, World, HasEnded, some_is_none, the_some, not_both, same_itself}
+use Rattle.mg_safety.proofs.Words.{◌≡◌, ◌∙◌, ℕ, false, List, Option, Some, None, length, refl, sym, ap, subst, arith, inl, inr, true≢false, ◌<◌, ◌⊎◌, IsTrue}
+use Rattle.mg_safety.proofs.Words.{false_from_ne_true, TermId, Line, Spot, Null, Agent, begun, is_in, Entry, Gateway, CallLink, MayBegin, list_of, Script}
+use Rattle.mg_safety.proofs.Words.{opening, state_of, World, HasEnded, some_is_none, the_some, not_both, same_itself}
 use Rattle.mg_model.specs.declared.commands.Termination.TheVariants as termination
 use Rattle.mg_model.specs.Gateway as gateway
-use Rattle.mg_safety.proofs.InvariantWords.{Naming, naming, Seen, LinesShown, IsCurrent, IsLost, IsKnown, CallIsSound, IsSound, is_call, owned_in, IsClosed}
+use Rattle.mg_safety.proofs.InvariantWords.{naming, LinesShown, IsCurrent, IsLost, IsKnown, CallIsSound, IsSound, is_call, owned_in, IsClosed}
 use Rattle.mg_safety.proofs.Agents.AgentSound.{at_rest}
 use Rattle.mg_safety.proofs.Agents.Entering.{not_resting}
 use Rattle.mg_safety.proofs.Events.Others.{is_call_of, created_only}
-use Rattle.mg_safety.proofs.Events.Handover.{handed_own, handed_other, still_owns, link_other, none_executed, executed_other, world_begun}
+use Rattle.mg_safety.proofs.Events.Handover.{handed_own, handed_other, still_owns, link_other, none_executed, world_begun}
 use Rattle.mg_safety.proofs.Invariant.OpeningShown.{AreCleared, events_armed, opening_shown}
-use Rattle.mg_safety.proofs.Events.StillSound.{current_still, sent_still}
-
--- what a call is shown does not depend on how it is said what it owns
-seen_by : (script : Script) (owned also : TermId → Bool) (n : Naming) (b : Board) (c : Configuration) → ((t : TermId) → also t ≡ owned t)
-    → Seen script owned n b c → Seen script also n b c
-seen_by script owned also n b c same seen = record {
-  stands = seen.stands;
-  place = seen.place;
-  in_bound = seen.in_bound;
-  mode = seen.mode;
-  remote = seen.remote;
-  cut = seen.cut;
-  bound = seen.bound;
-  line_stands = seen.line_stands;
-  line_owned = λ i within. same (Line (record { 0 = n.lines i })) ∙ seen.line_owned i within;
-  line_once = seen.line_once;
-  context_number = seen.context_number;
-  context_once = seen.context_once;
-  members = seen.members;
-  ephemeral_slot = seen.ephemeral_slot;
-  ephemeral_stands = seen.ephemeral_stands;
-  ephemeral_owned = λ k x is. same (Eph x) ∙ seen.ephemeral_owned k x is;
-  ephemeral_once = seen.ephemeral_once;
-  ephemeral_named = λ x is stands. seen.ephemeral_named x (sym (same (Eph x)) ∙ is) stands;
-}
+use Rattle.mg_safety.proofs.Events.StillSound.{current_still, call_still}
+use Rattle.mg_safety.proofs.Shared.ShownParts.{seen_with}
 
 -- no termination stands in a context where it stands in the null context
 not_in : (spot : Spot) (j : ℕ) → spot ≡ Null → IsTrue (is_in spot j) → ⊥
@@ -146,8 +123,9 @@ module _ (script : Script) (entries : List Entry) (closed : IsClosed script entr
     owns = subst (λ n. (t : TermId) → owned_in later n t ≡ owned_in g n t) (sym its.numbered) (still_owns g old new other not_old not_new)
 
     part_still : IsCurrent script entries g one ⊎ IsLost script g one → IsCurrent script entries later one ⊎ IsLost script later one
-    part_still (inl k) = inl (current_still script g later one refl last entries k
-        (seen_by script (owned_in g one.call) (owned_in later one.call) (naming k.e) g.board k.c owns k.shown) k.lines_shown)
+    part_still (inl k) = inl (current_still script entries w after one refl last k
+        (seen_with script (owned_in g one.call) (owned_in later one.call) (naming k.e) g.board k.c owns g.board.cut k.c.state k.c.link k.c.context k.c.cut
+        (λ j. refl) k.shown.cut k.shown) k.lines_shown)
     part_still (inr lost) = inr (record {
       association = lost.association;
       rows = lost.rows;
@@ -160,13 +138,5 @@ module _ (script : Script) (entries : List Entry) (closed : IsClosed script entr
     })
 
     pub other_sound : CallIsSound script entries after other one
-    other_sound = record {
-      numbered = its.numbered;
-      first = its.first;
-      next = let below = its.next in let same = executed_other g old new other not_old not_new in omega (arith, below, same);
-      held = λ i within. handed_other old new other (g.holder (one.lines i)) (its.held i within) not_old;
-      once = its.once;
-      requests = λ request among of. sent_still script g later one refl last request (its.requests request among of);
-      outstanding = its.outstanding;
-      part = part_still its.part;
-    }
+    other_sound = call_still script entries w after one refl last other its
+        (λ i within. handed_other old new other (g.holder (one.lines i)) (its.held i within) not_old) (λ request among. among) (part_still its.part)

@@ -6,6 +6,7 @@ use Rattle.mg_safety.proofs.InvariantWords.{IsReplySound, IsKnown, IsOpen, IsSou
 use Rattle.mg_safety.proofs.Events.Executing.{HasRun, is_due, due_runs}
 use Rattle.mg_safety.proofs.Events.ExecutedCalls.{OtherLost, world_after, calls_after}
 use Rattle.mg_safety.proofs.Events.ExecutedGateway.{gateway_after}
+use Rattle.mg_safety.proofs.Events.StillSound.{call_still}
 
 -- ---- it is executed
 
@@ -95,16 +96,8 @@ repeat_sound script entries w request after sound among r =
         ];
         notes = g.notes;
       };
-      calls = λ call a there. let old = sound.calls call a there in record {
-        numbered = old.numbered;
-        first = old.first;
-        next = old.next;
-        held = old.held;
-        once = old.once;
-        requests = old.requests;
-        outstanding = old.outstanding;
-        part = old.part;
-      };
+      calls = λ call a there. let old = sound.calls call a there in
+          call_still script entries w (record w { replies = r.answer ∷ w.replies }) a refl refl call old old.held (λ one before. before) old.part;
     })
 
 pub execute_sound : RequestsRun → OthersStayShown → OwnersAgree → OtherLost → (request : Request) (refusal : Option ChosenRefusal)

@@ -6,8 +6,8 @@ use Rattle.mg_safety.proofs.InvariantWords.{naming, owned_at, is_call, owner_of,
 use Rattle.mg_safety.proofs.InvariantWords.{OthersStayShown, OwnersAgree}
 use Rattle.mg_safety.proofs.Agents.EffectiveAgent.{same_lines}
 use Rattle.mg_safety.proofs.Requests.Ending.{seen_at_end}
-use Rattle.mg_safety.proofs.Events.Executing.{not_call_of, HasRun, link_own, link_other, executed_own, executed_other, run_changes}
-use Rattle.mg_safety.proofs.Events.StillSound.{current_still, sent_still}
+use Rattle.mg_safety.proofs.Events.Executing.{not_call_of, HasRun, link_own, link_other, executed_own, run_changes}
+use Rattle.mg_safety.proofs.Events.StillSound.{current_still, call_still}
 
 -- a lost call stays lost while another call's request runs
 abbrev pub OtherLost : Type 0
@@ -25,8 +25,11 @@ world_after w request end settled failure = record (with_gateway w (after_reques
 
 module _ (script : Script) (entries : List Entry) (w : World) (request : Request) (end : Running) (settled : Board) (failure : Option Failure)
     (sound : IsSound script entries w) (h : HasRun script entries w request end failure) (is_settled : IsSettled end.board settled) where
+  abbrev after : World
+  after = world_after w request end settled failure
+
   abbrev later : Gateway
-  later = after_request w.gateway request end settled failure
+  later = after.gateway
 
   changes : IsOwnChange w.gateway end.board later request.call
   changes = run_changes script entries w request end settled failure sound.floor sound.gateway h is_settled
@@ -70,7 +73,7 @@ module _ (script : Script) (entries : List Entry) (w : World) (request : Request
     ];
   }
 
-  own_sound : OwnersAgree → CallIsSound script entries (world_after w request end settled failure) request.call h.agent
+  own_sound : OwnersAgree → CallIsSound script entries after request.call h.agent
   own_sound agree = let old = sound.calls request.call h.agent h.open_call in record {
     numbered = h.call;
     first = old.first;
@@ -102,7 +105,7 @@ module _ (script : Script) (entries : List Entry) (w : World) (request : Request
         let held : (i : ℕ) → i < length script.lines → w.gateway.holder (k.e.lines i) ≡ Some b.call = λ i within.
         ap (λ (lines : ℕ → ℕ). w.gateway.holder (lines i)) (same_lines script w.gateway b k.e k.c.link k.at)
         ∙ (sound.calls other b there).held i within ∙ ap Some (sym numbered) in
-        current_still script w.gateway later b refl last entries k
+        current_still script entries w after b refl last k
         (stay script w.gateway end.board later request.call b.call (naming k.e) k.c changes (λ e. unlike (sym e)) k.shown) (record {
           events = λ i within. ap (λ (row : LineRow). row.list) (line_kept (k.e.lines i) (held i within)) ∙ k.lines_shown.events i within;
           silent = λ i within quiet. ap (λ (row : LineRow). row.playing) (line_kept (k.e.lines i) (held i within)) ∙ k.lines_shown.silent i within quiet;
@@ -115,23 +118,15 @@ module _ (script : Script) (entries : List Entry) (w : World) (request : Request
         (λ l apart. h.run.other_lines l (ap (is_call (w.gateway.holder l)) h.call ∙ apart))
         (link_other w.gateway request end settled failure b.call unlike)
 
-    other_sound : OthersStayShown → OtherLost → CallIsSound script entries (world_after w request end settled failure) other b
-    other_sound shown lost = let old = sound.calls other b there in record {
-      numbered = old.numbered;
-      first = old.first;
-      next = let same = executed_other w.gateway request end settled failure other (λ e. apart (sym e)) in let below = old.next in omega (arith, same, below);
-      held = old.held;
-      once = old.once;
-      requests = λ one among of. sent_still script w.gateway later b refl last one (old.requests one among of);
-      outstanding = old.outstanding;
-      part = elim old.part [ inl k ↦ inl (other_current shown k) | inr gone ↦ inr (other_lost lost gone) ];
-    }
+    other_sound : OthersStayShown → OtherLost → CallIsSound script entries after other b
+    other_sound shown lost = let old = sound.calls other b there in call_still script entries w after b refl last other old old.held (λ one among. among)
+        (elim old.part [ inl k ↦ inl (other_current shown k) | inr gone ↦ inr (other_lost lost gone) ])
 
   pub calls_after : OthersStayShown → OwnersAgree → OtherLost → (call : ℕ) (a : Agent) → w.agent call ≡ Some a
       → CallIsSound script entries (world_after w request end settled failure) call a
   calls_after shown agree lost call a there = elim (cases_eq request.call call) [
     | inl one ↦ (let same : h.agent ≡ a = the_some h.agent a (sym h.open_call ∙ ap w.agent one ∙ there) in
-        subst (λ n. CallIsSound script entries (world_after w request end settled failure) n a) one
-        (subst (CallIsSound script entries (world_after w request end settled failure) request.call) same (own_sound agree)))
+        subst (λ n. CallIsSound script entries after n a) one
+        (subst (CallIsSound script entries after request.call) same (own_sound agree)))
     | inr apart ↦ other_sound call a there apart shown lost
   ]

@@ -7,7 +7,7 @@ use Rattle.mg_safety.proofs.Words.{by_test, only_one, none_in, CallLink}
 use Rattle.mg_safety.proofs.InvariantWords.{LinesShown, list_raises, IsCurrent, IsLost, IsKnown, IsOpen, IsReached, CallIsSound, IsReplySound, IsNoteStanding}
 use Rattle.mg_safety.proofs.InvariantWords.{IsNoteSound, GatewayIsSound, IsSound, KeepsSound}
 use Rattle.mg_safety.proofs.Events.RowAfterEvent.{IsRowAfter, row_after}
-use Rattle.mg_safety.proofs.Events.StillSound.{current_still, sent_still}
+use Rattle.mg_safety.proofs.Events.StillSound.{current_still, call_still}
 
 -- what an event leaves of a line
 record IsKept (row after : LineRow) : Type 0 where
@@ -141,7 +141,7 @@ module _ (script : Script) (entries : List Entry) (w : World) (sound : IsSound s
   }
 
   part_kept : (a : Agent) → IsCurrent script entries g a ⊎ IsLost script g a → IsCurrent script entries later a ⊎ IsLost script later a
-  part_kept a (inl k) = inl (current_still script g later a refl (last_kept a.call) entries k k.shown (lines_kept k.e k.c k.lines_shown))
+  part_kept a (inl k) = inl (current_still script entries w after a refl (last_kept a.call) k k.shown (lines_kept k.e k.c k.lines_shown))
   part_kept a (inr lost) = inr (record {
     association = lost.association;
     rows = lost.rows;
@@ -154,18 +154,8 @@ module _ (script : Script) (entries : List Entry) (w : World) (sound : IsSound s
   })
 
   call_sound : (one : ℕ) (a : Agent) → w.agent one ≡ Some a → CallIsSound script entries after one a
-  call_sound one a there =
-      let was = sound.calls one a there in
-      record {
-        numbered = was.numbered;
-        first = was.first;
-        next = subst (λ n. n < a.next) (sym (executed_kept one)) was.next;
-        held = was.held;
-        once = was.once;
-        requests = λ request among of. sent_still script g later a refl (last_kept a.call) request (was.requests request among of);
-        outstanding = was.outstanding;
-        part = part_kept a was.part;
-      }
+  call_sound one a there = let was = sound.calls one a there in
+      call_still script entries w after a refl (last_kept a.call) one was was.held (λ request among. among) (part_kept a was.part)
 
   after_sound : IsSound script entries after
   after_sound = record {

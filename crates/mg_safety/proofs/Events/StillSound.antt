@@ -1,11 +1,18 @@
 -- A call of which neither the agent nor the kept reply changes: what is known of it stays so, where the gateway still shows what it shows.
-use Rattle.mg_safety.proofs.Words.{◌≡◌, Script, Gateway, Agent, last_executed, ap, number_of, ◌∙◌, sym, subst, inl, inr, ◌<◌, ◌≤◌, List, Entry, Request}
+use Rattle.mg_safety.proofs.Words.{◌≡◌, Script, Gateway, Agent, last_executed, ap, number_of, ◌∙◌, sym, subst, inl, inr, ◌<◌, ◌≤◌, List, Entry, Request, World}
+use Rattle.mg_safety.proofs.Words.{length, Contains, ℕ, Some, ◌⊎◌}
 use Rattle.mg_names.specs.declared.phases.LinkPhase as phases
-use Rattle.mg_safety.proofs.InvariantWords.{IsAt, IsCurrent, Seen, owned_in, naming, LinesShown, IsSentBy}
+use Rattle.mg_safety.proofs.InvariantWords.{IsAt, IsCurrent, Seen, owned_in, naming, LinesShown, IsSentBy, CallIsSound, IsLost}
 
-module _ (script : Script) (g later : Gateway) (a : Agent) (association : later.association ≡ g.association)
-    (last : (later.link a.call).last ≡ (g.link a.call).last) where
-  pub executed_still : last_executed later a.call ≡ last_executed g a.call
+module _ (script : Script) (entries : List Entry) (w after : World) (a : Agent) (association : after.gateway.association ≡ w.gateway.association)
+    (last : (after.gateway.link a.call).last ≡ (w.gateway.link a.call).last) where
+  abbrev g : Gateway
+  g = w.gateway
+
+  abbrev later : Gateway
+  later = after.gateway
+
+  executed_still : last_executed later a.call ≡ last_executed g a.call
   executed_still = ap number_of last
 
   at_still : (e : Agent) (link : phases.LinkPhase) → IsAt script g a e link → IsAt script later a e link
@@ -27,9 +34,9 @@ module _ (script : Script) (g later : Gateway) (a : Agent) (association : later.
   }))
   at_still e link (inr (inr rests)) = inr (inr rests)
 
-  pub current_still : (entries : List Entry) (k : IsCurrent script entries g a) → Seen script (owned_in later a.call) (naming k.e) later.board k.c
+  pub current_still : (k : IsCurrent script entries g a) → Seen script (owned_in later a.call) (naming k.e) later.board k.c
       → LinesShown script k.e later.line k.c → IsCurrent script entries later a
-  current_still entries k shown lines_shown = record {
+  current_still k shown lines_shown = record {
     association = k.association ∙ sym association;
     c = k.c;
     e = k.e;
@@ -40,7 +47,7 @@ module _ (script : Script) (g later : Gateway) (a : Agent) (association : later.
     lines_shown = lines_shown;
   }
 
-  pub sent_still : (request : Request) → IsSentBy g a request → IsSentBy later a request
+  sent_still : (request : Request) → IsSentBy g a request → IsSentBy later a request
   sent_still request sent = record {
     association = sent.association;
     number = sent.number;
@@ -48,4 +55,19 @@ module _ (script : Script) (g later : Gateway) (a : Agent) (association : later.
       | inl phase ↦ inl phase
       | inr done ↦ inr (subst (λ n. request.number ≤ n) (sym executed_still) done)
     ];
+  }
+
+  -- where its lines are held by it, and no request is new
+  pub call_still : (call : ℕ) → CallIsSound script entries w call a → ((i : ℕ) → i < length script.lines → later.holder (a.lines i) ≡ Some call)
+      → ((request : Request) → Contains after.requests request → Contains w.requests request)
+      → IsCurrent script entries later a ⊎ IsLost script later a → CallIsSound script entries after call a
+  call_still call was held requests part = record {
+    numbered = was.numbered;
+    first = was.first;
+    next = subst (λ n. n < a.next) (sym (subst (λ n. last_executed later n ≡ last_executed g n) was.numbered executed_still)) was.next;
+    held = held;
+    once = was.once;
+    requests = λ request among of. sent_still request (was.requests request (requests request among) of);
+    outstanding = was.outstanding;
+    part = part;
   }

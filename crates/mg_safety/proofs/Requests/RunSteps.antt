@@ -9,6 +9,7 @@ use Rattle.mg_safety.proofs.Words.{creates_apart, and_first, and_second, by_test
 use Rattle.mg_names.specs.declared.phases.LinkPhase as phases
 use Rattle.mg_model.specs.declared.commands.Termination.TheVariants as termination
 use Rattle.mg_safety.proofs.InvariantWords.{Naming, Shown, Seen, LinesShown, Owner, owned_at, ChangesOwned}
+use Rattle.mg_safety.proofs.Shared.ShownParts.{shown_with, seen_with}
 
 -- ---- changes of what is owned
 
@@ -176,26 +177,7 @@ formed_with_link c link f = record { live = f.live; absent_mode = f.absent_mode;
 -- the board and the lines show neither the state nor the link
 pub shown_still : (script : Script) (owned : TermId → Bool) (n : Naming) (b : Board) (c : Configuration) (state : ℕ) (link : phases.LinkPhase)
     → Shown script owned n b c → Shown script owned n b (record c { state = state; link = link })
-shown_still script owned n b c state link s = record {
-  stands = s.stands;
-  place = s.place;
-  in_bound = s.in_bound;
-  mode = s.mode;
-  remote = s.remote;
-  cut = s.cut;
-  bound = s.bound;
-  line_stands = s.line_stands;
-  line_owned = s.line_owned;
-  line_once = s.line_once;
-  context_real = s.context_real;
-  context_once = s.context_once;
-  members = s.members;
-  ephemeral_slot = s.ephemeral_slot;
-  ephemeral_stands = s.ephemeral_stands;
-  ephemeral_owned = s.ephemeral_owned;
-  ephemeral_once = s.ephemeral_once;
-  ephemeral_named = s.ephemeral_named;
-}
+shown_still script owned n b c state link s = shown_with script owned owned n b c (λ t. refl) b.cut state link c.context c.cut (λ j. refl) s.cut s
 
 pub lines_with_link : (script : Script) (e : Agent) (line : ℕ → LineRow) (c : Configuration) (link : phases.LinkPhase)
     → LinesShown script e line c → LinesShown script e line (with_link c link)
@@ -203,26 +185,7 @@ lines_with_link script e line c link s = record { events = s.events; silent = s.
 
 pub seen_still : (script : Script) (owned : TermId → Bool) (n : Naming) (b : Board) (c : Configuration) (state : ℕ) (link : phases.LinkPhase)
     → Seen script owned n b c → Seen script owned n b (record c { state = state; link = link })
-seen_still script owned n b c state link s = record {
-  stands = s.stands;
-  place = s.place;
-  in_bound = s.in_bound;
-  mode = s.mode;
-  remote = s.remote;
-  cut = s.cut;
-  bound = s.bound;
-  line_stands = s.line_stands;
-  line_owned = s.line_owned;
-  line_once = s.line_once;
-  context_number = s.context_number;
-  context_once = s.context_once;
-  members = s.members;
-  ephemeral_slot = s.ephemeral_slot;
-  ephemeral_stands = s.ephemeral_stands;
-  ephemeral_owned = s.ephemeral_owned;
-  ephemeral_once = s.ephemeral_once;
-  ephemeral_named = s.ephemeral_named;
-}
+seen_still script owned n b c state link s = seen_with script owned owned n b c (λ t. refl) b.cut state link c.context c.cut (λ j. refl) s.cut s
 
 -- a command leaves the state
 pub effect_state : (script : Script) (c : Configuration) (command : Command) → (effect script c command).state ≡ c.state
