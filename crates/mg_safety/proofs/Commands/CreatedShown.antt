@@ -3,7 +3,7 @@ use Rattle.mg_safety.proofs.Words.{◌≡◌, ◌∙◌, ◌||◌, ◌<◌, ℕ,
 use Rattle.mg_safety.proofs.Words.{eqb-true, eq-eqb, if◌then◌else◌, ◌==◌, TermId, Line, Eph, Termination, Remote, Unset, Gone, To, Null, In, Board, same_term}
 use Rattle.mg_safety.proofs.Words.{exists, place_of, place_in, mode_in, remote_in, with_at, Configuration, is_same, is_present, Script, IsSlot, none_is_some}
 use Rattle.mg_safety.proofs.Words.{the_some, is_same_is, same_term_self, different, false_from_ne_true, not_both, none_of, some_of, where_true, or_right}
-use Rattle.mg_safety.proofs.Words.{same_term_turned}
+use Rattle.mg_safety.proofs.Words.{same_term_turned, cases_Bool, subst₂, Spot, Row, inl, inr}
 use Rattle.mg_model.specs.declared.commands.Termination.TheVariants as termination
 use Rattle.mg_safety.proofs.InvariantWords.{Naming, eph_of, term_of, row_on, cut_on, number_at, RemoteReads, Shown, IsAccounted, Owner, owned_at}
 use Rattle.mg_safety.proofs.Commands.Binding.{with_at_here, with_at_kept, with_at_some, given_still}
@@ -69,22 +69,13 @@ module _ (script : Script) (own : Owner) (n : Naming) (b : Board) (c : Configura
   abbrev next : Configuration
   next = with_present c k
 
-  stands : (t : Termination) → IsSlot script t → (p : Bool) → is_same t name ≡ p → is_some (row_on after (term_of names t)) ≡ is_present (next.spot t)
-  stands t named true e = ap is_some (read_here t e) ∙ ap is_present (sym (with_of_here c.spot name Null) ∙ ap next.spot (sym (is_same_is t name e)))
-  stands t named false e = ap is_some (read_elsewhere t e) ∙ shown.stands t named ∙ ap is_present (sym (with_of_kept c.spot name Null t e))
-
-  place : (t : Termination) → IsSlot script t → (p : Bool) → is_same t name ≡ p → place_in (row_on after (term_of names t)) ≡ number_at n (next.spot t)
-  place t named true e = ap place_in (read_here t e) ∙ ap (number_at n) (sym (with_of_here c.spot name Null) ∙ ap next.spot (sym (is_same_is t name e)))
-  place t named false e = ap place_in (read_elsewhere t e) ∙ shown.place t named ∙ ap (number_at n) (sym (with_of_kept c.spot name Null t e))
-
-  in_bound : (t : Termination) (j : ℕ) → IsSlot script t → (p : Bool) → is_same t name ≡ p → next.spot t ≡ In j → is_some (n.contexts j) ≡ true
-  in_bound t j named true e at =
-      let apart : Null ≡ In j = sym (with_of_here c.spot name Null) ∙ ap next.spot (sym (is_same_is t name e)) ∙ at in absurd (cc)
-  in_bound t j named false e at = shown.in_bound t j named (sym (with_of_kept c.spot name Null t e) ∙ at)
-
-  mode : (t : Termination) → IsSlot script t → (p : Bool) → is_same t name ≡ p → c.mode t ≡ mode_in (row_on after (term_of names t))
-  mode t named true e = ap c.mode (is_same_is t name e) ∙ shown.mode name slot ∙ ap mode_in row_before ∙ ap mode_in (sym (read_here t e))
-  mode t named false e = shown.mode t named ∙ ap mode_in (sym (read_elsewhere t e))
+  -- what is read at a name: the new row where it is the new one, and what was read before elsewhere
+  read : (t : Termination) (P : Option Row → Spot → Type 0) → (t ≡ name → P (Some first_row) Null) → P (row_on b (term_of n t)) (c.spot t)
+      → P (row_on after (term_of names t)) (next.spot t)
+  read t P new old = elim (cases_Bool (is_same t name)) [
+    | inl e ↦ subst₂ P (sym (read_here t e)) (sym (ap next.spot (is_same_is t name e) ∙ with_of_here c.spot name Null)) (new (is_same_is t name e))
+    | inr e ↦ subst₂ P (sym (read_elsewhere t e)) (sym (with_of_kept c.spot name Null t e)) old
+  ]
 
   remote_still : (value : Remote) (o : Option ℕ) → RemoteReads b n value o → RemoteReads after names value o
   remote_still Unset o reads = reads
@@ -97,14 +88,10 @@ module _ (script : Script) (own : Owner) (n : Naming) (b : Board) (c : Configura
   remote_still (To i) o reads = (reads.0, reads.1, bound_still i reads.0 reads.2)
 
   remote : (i : ℕ) → i < length script.ephemerals → RemoteReads after names (c.remote i) (remote_in (row_on after (term_of names (termination.Ephemeral i))))
-  remote i named = subst (RemoteReads after names (c.remote i)) (go (is_same (termination.Ephemeral i) name) refl)
-      (remote_still (c.remote i) (remote_in (row_on b (term_of n (termination.Ephemeral i)))) (shown.remote i named))
-    where
-      go : (p : Bool) → is_same (termination.Ephemeral i) name ≡ p
-          → remote_in (row_on b (term_of n (termination.Ephemeral i))) ≡ remote_in (row_on after (term_of names (termination.Ephemeral i)))
-      go true e = ap (λ t. remote_in (row_on b (term_of n t))) (is_same_is (termination.Ephemeral i) name e) ∙ ap remote_in row_before
-          ∙ ap remote_in (sym (read_here (termination.Ephemeral i) e))
-      go false e = ap remote_in (sym (read_elsewhere (termination.Ephemeral i) e))
+  remote i declared =
+      let old = remote_still (c.remote i) (remote_in (row_on b (term_of n (termination.Ephemeral i)))) (shown.remote i declared) in
+      read (termination.Ephemeral i) (λ row spot. RemoteReads after names (c.remote i) (remote_in row))
+      (λ e. subst (λ (row : Option Row). RemoteReads after names (c.remote i) (remote_in row)) (ap (λ t. row_on b (term_of n t)) e ∙ row_before) old) old
 
   -- ---- cuts
 
@@ -180,10 +167,10 @@ module _ (script : Script) (own : Owner) (n : Naming) (b : Board) (c : Configura
 
   pub created_shown : Shown script (owned_at own after) names after next
   created_shown = record {
-    stands = λ t named. stands t named (is_same t name) refl;
-    place = λ t named. place t named (is_same t name) refl;
-    in_bound = λ t j named. in_bound t j named (is_same t name) refl;
-    mode = λ t named. mode t named (is_same t name) refl;
+    stands = λ t named. read t (λ row spot. is_some row ≡ is_present spot) (λ e. refl) (shown.stands t named);
+    place = λ t named. read t (λ row spot. place_in row ≡ number_at n spot) (λ e. refl) (shown.place t named);
+    in_bound = λ t j named. read t (λ row spot. spot ≡ In j → is_some (n.contexts j) ≡ true) (λ e apart. absurd (cc)) (shown.in_bound t j named);
+    mode = λ t named. read t (λ row spot. c.mode t ≡ mode_in row) (λ e. ap c.mode e ∙ shown.mode name slot ∙ ap mode_in row_before) (shown.mode t named);
     remote = remote;
     cut = λ t s first second. cut t s first second (is_same t name) (is_same s name) refl refl;
     bound = shown.bound;

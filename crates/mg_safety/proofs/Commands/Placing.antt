@@ -3,7 +3,7 @@
 use Rattle.mg_safety.proofs.Words.{◌≡◌, ◌∙◌, ℕ, Bool, true, false, not, Option, Some, None, is_some, refl, sym, ap, subst, length, ◌<◌, eqb-true, eq-eqb, ◌==◌}
 use Rattle.mg_safety.proofs.Words.{TermId, Line, Eph, Termination, Remote, Unset, Gone, To, In, Row, Board, same_term, exists, place_of, place_in, mode_in}
 use Rattle.mg_safety.proofs.Words.{remote_in, Configuration, is_same, is_present, is_free, Script, IsSlot, same_test, none_is_some, the_some, is_same_is}
-use Rattle.mg_safety.proofs.Words.{same_term_is, same_term_self, different}
+use Rattle.mg_safety.proofs.Words.{same_term_is, same_term_self, different, cases_Bool, subst₂, Spot, Mode, is_same_self, inl, inr}
 use Rattle.mg_model.specs.declared.commands.Termination.TheVariants as termination
 use Rattle.mg_safety.proofs.InvariantWords.{Naming, eph_of, term_of, row_on, cut_on, number_at, RemoteReads, Shown}
 use Rattle.mg_safety.proofs.Commands.OneRow.{HasOneRow, row_here, row_elsewhere, exists_as_before}
@@ -74,21 +74,15 @@ module _ (script : Script) (owned : TermId → Bool) (n : Naming) (b after : Boa
   existing : (v : TermId) → exists after v ≡ exists b v
   existing = exists_as_before b after u r one stood
 
-  reads : (s : Termination) → IsSlot script s → (p : Bool) → is_same s t ≡ p → is_some (row_on after (term_of n s)) ≡ is_present (next.spot s)
-  reads s named true e = ap is_some (here s e) ∙ sym (ap (λ v. is_present (next.spot v)) (is_same_is s t e) ∙ changed.present)
-  reads s named false e = ap is_some (elsewhere s named e) ∙ shown.stands s named ∙ sym (ap is_present (changed.spot_kept s e))
-
-  place : (s : Termination) → IsSlot script s → (p : Bool) → is_same s t ≡ p → place_in (row_on after (term_of n s)) ≡ number_at n (next.spot s)
-  place s named true e = ap place_in (here s e) ∙ changed.number ∙ ap (λ v. number_at n (next.spot v)) (sym (is_same_is s t e))
-  place s named false e = ap place_in (elsewhere s named e) ∙ shown.place s named ∙ ap (number_at n) (sym (changed.spot_kept s e))
-
-  mode : (s : Termination) → IsSlot script s → (p : Bool) → is_same s t ≡ p → next.mode s ≡ mode_in (row_on after (term_of n s))
-  mode s named true e = ap next.mode (is_same_is s t e) ∙ changed.mode ∙ sym (ap mode_in (here s e))
-  mode s named false e = changed.mode_kept s e ∙ shown.mode s named ∙ sym (ap mode_in (elsewhere s named e))
-
-  in_bound : (s : Termination) (j : ℕ) → IsSlot script s → (p : Bool) → is_same s t ≡ p → next.spot s ≡ In j → is_some (n.contexts j) ≡ true
-  in_bound s j named true e at = changed.in_bound j (ap next.spot (sym (is_same_is s t e)) ∙ at)
-  in_bound s j named false e at = shown.in_bound s j named (sym (changed.spot_kept s e) ∙ at)
+  -- what is read at a name: the new row where it is the changed one, and what was read before elsewhere
+  read : (s : Termination) → IsSlot script s → (P : Option Row → Spot → Mode → Type 0) → P (Some r) (next.spot t) (next.mode t)
+      → P (row_on b (term_of n s)) (c.spot s) (c.mode s) → P (row_on after (term_of n s)) (next.spot s) (next.mode s)
+  read s named P new old = elim (cases_Bool (is_same s t)) [
+    | inl e ↦ subst (λ v. P (row_on after (term_of n v)) (next.spot v) (next.mode v)) (sym (is_same_is s t e))
+        (subst (λ row. P row (next.spot t) (next.mode t)) (sym (here t (is_same_self t))) new)
+    | inr e ↦ subst (λ row. P row (next.spot s) (next.mode s)) (sym (elsewhere s named e))
+        (subst₂ (P (row_on b (term_of n s))) (sym (changed.spot_kept s e)) (sym (changed.mode_kept s e)) old)
+  ]
 
   remote_as_before : (value : Remote) (o : Option ℕ) → RemoteReads b n value o → RemoteReads after n value o
   remote_as_before Unset o reads = reads
@@ -112,10 +106,10 @@ module _ (script : Script) (owned : TermId → Bool) (n : Naming) (b after : Boa
 
   pub placed_shown : Shown script owned n after next
   placed_shown = record {
-    stands = λ s named. reads s named (is_same s t) refl;
-    place = λ s named. place s named (is_same s t) refl;
-    in_bound = λ s j named. in_bound s j named (is_same s t) refl;
-    mode = λ s named. mode s named (is_same s t) refl;
+    stands = λ s named. read s named (λ row spot mode. is_some row ≡ is_present spot) (sym changed.present) (shown.stands s named);
+    place = λ s named. read s named (λ row spot mode. place_in row ≡ number_at n spot) changed.number (shown.place s named);
+    in_bound = λ s j named. read s named (λ row spot mode. spot ≡ In j → is_some (n.contexts j) ≡ true) (changed.in_bound j) (shown.in_bound s j named);
+    mode = λ s named. read s named (λ row spot mode. mode ≡ mode_in row) changed.mode (shown.mode s named);
     remote = λ k named. remote k named (is_same (termination.Ephemeral k) t) refl;
     cut = changed.cut;
     bound = λ j. shown.bound j ∙ sym (ap not (changed.free j));

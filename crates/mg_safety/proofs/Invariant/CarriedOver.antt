@@ -16,7 +16,8 @@ pub record IsReady (script : Script) (own : Owner) (n m : Naming) (b : Board) (c
   pub unbound : creates_unbound c command ≡ true
 
 -- it was executed: it is legal in the configuration, and the board shows what it makes of the configuration
-pub record IsCarried (script : Script) (own : Owner) (n m : Naming) (b : Board) (c : Configuration) (command : Command) (after : Board) (done : Done) : Type 0 where
+pub record IsCarried (script : Script) (own : Owner) (n m : Naming) (b : Board) (c : Configuration) (command : Command) (after : Board)
+    (done : Done) : Type 0 where
   pub legal : is_legal c command ≡ true
   pub shown : Shown script (owned_at own after) (named_after n command done) after (effect script c command)
   pub accounted : IsAccounted after

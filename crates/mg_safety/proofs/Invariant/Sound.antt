@@ -31,7 +31,11 @@ is_call (Some one) call = one == call
 
 -- what a call owns when no request runs
 abbrev pub owner_of : Gateway → ℕ → Owner
-owner_of g call = record { held = λ l. is_call (g.holder l) call; created = λ x. is_call (g.creator x) call; before = g.board.used_ephemeral }
+owner_of g call = record {
+  held = λ l. is_call (g.holder l) call;
+  created = λ x. is_call (g.creator x) call;
+  before = g.board.used_ephemeral;
+}
 
 abbrev pub owned_in : Gateway → ℕ → TermId → Bool
 owned_in g call = owned_at (owner_of g call) g.board
@@ -99,7 +103,8 @@ pub record IsLost (script : Script) (g : Gateway) (a : Agent) : Type 0 where
   pub no_ephemeral : (x : ℕ) → g.creator x ≡ Some a.call → ⊥
   pub no_reply : (g.link a.call).last ≡ None
   -- nothing is cut of its lines
-  pub no_cut : (i j : ℕ) → i < length script.lines → j < length script.lines → g.board.cut (Line (record { 0 = a.lines i })) (Line (record { 0 = a.lines j })) ≡ false
+  pub no_cut : (i j : ℕ) → i < length script.lines → j < length script.lines
+      → g.board.cut (Line (record { 0 = a.lines i })) (Line (record { 0 = a.lines j })) ≡ false
 
 -- a request of the call that was sent
 pub record IsSentBy (g : Gateway) (a : Agent) (request : Request) : Type 0 where

@@ -60,7 +60,8 @@ module _ (script : Script) (own : Owner) (e a : Agent) (made : Made) (r : Runnin
   by_subtract_all j done after live x =
       let m = naming_at a made r.results in
       let leaves_of : (i : ℕ) → i < length script.lines
-      → (place_of r.board (term.Line (record { 0 = e.lines i })) == context_for m j) ≡ is_in (c.spot (termination.Line i)) j = leaves_test script (owned_at own r.board) (naming e) m r.board c shown built j live in
+      → (place_of r.board (term.Line (record { 0 = e.lines i })) == context_for m j) ≡ is_in (c.spot (termination.Line i)) j =
+      leaves_test script (owned_at own r.board) (naming e) m r.board c shown built j live in
       cleared_lines script e.lines e.expected (λ i. if is_listed done.lines (Some (e.lines i)) then None else e.expected i) r.line c.events c.plays stay
       (λ l. place_of r.board (term.Line (record { 0 = l })) == context_for m j) (λ i. is_in (c.spot (termination.Line i)) j) leaves_of
       (λ i within. ap (λ test. if test then None else e.expected i) (listed_test _ done.lines x.result.lines (e.lines i)

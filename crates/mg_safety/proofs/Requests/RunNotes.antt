@@ -153,7 +153,8 @@ module _ (held : ℕ → Bool) (r : Running) (command : RequestCommand) (item : 
       → (subtracts r.board item (term.Line (record { 0 = l })) ≡ false → IsRaised number (described_row (descriptors_for command) (r.line l) l number) note)
       → IsRaised number (line_after r command item number l) note
   on_row l note is stays = by_test (λ (row : LineRow). IsRaised number row note) (cleared (r.line l))
-      (described_row (descriptors_for command) (r.line l) l number) (subtracts r.board item (term.Line (record { 0 = l }))) (λ e. (is, λ armed. absurd (true≢false (sym (ap is_some armed))))) stays
+      (described_row (descriptors_for command) (r.line l) l number) (subtracts r.board item (term.Line (record { 0 = l })))
+      (λ e. (is, λ armed. absurd (none_is_some number armed))) stays
 
   raised_on : (d : Option LineDescriptors) → ((l : ℕ) → is_line d l ≡ true → held l ≡ true) → (l : ℕ) (note : Note)
       → Contains (raised r d number) (note_on l note) → (held l ≡ true) × IsRaised number (described_row d (r.line l) l number) note
@@ -172,7 +173,8 @@ module _ (held : ℕ → Bool) (r : Running) (command : RequestCommand) (item : 
       elim (Contains-append_cases (standing r command item) (raised r (descriptors_for command) number) (note_on l note) among) [
         | inl stands ↦
             let kept = kept_by (λ (n : RaisedNote).
-            not (subtracts r.board item (term.Line (record { 0 = n.line })) || has_new_events (descriptors_for command) n.line)) r.notes (note_on l note) stands in
+            not (subtracts r.board item (term.Line (record { 0 = n.line })) || has_new_events (descriptors_for command) n.line))
+            r.notes (note_on l note) stands in
             let tests = neither (subtracts r.board item (term.Line (record { 0 = l }))) (has_new_events (descriptors_for command) l) kept.1 in
             let was = before l note kept.0 in (
               was.0,
