@@ -1,12 +1,13 @@
 -- A call that begins on the lines of one that has ended keeps the world sound.
 use Rattle.mg_safety.proofs.Words.{◌≡◌, ◌∙◌, ℕ, true, false, List, Some, None, length, sym, ap, subst, arith, inl, inr, ◌<◌, ◌≤◌, Agent, begun, Entry, Gateway}
-use Rattle.mg_safety.proofs.Words.{CallLink, last_executed, Reply, SentNote, Script, World, Begins, HasEnded, MayBegin, the_some, at_one, at_another, cases_eq}
+use Rattle.mg_safety.proofs.Words.{CallLink, last_executed, Reply, SentNote, Script, World, Begins, HasEnded, MayBegin, the_some, at_another}
 use Rattle.mg_model.specs.Gateway as gateway
 use Rattle.mg_safety.proofs.InvariantWords.{IsKnown, IsOpen, IsReached, IsReplySound, IsNoteSound, IsAboveFloor, CallIsSound, GatewayIsSound, IsSound, IsClosed}
 use Rattle.mg_safety.proofs.InvariantWords.{KeepsSound}
 use Rattle.mg_safety.proofs.Events.Handover.{handed_from, handed_none, handed_other, link_other, kept_from, executed_other, world_begun, agent_new, agent_other}
-use Rattle.mg_safety.proofs.Events.Handover.{agent_from, below_next, at_most, floor_begun, floor_new, floor_other, reached_other}
-use Rattle.mg_safety.proofs.Events.BegunCalls.{differ, not_known, new_sound, other_sound}
+use Rattle.mg_safety.proofs.Events.Handover.{agent_from, below_next, at_most, floor_begun, floor_new, floor_other, reached_other, other_number, not_known}
+use Rattle.mg_safety.proofs.Events.Handover.{still_known}
+use Rattle.mg_safety.proofs.Events.BegunCalls.{new_sound, other_sound}
 
 module _ (script : Script) (entries : List Entry) (closed : IsClosed script entries) (w : World) (sound : IsSound script entries w) (new old : ℕ) (a : Agent)
     (open_call : w.agent old ≡ Some a) (ended : HasEnded script w a) (may : MayBegin w.gateway old)
@@ -24,10 +25,10 @@ module _ (script : Script) (entries : List Entry) (closed : IsClosed script entr
   floor = floor_begun sound.floor new a
 
   apart : new ≡ old → ⊥
-  apart = differ script entries closed w sound new old a open_call ended may unused not_retired
+  apart = other_number w new old a open_call unused
 
   none_known : IsKnown w new → ⊥
-  none_known = not_known script entries closed w sound new old a open_call ended may unused not_retired
+  none_known = not_known w new unused not_retired
 
   -- a call that was open, and is neither, is not the new one
   not_new : (other : ℕ) (one : Agent) → w.agent other ≡ Some one → other ≡ new → ⊥
@@ -36,13 +37,7 @@ module _ (script : Script) (entries : List Entry) (closed : IsClosed script entr
   -- ---- which calls are known, and which are open
 
   known_after : (call : ℕ) → IsKnown w call → IsKnown after call
-  known_after call known = elim (cases_eq call old) [
-    | inl is ↦ inr (subst (λ n. later.retired n ≡ true) (sym is) (at_one old true (g.retired old)))
-    | inr not_old ↦ elim known [
-      | inl there ↦ inl (there.0, agent_other script w new old call a not_old (not_new call there.0 there.1) ∙ there.1)
-      | inr gone ↦ inr (at_another old call true (g.retired call) not_old ∙ gone)
-    ]
-  ]
+  known_after = still_known script w new old a unused
 
   -- what was sent by a call that is open after and was known before is of one that is neither
   record IsNeither (call : ℕ) : Type 0 where

@@ -1,14 +1,14 @@
 -- Where a call begins on the lines of one that has ended, the new call is shown the opening configuration, and each other call what it was shown.
 use Rattle.mg_safety.proofs.Words.{◌≡◌, ◌∙◌, ℕ, false, List, Option, Some, None, length, refl, sym, ap, subst, arith, inl, inr, true≢false, ◌<◌, ◌⊎◌, IsTrue}
 use Rattle.mg_safety.proofs.Words.{false_from_ne_true, TermId, Line, Spot, Null, Agent, begun, is_in, Entry, Gateway, CallLink, MayBegin, list_of, Script}
-use Rattle.mg_safety.proofs.Words.{opening, state_of, World, HasEnded, some_is_none, the_some, not_both, same_itself}
+use Rattle.mg_safety.proofs.Words.{opening, state_of, World, HasEnded, the_some, same_itself}
 use Rattle.mg_model.specs.declared.commands.Termination.TheVariants as termination
 use Rattle.mg_model.specs.Gateway as gateway
 use Rattle.mg_safety.proofs.InvariantWords.{naming, LinesShown, IsCurrent, IsLost, IsKnown, CallIsSound, IsSound, is_call, owned_in, IsClosed}
 use Rattle.mg_safety.proofs.Agents.AgentSound.{at_rest}
 use Rattle.mg_safety.proofs.Agents.Entering.{not_resting}
 use Rattle.mg_safety.proofs.Events.Others.{is_call_of, created_only}
-use Rattle.mg_safety.proofs.Events.Handover.{handed_own, handed_other, still_owns, link_other, none_executed, world_begun}
+use Rattle.mg_safety.proofs.Events.Handover.{handed_own, handed_other, still_owns, link_other, none_executed, world_begun, other_number, not_known}
 use Rattle.mg_safety.proofs.Invariant.OpeningShown.{AreCleared, events_armed, opening_shown}
 use Rattle.mg_safety.proofs.Events.StillSound.{current_still, call_still}
 use Rattle.mg_safety.proofs.Shared.ShownParts.{seen_with}
@@ -28,14 +28,6 @@ module _ (script : Script) (entries : List Entry) (closed : IsClosed script entr
 
   abbrev after : World
   after = world_begun script w new old a
-
-  pub differ : new ≡ old → ⊥
-  differ is = some_is_none a (sym open_call ∙ ap w.agent (sym is) ∙ unused)
-
-  -- nothing is known of the new call's number
-  pub not_known : IsKnown w new → ⊥
-  not_known (inl there) = some_is_none there.0 (sym there.1 ∙ unused)
-  not_known (inr gone) = not_both gone not_retired
 
   was : CallIsSound script entries w old a
   was = sound.calls old a open_call
@@ -71,7 +63,7 @@ module _ (script : Script) (entries : List Entry) (closed : IsClosed script entr
     no_ephemeral = λ x is standing.
         let made = sound.gateway.created x standing in
         let mine : g.creator x ≡ Some new = is_call_of (g.creator x) new (sym (created_only (is_call (g.creator x) new) (g.board.used_ephemeral x)) ∙ is) in
-        not_known (subst (IsKnown w) (the_some made.0 new (sym made.2 ∙ mine)) (inl (made.1, made.3)));
+        not_known w new unused not_retired (subst (IsKnown w) (the_some made.0 new (sym made.2 ∙ mine)) (inl (made.1, made.3)));
   }
 
   lines_shown : LinesShown script (begun script new a) later.line (opening script)
@@ -87,7 +79,7 @@ module _ (script : Script) (entries : List Entry) (closed : IsClosed script entr
 
   pub new_sound : CallIsSound script entries after new (begun script new a)
   new_sound =
-      let none = none_executed g old new differ in
+      let none = none_executed g old new (other_number w new old a open_call unused) in
       let above = was.first in
       record {
         numbered = refl;
@@ -95,7 +87,7 @@ module _ (script : Script) (entries : List Entry) (closed : IsClosed script entr
         next = omega (arith, none, above);
         held = λ i within. handed_own old new (g.holder (a.lines i)) (was.held i within);
         once = was.once;
-        requests = λ request among of. absurd (not_known (subst (IsKnown w) of (sound.gateway.requests request among)));
+        requests = λ request among of. absurd (not_known w new unused not_retired (subst (IsKnown w) of (sound.gateway.requests request among)));
         outstanding = λ request awaiting. absurd (not_resting request awaiting);
         part = inl (record {
           association = ended.current;

@@ -1,10 +1,10 @@
 -- The gateway after a request was executed, and the messages that were sent: what was created is the call's, what its lines expect is bounded by
 -- the request's number, and its reply is the kept one.
 use Rattle.mg_safety.proofs.Words.{◌≡◌, ◌∙◌, ◌+◌, ◌<◌, ◌≤◌, ℕ, Bool, true, false, List, [], ◌∷◌, Option, Some, None, is_some, refl, sym, ap, subst, arith, inl}
-use Rattle.mg_safety.proofs.Words.{inr, Contains-append_left, Contains-append_right, Contains-append_cases, if◌then◌else◌, Contains, Failure, TermId, Line, Eph}
-use Rattle.mg_safety.proofs.Words.{Row, Agent, after_results, built_by, Board, exists, place_of, place_in, remote_of, remote_in, IsSettled, Entry, CallLink}
-use Rattle.mg_safety.proofs.Words.{last_executed, reply_of, after_request, creator_after, sent_notes, number_of, LineRow, Note, Request, Reply, SentNote}
-use Rattle.mg_safety.proofs.Words.{Running, RaisedNote, note_on, Script, World, only_one, none_is_some, cases_eq, the_some, none_in, Gateway}
+use Rattle.mg_safety.proofs.Words.{inr, Contains-append_cases, if◌then◌else◌, Contains, Failure, TermId, Line, Eph, Row, Agent, after_results, built_by, Board}
+use Rattle.mg_safety.proofs.Words.{exists, place_of, place_in, remote_of, remote_in, IsSettled, Entry, CallLink, last_executed, reply_of, after_request}
+use Rattle.mg_safety.proofs.Words.{creator_after, sent_notes, number_of, LineRow, Request, Reply, SentNote, Running, RaisedNote, note_on, Script, World}
+use Rattle.mg_safety.proofs.Words.{only_one, none_is_some, cases_eq, the_some, none_in, Gateway, first_or_later, first_in, later_in}
 use Rattle.mg_safety.proofs.InvariantWords.{naming, IsAccounted, list_raises, is_call, IsKnown, IsOpen, IsReached, IsReplySound, IsNoteSound, GatewayIsSound}
 use Rattle.mg_safety.proofs.InvariantWords.{IsSound, IsOwnChange, LineGoes}
 use Rattle.mg_safety.proofs.Events.Others.{is_call_of}
@@ -15,39 +15,17 @@ use Rattle.mg_safety.proofs.Events.ExecutedCalls.{world_after}
 
 -- ---- notes that a request sends
 
-record IsSentFrom (call association : ℕ) (notes : List RaisedNote) (sent : SentNote) : Type 0 where
-  line : ℕ
-  note : Note
-  among : Contains notes (note_on line note)
-  of_call : sent.call ≡ call
-  of_association : sent.association ≡ association
-  of_line : sent.line ≡ line
-  note_is : sent.note ≡ note
-
+-- what is sent of a call is one of its notes, of this association
 sent_from : (call association count : ℕ) (notes : List RaisedNote) (sent : SentNote) → Contains (sent_notes call association count notes) sent
-    → IsSentFrom call association notes sent
+    → Contains notes (note_on sent.line sent.note) × (sent.call ≡ call) × (sent.association ≡ association)
 sent_from call association count [] sent there = absurd (none_in sent there)
 sent_from call association count (n ∷ more) sent there =
     let one : SentNote = record { call = call; association = association; number = count + 1; line = n.line; note = n.note } in
-    elim (Contains-append_cases (one ∷ []) (sent_notes call association (count + 1) more) sent there) [
-      | inl first ↦ (let same : one ≡ sent = only_one one sent first in record {
-        line = n.line;
-        note = n.note;
-        among = Contains-append_left (n ∷ []) more n (0, omega arith, refl);
-        of_call = sym (ap (λ (x : SentNote). x.call) same);
-        of_association = sym (ap (λ (x : SentNote). x.association) same);
-        of_line = sym (ap (λ (x : SentNote). x.line) same);
-        note_is = sym (ap (λ (x : SentNote). x.note) same);
-      })
-      | inr later ↦ (let rest : IsSentFrom call association more sent = sent_from call association (count + 1) more sent later in record {
-        line = rest.line;
-        note = rest.note;
-        among = Contains-append_right (n ∷ []) more (note_on rest.line rest.note) rest.among;
-        of_call = rest.of_call;
-        of_association = rest.of_association;
-        of_line = rest.of_line;
-        note_is = rest.note_is;
-      })
+    elim (first_or_later one (sent_notes call association (count + 1) more) sent there) [
+      | inl same ↦ subst (λ (s : SentNote). Contains (n ∷ more) (note_on s.line s.note) × (s.call ≡ call) × (s.association ≡ association)) same
+          (first_in n more, refl, refl)
+      | inr later ↦ (let rest = sent_from call association (count + 1) more sent later in
+          (later_in n more (note_on sent.line sent.note) rest.0, rest.1, rest.2))
     ]
 
 -- ---- ephemerals
@@ -206,21 +184,16 @@ module _ (script : Script) (entries : List Entry) (w : World) (request : Request
   note_new : (sent : SentNote) → Contains (sent_notes request.call request.association (w.gateway.link request.call).notes end.notes) sent
       → IsKnown w sent.call × (IsOpen w sent.call → IsNoteSound sound.floor later sent)
   note_new sent among =
-      let from : IsSentFrom request.call request.association end.notes sent =
-      sent_from request.call request.association (w.gateway.link request.call).notes end.notes sent among in
-      let raised = h.run.notes from.line from.note from.among in
-      let number : sent.note.request ≡ request.number = ap (λ (n : Note). n.request) from.note_is ∙ raised.1 in
-      let own = executed_now sent.call from.of_call in (
-        subst (IsKnown w) (sym from.of_call) (sound.gateway.requests request there),
+      let from = sent_from request.call request.association (w.gateway.link request.call).notes end.notes sent among in
+      let raised = h.run.notes sent.line sent.note from.0 in
+      let own = executed_now sent.call from.1 in (
+        subst (IsKnown w) (sym from.1) (sound.gateway.requests request there),
         λ is_open. record {
-          association = let of = from.of_association in let present = h.association in omega (arith, of, present);
+          association = let of = from.2 in let present = h.association in omega (arith, of, present);
           standing = λ present. record {
-            held = ap w.gateway.holder from.of_line ∙ is_call_of (w.gateway.holder from.line) h.agent.call raised.0
-                ∙ ap Some h.call ∙ ap Some (sym from.of_call);
-            number = inr (omega (arith, number, own));
-            raised = λ is. ap (λ (n : Note). list_raises (end.line sent.line).list n.kind) from.note_is
-                ∙ ap (λ l. list_raises (end.line l).list from.note.kind) from.of_line
-                ∙ raised.2 (ap (λ l. (end.line l).request) (sym from.of_line) ∙ is ∙ ap Some number);
+            held = is_call_of (w.gateway.holder sent.line) h.agent.call raised.0 ∙ ap Some (h.call ∙ sym from.1);
+            number = let same = raised.1 in inr (omega (arith, same, own));
+            raised = λ is. raised.2 (is ∙ ap Some raised.1);
           };
         },
       )

@@ -2,9 +2,10 @@
 -- there before it. A call with the number of neither is as it was.
 use Rattle.mg_safety.proofs.Words.{◌≡◌, ◌∙◌, ℕ, Option, Some, None, refl, sym, ap, arith, inl, inr, zero, suc, ◌<◌, ◌≤◌, ◌⊎◌, ◌==◌, if◌then◌else◌, eqb-true}
 use Rattle.mg_safety.proofs.Words.{eqb-false, TermId, Line, Eph, Agent, begun, Gateway, CallLink, handed_over, last_executed, number_of, Reply, Script, World}
-use Rattle.mg_safety.proofs.Words.{none_is_some, the_some, some_is_none, at_one, at_another, different, cases_eq, by_test, where_true, eq-eqb}
+use Rattle.mg_safety.proofs.Words.{none_is_some, the_some, some_is_none, at_one, at_another, different, cases_eq, by_test, where_true, eq-eqb, not_both, subst}
+use Rattle.mg_safety.proofs.Words.{true, false}
 use Rattle.mg_model.specs.Gateway as gateway
-use Rattle.mg_safety.proofs.InvariantWords.{is_call, owned_in, IsReached}
+use Rattle.mg_safety.proofs.InvariantWords.{is_call, owned_in, IsReached, IsKnown}
 
 -- ---- who holds a line
 
@@ -100,6 +101,28 @@ agent_from script w new old call a one is = elim (cases_eq call new) [
     | inl e ↦ absurd (none_is_some one (sym (where_true (call == old) None (w.agent call) (eq-eqb call old e))
         ∙ sym (at_another new call (Some (begun script new a)) (if call == old then None else w.agent call) not_new) ∙ is))
     | inr not_old ↦ inr (not_new, not_old, sym (agent_other script w new old call a not_old not_new) ∙ is)
+  ]
+]
+
+-- the number of the new call is neither the old one's nor known
+pub other_number : (w : World) (new old : ℕ) (a : Agent) → w.agent old ≡ Some a → w.agent new ≡ None → new ≡ old → ⊥
+other_number w new old a there unused is = some_is_none a (sym there ∙ ap w.agent (sym is) ∙ unused)
+
+pub not_known : (w : World) (new : ℕ) → w.agent new ≡ None → w.gateway.retired new ≡ false → IsKnown w new → ⊥
+not_known w new unused not_retired (inl there) = some_is_none there.0 (sym there.1 ∙ unused)
+not_known w new unused not_retired (inr gone) = not_both gone not_retired
+
+pub still_known : (script : Script) (w : World) (new old : ℕ) (a : Agent) → w.agent new ≡ None → (call : ℕ) → IsKnown w call
+    → IsKnown (world_begun script w new old a) call
+still_known script w new old a unused call known = elim (cases_eq call old) [
+  | inl is ↦ inr (subst (λ n. (gateway.begun w.gateway old new).retired n ≡ true) (sym is) (at_one old true (w.gateway.retired old)))
+  | inr not_old ↦ elim known [
+    | inl there ↦ inl (
+      there.0,
+      agent_other script w new old call a not_old
+          (λ is. some_is_none there.0 (sym there.1 ∙ ap w.agent is ∙ unused)) ∙ there.1,
+    )
+    | inr gone ↦ inr (at_another old call true (w.gateway.retired call) not_old ∙ gone)
   ]
 ]
 

@@ -1,14 +1,15 @@
 -- In every world of every run a message is named by its call and its number.
 use Rattle.mg_safety.proofs.Words.{◌≡◌, ◌∙◌, ℕ, Bool, true, false, List, [], ◌∷◌, Some, None, sym, ap, subst, arith, inl, inr, Contains, CallEvent, Event}
 use Rattle.mg_safety.proofs.Words.{OfCall, Restart, Agent, begun, opened, replied, passed, noted, timed, heard, Gateway, CallLink, restarted, Request, Reply}
-use Rattle.mg_safety.proofs.Words.{SentNote, Script, line_places, World, Opened, IsOpening, OccursTo, Occurs, Begins, with_gateway, none_is_some, some_is_none}
-use Rattle.mg_safety.proofs.Words.{the_some, not_both, at_one, at_another, cases_eq, nothing_in}
+use Rattle.mg_safety.proofs.Words.{SentNote, Script, line_places, World, Opened, IsOpening, OccursTo, Occurs, Begins, with_gateway, none_is_some, the_some}
+use Rattle.mg_safety.proofs.Words.{not_both, at_one, at_another, nothing_in}
 use Rattle.mg_model.specs.declared.events.CallEvent.TheVariants as to_call
 use Rattle.mg_model.specs.Gateway as gateway
 use Rattle.mg_model.specs.World.{Runs}
 use Rattle.mg_safety.proofs.InvariantWords.{IsKnown}
 use Rattle.mg_safety.specs.MessageNumbers.{MessagesAreNamedByNumber}
-use Rattle.mg_safety.proofs.Events.Handover.{handed_from, link_other, kept_from, world_begun, agent_new, agent_other, agent_from}
+use Rattle.mg_safety.proofs.Events.Handover.{handed_from, link_other, kept_from, world_begun, agent_new, agent_other, agent_from, other_number, not_known}
+use Rattle.mg_safety.proofs.Events.Handover.{still_known}
 use Rattle.mg_safety.proofs.Messages.AgentNumbers.{replied_next, passed_next, noted_next, timed_next, heard_next}
 use Rattle.mg_safety.proofs.Messages.Numbered.{notes_stay, replies_stay}
 use Rattle.mg_safety.proofs.Messages.NumberedExecutes.{execute_numbered}
@@ -24,21 +25,8 @@ module _ (script : Script) (w : World) (was : IsNumbered w) (new old : ℕ) (a :
   abbrev later : Gateway
   later = gateway.begun w.gateway old new
 
-  differ : new ≡ old → ⊥
-  differ is = some_is_none a (sym there ∙ ap w.agent (sym is) ∙ unused)
-
-  not_known : IsKnown w new → ⊥
-  not_known (inl x) = some_is_none x.0 (sym x.1 ∙ unused)
-  not_known (inr gone) = not_both gone not_retired
-
   known_still : (c : ℕ) → IsKnown w c → IsKnown begun_world c
-  known_still c known = elim (cases_eq c old) [
-    | inl is ↦ inr (subst (λ n. later.retired n ≡ true) (sym is) (at_one old true (w.gateway.retired old)))
-    | inr not_old ↦ elim known [
-      | inl x ↦ inl (x.0, agent_other script w new old c a not_old (λ is. not_known (inl (x.0, ap w.agent (sym is) ∙ x.1))) ∙ x.1)
-      | inr gone ↦ inr (at_another old c true (w.gateway.retired c) not_old ∙ gone)
-    ]
-  ]
+  known_still = still_known script w new old a unused
 
   -- what is known, and not retired after, is neither call
   record IsNeither (c : ℕ) : Type 0 where
@@ -51,7 +39,7 @@ module _ (script : Script) (w : World) (was : IsNumbered w) (new old : ℕ) (a :
       let not_old : c ≡ old → ⊥ = λ is. not_both (subst (λ n. later.retired n ≡ true) (sym is) (at_one old true (w.gateway.retired old))) open_call in
       record {
         not_old = not_old;
-        not_new = λ is. not_known (subst (IsKnown w) is known);
+        not_new = λ is. not_known w new unused not_retired (subst (IsKnown w) is known);
         still_open = sym (at_another old c true (w.gateway.retired c) not_old) ∙ open_call;
       }
 
@@ -65,18 +53,22 @@ module _ (script : Script) (w : World) (was : IsNumbered w) (new old : ℕ) (a :
       | inr other ↦ was.agents c b other.2
     ];
     open_calls = λ c b is. elim (agent_from script w new old c a b is) [
-      | inl here ↦ subst (λ n. later.retired n ≡ false) (sym here.0) (at_another old new true (w.gateway.retired new) differ ∙ not_retired)
+      | inl here ↦ subst (λ n. later.retired n ≡ false) (sym here.0)
+          (at_another old new true (w.gateway.retired new) (other_number w new old a there unused) ∙ not_retired)
       | inr other ↦ at_another old c true (w.gateway.retired c) other.1 ∙ was.open_calls c b other.2
     ];
     held = λ l c is. elim (handed_from old new (w.gateway.holder l) c is) [
       | inl own ↦ (begun script new a, ap begun_world.agent own.1 ∙ agent_new script w new old a)
-      | inr still ↦ (let its = was.held l c still.0 in
-          (its.0, agent_other script w new old c a still.1 (λ is_new. not_known (inl (its.0, ap w.agent (sym is_new) ∙ its.1))) ∙ its.1))
+      | inr still ↦ (let its = was.held l c still.0 in (
+        its.0,
+        agent_other script w new old c a still.1
+            (λ is_new. not_known w new unused not_retired (inl (its.0, ap w.agent (sym is_new) ∙ its.1))) ∙ its.1,
+      ))
     ];
     requests = record {
       each_known = λ r among. known_still r.call (was.requests.each_known r among);
       below = λ r b among is. elim (agent_from script w new old r.call a b is) [
-        | inl here ↦ absurd (not_known (subst (IsKnown w) here.0 (was.requests.each_known r among)))
+        | inl here ↦ absurd (not_known w new unused not_retired (subst (IsKnown w) here.0 (was.requests.each_known r among)))
         | inr other ↦ was.requests.below r b among other.2
       ];
       once = was.requests.once;
@@ -84,7 +76,7 @@ module _ (script : Script) (w : World) (was : IsNumbered w) (new old : ℕ) (a :
     replies = replies_stay w.gateway.retired later.retired w.gateway.link later.link w.gateway.association w.requests w.requests w.replies (λ r among. among)
         (λ x among open_call. let n = neither x.call (reply_known x among) open_call in
         (n.still_open, ap (λ (link : CallLink). link.last) (link_other w.gateway old new x.call n.not_old n.not_new)))
-        (λ c k is. kept_from w.gateway old new c k differ is) was.replies;
+        (λ c k is. kept_from w.gateway old new c k (other_number w new old a there unused) is) was.replies;
     notes = notes_stay (IsKnown w) (IsKnown begun_world) w.gateway.retired later.retired w.gateway.link later.link w.notes known_still
         (λ c known open_call. let n = neither c known open_call in
         (n.still_open, ap (λ (link : CallLink). link.notes) (link_other w.gateway old new c n.not_old n.not_new))) was.notes;

@@ -2,7 +2,7 @@
 -- that is executed or the kept one, and notes that are numbered on.
 use Rattle.mg_safety.proofs.Words.{◌≡◌, ◌∙◌, ◌+◌, ◌<◌, ◌≤◌, ◌++◌, ◌⊎◌, ℕ, Bool, false, List, [], ◌∷◌, length, Option, Some, None, refl, sym, ap, subst, arith}
 use Rattle.mg_safety.proofs.Words.{inl, inr, Contains, Contains-append_cases, Agent, CallLink, sent_notes, notes_from, Gateway, number_of, Note, Request, Reply}
-use Rattle.mg_safety.proofs.Words.{SentNote, RaisedNote, the_some, none_in, only_one, cases_eq}
+use Rattle.mg_safety.proofs.Words.{SentNote, RaisedNote, the_some, none_in, only_one, cases_eq, first_or_later}
 use Rattle.mg_safety.specs.MessageNumbers.{AreOnce}
 
 -- ---- lists in which each stands once
@@ -12,6 +12,13 @@ none_once of number x y first second same also = absurd (none_in x first)
 
 pub one_once : {A : Type 0} (of number : A → ℕ) (a : A) → AreOnce of number (a ∷ [])
 one_once of number a x y first second same also = sym (only_one a x first) ∙ only_one a y second
+
+-- a fact of the first one and of each later one
+pub first_and_later : {A : Type 0} (first : A) (rest : List A) (x : A) (P : A → Type 0) → P first → (Contains rest x → P x) → Contains (first ∷ rest) x → P x
+first_and_later first rest x P here later among = elim (first_or_later first rest x among) [
+  | inl same ↦ subst P same here
+  | inr there ↦ later there
+]
 
 -- what comes before a list, where nothing of it has the number of what is there
 pub both_once : {A : Type 0} (of number : A → ℕ) (new old : List A) → AreOnce of number new → AreOnce of number old
@@ -49,10 +56,12 @@ sent_on call association count (raised ∷ more) =
     let of_first = λ (n : SentNote) (among : Contains (first ∷ []) n). only_one first n among in
     record {
       grows = omega arith;
-      of_call = λ n among. by_case n (λ (x : SentNote). x.call ≡ call) refl (λ there. later.of_call n there) among;
-      above = λ n among. by_case n (λ (x : SentNote). count < x.number) (omega arith)
+      of_call = λ n among. first_and_later first (sent_notes call association (count + 1) more) n (λ (x : SentNote). x.call ≡ call) refl
+          (later.of_call n) among;
+      above = λ n among. first_and_later first (sent_notes call association (count + 1) more) n (λ (x : SentNote). count < x.number) (omega arith)
           (λ there. let above : count + 1 < n.number = later.above n there in omega (arith, above)) among;
-      most = λ n among. by_case n (λ (x : SentNote). x.number ≤ count + length (raised ∷ more)) (omega arith)
+      most = λ n among. first_and_later first (sent_notes call association (count + 1) more) n
+          (λ (x : SentNote). x.number ≤ count + length (raised ∷ more)) (omega arith)
           (λ there. let most : n.number ≤ count + 1 + length more = later.most n there in omega (arith, most)) among;
       once = both_once (λ (n : SentNote). n.call) (λ (n : SentNote). n.number) (first ∷ []) (sent_notes call association (count + 1) more)
           (one_once (λ (n : SentNote). n.call) (λ (n : SentNote). n.number) first) later.once
@@ -63,13 +72,6 @@ sent_on call association count (raised ∷ more) =
   where
     first : SentNote
     first = record { call = call; association = association; number = count + 1; line = raised.line; note = raised.note }
-
-    by_case : (n : SentNote) (P : SentNote → Type 0) → P first → (Contains (sent_notes call association (count + 1) more) n → P n)
-        → Contains (first ∷ sent_notes call association (count + 1) more) n → P n
-    by_case n P here there among = elim (Contains-append_cases (first ∷ []) (sent_notes call association (count + 1) more) n among) [
-      | inl at ↦ subst P (only_one first n at) here
-      | inr later ↦ there later
-    ]
 
 pub line_on : (g : Gateway) (call l : ℕ) (note : Option Note)
     → AreNumberedOn call (g.link call).notes ((g.link call).notes + length (notes_from g call l note)) (notes_from g call l note)
@@ -180,11 +182,12 @@ pub reply_again : (retired : ℕ → Bool) (link : ℕ → CallLink) (associatio
     → RepliesAreNumbered retired link association requests (k ∷ replies)
 reply_again retired link association requests replies c k is was = record {
   kept = was.kept;
-  answered = λ x among. by_case x (λ y. IsAnswered requests y) its.2 (was.answered x) among;
-  past = λ x among. by_case x (λ (y : Reply). y.association ≤ association) (let now = its.1 in omega (arith, now)) (was.past x) among;
-  executed = λ x among. by_case x (λ (y : Reply). retired y.call ≡ false → y.association ≡ association → y.number ≤ number_of (link y.call).last)
+  answered = λ x among. first_and_later k replies x (λ y. IsAnswered requests y) its.2 (was.answered x) among;
+  past = λ x among. first_and_later k replies x (λ (y : Reply). y.association ≤ association) (let now = its.1 in omega (arith, now)) (was.past x) among;
+  executed = λ x among. first_and_later k replies x
+      (λ (y : Reply). retired y.call ≡ false → y.association ≡ association → y.number ≤ number_of (link y.call).last)
       (λ open_call now. subst (λ last. k.number ≤ number_of last) (sym here) (omega arith)) (was.executed x) among;
-  same_kept = λ x j among. by_case x (λ (y : Reply). (link y.call).last ≡ Some j → y.number ≡ j.number → y ≡ j)
+  same_kept = λ x j among. first_and_later k replies x (λ (y : Reply). (link y.call).last ≡ Some j → y.number ≡ j.number → y ≡ j)
       (λ there also. the_some k j (sym here ∙ there)) (was.same_kept x j) among;
   once = both_once (λ (x : Reply). x.call) (λ (x : Reply). x.number) (k ∷ []) replies (one_once (λ (x : Reply). x.call) (λ (x : Reply). x.number) k) was.once
       (λ x y at there same also. let first = only_one k x at in
@@ -197,9 +200,3 @@ reply_again retired link association requests replies c k is was = record {
 
     here : (link k.call).last ≡ Some k
     here = ap (λ n. (link n).last) its.0 ∙ is
-
-    by_case : (x : Reply) (P : Reply → Type 0) → P k → (Contains replies x → P x) → Contains (k ∷ replies) x → P x
-    by_case x P first later among = elim (Contains-append_cases (k ∷ []) replies x among) [
-      | inl at ↦ subst P (only_one k x at) first
-      | inr there ↦ later there
-    ]

@@ -1,11 +1,11 @@
 -- A request that reaches the gateway keeps messages numbered: its reply is the first with its number, or the kept one once more.
 use Rattle.mg_safety.proofs.Words.{◌≡◌, ◌∙◌, ◌+◌, ◌<◌, ◌≤◌, ◌++◌, ◌==◌, ◌⊎◌, ℕ, false, List, [], ◌∷◌, length, Option, Some, refl, sym, ap, subst, arith, inl}
-use Rattle.mg_safety.proofs.Words.{inr, Contains, eqb-true, eqb-false, Contains-append_cases, ChosenRefusal, Gateway, CallLink, IsExecutedBy, last_executed}
-use Rattle.mg_safety.proofs.Words.{after_request, reply_of, Request, Reply, SentNote, World, with_gateway, IsFirst, IsRepeat, Executes, the_some, at_one}
-use Rattle.mg_safety.proofs.Words.{at_another, fresh_is_open, fresh_at, kept_at, number_of, only_one, by_test}
+use Rattle.mg_safety.proofs.Words.{inr, Contains, eqb-true, eqb-false, ChosenRefusal, Gateway, CallLink, IsExecutedBy, last_executed, after_request, reply_of}
+use Rattle.mg_safety.proofs.Words.{Request, Reply, SentNote, World, with_gateway, IsFirst, IsRepeat, Executes, the_some, at_one, at_another, fresh_is_open}
+use Rattle.mg_safety.proofs.Words.{fresh_at, kept_at, number_of, only_one, by_test}
 use Rattle.mg_safety.proofs.InvariantWords.{IsKnown}
 use Rattle.mg_safety.proofs.Messages.Numbered.{one_once, both_once, AreNumberedOn, sent_on, notes_added, IsAnswered, RepliesAreNumbered, one_association}
-use Rattle.mg_safety.proofs.Messages.Numbered.{reply_again}
+use Rattle.mg_safety.proofs.Messages.Numbered.{reply_again, first_and_later}
 use Rattle.mg_safety.proofs.Messages.NumberedWorlds.{IsNumbered}
 
 module _ (w : World) (was : IsNumbered w) (request : Request) (among : Contains w.requests request) (chosen : Option ChosenRefusal) (gateway : Gateway)
@@ -56,12 +56,6 @@ module _ (w : World) (was : IsNumbered w) (request : Request) (among : Contains 
       (λ e. let small : y.number ≤ last_executed w.gateway call = subst (λ c. y.number ≤ number_of (w.gateway.link c).last) (eqb-true y.call call e) below in
       let above = newer in omega (arith, small, above)) (λ e. below)
 
-  by_case : (y : Reply) (P : Reply → Type 0) → P reply → (Contains w.replies y → P y) → Contains (reply ∷ w.replies) y → P y
-  by_case y P first old there = elim (Contains-append_cases (reply ∷ []) w.replies y there) [
-    | inl at ↦ subst P (only_one reply y at) first
-    | inr before ↦ old before
-  ]
-
   kept_after : (c : ℕ) (k : Reply) → (later.link c).last ≡ Some k → (k.call ≡ c) × (k.association ≡ w.gateway.association) × IsAnswered w.requests k
   kept_after c k is = elim (kept_at_call c k is) [
     | inl here ↦ (
@@ -84,13 +78,14 @@ module _ (w : World) (was : IsNumbered w) (request : Request) (among : Contains 
   replies_after : RepliesAreNumbered w.gateway.retired later.link w.gateway.association w.requests (reply ∷ w.replies)
   replies_after = record {
     kept = kept_after;
-    answered = λ y there. by_case y (IsAnswered w.requests) is_answered (was.replies.answered y) there;
-    past = λ y there. by_case y (λ (z : Reply). z.association ≤ w.gateway.association) (let now = current in omega (arith, now)) (was.replies.past y) there;
-    executed = λ y there. by_case y
+    answered = λ y there. first_and_later reply w.replies y (IsAnswered w.requests) is_answered (was.replies.answered y) there;
+    past = λ y there. first_and_later reply w.replies y (λ (z : Reply). z.association ≤ w.gateway.association)
+        (let now = current in omega (arith, now)) (was.replies.past y) there;
+    executed = λ y there. first_and_later reply w.replies y
         (λ (z : Reply). w.gateway.retired z.call ≡ false → z.association ≡ w.gateway.association → z.number ≤ number_of (later.link z.call).last)
         (λ open_call now. subst (λ (link : CallLink). request.number ≤ number_of link.last) (sym (at_one call changed (w.gateway.link call))) (omega arith))
         (λ old open_call now. still_below y (was.replies.executed y old open_call now)) there;
-    same_kept = λ y k there. by_case y (λ (z : Reply). (later.link z.call).last ≡ Some k → z.number ≡ k.number → z ≡ k)
+    same_kept = λ y k there. first_and_later reply w.replies y (λ (z : Reply). (later.link z.call).last ≡ Some k → z.number ≡ k.number → z ≡ k)
         (λ is also. new_same k is) (old_same y k) there;
     once = both_once (λ (y : Reply). y.call) (λ (y : Reply). y.number) (reply ∷ []) w.replies (one_once (λ (y : Reply). y.call) (λ (y : Reply). y.number) reply)
         was.replies.once (λ y z at old same also. let is = only_one reply y at in

@@ -1,8 +1,8 @@
 -- A world in which messages are numbered; a step of an agent and an event of a line keep it so.
-use Rattle.mg_safety.proofs.Words.{◌≡◌, ◌∙◌, ◌+◌, ◌<◌, ◌++◌, ◌==◌, ◌⊎◌, ℕ, false, List, length, Option, Some, if◌then◌else◌, refl, sym, ap, subst, arith, inl}
-use Rattle.mg_safety.proofs.Words.{inr, Contains, eqb-true, Contains-append_cases, Contains-append_right, LineEvent, Agent, Phase, awaits_reply, Gateway}
-use Rattle.mg_safety.proofs.Words.{CallLink, with_line, with_notes, Request, World, AgentSteps, agent_steps, sent_in, with_gateway, LineOccurs, at_one}
-use Rattle.mg_safety.proofs.Words.{at_another, by_test}
+use Rattle.mg_safety.proofs.Words.{◌≡◌, ◌∙◌, ◌+◌, ◌<◌, ◌++◌, ◌==◌, ℕ, false, List, length, Option, Some, if◌then◌else◌, refl, sym, ap, subst, arith, inl, inr}
+use Rattle.mg_safety.proofs.Words.{Contains, eqb-true, Contains-append_cases, Contains-append_right, LineEvent, Agent, Phase, awaits_reply, Gateway, CallLink}
+use Rattle.mg_safety.proofs.Words.{with_line, with_notes, Request, World, AgentSteps, agent_steps, sent_in, with_gateway, LineOccurs, at_one, at_another}
+use Rattle.mg_safety.proofs.Words.{by_test}
 use Rattle.mg_model.specs.Gateway as gateway
 use Rattle.mg_safety.proofs.InvariantWords.{IsKnown}
 use Rattle.mg_safety.specs.MessageNumbers.{AreOnce}
@@ -50,9 +50,15 @@ module _ (w : World) (was : IsNumbered w) (call : ℕ) (before a : Agent) (there
       | inl at ↦ inl (still_there r.call before (ap w.agent ((goes.sent r at).0 ∙ of_call) ∙ there))
       | inr old ↦ known_still r.call (was.requests.each_known r old)
     ];
-    below = λ r b among is. elim (Contains-append_cases (sent_in a.phase) w.requests r among) [
-      | inl at ↦ new_below r b at (stepped_agent w call a r.call b is)
-      | inr old ↦ old_below r b old (stepped_agent w call a r.call b is)
+    below = λ r b among is. elim (stepped_agent w call a r.call b is) [
+      | inl here ↦ subst (λ (x : Agent). r.number < x.next) here.1 (elim (Contains-append_cases (sent_in a.phase) w.requests r among) [
+        | inl at ↦ (let number = (goes.sent r at).1.0 in let above = (goes.sent r at).1.1 in omega (arith, number, above))
+        | inr old ↦ (let small = was.requests.below r before old (ap w.agent here.0 ∙ there) in let grows = goes.next_is in omega (arith, small, grows))
+      ])
+      | inr other ↦ elim (Contains-append_cases (sent_in a.phase) w.requests r among) [
+        | inl at ↦ absurd (other.0 ((goes.sent r at).0 ∙ of_call))
+        | inr old ↦ was.requests.below r b old other.1
+      ]
     ];
     once = both_once (λ (r : Request). r.call) (λ (r : Request). r.number) (sent_in a.phase) w.requests (sent_once a.phase) was.requests.once
         (λ x y at old same also. absurd (
@@ -61,21 +67,6 @@ module _ (w : World) (was : IsNumbered w) (call : ℕ) (before a : Agent) (there
         let small = was.requests.below y before old (ap w.agent (sym same ∙ facts.0 ∙ of_call) ∙ there) in
         omega (arith, number, small, also)));
   }
-    where
-      new_below : (r : Request) (b : Agent) → Contains (sent_in a.phase) r
-          → ((r.call ≡ call) × (a ≡ b)) ⊎ ((r.call ≡ call → ⊥) × (w.agent r.call ≡ Some b)) → r.number < b.next
-      new_below r b at (inl here) =
-          let facts = goes.sent r at in
-          let number : r.number ≡ before.next = facts.1.0 in let above : before.next < a.next = facts.1.1 in
-          subst (λ (x : Agent). r.number < x.next) here.1 (omega (arith, number, above))
-      new_below r b at (inr other) = absurd (other.0 ((goes.sent r at).0 ∙ of_call))
-
-      old_below : (r : Request) (b : Agent) → Contains w.requests r
-          → ((r.call ≡ call) × (a ≡ b)) ⊎ ((r.call ≡ call → ⊥) × (w.agent r.call ≡ Some b)) → r.number < b.next
-      old_below r b old (inl here) =
-          let small = was.requests.below r before old (ap w.agent here.0 ∙ there) in let grows = goes.next_is in
-          subst (λ (x : Agent). r.number < x.next) here.1 (omega (arith, small, grows))
-      old_below r b old (inr other) = was.requests.below r b old other.1
 
   pub step_numbered : IsNumbered stepped
   step_numbered = record {
