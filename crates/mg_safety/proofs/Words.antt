@@ -19,7 +19,7 @@ pub use Rattle.mg_names.specs.declared.identifiers.TermId.{TermId}
 pub use Rattle.mg_names.specs.declared.identifiers.TermId.TheVariants.{Eph, Line}
 pub use Rattle.mg_names.specs.declared.kinds.Kind.{Kind}
 pub use Rattle.mg_names.specs.declared.modes.Mode.{Mode}
-pub use Rattle.mg_names.specs.declared.modes.Mode.TheVariants.{Inactive, ReceiveOnly, SendOnly, SendReceive}
+pub use Rattle.mg_names.specs.declared.modes.Mode.TheVariants.{Inactive}
 pub use Rattle.mg_names.specs.declared.phases.LinkPhase.TheVariants.{Answered, Failed, Resting, Sent}
 pub use Rattle.mg_names.specs.declared.signals.Signal.{Signal}
 pub use Rattle.mg_names.specs.declared.signals.Signal.TheVariants.{BusyTone, CongestionTone, DialTone, Ring, RingingTone}
