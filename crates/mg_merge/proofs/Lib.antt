@@ -1,5 +1,5 @@
+pub mod Words
 pub mod Scopes
-pub mod Lists
 pub mod Commands
 pub mod Events
 pub mod Shards

@@ -1,18 +1,9 @@
 -- What a shard owns: numbers of calls, lines, and identifiers of contexts and ephemerals; what of a command is the shard's; and what it means
 -- that the board and the lines of a shard stand, as they are, among those of the merge.
 use Rattle.std.proofs.Common.{◌≡◌, ◌<◌, ℕ, Bool, true, false, Option, Some, None, is_some}
-use Rattle.mg_names.specs.declared.identifiers.TermId.{TermId}
-use Rattle.mg_names.specs.declared.identifiers.TermId.TheVariants.{Line, Eph}
-use Rattle.mg_model.specs.declared.items.Added.{Added}
+use Rattle.mg_merge.proofs.Words.{Add, Added, Board, Eph, Ephemeral, Item, Line, Modify, Move, Nothing, RemoteSetting, SetTopology, Shard, Subtract}
+use Rattle.mg_merge.proofs.Words.{SubtractAll, TermId, exists, is_context_number, null, place_of}
 use Rattle.mg_model.specs.declared.items.Added.TheVariants as added
-use Rattle.mg_model.specs.declared.items.Item.{Item}
-use Rattle.mg_model.specs.declared.items.Item.TheVariants.{Add, Modify, Move, Subtract, SubtractAll, SetTopology}
-use Rattle.mg_model.specs.declared.items.RemoteSetting.{RemoteSetting}
-use Rattle.mg_model.specs.declared.items.RemoteSetting.TheVariants.{Nothing, Ephemeral}
-use Rattle.mg_model.specs.Board.{Board, exists, place_of}
-use Rattle.mg_model.specs.Items.{is_context_number}
-use Rattle.mg_model.specs.Numbers.{null}
-use Rattle.mg_model.specs.Shards.{Shard}
 
 -- the numbers of the calls of a shard, its lines, and the identifiers that it gives to contexts and to ephemerals
 pub record Scope : Type 0 where

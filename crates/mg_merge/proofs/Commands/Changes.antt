@@ -1,20 +1,12 @@
 -- What a command of a shard changes: its board stays within what is the shard's, and any board on which it is executed is, at what isn't the
 -- shard's, as it was.
-use Rattle.std.proofs.Common.{◌≡◌, ◌∙◌, ◌<◌, ℕ, Bool, true, false, Option, Some, None, is_some, refl, sym, ap, subst, arith, inl, inr}
-use Rattle.std.specs.Prelude.{◌==◌, ◌||◌, ◌⊎◌, not, nat_lt, IsTrue, if◌then◌else◌}
-use Rattle.std.proofs.lemmas.Bool.{eqb-true}
-use Rattle.std.proofs.lemmas.Bool.Decides.{nat_tests}
-use Rattle.mg_names.specs.declared.codes.Code.TheVariants.{UnknownContext, UnknownTermination}
-use Rattle.mg_names.specs.declared.identifiers.TermId.{TermId}
-use Rattle.mg_names.specs.declared.identifiers.TermId.TheVariants.{Line, Eph}
+use Rattle.std.proofs.Common.{◌≡◌, ◌∙◌, ◌<◌, ℕ, Bool, true, false, Option, Some, None, is_some, refl, sym, ap, subst, arith, inl, inr, ◌==◌, ◌||◌, ◌⊎◌, not}
+use Rattle.std.proofs.Common.{nat_lt, IsTrue, if◌then◌else◌}
+use Rattle.mg_merge.proofs.Words.{Add, Board, Chosen, ContextExists, Eph, IsFresh, IsLegal, Item, Line, Modify, Move, Row, SetTopology, Subtract, SubtractAll}
+use Rattle.mg_merge.proofs.Words.{TermId, UnknownContext, UnknownTermination, by_test, choose, creates_context, creates_ephemeral, different, effect, eq-eqb}
+use Rattle.mg_merge.proofs.Words.{eqb-true, exists, false_from_ne_true, false_not_true, given, mode_of, nat_tests, neither_first, neither_second, not_both}
+use Rattle.mg_merge.proofs.Words.{not_refused, null, place_in, place_of, remote_of, row_at, same_term, subtracted, subtracts, target, where_false}
 use Rattle.mg_model.specs.declared.items.Added.TheVariants as added
-use Rattle.mg_model.specs.declared.items.Item.{Item}
-use Rattle.mg_model.specs.declared.items.Item.TheVariants.{Add, Modify, Move, Subtract, SubtractAll, SetTopology}
-use Rattle.mg_model.specs.declared.rows.Row.{Row}
-use Rattle.mg_model.specs.Board.{Board, same_term, exists, place_of, place_in, mode_of, remote_of, ContextExists}
-use Rattle.mg_model.specs.Items.{IsLegal, Chosen, IsFresh, target, row_at, effect, subtracts, subtracted, given, creates_context, creates_ephemeral}
-use Rattle.mg_model.specs.Numbers.{null, choose}
-use Rattle.mg_model.proofs.Cases.{not_both, false_not_true, by_test, neither_first, not_refused, where_false}
 use Rattle.mg_model.proofs.Terminations.{same_term_is}
 use Rattle.mg_merge.proofs.Commands.SameCodes.{existing_mine, leaves_mine}
 use Rattle.mg_merge.proofs.Scopes.{Scope, mine, NamesTerm, NamesItem, IsContextOf, IsEphemeralOf, IsWithin}
@@ -22,18 +14,10 @@ use Rattle.mg_merge.proofs.Scopes.{Scope, mine, NamesTerm, NamesItem, IsContextO
 -- ---- tests
 
 differs : (s : Scope) (u t : TermId) → mine s u ≡ true → mine s t ≡ false → same_term t u ≡ false
-differs s u t own other = go (same_term t u) refl
-  where
-    go : (test : Bool) → same_term t u ≡ test → test ≡ false
-    go true e = absurd (not_both (ap (mine s) (same_term_is t u e) ∙ own) other)
-    go false e = refl
+differs s u t own other = false_from_ne_true (same_term t u) (λ e. not_both (ap (mine s) (same_term_is t u e) ∙ own) other)
 
 differs_back : (s : Scope) (u t : TermId) → mine s u ≡ true → mine s t ≡ false → same_term u t ≡ false
-differs_back s u t own other = go (same_term u t) refl
-  where
-    go : (test : Bool) → same_term u t ≡ test → test ≡ false
-    go true e = absurd (not_both own (ap (mine s) (same_term_is u t e) ∙ other))
-    go false e = refl
+differs_back s u t own other = false_from_ne_true (same_term u t) (λ e. not_both own (ap (mine s) (same_term_is u t e) ∙ other))
 
 is_decided : (s : Scope) (c : ℕ) → IsContextOf s c ⊎ (IsContextOf s c → ⊥)
 is_decided s c = go (nat_lt 0 c) (nat_lt c choose) (s.class c) refl refl refl
@@ -44,17 +28,9 @@ is_decided s c = go (nat_lt 0 c) (nat_lt c choose) (s.class c) refl refl refl
     go true false class first second third = inr (λ is. let less : c < choose = is.0.1 in grind (arith, nat_tests))
     go true true false first second third = inr (λ is. not_both is.1 third)
 
-class_kept : (b : Board) (item : Item) (chosen : Chosen) → (effect b item chosen).class ≡ b.class
-class_kept b (Add context (added.Line l) settings) chosen = refl
-class_kept b (Add context added.NewEphemeral settings) chosen = refl
-class_kept b (Modify context t settings) chosen = refl
-class_kept b (Move context t settings) chosen = refl
-class_kept b (Subtract context t) chosen = refl
-class_kept b (SubtractAll context) chosen = refl
-class_kept b (SetTopology context t u topology) chosen = refl
-
 pub class_stays : (b : Board) (item : Item) (chosen : Chosen) (n : ℕ) → (effect b item chosen).class n ≡ b.class n
-class_stays b item chosen n = ap (λ (class : ℕ → Bool). class n) (class_kept b item chosen)
+class_stays b (Add context (added.Line l) settings) chosen n = refl
+class_stays b item chosen n = refl
 
 module _ (s : Scope) (b : Board) (within : IsWithin s b) (item : Item) (names : NamesItem s item) (legal : IsLegal b item) (chosen : Chosen)
     (fresh : IsFresh b item chosen) where
@@ -114,29 +90,19 @@ module _ (s : Scope) (b : Board) (within : IsWithin s b) where
   cut_out x (SubtractAll context) names legal chosen fresh t v other also stays still = rw (stays, still) refl
   cut_out x (SetTopology context u w topology) names legal chosen fresh t v other also stays still =
       let own = (named_mine s b within u _ names.1 (legal UnknownTermination)).1 in
-      let second : mine s w ≡ true = existing_mine s b within w names.2 (both (exists b u) (exists b w) (legal UnknownTermination)) in
+      let second : mine s w ≡ true = existing_mine s b within w names.2
+      (not_refused (exists b w) (neither_second (not (exists b u)) (not (exists b w)) (legal UnknownTermination))) in
       rw (differs s u t own other, differs s w t second other) refl
-    where
-      both : (p q : Bool) → (IsTrue (not p || not q) → ⊥) → q ≡ true
-      both true true legal = refl
-      both true false legal = absurd (legal refl)
-      both false q legal = absurd (legal refl)
 
   pub not_leaving : (item : Item) → NamesItem s item → IsLegal b item → (t : TermId) → mine s t ≡ false → subtracts b item t ≡ false
-  not_leaving item names legal t other = go (subtracts b item t) refl
-    where
-      go : (test : Bool) → subtracts b item t ≡ test → test ≡ false
-      go true e = absurd (not_both (leaves_mine s b within item names legal t e) other)
-      go false e = refl
+  not_leaving item names legal t other =
+      false_from_ne_true (subtracts b item t) (λ e. not_both (leaves_mine s b within item names legal t e) other)
 
   pub given_out : (creates : Bool) (number : ℕ) (was : ℕ → Bool) → (creates ≡ true → s.class number ≡ true) → (n : ℕ) → s.class n ≡ false
       → given creates number was n ≡ was n
   given_out false number was own n other = refl
-  given_out true number was own n other = go (n == number) refl
-    where
-      go : (test : Bool) → (n == number) ≡ test → (test || was n) ≡ was n
-      go true e = absurd (not_both (ap s.class (eqb-true n number e) ∙ own refl) other)
-      go false e = refl
+  given_out true number was own n other =
+      ap (λ (test : Bool). test || was n) (different n number (λ is. not_both (ap s.class is ∙ own refl) other))
 
   -- ---- the shard's board after a command
 
@@ -147,10 +113,12 @@ module _ (s : Scope) (b : Board) (within : IsWithin s b) where
   target_within : (context : ℕ) (chosen : Chosen) → (context == choose ≡ true → IsContextOf s chosen.context)
       → ((context ≡ choose → ⊥) → IsContextOf s context) → IsContextOf s (if context == choose then chosen.context else context)
   target_within context chosen first second = by_test (IsContextOf s) chosen.context context (context == choose) first
-      (λ e. second (λ is. not_both (self is) e))
-    where
-      self : context ≡ choose → (context == choose) ≡ true
-      self is = grind (arith, nat_tests)
+      (λ e. second (λ is. not_both (eq-eqb context choose is) e))
+
+  taken_away : (t : TermId) (leaves : Bool) → StandsWithin (if leaves then subtracted t else b.row t)
+  taken_away (Line l) true real = absurd (real refl)
+  taken_away (Eph k) true real = absurd (real refl)
+  taken_away t false real = within.places t real
 
   places_after : (item : Item) (names : NamesItem s item) (legal : IsLegal b item) (chosen : Chosen) (fresh : IsFresh b item chosen)
       → (t : TermId) → StandsWithin ((effect b item chosen).row t)
@@ -172,18 +140,8 @@ module _ (s : Scope) (b : Board) (within : IsWithin s b) where
   places_after (Move context u settings) names legal chosen fresh t =
       by_test StandsWithin (Some (row_at context.0 settings (mode_of b u) (remote_of b u))) (b.row t) (same_term t u)
       (λ e real. existing s b within context.0 (legal UnknownContext)) (λ e. within.places t)
-  places_after (Subtract context u) names legal chosen fresh t = left t (same_term t u) (within.places t)
-    where
-      left : (t : TermId) (test : Bool) → StandsWithin (b.row t) → StandsWithin (if test then subtracted t else b.row t)
-      left (Line l) true before real = absurd (real refl)
-      left (Eph k) true before real = absurd (real refl)
-      left t false before real = before real
-  places_after (SubtractAll context) names legal chosen fresh t = left t (place_of b t == context.0) (within.places t)
-    where
-      left : (t : TermId) (test : Bool) → StandsWithin (b.row t) → StandsWithin (if test then subtracted t else b.row t)
-      left (Line l) true before real = absurd (real refl)
-      left (Eph k) true before real = absurd (real refl)
-      left t false before real = before real
+  places_after (Subtract context u) names legal chosen fresh t = taken_away t (same_term t u)
+  places_after (SubtractAll context) names legal chosen fresh t = taken_away t (place_of b t == context.0)
   places_after (SetTopology context u v topology) names legal chosen fresh t = within.places t
 
   -- an ephemeral that exists is one that the shard gives

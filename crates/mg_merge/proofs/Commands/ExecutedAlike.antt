@@ -1,18 +1,11 @@
 -- A command that a shard's board executes is executed on the board of the merge, with the same result; the boards after it read alike at what
 -- is the shard's, and all else stays.
-use Rattle.std.proofs.Common.{◌≡◌, ◌∙◌, ℕ, Bool, true, false, List, Option, Some, is_some, refl, sym, ap, subst}
-use Rattle.std.specs.Prelude.{◌==◌, ◌||◌, ◌&&◌, if◌then◌else◌}
-use Rattle.mg_names.specs.declared.identifiers.TermId.{TermId}
-use Rattle.mg_names.specs.declared.identifiers.TermId.TheVariants.{Line, Eph}
+use Rattle.std.proofs.Common.{◌≡◌, ◌∙◌, ℕ, Bool, true, false, List, Option, Some, is_some, refl, sym, ap, subst, ◌==◌, ◌||◌, ◌&&◌, if◌then◌else◌, inl, inr}
+use Rattle.mg_merge.proofs.Words.{Add, Board, Chosen, Done, Eph, IsExecuted, IsFresh, IsLegal, IsResult, IsUsedUp, Item, Line, Lists, Modify, Move, Row}
+use Rattle.mg_merge.proofs.Words.{SetTopology, Settings, Subtract, SubtractAll, TermId, cases_Bool, creates_context, creates_ephemeral, effect, exists}
+use Rattle.mg_merge.proofs.Words.{is_context_number, mode_in, mode_of, not_both, null, place_in, place_of, placed, remote_in, remote_of, row_at, same_term}
+use Rattle.mg_merge.proofs.Words.{subtracted, subtracts, true_from_ne_false}
 use Rattle.mg_model.specs.declared.items.Added.TheVariants as added
-use Rattle.mg_model.specs.declared.items.Item.{Item}
-use Rattle.mg_model.specs.declared.items.Item.TheVariants.{Add, Modify, Move, Subtract, SubtractAll, SetTopology}
-use Rattle.mg_model.specs.declared.items.Settings.{Settings}
-use Rattle.mg_model.specs.declared.rows.Row.{Row}
-use Rattle.mg_model.specs.Board.{Board, same_term, exists, place_of, place_in, mode_in, remote_in, mode_of, remote_of}
-use Rattle.mg_model.specs.Items.{is_context_number, IsLegal, IsUsedUp, Chosen, IsFresh, IsExecuted, IsResult, Lists, Done, row_at, placed, effect, subtracts, subtracted, creates_context, creates_ephemeral}
-use Rattle.mg_model.specs.Numbers.{null}
-use Rattle.mg_model.proofs.Cases.{not_both}
 use Rattle.mg_merge.proofs.Commands.SameCodes.{no_zeroth, leaves_mine, row_same, leaves_same, applies_back}
 use Rattle.mg_merge.proofs.Commands.Changes.{class_stays, row_out, cut_out, given_out, not_leaving, within_after, fresh_context, fresh_ephemeral}
 use Rattle.mg_merge.proofs.Scopes.{Scope, mine, NamesItem, IsWithin, IsPart, IsWhole, IsSameOutside}
@@ -23,32 +16,24 @@ use Rattle.mg_merge.proofs.Scopes.{Scope, mine, NamesItem, IsWithin, IsPart, IsW
 pub whole_after : (s : Scope) (after m merged : Board) → IsWithin s after → ((t : TermId) → mine s t ≡ true → merged.row t ≡ after.row t)
     → ((t : TermId) → mine s t ≡ false → merged.row t ≡ m.row t) → IsWhole m → IsWhole merged
 whole_after s after m merged within own others whole = record {
-  places = λ t. places t (mine s t) refl;
-  zeroth = zeroth (mine s (Eph 0)) refl;
+  places = λ t real. elim (cases_Bool (mine s t)) [
+    | inl e ↦ (let at : place_of merged t ≡ place_of after t = ap place_in (own t e) in
+        subst is_context_number (sym at) (within.places t (λ is. real (at ∙ is))).0)
+    | inr e ↦ (let at : place_of merged t ≡ place_of m t = ap place_in (others t e) in
+        subst is_context_number (sym at) (whole.places t (λ is. real (at ∙ is))))
+  ];
+  zeroth = elim (cases_Bool (mine s (Eph 0))) [
+    | inl e ↦ ap is_some (own (Eph 0) e) ∙ no_zeroth s after within
+    | inr e ↦ ap is_some (others (Eph 0) e) ∙ whole.zeroth
+  ];
 }
-  where
-    places : (t : TermId) (test : Bool) → mine s t ≡ test → (place_of merged t ≡ null → ⊥) → is_context_number (place_of merged t)
-    places t true e real =
-        let at : place_of merged t ≡ place_of after t = ap place_in (own t e) in
-        subst is_context_number (sym at) (within.places t (λ is. real (at ∙ is))).0
-    places t false e real =
-        let at : place_of merged t ≡ place_of m t = ap place_in (others t e) in
-        subst is_context_number (sym at) (whole.places t (λ is. real (at ∙ is)))
-
-    zeroth : (test : Bool) → mine s (Eph 0) ≡ test → exists merged (Eph 0) ≡ false
-    zeroth true e = ap is_some (own (Eph 0) e) ∙ no_zeroth s after within
-    zeroth false e = ap is_some (others (Eph 0) e) ∙ whole.zeroth
 
 -- and who stands in the shard's contexts is the shard's
 pub members_after : (s : Scope) (b m merged : Board) → IsPart s b m → ((t : TermId) → mine s t ≡ false → merged.row t ≡ m.row t)
     → (t : TermId) → (place_of merged t ≡ null → ⊥) → s.class (place_of merged t) ≡ true → mine s t ≡ true
-members_after s b m merged part others t real class = go (mine s t) refl
-  where
-    go : (test : Bool) → mine s t ≡ test → test ≡ true
-    go true e = refl
-    go false e =
-        let at : place_of merged t ≡ place_of m t = ap place_in (others t e) in
-        absurd (not_both (part.members t (λ is. real (at ∙ is)) (sym (ap s.class at) ∙ class)) e)
+members_after s b m merged part others t real class = true_from_ne_false (mine s t) (λ e.
+    let at : place_of merged t ≡ place_of m t = ap place_in (others t e) in
+    not_both (part.members t (λ is. real (at ∙ is)) (sym (ap s.class at) ∙ class)) e)
 
 -- ---- the effect of a command
 
@@ -88,17 +73,14 @@ module _ (s : Scope) (b m : Board) (within : IsWithin s b) (part : IsPart s b m)
   cut_on : (item : Item) (names : NamesItem s item) (legal : IsLegal b item) (chosen : Chosen) (t v : TermId) → mine s t ≡ true → mine s v ≡ true
       → (effect m item chosen).cut t v ≡ (effect b item chosen).cut t v
   cut_on (Add context (added.Line l) settings) names legal chosen t v own also = part.cut t v own also
-  cut_on (Add context added.NewEphemeral settings) names legal chosen t v own also = rw (part.cut t v own also) refl
   cut_on (Modify context u settings) names legal chosen t v own also = part.cut t v own also
-  cut_on (Move context u settings) names legal chosen t v own also = rw (part.cut t v own also) refl
-  cut_on (Subtract context u) names legal chosen t v own also = rw (part.cut t v own also) refl
   cut_on (SubtractAll context) names legal chosen t v own also =
       rw (
         leaves_same s b m within part whole (SubtractAll context) names legal t,
         leaves_same s b m within part whole (SubtractAll context) names legal v,
         part.cut t v own also,
       ) refl
-  cut_on (SetTopology context u w topology) names legal chosen t v own also = rw (part.cut t v own also) refl
+  cut_on _ names legal chosen t v own also = rw (part.cut t v own also) refl
 
   -- ---- the command is executed
 

@@ -1,16 +1,10 @@
 -- The identifiers that are left: each command takes at most one, so where as many were left as there are commands, none is refused for want of
 -- one; not in the merge either.
-use Rattle.std.proofs.Common.{◌≡◌, ◌∙◌, ◌<◌, ◌≤◌, ℕ, suc, Bool, true, false, List, [], ◌∷◌, length, refl, sym, subst, arith, inl, inr}
-use Rattle.std.specs.Prelude.{◌==◌, Contains, if◌then◌else◌}
-use Rattle.std.proofs.lemmas.Bool.{eqb-true, eqb-false}
+use Rattle.std.proofs.Common.{◌≡◌, ◌∙◌, ◌<◌, ◌≤◌, ℕ, suc, Bool, true, false, List, [], ◌∷◌, length, refl, sym, subst, arith, inl, inr, ◌==◌, Contains}
+use Rattle.std.proofs.Common.{if◌then◌else◌}
+use Rattle.mg_merge.proofs.Words.{Add, AreLeft, Board, Chosen, IsContextLeft, IsEphemeralLeft, IsRising, IsUsedUp, Item, creates_context, creates_ephemeral}
+use Rattle.mg_merge.proofs.Words.{different, effect, eqb-false, eqb-true, first_in, first_or_later, given, later_in, none_in, not_both}
 use Rattle.mg_model.specs.declared.items.Added.TheVariants as added
-use Rattle.mg_model.specs.declared.items.Item.{Item}
-use Rattle.mg_model.specs.declared.items.Item.TheVariants.{Add, Modify, Move, Subtract, SubtractAll, SetTopology}
-use Rattle.mg_model.specs.Board.{Board}
-use Rattle.mg_model.specs.Items.{IsRising, Chosen, effect, given, IsUsedUp, creates_context, creates_ephemeral}
-use Rattle.mg_model.specs.Shards.{AreLeft, IsContextLeft, IsEphemeralLeft}
-use Rattle.mg_model.proofs.Cases.{not_both, different}
-use Rattle.mg_model.proofs.Single.{none_in, first_in, first_or_later, later_in}
 use Rattle.mg_merge.proofs.Commands.Changes.{class_stays}
 use Rattle.mg_merge.proofs.Scopes.{Scope, IsWithin, IsPart}
 
@@ -115,18 +109,12 @@ remain_after b item chosen wanted left = record {
 }
 
 pub not_used_up : (b : Board) (wanted : ℕ) → Remain b (suc wanted) → (item : Item) → IsUsedUp b item → ⊥
-not_used_up b wanted left (Add context (added.Line l) settings) (inl (is, none)) =
-    let one = one_of_them (IsContextLeft b) wanted left.contexts in not_both (none one.0 one.1.0 one.1.1.0) one.1.1.1
-not_used_up b wanted left (Add context (added.Line l) settings) (inr never) = never
-not_used_up b wanted left (Add context added.NewEphemeral settings) (inl (is, none)) =
+not_used_up b wanted left (Add context what settings) (inl (is, none)) =
     let one = one_of_them (IsContextLeft b) wanted left.contexts in not_both (none one.0 one.1.0 one.1.1.0) one.1.1.1
 not_used_up b wanted left (Add context added.NewEphemeral settings) (inr none) =
     let one = one_of_them (IsEphemeralLeft b) wanted left.ephemerals in not_both (none one.0 one.1.0 one.1.1.0) one.1.1.1
-not_used_up b wanted left (Modify context t settings) never = never
-not_used_up b wanted left (Move context t settings) never = never
-not_used_up b wanted left (Subtract context t) never = never
-not_used_up b wanted left (SubtractAll context) never = never
-not_used_up b wanted left (SetTopology context t u topology) never = never
+not_used_up b wanted left (Add context (added.Line l) settings) (inr never) = never
+not_used_up b wanted left item never = never
 
 -- what is left to the shard is left to the merge
 pub remain_in_merge : (s : Scope) (b m : Board) (wanted : ℕ) → IsWithin s b → IsPart s b m → Remain b wanted → Remain m wanted

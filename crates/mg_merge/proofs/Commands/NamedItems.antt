@@ -1,21 +1,12 @@
 -- The commands of a shard's requests name nothing of another shard, so their items don't either.
-use Rattle.std.proofs.Common.{◌≡◌, ◌<◌, ℕ, true, List, Option, Some, None, option_map, refl, subst, arith}
-use Rattle.std.specs.Prelude.{unwrap_or, slice_get, option_and_then}
-use Rattle.std.specs.List.{All}
-use Rattle.std.proofs.lemmas.Option.{slice_get_within, get_or_from_slice_get}
-use Rattle.mg_model.specs.declared.references.ContextRef.{ContextRef}
-use Rattle.mg_model.specs.declared.references.ContextRef.TheVariants.{Number, MadeAt}
-use Rattle.mg_model.specs.declared.references.EphemeralRef.{EphemeralRef}
+use Rattle.std.proofs.Common.{◌≡◌, ◌<◌, ℕ, true, List, Option, Some, None, option_map, refl, subst, arith, unwrap_or, slice_get, option_and_then}
+use Rattle.mg_merge.proofs.Words.{All, ContextRef, Descriptors, Done, EphemeralRef, LineDescriptors, MadeAt, Number, RemoteRef, RequestCommand, TerminationRef}
+use Rattle.mg_merge.proofs.Words.{add_ephemeral, add_line, all, context_at, descriptors_for, ephemeral_at, get_or_from_slice_get, item_at, modify, move}
+use Rattle.mg_merge.proofs.Words.{no_ephemeral, none_is_some, of_termination, on_line, remote_at, set_topology, slice_get_within, subtract, subtract_all}
+use Rattle.mg_merge.proofs.Words.{termination_at, the_some}
 use Rattle.mg_model.specs.declared.references.EphemeralRef.TheVariants as ephemeral
-use Rattle.mg_model.specs.declared.references.RemoteRef.{RemoteRef}
 use Rattle.mg_model.specs.declared.references.RemoteRef.TheVariants as remote
-use Rattle.mg_model.specs.declared.references.TerminationRef.{TerminationRef}
 use Rattle.mg_model.specs.declared.references.TerminationRef.TheVariants as on
-use Rattle.mg_model.specs.Items.{Done}
-use Rattle.mg_model.specs.Messages.{Descriptors, RequestCommand, add_line, add_ephemeral, modify, move, subtract, subtract_all, set_topology}
-use Rattle.mg_model.specs.Numbers.{all, no_ephemeral}
-use Rattle.mg_model.specs.RequestRun.{context_at, ephemeral_at, termination_at, remote_at, item_at, LineDescriptors, on_line, of_termination, descriptors_for}
-use Rattle.mg_model.proofs.Cases.{none_is_some, the_some}
 use Rattle.mg_merge.proofs.Scopes.{Scope, NamesContext, NamesEphemeral, NamesTerm, NamesRemote, NamesItem, IsContextOf, IsEphemeralOf}
 
 -- ---- commands
@@ -117,9 +108,6 @@ described_term s (on.Ephemeral k) d names with_it e = absurd (none_is_some with_
 pub described_mine : (s : Scope) (command : RequestCommand) → NamesCommand s command → (with_it : LineDescriptors) → descriptors_for command ≡ Some with_it
     → s.lines with_it.line ≡ true
 described_mine s (add_line c l d) names with_it e = subst (λ (x : LineDescriptors). s.lines x.line ≡ true) (the_some (on_line l d) with_it e) names.1
-described_mine s (add_ephemeral c d) names with_it e = absurd (none_is_some with_it e)
 described_mine s (modify c t d) names with_it e = described_term s t d names.1 with_it e
 described_mine s (move c t d) names with_it e = described_term s t d names.1 with_it e
-described_mine s (subtract c t) names with_it e = absurd (none_is_some with_it e)
-described_mine s (subtract_all c) names with_it e = absurd (none_is_some with_it e)
-described_mine s (set_topology c t u topology) names with_it e = absurd (none_is_some with_it e)
+described_mine s _ names with_it e = absurd (none_is_some with_it e)

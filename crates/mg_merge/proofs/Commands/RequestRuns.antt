@@ -1,20 +1,12 @@
 -- A request of a shard runs on the gateway of the merge as it runs on the shard's: command by command, up to the same failure or the end, with
 -- the same results and notes.
-use Rattle.std.proofs.Common.{◌≡◌, ◌∙◌, ◌+◌, ◌++◌, ℕ, suc, Bool, true, false, List, [], ◌∷◌, length, Option, Some, None, refl, sym, ap, subst, inl, inr}
-use Rattle.std.specs.Prelude.{◌==◌, ◌||◌, not, filter, if◌then◌else◌}
-use Rattle.std.specs.List.{All}
-use Rattle.std.proofs.lemmas.List.Elements.{All-head, All-tail, All-push, filter_agree}
-use Rattle.mg_names.specs.declared.codes.Code.{Code}
-use Rattle.mg_names.specs.declared.identifiers.TermId.TheVariants.{Line}
-use Rattle.mg_model.specs.declared.failures.ChosenRefusal.{ChosenRefusal}
-use Rattle.mg_model.specs.declared.failures.Failure.{Failure}
-use Rattle.mg_model.specs.declared.items.Item.{Item}
-use Rattle.mg_model.specs.Board.{Board}
-use Rattle.mg_model.specs.Items.{Chosen, Done, IsExecuted, IsLegal, IsResult, IsFresh, IsUsedUp, only_if, creates_context, creates_ephemeral, subtracts}
-use Rattle.mg_model.specs.LineEvents.{LineRow, cleared}
-use Rattle.mg_model.specs.Messages.{RequestCommand}
-use Rattle.mg_model.specs.RequestRun.{Running, RaisedNote, RunsFrom, Succeeds, Fails, IsRefusedWith, MayRefuse, LineDescriptors, after_command, chosen_at, descriptors_for, described_row, item_at, line_after, note_from, raised, has_new_events, standing, with_descriptors}
-use Rattle.mg_model.proofs.Cases.{different, none_is_some, not_both, the_some, where_false}
+use Rattle.std.proofs.Common.{◌≡◌, ◌∙◌, ◌+◌, ◌++◌, ℕ, suc, Bool, true, false, List, [], ◌∷◌, length, Option, Some, None, refl, sym, ap, subst, inl, inr, ◌==◌}
+use Rattle.std.proofs.Common.{◌||◌, not, filter, if◌then◌else◌}
+use Rattle.mg_merge.proofs.Words.{All, All-head, All-push, All-tail, Board, Chosen, ChosenRefusal, Code, Done, Fails, Failure, IsExecuted, IsFresh, IsLegal}
+use Rattle.mg_merge.proofs.Words.{IsRefusedWith, IsResult, IsUsedUp, Item, Line, LineDescriptors, LineRow, MayRefuse, RaisedNote, RequestCommand, Running}
+use Rattle.mg_merge.proofs.Words.{RunsFrom, Succeeds, after_command, chosen_at, cleared, creates_context, creates_ephemeral, described_row, descriptors_for}
+use Rattle.mg_merge.proofs.Words.{different, filter_agree, has_new_events, item_at, line_after, none_is_some, not_both, note_from, only_if, raised, standing}
+use Rattle.mg_merge.proofs.Words.{subtracts, the_some, where_false, with_descriptors}
 use Rattle.mg_merge.proofs.Commands.SameCodes.{leaves_same, applies_on, applies_back}
 use Rattle.mg_merge.proofs.Commands.Changes.{not_leaving, fresh_context, fresh_ephemeral}
 use Rattle.mg_merge.proofs.Commands.ExecutedAlike.{IsExecutedBeside, beside}
@@ -38,13 +30,7 @@ pub record KeepsOthers (s : Scope) (m after : Running) : Type 0 where
   pub line : (l : ℕ) → s.lines l ≡ false → after.line l ≡ m.line l
 
 pub same_outside : (s : Scope) (m : Board) → IsSameOutside s m m
-same_outside s m = record {
-  class = λ n. refl;
-  row = λ t other. refl;
-  cut = λ t u other also. refl;
-  used_context = λ n other. refl;
-  used_ephemeral = λ n other. refl;
-}
+same_outside s m = assumption
 
 pub outside_on : (s : Scope) (m between after : Board) → IsSameOutside s m between → IsSameOutside s between after → IsSameOutside s m after
 outside_on s m between after first second = record {

@@ -1,21 +1,12 @@
 -- A command that names nothing of another shard is refused on the board of the merge with the codes that it is refused with on the
 -- shard's, and takes the same terminations out of their context.
-use Rattle.std.proofs.Common.{◌≡◌, ◌∙◌, ◌<◌, ℕ, Bool, true, false, zero, suc, Option, Some, None, is_some, refl, sym, ap, subst, arith}
-use Rattle.std.specs.Prelude.{◌==◌, not, IsTrue}
-use Rattle.std.proofs.lemmas.Bool.{eqb-true}
-use Rattle.mg_names.specs.declared.codes.Code.{Code}
-use Rattle.mg_names.specs.declared.codes.Code.TheVariants.{UnknownContext, UnknownTermination, AlreadyInContext, NotInContext, InternalFailure, InsufficientResources}
-use Rattle.mg_names.specs.declared.identifiers.TermId.{TermId}
-use Rattle.mg_names.specs.declared.identifiers.TermId.TheVariants.{Line, Eph}
+use Rattle.std.proofs.Common.{◌≡◌, ◌∙◌, ◌<◌, ℕ, Bool, true, false, zero, suc, Option, Some, None, is_some, refl, sym, ap, subst, arith, ◌==◌, not}
+use Rattle.mg_merge.proofs.Words.{Add, AlreadyInContext, Applies, Board, Code, ContextExists, Eph, Ephemeral, InsufficientResources, InternalFailure, IsLegal}
+use Rattle.mg_merge.proofs.Words.{IsUsedUp, Item, LacksContext, Line, Modify, Move, NotInContext, Nothing, RemoteSetting, SetTopology, Subtract, SubtractAll}
+use Rattle.mg_merge.proofs.Words.{TermId, UnknownContext, UnknownTermination, different, eqb-true, exists, false_from_ne_true, false_not_true}
+use Rattle.mg_merge.proofs.Words.{is_context_number, is_misplaced, is_taken, lacks_termination, names_nothing, none_of, not_both, not_refused, null, place_in}
+use Rattle.mg_merge.proofs.Words.{place_of, remote_refused, subtracts, true_from_ne_false}
 use Rattle.mg_model.specs.declared.items.Added.TheVariants as added
-use Rattle.mg_model.specs.declared.items.Item.{Item}
-use Rattle.mg_model.specs.declared.items.Item.TheVariants.{Add, Modify, Move, Subtract, SubtractAll, SetTopology}
-use Rattle.mg_model.specs.declared.items.RemoteSetting.{RemoteSetting}
-use Rattle.mg_model.specs.declared.items.RemoteSetting.TheVariants.{Nothing, Ephemeral}
-use Rattle.mg_model.specs.Board.{Board, exists, place_of, place_in, ContextExists}
-use Rattle.mg_model.specs.Items.{is_context_number, LacksContext, names_nothing, remote_refused, lacks_termination, is_taken, is_misplaced, IsUsedUp, Applies, IsLegal, subtracts}
-use Rattle.mg_model.specs.Numbers.{null}
-use Rattle.mg_model.proofs.Cases.{none_of, different, not_both, false_not_true}
 use Rattle.mg_model.proofs.Terminations.{same_term_is}
 use Rattle.mg_merge.proofs.Scopes.{Scope, mine, NamesContext, NamesTerm, NamesRemote, NamesItem, IsWithin, IsPart, IsWhole}
 
@@ -23,19 +14,12 @@ use Rattle.mg_merge.proofs.Scopes.{Scope, mine, NamesContext, NamesTerm, NamesRe
 
 module _ (s : Scope) (b : Board) (within : IsWithin s b) where
   pub no_zeroth : exists b (Eph 0) ≡ false
-  no_zeroth = go (exists b (Eph 0)) refl
-    where
-      go : (there : Bool) → exists b (Eph 0) ≡ there → there ≡ false
-      go true e = let above : 0 < 0 = (within.ephemerals 0 e).0 in absurd (omega (arith, above))
-      go false e = refl
+  no_zeroth =
+      false_from_ne_true (exists b (Eph 0)) (λ there. let above : 0 < 0 = (within.ephemerals 0 there).0 in omega (arith, above))
 
   -- who stands in a context is the shard's
   pub standing_mine : (t : TermId) → (place_of b t ≡ null → ⊥) → mine s t ≡ true
-  standing_mine t there = go (mine s t) refl
-    where
-      go : (test : Bool) → mine s t ≡ test → test ≡ true
-      go true e = refl
-      go false e = absurd (there (within.outside t e))
+  standing_mine t there = true_from_ne_false (mine s t) (λ e. there (within.outside t e))
 
   -- what exists, and is named, is the shard's
   pub existing_mine : (t : TermId) → NamesTerm s t → exists b t ≡ true → mine s t ≡ true
@@ -49,18 +33,11 @@ legal_real b c legal is = legal (λ there. there.0 is)
 -- who leaves with a command that is legal
 pub leaves_mine : (s : Scope) (b : Board) → IsWithin s b → (item : Item) → NamesItem s item → IsLegal b item → (t : TermId)
     → subtracts b item t ≡ true → mine s t ≡ true
-leaves_mine s b within (Add context what settings) names legal t e = absurd (false_not_true e)
-leaves_mine s b within (Modify context u settings) names legal t e = absurd (false_not_true e)
-leaves_mine s b within (Move context u settings) names legal t e = absurd (false_not_true e)
-leaves_mine s b within (SetTopology context u v topology) names legal t e = absurd (false_not_true e)
 leaves_mine s b within (Subtract context u) names legal t e =
-    ap (mine s) (same_term_is t u e) ∙ existing_mine s b within u names.1 (stands (exists b u) (legal UnknownTermination))
-  where
-    stands : (p : Bool) → (IsTrue (not p) → ⊥) → p ≡ true
-    stands true legal = refl
-    stands false legal = absurd (legal refl)
+    ap (mine s) (same_term_is t u e) ∙ existing_mine s b within u names.1 (not_refused (exists b u) (legal UnknownTermination))
 leaves_mine s b within (SubtractAll context) names legal t e =
     standing_mine s b within t (λ is. legal_real b context.0 (legal UnknownContext) (sym (eqb-true (place_of b t) context.0 e) ∙ is))
+leaves_mine s b within item names legal t e = absurd (false_not_true e)
 
 -- ---- beside the board of the merge
 
@@ -96,11 +73,6 @@ module _ (s : Scope) (b m : Board) (within : IsWithin s b) (part : IsPart s b m)
   -- ---- who leaves
 
   pub leaves_same : (item : Item) → NamesItem s item → IsLegal b item → (t : TermId) → subtracts m item t ≡ subtracts b item t
-  leaves_same (Add context what settings) names legal t = refl
-  leaves_same (Modify context u settings) names legal t = refl
-  leaves_same (Move context u settings) names legal t = refl
-  leaves_same (SetTopology context u v topology) names legal t = refl
-  leaves_same (Subtract context u) names legal t = refl
   leaves_same (SubtractAll context) names legal t = go (mine s t) refl
     where
       real : context.0 ≡ null → ⊥
@@ -111,6 +83,7 @@ module _ (s : Scope) (b m : Board) (within : IsWithin s b) (part : IsPart s b m)
       go false e =
           different (place_of m t) context.0 (λ at. not_both (member_mine context.0 names real t at) e)
           ∙ sym (different (place_of b t) context.0 (λ at. real (sym at ∙ within.outside t e)))
+  leaves_same item names legal t = refl
 
   -- ---- codes
 
@@ -157,20 +130,14 @@ module _ (s : Scope) (b m : Board) (within : IsWithin s b) (part : IsPart s b m)
 
   taken_same : (item : Item) → NamesItem s item → is_taken m item ≡ is_taken b item
   taken_same (Add context (added.Line l) settings) names = rw (place_same (Line l) names.1) refl
-  taken_same (Add context added.NewEphemeral settings) names = refl
-  taken_same (Modify context t settings) names = refl
-  taken_same (Move context t settings) names = refl
-  taken_same (Subtract context t) names = refl
-  taken_same (SubtractAll context) names = refl
-  taken_same (SetTopology context t u topology) names = refl
+  taken_same item names = refl
 
   misplaced_same : (item : Item) → NamesItem s item → is_misplaced m item ≡ is_misplaced b item
-  misplaced_same (Add context what settings) names = refl
   misplaced_same (Modify context t settings) names = rw (place_same t names.1) refl
   misplaced_same (Move context t settings) names = rw (place_same t names.1) refl
   misplaced_same (Subtract context t) names = rw (place_same t names.1) refl
-  misplaced_same (SubtractAll context) names = refl
   misplaced_same (SetTopology context t u topology) names = rw (place_same t names.1, place_same u names.2) refl
+  misplaced_same item names = refl
 
   -- a code that applies for the shard applies in the merge, where identifiers are left to the shard
   pub applies_on : (item : Item) → NamesItem s item → (IsUsedUp b item → ⊥) → (code : Code) → Applies b item code → Applies m item code

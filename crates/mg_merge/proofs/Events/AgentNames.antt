@@ -1,29 +1,16 @@
 -- The agents of a shard's calls: what their names stand for is the shard's, through each of their steps, and so is what their requests name.
-use Rattle.std.proofs.Common.{◌≡◌, ◌+◌, ◌<◌, arith, ℕ, Bool, true, false, List, [], ◌∷◌, length, Option, Some, None, option_map, refl, subst}
-use Rattle.std.specs.Prelude.{◌==◌, if◌then◌else◌, nat_lt, nat_le, unwrap_or, Contains}
-use Rattle.std.specs.List.{All}
-use Rattle.std.proofs.lemmas.List.Elements.{All-nil, All-cons, All-head, All-tail}
-use Rattle.mg_model.specs.declared.commands.Command.{Command}
-use Rattle.mg_model.specs.declared.commands.Command.TheVariants.{AddLine, AddEphemeral, ModifyLine, ModifyEphemeral, MoveLine, MoveEphemeral, Subtract, SubtractAll, SetTopology}
-use Rattle.mg_model.specs.declared.commands.Place.{Place}
-use Rattle.mg_model.specs.declared.commands.Place.TheVariants.{NullContext, Context}
-use Rattle.mg_model.specs.declared.commands.RemoteOption.{RemoteOption}
-use Rattle.mg_model.specs.declared.commands.RemoteOption.TheVariants.{NoneGiven, Peer}
-use Rattle.mg_model.specs.declared.commands.Termination.{Termination}
+use Rattle.std.proofs.Common.{◌≡◌, ◌+◌, ◌<◌, arith, ℕ, Bool, true, false, List, [], ◌∷◌, length, Option, Some, None, option_map, refl, subst, ◌==◌}
+use Rattle.std.proofs.Common.{if◌then◌else◌, nat_lt, nat_le, unwrap_or, Contains}
+use Rattle.mg_merge.proofs.Words.{AddEphemeral, AddLine, Agent, All, All-cons, All-head, All-nil, All-tail, Command, Context, Done, Failure, IsCommandOf}
+use Rattle.mg_merge.proofs.Words.{IsScript, IsSlot, Made, ModifyEphemeral, ModifyLine, MoveEphemeral, MoveLine, NoneGiven, NullContext, Peer, Phase, Place}
+use Rattle.mg_merge.proofs.Words.{RemoteOption, Reply, Request, Script, SentNote, Termination, added_to, after_result, after_results, all, answers, awaits_pass}
+use Rattle.mg_merge.proofs.Words.{awaits_reply, begun, bound_by, bound_if, built_by, choose, command_of, commands_of, context_or, context_ref, entered}
+use Rattle.mg_merge.proofs.Words.{entered_if, entered_or_rests, entered_or_stays, entered_with, ephemeral_or, ephemeral_ref, forgotten, heard, inbox_of}
+use Rattle.mg_merge.proofs.Words.{is_empty, is_listed, is_resting, last_number, leads_on, line_in, made_after, may_accept, no_ephemeral, none_in, none_is_some}
+use Rattle.mg_merge.proofs.Words.{none_made, noted, null, only_one, opened, passed, passed_in, place_ref, remote_ref, replied, replied_to, request_of, resting}
+use Rattle.mg_merge.proofs.Words.{sent_in, state_of, target_of, termination_ref, the_some, timed, with_accepted, with_at}
+use Rattle.mg_model.specs.declared.commands.Command.TheVariants.{Subtract, SubtractAll, SetTopology}
 use Rattle.mg_model.specs.declared.commands.Termination.TheVariants as termination
-use Rattle.mg_model.specs.declared.failures.Failure.{Failure}
-use Rattle.mg_model.specs.Accepted.{IsScript, IsSlot, IsCommandOf}
-use Rattle.mg_model.specs.Agent.{answers, Agent, Made, none_made, made_after, Phase, awaits_reply, awaits_pass, resting, entered_with, entered, entered_or_rests, entered_if, entered_or_stays, built_by, bound_by, bound_if, request_of, after_result, after_results, leads_on, replied_to, replied, passed_in, passed, may_accept, inbox_of, is_listed, target_of, line_in, noted, is_resting, timed, forgotten, heard, begun, opened, context_or, ephemeral_or, context_ref, ephemeral_ref, added_to, place_ref, termination_ref, remote_ref, command_of, commands_of}
-use Rattle.mg_model.specs.Delivery.{with_accepted}
-use Rattle.mg_model.specs.Items.{Done}
-use Rattle.mg_model.specs.Messages.{Request, Reply, SentNote}
-use Rattle.mg_model.specs.Numbers.{all, null, choose, no_ephemeral, last_number}
-use Rattle.mg_model.specs.Script.{Script}
-use Rattle.mg_model.specs.Tables.{state_of, is_empty}
-use Rattle.mg_model.specs.Updates.{with_at}
-use Rattle.mg_model.specs.World.{sent_in}
-use Rattle.mg_model.proofs.Cases.{the_some, none_is_some}
-use Rattle.mg_model.proofs.Single.{none_in, only_one}
 use Rattle.mg_model.proofs.Built.{state_commands, built_commands}
 use Rattle.mg_merge.proofs.Commands.NamedItems.{NamesContextRef, NamesEphemeralRef, NamesTermRef, NamesRemoteRef, NamesCommand, IsDoneBy, none_is_all, none_is_zero}
 use Rattle.mg_merge.proofs.Scopes.{Scope, NamesContext, NamesEphemeral, IsContextOf, IsEphemeralOf}
@@ -145,26 +132,14 @@ module _ (script : Script) (s : Scope) where
   HasNames a = AreOf script s a.lines a.contexts a.ephemerals
 
   result_names : (a : Agent) (command : Command) (done : Done) (number : ℕ) → HasNames a → IsDoneBy s done → HasNames (after_result a command done number)
-  result_names a (AddLine create j i o) done number names by = record {
-    line = names.line;
-    context = bound_where (IsContextOf s) create a.contexts j done.context names.context by.context;
-    ephemeral = names.ephemeral;
-  }
-  result_names a (AddEphemeral create j k o) done number names by = record {
-    line = names.line;
-    context = bound_where (IsContextOf s) create a.contexts j done.context names.context by.context;
-    ephemeral = bound_at (IsEphemeralOf s) a.ephemerals k done.ephemeral names.ephemeral by.ephemeral;
-  }
-  result_names a (ModifyLine place i o) done number names by = names
-  result_names a (ModifyEphemeral place k o) done number names by = names
-  result_names a (MoveLine j i o) done number names by = names
-  result_names a (MoveEphemeral j k o) done number names by = names
-  result_names a (Subtract j (termination.Line i)) done number names by = names
-  result_names a (Subtract j (termination.Ephemeral k)) done number names by = record {
-    line = names.line;
-    context = names.context;
-    ephemeral = bound_at (IsEphemeralOf s) a.ephemerals k None names.ephemeral (unbound (IsEphemeralOf s));
-  }
+  result_names a (AddLine create j i o) done number names by =
+      assumption (bound_where (IsContextOf s) create a.contexts j done.context names.context by.context)
+  result_names a (AddEphemeral create j k o) done number names by = assumption (
+    bound_where (IsContextOf s) create a.contexts j done.context names.context by.context,
+    bound_at (IsEphemeralOf s) a.ephemerals k done.ephemeral names.ephemeral by.ephemeral,
+  )
+  result_names a (Subtract j (termination.Ephemeral k)) done number names by =
+      assumption (bound_at (IsEphemeralOf s) a.ephemerals k None names.ephemeral (unbound (IsEphemeralOf s)))
   result_names a (SubtractAll j) done number names by = record {
     line = names.line;
     context = bound_at (IsContextOf s) a.contexts j None names.context (unbound (IsContextOf s));
@@ -174,7 +149,7 @@ module _ (script : Script) (s : Scope) where
       go : (k n : ℕ) (test : Bool) → (if test then None else a.ephemerals k) ≡ Some n → IsEphemeralOf s n
       go k n true is = absurd (none_is_some n is)
       go k n false is = names.ephemeral k n is
-  result_names a (SetTopology j t u topology) done number names by = names
+  result_names a _ done number names by = names
 
   results_names : (a : Agent) (commands : List Command) (results : List Done) (number : ℕ) → HasNames a → All (IsDoneBy s) results
       → HasNames (after_results a commands results number)
@@ -195,21 +170,21 @@ module _ (script : Script) (s : Scope) where
   gives : (c : Agent) → IsAgentWithin script s c → GivesWithin (Some c)
   gives c it b e = subst (IsAgentWithin script s) (the_some c b e) it
 
+  gives_where : (test : Bool) (o : Option Agent) → GivesWithin o → GivesWithin (if test then o else None)
+  gives_where true o it = it
+  gives_where false o it = gives_none
+
   nothing_sent : (request : Request) → Contains [] request → IsRequestWithin s request
   nothing_sent request among = absurd (none_in request among)
 
   module _ (is : IsScript script) where
     enters_with : (a : Agent) (state : ℕ) (empty : Bool) → HasNames a → GivesWithin (entered_with script a state empty)
     enters_with a state true names = gives (record a { state = state; phase = awaits_pass }) (record { names = names; sends = nothing_sent })
-    enters_with a state false names = numbered (nat_le a.next last_number)
-      where
-        numbered : (room : Bool) → GivesWithin (if room
-            then Some (record a { state = state; phase = awaits_reply (request_of script a state); next = a.next + 1 }) else None)
-        numbered true = gives (record a { state = state; phase = awaits_reply (request_of script a state); next = a.next + 1 }) (record {
+    enters_with a state false names = gives_where (nat_le a.next last_number) _
+        (gives (record a { state = state; phase = awaits_reply (request_of script a state); next = a.next + 1 }) (record {
           names = names;
           sends = λ request among. subst (IsRequestWithin s) (only_one (request_of script a state) request among) (request_in script s a names is state);
-        })
-        numbered false = gives_none
+        }))
 
     enters : (a : Agent) (state : ℕ) → HasNames a → GivesWithin (entered script a state)
     enters a state names = enters_with a state (is_empty (built_by script a state)) names
@@ -229,45 +204,31 @@ module _ (script : Script) (s : Scope) where
     pub replied_within : (a : Agent) (reply : Reply) → IsAgentWithin script s a → IsReplyWithin s reply → GivesWithin (replied script a reply)
     replied_within a reply within by = in_phase a.phase
       where
-        answered : (fits : Bool) → GivesWithin (if fits
-            then leads_on script a (after_results a (built_by script a a.state) reply.results reply.number) reply.failure else None)
-        answered true = leads a (after_results a (built_by script a a.state) reply.results reply.number) reply.failure
-            (results_names a (built_by script a a.state) reply.results reply.number within.names by)
-        answered false = gives_none
-
         in_phase : (phase : Phase) → GivesWithin (replied_to script a phase reply)
-        in_phase (awaits_reply request) = answered (answers reply request)
-        in_phase awaits_pass = gives_none
-        in_phase resting = gives_none
+        in_phase (awaits_reply request) = gives_where (answers reply request) _
+            (leads a (after_results a (built_by script a a.state) reply.results reply.number) reply.failure
+            (results_names a (built_by script a a.state) reply.results reply.number within.names by))
+        in_phase _ = gives_none
 
     pub passed_within : (a : Agent) → IsAgentWithin script s a → GivesWithin (passed script a)
     passed_within a within = in_phase a.phase
       where
         in_phase : (phase : Phase) → GivesWithin (passed_in script a phase)
         in_phase awaits_pass = rests a (state_of script a.state).ok within.names
-        in_phase (awaits_reply request) = gives_none
-        in_phase resting = gives_none
+        in_phase _ = gives_none
 
     pub timed_within : (a : Agent) → IsAgentWithin script s a → GivesWithin (timed script a)
-    timed_within a within = at_rest (is_resting a.phase)
-      where
-        at_rest : (rest : Bool) → GivesWithin (if rest then entered_if script a (state_of script a.state).timer else None)
-        at_rest true = enters_if a (state_of script a.state).timer within.names
-        at_rest false = gives_none
+    timed_within a within = gives_where (is_resting a.phase) _ (enters_if a (state_of script a.state).timer within.names)
 
     pub heard_within : (a : Agent) (association : ℕ) → IsAgentWithin script s a → GivesWithin (heard script a association)
-    heard_within a association within = newer (nat_lt a.association association)
-      where
-        newer : (test : Bool) → GivesWithin (if test then entered script (forgotten a association) script.restart else None)
-        newer true = enters (forgotten a association) script.restart (record {
-          line = within.names.line;
-          context = λ j n e. absurd (none_is_some n e);
-          ephemeral = λ k n e. absurd (none_is_some n e);
-        })
-        newer false = gives_none
+    heard_within a association within = gives_where (nat_lt a.association association) _ (enters (forgotten a association) script.restart (record {
+      line = within.names.line;
+      context = λ j n e. absurd (none_is_some n e);
+      ephemeral = λ k n e. absurd (none_is_some n e);
+    }))
 
     pub noted_within : (a : Agent) (slots : List ℕ) (sent : SentNote) → IsAgentWithin script s a → GivesWithin (noted script a slots sent)
-    noted_within a slots sent within = accepting (may_accept script a sent)
+    noted_within a slots sent within = gives_where (may_accept script a sent) _ (goes (target_of script b (line_in b sent.line slots) sent.note))
       where
         b : Agent
         b = record a { accepted = (with_accepted (inbox_of a) sent.number).accepted }
@@ -275,10 +236,6 @@ module _ (script : Script) (s : Scope) where
         goes : (target : Option ℕ) → GivesWithin (entered_or_stays script b target)
         goes None = gives b (record { names = within.names; sends = within.sends })
         goes (Some state) = enters b state within.names
-
-        accepting : (test : Bool) → GivesWithin (if test then entered_or_stays script b (target_of script b (line_in b sent.line slots) sent.note) else None)
-        accepting true = goes (target_of script b (line_in b sent.line slots) sent.note)
-        accepting false = gives_none
 
 -- an agent of an opening, and one that begins on the lines of another
 pub opened_within : (script : Script) (s : Scope) (call : ℕ) (lines : ℕ → ℕ) → ((i : ℕ) → i < length script.lines → s.lines (lines i) ≡ true)

@@ -1,13 +1,7 @@
 -- What an event of a shard is in the merge; and the steps of an agent: the agent of the same call steps alike.
-use Rattle.std.proofs.Common.{◌≡◌, ◌∙◌, ◌++◌, ℕ, Bool, true, false, List, Option, Some, refl, sym, ap, subst, inl, inr}
-use Rattle.std.specs.Prelude.{◌==◌, Contains, if◌then◌else◌}
-use Rattle.std.proofs.lemmas.Bool.{eqb-true}
-use Rattle.std.proofs.lemmas.List.Elements.{Contains-append_cases, Contains-append_left, Contains-append_right}
-use Rattle.mg_model.specs.Agent.{Agent}
-use Rattle.mg_model.specs.Messages.{Request}
-use Rattle.mg_model.specs.Script.{Script}
-use Rattle.mg_model.specs.World.{World, AgentSteps, agent_steps, sent_in}
-use Rattle.mg_model.proofs.Cases.{at_another, not_both, the_some}
+use Rattle.std.proofs.Common.{◌≡◌, ◌∙◌, ◌++◌, ℕ, Bool, true, false, List, Option, Some, refl, sym, ap, subst, inl, inr, ◌==◌, Contains, if◌then◌else◌}
+use Rattle.mg_merge.proofs.Words.{Agent, AgentSteps, Contains-append_cases, Contains-append_left, Contains-append_right, Request, Script, World, agent_steps}
+use Rattle.mg_merge.proofs.Words.{at_another, eqb-true, not_both, sent_in, the_some}
 use Rattle.mg_merge.proofs.Events.AgentNames.{IsAgentWithin, IsRequestWithin, GivesWithin}
 use Rattle.mg_merge.proofs.Commands.RequestRuns.{same_outside}
 use Rattle.mg_merge.proofs.Scopes.{Scope}
@@ -22,31 +16,32 @@ pub record Follows (script : Script) (s : Scope) (next m : World) (occurs : Worl
   pub merge : IsMerge merged
   pub others : LeavesOthers s m merged
 
+-- what happens in the world that an event leaves follows what happens in the same world
+pub follows_so : {script : Script} {s : Scope} {next after m : World} {goes occurs : World → Type 0} → after ≡ next
+    → ((merged : World) → goes merged → occurs merged) → Follows script s next m goes → Follows script s after m occurs
+follows_so {script} {s} {next} {after} {m} {goes} {occurs} same also it = subst (λ (w : World). Follows script s w m occurs) (sym same) (record {
+  merged = it.merged;
+  happens = also it.merged it.happens;
+  contained = it.contained;
+  along = it.along;
+  merge = it.merge;
+  others = it.others;
+})
+
 -- nothing changes
 pub leaves_itself : (s : Scope) (m : World) → LeavesOthers s m m
-leaves_itself s m = record {
-  association = refl;
-  board = same_outside s m.gateway.board;
-  line = λ l other. refl;
-  holder = λ l other. refl;
-  creator = λ k other. refl;
-  link = λ c other. refl;
-  retired = λ c other. refl;
-  agent = λ c other. refl;
-  requests = λ request there. there;
-  replies = λ answer there. there;
-  notes = λ sent there. there;
-}
+leaves_itself s m = assumption (same_outside s m.gateway.board)
 
 -- a number that isn't the shard's is not that of its call
 pub another_number : (s : Scope) (call c : ℕ) → s.numbers call ≡ true → s.numbers c ≡ false → c ≡ call → ⊥
 another_number s call c own other is = not_both (ap s.numbers is ∙ own) other
 
 -- what was added to both is in both
-pub added_to_both : {A : Type 0} (new old more : List A) (x : A) → (Contains old x → Contains more x) → Contains (new ++ old) x → Contains (new ++ more) x
-added_to_both new old more x on there = elim (Contains-append_cases new old x there) [
+pub added_to_both : {A : Type 0} (new old more : List A) → ((x : A) → Contains old x → Contains more x) → (x : A)
+    → Contains (new ++ old) x → Contains (new ++ more) x
+added_to_both new old more on x there = elim (Contains-append_cases new old x there) [
   | inl first ↦ Contains-append_left new more x first
-  | inr later ↦ Contains-append_right new more x (on later)
+  | inr later ↦ Contains-append_right new more x (on x later)
 ]
 
 module _ (script : Script) (s : Scope) (w m : World) (contained : IsContained script s w) (along : IsBeside s w m) (merge : IsMerge m)
@@ -70,62 +65,22 @@ module _ (script : Script) (s : Scope) (w m : World) (contained : IsContained sc
   stepped a within = record {
     merged = agent_steps m call a;
     happens = refl;
-    contained = record {
-      board = contained.board;
-      holder = contained.holder;
-      creator = contained.creator;
-      link = contained.link;
-      agents = stepped_agents a within;
-      requests = stepped_requests a within;
-      replies = contained.replies;
-    };
-    along = record {
-      association = along.association;
-      board = along.board;
-      line = along.line;
-      holder = along.holder;
-      creator = along.creator;
-      link = along.link;
-      retired = along.retired;
-      agent = λ c its. ap (λ (o : Option Agent). if c == call then Some a else o) (along.agent c its);
-      requests = λ request there. added_to_both (sent_in a.phase) w.requests m.requests request (along.requests request) there;
-      replies = along.replies;
-      notes = along.notes;
-      own_holder = along.own_holder;
-      own_creator = along.own_creator;
-    };
-    merge = record { board = merge.board; contexts = merge.contexts; ephemerals = merge.ephemerals; creator = merge.creator };
-    others = record {
-      association = refl;
-      board = same_outside s m.gateway.board;
-      line = λ l other. refl;
-      holder = λ l other. refl;
-      creator = λ k other. refl;
-      link = λ c other. refl;
-      retired = λ c other. refl;
-      agent = λ c other. at_another call c (Some a) (m.agent c) (another_number s call c own other);
-      requests = λ request there. Contains-append_right (sent_in a.phase) m.requests request there;
-      replies = λ answer there. there;
-      notes = λ sent there. there;
-    };
+    contained = assumption (stepped_agents a within, stepped_requests a within);
+    along = assumption (
+      λ (c : ℕ) (its : s.numbers c ≡ true). ap (λ (o : Option Agent). if c == call then Some a else o) (along.agent c its),
+      added_to_both (sent_in a.phase) w.requests m.requests along.requests,
+    );
+    merge = assumption;
+    others = assumption (
+      same_outside s m.gateway.board,
+      λ (c : ℕ) (other : s.numbers c ≡ false). at_another call c (Some a) (m.agent c) (another_number s call c own other),
+      Contains-append_right (sent_in a.phase) m.requests,
+    );
   }
 
   -- the agent of the call steps
   pub agent_follows : (step : Agent → Option Agent) (after : World) → ((a : Agent) → IsAgentWithin script s a → GivesWithin script s (step a))
       → AgentSteps w call step after → Follows script s after m (AgentSteps m call step)
-  agent_follows step after gives x =
-      let it = stepped x.agent (gives x.before (contained.agents call x.before x.open_call).1 x.agent x.steps) in
-      record {
-        merged = it.merged;
-        happens = record {
-          before = x.before;
-          agent = x.agent;
-          open_call = along.agent call own ∙ x.open_call;
-          steps = x.steps;
-          after_is = it.happens;
-        };
-        contained = subst (IsContained script s) (sym x.after_is) it.contained;
-        along = subst (λ (v : World). IsBeside s v it.merged) (sym x.after_is) it.along;
-        merge = it.merge;
-        others = it.others;
-      }
+  agent_follows step after gives x = follows_so x.after_is
+      (λ merged is. record { before = x.before; agent = x.agent; open_call = along.agent call own ∙ x.open_call; steps = x.steps; after_is = is })
+      (stepped x.agent (gives x.before (contained.agents call x.before x.open_call).1 x.agent x.steps))

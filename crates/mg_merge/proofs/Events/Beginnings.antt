@@ -1,18 +1,10 @@
 -- A call of a shard that begins on the lines of one that has ended begins on the same lines in the merge.
-use Rattle.std.proofs.Common.{◌≡◌, ◌∙◌, ℕ, Bool, true, false, Option, Some, None, refl, sym, ap, subst}
-use Rattle.std.specs.Prelude.{◌==◌, if◌then◌else◌}
-use Rattle.std.proofs.lemmas.Bool.{eqb-true}
-use Rattle.mg_names.specs.declared.identifiers.TermId.TheVariants.{Line}
-use Rattle.mg_model.specs.Agent.{Agent, begun}
+use Rattle.std.proofs.Common.{◌≡◌, ◌∙◌, ℕ, Bool, true, false, Option, Some, None, refl, sym, ap, subst, ◌==◌, if◌then◌else◌}
+use Rattle.mg_merge.proofs.Words.{Agent, Begins, CallLink, Line, LineRow, Reply, Script, World, at_another, begun, different, eqb-true, handed_over}
+use Rattle.mg_merge.proofs.Words.{none_is_some, not_both, the_some, where_false}
 use Rattle.mg_model.specs.Gateway as gateway
-use Rattle.mg_model.specs.Gateway.{CallLink, handed_over}
-use Rattle.mg_model.specs.LineEvents.{LineRow}
-use Rattle.mg_model.specs.Messages.{Reply}
-use Rattle.mg_model.specs.Script.{Script}
-use Rattle.mg_model.specs.World.{World, Begins}
-use Rattle.mg_model.proofs.Cases.{at_another, different, none_is_some, not_both, the_some, where_false}
 use Rattle.mg_merge.proofs.Events.AgentNames.{IsAgentWithin, IsReplyWithin, begun_within}
-use Rattle.mg_merge.proofs.Events.AgentSteps.{Follows, another_number}
+use Rattle.mg_merge.proofs.Events.AgentSteps.{Follows, another_number, follows_so}
 use Rattle.mg_merge.proofs.Commands.RequestRuns.{same_outside}
 use Rattle.mg_merge.proofs.Scopes.{Scope}
 use Rattle.mg_merge.proofs.Events.Worlds.{IsContained, IsBeside, IsMerge}
@@ -51,9 +43,8 @@ module _ (script : Script) (s : Scope) (w m : World) (contained : IsContained sc
     where
       go : (first second : Bool) → (if first then nothing_kept else if second then nothing_kept else w.gateway.link c).last ≡ Some answer
           → IsReplyWithin s answer
-      go true second is = absurd (none_is_some answer is)
-      go false true is = absurd (none_is_some answer is)
       go false false is = contained.link c answer is
+      go _ _ is = absurd (none_is_some answer is)
 
   begun_agents : (c : ℕ) (b : Agent) → (begun_world script w call old before).agent c ≡ Some b → (s.numbers c ≡ true) × IsAgentWithin script s b
   begun_agents c b = go (c == call) (c == old) refl
@@ -84,75 +75,49 @@ module _ (script : Script) (s : Scope) (w m : World) (contained : IsContained sc
   begun_follows = record {
     merged = begun_world script m call old before;
     happens = refl;
-    contained = record {
-      board = contained.board;
-      holder = begun_holder;
-      creator = contained.creator;
-      link = begun_link;
-      agents = begun_agents;
-      requests = contained.requests;
-      replies = contained.replies;
-    };
-    along = record {
-      association = along.association;
-      board = along.board;
-      line = along.line;
-      holder = λ l its. ap (handed_over old call) (along.holder l its);
-      creator = along.creator;
-      link = λ c its. ap (λ (x : CallLink). if c == old then nothing_kept else if c == call then nothing_kept else x) (along.link c its);
-      retired = λ c its. ap (λ (x : Bool). if c == old then true else x) (along.retired c its);
-      agent = λ c its. ap (λ (x : Option Agent). if c == call then Some (begun script call before) else if c == old then None else x) (along.agent c its);
-      requests = along.requests;
-      replies = along.replies;
-      notes = along.notes;
-      own_holder = begun_own_holder;
-      own_creator = along.own_creator;
-    };
-    merge = record { board = merge.board; contexts = merge.contexts; ephemerals = merge.ephemerals; creator = merge.creator };
-    others = record {
-      association = refl;
-      board = same_outside s m.gateway.board;
-      line = λ l other. refl;
-      holder = others_hold;
-      creator = λ k other. refl;
-      link = λ c other. at_another old c nothing_kept (if c == call then nothing_kept else m.gateway.link c) (another_number s old c own_old other)
-          ∙ at_another call c nothing_kept (m.gateway.link c) (another_number s call c own other);
-      retired = λ c other. at_another old c true (m.gateway.retired c) (another_number s old c own_old other);
-      agent = λ c other. at_another call c (Some (begun script call before)) (if c == old then None else m.agent c) (another_number s call c own other)
-          ∙ at_another old c None (m.agent c) (another_number s old c own_old other);
-      requests = λ request there. there;
-      replies = λ answer there. there;
-      notes = λ sent there. there;
-    };
+    contained = assumption (begun_holder, begun_link, begun_agents);
+    along = assumption (
+      λ (l : ℕ) (its : s.lines l ≡ true). ap (handed_over old call) (along.holder l its),
+      λ (c : ℕ) (its : s.numbers c ≡ true).
+          ap (λ (x : CallLink). if c == old then nothing_kept else if c == call then nothing_kept else x) (along.link c its),
+      λ (c : ℕ) (its : s.numbers c ≡ true). ap (λ (x : Bool). if c == old then true else x) (along.retired c its),
+      λ (c : ℕ) (its : s.numbers c ≡ true).
+          ap (λ (x : Option Agent). if c == call then Some (begun script call before) else if c == old then None else x) (along.agent c its),
+      begun_own_holder,
+    );
+    merge = assumption;
+    others = assumption (
+      same_outside s m.gateway.board,
+      others_hold,
+      λ (c : ℕ) (other : s.numbers c ≡ false).
+          at_another old c nothing_kept (if c == call then nothing_kept else m.gateway.link c) (another_number s old c own_old other)
+          ∙ at_another call c nothing_kept (m.gateway.link c) (another_number s call c own other),
+      λ (c : ℕ) (other : s.numbers c ≡ false). at_another old c true (m.gateway.retired c) (another_number s old c own_old other),
+      λ (c : ℕ) (other : s.numbers c ≡ false).
+          at_another call c (Some (begun script call before)) (if c == old then None else m.agent c) (another_number s call c own other)
+          ∙ at_another old c None (m.agent c) (another_number s old c own_old other),
+    );
   }
 
 module _ (script : Script) (s : Scope) (w m : World) (contained : IsContained script s w) (along : IsBeside s w m) (merge : IsMerge m)
     (call : ℕ) (own : s.numbers call ≡ true) where
   pub begin_follows : (old : ℕ) (after : World) → Begins script w call old after → Follows script s after m (Begins script m call old)
   begin_follows old after x =
-      let it = begun_follows script s w m contained along merge call own old x.before x.open_call in
       let its : s.numbers old ≡ true = (contained.agents old x.before x.open_call).0 in
       let line : (l : ℕ) → m.gateway.holder l ≡ Some old → s.lines l ≡ true = λ l held. along.own_holder l old held its in
       let held : (l : ℕ) (is : m.gateway.holder l ≡ Some old) → w.gateway.holder l ≡ Some old = λ l is. sym (along.holder l (line l is)) ∙ is in
-      record {
-        merged = it.merged;
-        happens = record {
-          before = x.before;
-          open_call = along.agent old its ∙ x.open_call;
-          ended = record { is_end = x.ended.is_end; at_rest = x.ended.at_rest; current = x.ended.current ∙ sym along.association };
-          may = record {
-            rows = λ l is. along.board.row (Line (record { 0 = l })) (line l is) ∙ x.may.rows l (held l is);
-            playing = λ l is. ap (λ (r : LineRow). r.playing) (along.line l (line l is)) ∙ x.may.playing l (held l is);
-            list = λ l is. ap (λ (r : LineRow). r.list) (along.line l (line l is)) ∙ x.may.list l (held l is);
-            no_ephemeral = λ k is. let class : s.class k ≡ true = along.own_creator k old is its in
-                x.may.no_ephemeral k (sym (along.creator k class) ∙ is);
-          };
-          unused = along.agent call own ∙ x.unused;
-          not_retired = along.retired call own ∙ x.not_retired;
-          after_is = it.happens;
+      follows_so x.after_is (λ merged is. record {
+        before = x.before;
+        open_call = along.agent old its ∙ x.open_call;
+        ended = record { is_end = x.ended.is_end; at_rest = x.ended.at_rest; current = x.ended.current ∙ sym along.association };
+        may = record {
+          rows = λ l is. along.board.row (Line (record { 0 = l })) (line l is) ∙ x.may.rows l (held l is);
+          playing = λ l is. ap (λ (r : LineRow). r.playing) (along.line l (line l is)) ∙ x.may.playing l (held l is);
+          list = λ l is. ap (λ (r : LineRow). r.list) (along.line l (line l is)) ∙ x.may.list l (held l is);
+          no_ephemeral = λ k is. let class : s.class k ≡ true = along.own_creator k old is its in
+              x.may.no_ephemeral k (sym (along.creator k class) ∙ is);
         };
-        contained = subst (IsContained script s) (sym x.after_is) it.contained;
-        along = subst (λ (v : World). IsBeside s v it.merged) (sym x.after_is) it.along;
-        merge = it.merge;
-        others = it.others;
-      }
+        unused = along.agent call own ∙ x.unused;
+        not_retired = along.retired call own ∙ x.not_retired;
+        after_is = is;
+      }) (begun_follows script s w m contained along merge call own old x.before x.open_call)

@@ -1,17 +1,10 @@
 -- An event of a line of a shard happens on the same line of the merge, and raises the same note.
-use Rattle.std.proofs.Common.{◌≡◌, ◌∙◌, ◌+◌, ◌++◌, ◌≤◌, ℕ, Bool, true, false, List, [], ◌∷◌, length, Option, Some, None, refl, sym, ap, subst}
-use Rattle.std.specs.Prelude.{◌==◌, if◌then◌else◌}
-use Rattle.std.proofs.lemmas.List.Elements.{Contains-append_right}
-use Rattle.mg_model.specs.declared.line_events.LineEvent.{LineEvent}
-use Rattle.mg_model.specs.Gateway.{Gateway, CallLink, outcome_of, with_line, with_notes, notes_from}
-use Rattle.mg_model.specs.LineEvents.{LineRow, Note}
-use Rattle.mg_model.specs.Messages.{Reply, SentNote}
-use Rattle.mg_model.specs.Numbers.{last_number}
-use Rattle.mg_model.specs.Script.{Script}
-use Rattle.mg_model.specs.World.{World, LineOccurs, with_gateway}
-use Rattle.mg_model.proofs.Cases.{at_another, not_both, the_some}
+use Rattle.std.proofs.Common.{◌≡◌, ◌∙◌, ◌+◌, ◌++◌, ◌≤◌, ℕ, Bool, true, false, List, [], ◌∷◌, length, Option, Some, None, refl, sym, ap, subst, ◌==◌}
+use Rattle.std.proofs.Common.{if◌then◌else◌}
+use Rattle.mg_merge.proofs.Words.{CallLink, Contains-append_right, Gateway, LineEvent, LineOccurs, LineRow, Note, Reply, Script, SentNote, World, at_another}
+use Rattle.mg_merge.proofs.Words.{last_number, not_both, notes_from, outcome_of, the_some, with_gateway, with_line, with_notes}
 use Rattle.mg_merge.proofs.Events.AgentNames.{IsReplyWithin}
-use Rattle.mg_merge.proofs.Events.AgentSteps.{Follows, another_number, added_to_both}
+use Rattle.mg_merge.proofs.Events.AgentSteps.{Follows, another_number, added_to_both, follows_so}
 use Rattle.mg_merge.proofs.Commands.RequestRuns.{same_outside}
 use Rattle.mg_merge.proofs.Scopes.{Scope}
 use Rattle.mg_merge.proofs.Events.Worlds.{IsContained, IsBeside, IsMerge}
@@ -46,45 +39,21 @@ module _ (script : Script) (s : Scope) (w m : World) (contained : IsContained sc
   line_changes = record {
     merged = changed m;
     happens = refl;
-    contained = record {
-      board = contained.board;
-      holder = contained.holder;
-      creator = contained.creator;
-      link = changed_link;
-      agents = contained.agents;
-      requests = contained.requests;
-      replies = contained.replies;
-    };
-    along = record {
-      association = along.association;
-      board = along.board;
-      line = λ n its. ap (λ (x : LineRow). if n == l then row else x) (along.line n its);
-      holder = along.holder;
-      creator = along.creator;
-      link = λ c its. ap (λ (x : CallLink). if c == call then counted x (length sent) else m.gateway.link c) (along.link call own)
-          ∙ ap (λ (x : CallLink). if c == call then counted (w.gateway.link call) (length sent) else x) (along.link c its);
-      retired = along.retired;
-      agent = along.agent;
-      requests = along.requests;
-      replies = along.replies;
-      notes = λ note there. added_to_both sent w.notes m.notes note (along.notes note) there;
-      own_holder = along.own_holder;
-      own_creator = along.own_creator;
-    };
-    merge = record { board = merge.board; contexts = merge.contexts; ephemerals = merge.ephemerals; creator = merge.creator };
-    others = record {
-      association = refl;
-      board = same_outside s m.gateway.board;
-      line = λ n other. at_another l n row (m.gateway.line n) (λ is. not_both (ap s.lines is ∙ own_line) other);
-      holder = λ l other. refl;
-      creator = λ k other. refl;
-      link = λ c other. at_another call c (counted (m.gateway.link call) (length sent)) (m.gateway.link c) (another_number s call c own other);
-      retired = λ c other. refl;
-      agent = λ c other. refl;
-      requests = λ request there. there;
-      replies = λ answer there. there;
-      notes = λ note there. Contains-append_right sent m.notes note there;
-    };
+    contained = assumption changed_link;
+    along = assumption (
+      λ (n : ℕ) (its : s.lines n ≡ true). ap (λ (x : LineRow). if n == l then row else x) (along.line n its),
+      λ (c : ℕ) (its : s.numbers c ≡ true). ap (λ (x : CallLink). if c == call then counted x (length sent) else m.gateway.link c) (along.link call own)
+          ∙ ap (λ (x : CallLink). if c == call then counted (w.gateway.link call) (length sent) else x) (along.link c its),
+      added_to_both sent w.notes m.notes along.notes,
+    );
+    merge = assumption;
+    others = assumption (
+      same_outside s m.gateway.board,
+      λ (n : ℕ) (other : s.lines n ≡ false). at_another l n row (m.gateway.line n) (λ is. not_both (ap s.lines is ∙ own_line) other),
+      λ (c : ℕ) (other : s.numbers c ≡ false).
+          at_another call c (counted (m.gateway.link call) (length sent)) (m.gateway.link c) (another_number s call c own other),
+      Contains-append_right sent m.notes,
+    );
   }
 
 module _ (script : Script) (s : Scope) (w m : World) (contained : IsContained script s w) (along : IsBeside s w m) (merge : IsMerge m)
@@ -96,30 +65,22 @@ module _ (script : Script) (s : Scope) (w m : World) (contained : IsContained sc
       let mine_line : s.lines l ≡ true = (contained.holder l call held).0 in
       let same : h.call ≡ call = the_some h.call call (sym h.held ∙ held) in
       let mine_call : s.numbers h.call ≡ true = ap s.numbers same ∙ own in
-      let it = line_changes script s w m contained along merge l mine_line h.call mine_call h.outcome.row x.sent in
-      let after_is : after ≡ changed script s w m contained along merge l mine_line h.call mine_call h.outcome.row x.sent w =
-      x.after_is ∙ ap (λ (g : Gateway). record (with_gateway w g) { notes = x.sent ++ w.notes }) h.after_is in
-      record {
-        merged = it.merged;
-        happens = (
-          along.holder l mine_line ∙ held,
-          record {
-            gateway = with_notes (with_line m.gateway l h.outcome.row) h.call (length x.sent);
-            sent = x.sent;
-            happens = record {
-              call = h.call;
-              outcome = h.outcome;
-              held = along.holder l mine_line ∙ h.held;
-              happens = ap (λ (r : LineRow). outcome_of r event) (along.line l mine_line) ∙ h.happens;
-              notes_are = h.notes_are ∙ sym (notes_same w.gateway m.gateway h.call l h.outcome.note along.association (along.link h.call mine_call));
-              room = subst (λ (link : CallLink). link.notes + length x.sent ≤ last_number) (sym (along.link h.call mine_call)) h.room;
-              after_is = refl;
-            };
-            after_is = it.happens;
-          },
-        );
-        contained = subst (IsContained script s) (sym after_is) it.contained;
-        along = subst (λ (v : World). IsBeside s v it.merged) (sym after_is) it.along;
-        merge = it.merge;
-        others = it.others;
-      }
+      follows_so (x.after_is ∙ ap (λ (g : Gateway). record (with_gateway w g) { notes = x.sent ++ w.notes }) h.after_is)
+      (λ merged is. (
+        along.holder l mine_line ∙ held,
+        record {
+          gateway = with_notes (with_line m.gateway l h.outcome.row) h.call (length x.sent);
+          sent = x.sent;
+          happens = record {
+            call = h.call;
+            outcome = h.outcome;
+            held = along.holder l mine_line ∙ h.held;
+            happens = ap (λ (r : LineRow). outcome_of r event) (along.line l mine_line) ∙ h.happens;
+            notes_are = h.notes_are ∙ sym (notes_same w.gateway m.gateway h.call l h.outcome.note along.association (along.link h.call mine_call));
+            room = subst (λ (link : CallLink). link.notes + length x.sent ≤ last_number) (sym (along.link h.call mine_call)) h.room;
+            after_is = refl;
+          };
+          after_is = is;
+        },
+      ))
+      (line_changes script s w m contained along merge l mine_line h.call mine_call h.outcome.row x.sent)

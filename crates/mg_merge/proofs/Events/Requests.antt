@@ -1,31 +1,19 @@
 -- A request of a shard that reaches its gateway reaches that of the merge: it is executed there with the same reply and notes, or the same reply
 -- is sent once more, or nothing happens.
-use Rattle.std.proofs.Common.{◌≡◌, ◌∙◌, ◌+◌, ◌++◌, ◌≤◌, ℕ, Bool, true, false, List, [], ◌∷◌, length, Option, Some, None, is_some, refl, sym, ap, subst, inl, inr}
-use Rattle.std.specs.Prelude.{◌==◌, Contains, if◌then◌else◌}
-use Rattle.std.proofs.lemmas.List.Elements.{All-nil, Contains-append_cases, Contains-append_right}
-use Rattle.mg_names.specs.declared.identifiers.TermId.TheVariants.{Eph}
-use Rattle.mg_model.specs.declared.failures.ChosenRefusal.{ChosenRefusal}
-use Rattle.mg_model.specs.declared.failures.Failure.{Failure}
-use Rattle.mg_model.specs.Board.{Board, exists, IsSettled}
-use Rattle.mg_model.specs.Delivery.{Offer, discard, offer}
-use Rattle.mg_model.specs.Gateway.{Gateway, CallLink, after_request, creator_after, numbered, offer_to, reply_of, sent_notes, start_of}
-use Rattle.mg_model.specs.Items.{Done}
-use Rattle.mg_model.specs.Messages.{Request, Reply, SentNote}
-use Rattle.mg_model.specs.Numbers.{last_number}
-use Rattle.mg_model.specs.RequestRun.{Running, RaisedNote}
-use Rattle.mg_model.specs.Script.{Script}
-use Rattle.mg_model.specs.Shards.{HasIdentifiersLeft}
-use Rattle.mg_model.specs.World.{World, Executes, IsFirst, IsRepeat, with_gateway}
-use Rattle.mg_model.proofs.Cases.{at_another, none_is_some, the_some}
+use Rattle.std.proofs.Common.{◌≡◌, ◌∙◌, ◌+◌, ◌++◌, ◌≤◌, ℕ, Bool, true, false, List, [], ◌∷◌, length, Option, Some, None, is_some, refl, sym, ap, subst, inl}
+use Rattle.std.proofs.Common.{inr, ◌==◌, Contains, if◌then◌else◌}
+use Rattle.mg_merge.proofs.Words.{All-nil, Board, CallLink, ChosenRefusal, Contains-append_right, Done, Eph, Executes, Failure, Gateway, HasIdentifiersLeft}
+use Rattle.mg_merge.proofs.Words.{IsFirst, IsRepeat, IsSettled, Offer, RaisedNote, Reply, Request, Running, Script, SentNote, World, after_request, at_another}
+use Rattle.mg_merge.proofs.Words.{creator_after, discard, exists, first_or_later, last_number, none_is_some, not_both, numbered, offer, offer_to, reply_of}
+use Rattle.mg_merge.proofs.Words.{sent_notes, start_of, the_some, true_from_ne_false, with_gateway}
 use Rattle.mg_model.proofs.Offered.{kept_at}
-use Rattle.mg_model.proofs.Single.{only_one}
 use Rattle.mg_merge.proofs.Events.AgentNames.{IsReplyWithin}
-use Rattle.mg_merge.proofs.Events.AgentSteps.{Follows, leaves_itself, another_number, added_to_both}
+use Rattle.mg_merge.proofs.Events.AgentSteps.{Follows, leaves_itself, another_number, added_to_both, follows_so}
 use Rattle.mg_merge.proofs.Commands.NamedItems.{IsDoneBy}
-use Rattle.mg_merge.proofs.Commands.RequestRuns.{RunsBeside, EndsBeside, runs_too}
+use Rattle.mg_merge.proofs.Commands.RequestRuns.{RunsBeside, EndsBeside, runs_too, same_outside}
 use Rattle.mg_merge.proofs.Scopes.{Scope, IsWithin}
 use Rattle.mg_merge.proofs.Events.Settled.{settled_by, settled_within, merge_settled, settled_part, settled_whole, settled_outside}
-use Rattle.mg_merge.proofs.Events.Worlds.{IsContained, IsBeside, IsMerge, LeavesOthers}
+use Rattle.mg_merge.proofs.Events.Worlds.{IsContained, IsBeside, IsMerge}
 
 -- ---- what a link offers
 
@@ -95,11 +83,7 @@ module _ (script : Script) (s : Scope) (w m : World) (contained : IsContained sc
       go false e = sym (merge.creator k e)
 
   created_own : (k c : ℕ) → creator_after m.gateway request ends.merged k ≡ Some c → s.numbers c ≡ true → s.class k ≡ true
-  created_own k c is its = go (s.class k) refl
-    where
-      go : (test : Bool) → s.class k ≡ test → s.class k ≡ true
-      go true e = e
-      go false e = along.own_creator k c (sym (created_other k e) ∙ is) its
+  created_own k c is its = true_from_ne_false (s.class k) (λ e. not_both (along.own_creator k c (sym (created_other k e) ∙ is) its) e)
 
   created_none : (k : ℕ) → exists ends.merged.board (Eph k) ≡ false → creator_after m.gateway request ends.merged k ≡ None
   created_none k e = ap (λ (stands : Bool). if stands then (if exists m.gateway.board (Eph k) then m.gateway.creator k else Some request.call) else None) e
@@ -123,70 +107,53 @@ module _ (script : Script) (s : Scope) (w m : World) (contained : IsContained sc
 
   -- ---- the worlds after it
 
+  pub board_settled : IsSettled ends.merged.board (settled_by s settled m.gateway.board ends.merged.board)
+  board_settled = merge_settled s w.gateway.board m.gateway.board end.board ends.merged.board settled contained.board along.board within_end
+      ends.beside_it.part ends.beside_it.whole ends.others.board is_settled merge.contexts merge.ephemerals
+
+  replies_within : (answer : Reply) → answer ≡ reply_of request end failure → (reply : Reply) → Contains (answer ∷ w.replies) reply → IsReplyWithin s reply
+  replies_within answer answer_is reply there = elim (first_or_later answer w.replies reply there) [
+    | inl new ↦ subst (IsReplyWithin s) (sym answer_is ∙ new) ends.beside_it.made
+    | inr before ↦ contained.replies reply before
+  ]
+
   pub answered : (answer : Reply) → answer ≡ reply_of request end failure → (sent : List SentNote)
       → Follows script s (answered_world w (after_request w.gateway request end settled failure) answer sent) m
       (λ after. after ≡ answered_world m (after_request m.gateway request ends.merged (settled_by s settled m.gateway.board ends.merged.board) failure) answer sent)
   answered answer answer_is sent = record {
     merged = answered_world m (after_request m.gateway request ends.merged merged_board failure) answer sent;
     happens = refl;
-    contained = record {
-      board = settled_within s end.board settled is_settled within_end;
-      holder = contained.holder;
-      creator = created_from;
-      link = link_within;
-      agents = contained.agents;
-      requests = contained.requests;
-      replies = λ reply there. elim (Contains-append_cases (answer ∷ []) w.replies reply there) [
-        | inl new ↦ subst (IsReplyWithin s) (sym answer_is ∙ only_one answer reply new) ends.beside_it.made
-        | inr before ↦ contained.replies reply before
-      ];
-    };
-    along = record {
-      association = along.association;
-      board = settled_part s w.gateway.board m.gateway.board end.board ends.merged.board settled contained.board along.board within_end ends.beside_it.part
-          ends.beside_it.whole ends.others.board is_settled merge.contexts merge.ephemerals;
-      line = ends.beside_it.line;
-      holder = along.holder;
-      creator = created_same;
-      link = λ c its. ap (λ (x : CallLink). if c == request.call then x else m.gateway.link c) made_same
+    contained = assumption (settled_within s end.board settled is_settled within_end, created_from, link_within, replies_within answer answer_is);
+    along = assumption (
+      settled_part s w.gateway.board m.gateway.board end.board ends.merged.board settled contained.board along.board within_end ends.beside_it.part
+          ends.beside_it.whole ends.others.board is_settled merge.contexts merge.ephemerals,
+      ends.beside_it.line,
+      created_same,
+      λ (c : ℕ) (its : s.numbers c ≡ true). ap (λ (x : CallLink). if c == request.call then x else m.gateway.link c) made_same
           ∙ ap (λ (x : CallLink). if c == request.call then link_made request failure (w.gateway.link request.call) end.results end.notes else x)
-          (along.link c its);
-      retired = along.retired;
-      agent = along.agent;
-      requests = along.requests;
-      replies = λ reply there. added_to_both (answer ∷ []) w.replies m.replies reply (along.replies reply) there;
-      notes = λ note there. added_to_both sent w.notes m.notes note (along.notes note) there;
-      own_holder = along.own_holder;
-      own_creator = created_own;
-    };
-    merge = record {
-      board = settled_whole s w.gateway.board m.gateway.board end.board ends.merged.board settled contained.board along.board within_end ends.beside_it.part
-          ends.beside_it.whole ends.others.board is_settled merge.contexts merge.ephemerals;
-      contexts = (merge_settled s w.gateway.board m.gateway.board end.board ends.merged.board settled contained.board along.board within_end
-          ends.beside_it.part ends.beside_it.whole ends.others.board is_settled merge.contexts merge.ephemerals).contexts;
-      ephemerals = λ k. refl;
-      creator = created_none;
-    };
-    others = record {
-      association = refl;
-      board = settled_outside s w.gateway.board m.gateway.board end.board ends.merged.board settled contained.board along.board within_end
-          ends.beside_it.part ends.beside_it.whole ends.others.board is_settled merge.contexts merge.ephemerals;
-      line = ends.others.line;
-      holder = λ l other. refl;
-      creator = created_other;
-      link = λ c other. at_another request.call c (link_made request failure (m.gateway.link request.call) ends.merged.results ends.merged.notes)
-          (m.gateway.link c) (another_number s request.call c own other);
-      retired = λ c other. refl;
-      agent = λ c other. refl;
-      requests = λ one there. there;
-      replies = λ reply there. Contains-append_right (answer ∷ []) m.replies reply there;
-      notes = λ note there. Contains-append_right sent m.notes note there;
-    };
+          (along.link c its),
+      added_to_both (answer ∷ []) w.replies m.replies along.replies,
+      added_to_both sent w.notes m.notes along.notes,
+      created_own,
+    );
+    merge = assumption (
+      settled_whole s w.gateway.board m.gateway.board end.board ends.merged.board settled contained.board along.board within_end ends.beside_it.part
+          ends.beside_it.whole ends.others.board is_settled merge.contexts merge.ephemerals,
+      board_settled,
+      created_none,
+    );
+    others = assumption (
+      settled_outside s w.gateway.board m.gateway.board end.board ends.merged.board settled contained.board along.board within_end
+          ends.beside_it.part ends.beside_it.whole ends.others.board is_settled merge.contexts merge.ephemerals,
+      ends.others.line,
+      created_other,
+      λ (c : ℕ) (other : s.numbers c ≡ false).
+          at_another request.call c (link_made request failure (m.gateway.link request.call) ends.merged.results ends.merged.notes)
+          (m.gateway.link c) (another_number s request.call c own other),
+      Contains-append_right (answer ∷ []) m.replies,
+      Contains-append_right sent m.notes,
+    );
   }
-
-  pub board_settled : IsSettled ends.merged.board (settled_by s settled m.gateway.board ends.merged.board)
-  board_settled = merge_settled s w.gateway.board m.gateway.board end.board ends.merged.board settled contained.board along.board within_end
-      ends.beside_it.part ends.beside_it.whole ends.others.board is_settled merge.contexts merge.ephemerals
 
   pub reply_same : reply_of request ends.merged failure ≡ reply_of request end failure
   reply_same = ap (λ (results : List Done). record { call = request.call; association = request.association; number = request.number; results = results; failure = failure })
@@ -208,117 +175,54 @@ module _ (script : Script) (s : Scope) (w m : World) (contained : IsContained sc
     (left : HasIdentifiersLeft w) (request : Request) (there : Contains w.requests request) (own : s.numbers request.call ≡ true)
     (chosen : Option ChosenRefusal) (after : World) where
   at_start : RunsBeside s (start_of w.gateway) (start_of m.gateway)
-  at_start = record {
-    within = contained.board;
-    part = along.board;
-    whole = merge.board;
-    line = along.line;
-    results = refl;
-    notes = refl;
-    made = All-nil (IsDoneBy s);
-  }
+  at_start = assumption (All-nil (IsDoneBy s))
 
   first_follows : IsFirst w request chosen after → Follows script s after m (IsFirst m request chosen)
   first_follows f =
       let x = f.executed in
       let ends = runs_too s request.number chosen x.end x.failure request.commands 0 (start_of w.gateway) (start_of m.gateway)
       (contained.requests request there) (record { contexts = left.contexts request there; ephemerals = left.ephemerals request there }) at_start x.runs in
-      let it = answered script s w m contained along merge request own x.end x.settled x.failure chosen x.is_settled ends f.answer x.reply_is f.sent in
-      let after_is : after ≡ answered_world w (after_request w.gateway request x.end x.settled x.failure) f.answer f.sent =
-      f.after_is ∙ ap (λ (g : Gateway). answered_world w g f.answer f.sent) x.after_is in
-      record {
-        merged = it.merged;
-        happens = record {
-          gateway = after_request m.gateway request ends.merged (settled_by s x.settled m.gateway.board ends.merged.board) x.failure;
-          answer = f.answer;
-          sent = f.sent;
-          executed = record {
-            end = ends.merged;
-            settled = settled_by s x.settled m.gateway.board ends.merged.board;
-            failure = x.failure;
-            is_fresh = offer_same s w m along request own ∙ x.is_fresh;
-            room = subst (λ (link : CallLink). link.notes + length request.commands ≤ last_number) (sym (along.link request.call own)) x.room;
-            runs = ends.runs;
-            is_settled = board_settled script s w m contained along merge request own x.end x.settled x.failure chosen x.is_settled ends;
-            after_is = refl;
-            reply_is = x.reply_is
-                ∙ sym (reply_same script s w m contained along merge request own x.end x.settled x.failure chosen x.is_settled ends);
-            notes_are = x.notes_are
-                ∙ sym (notes_same script s w m contained along merge request own x.end x.settled x.failure chosen x.is_settled ends);
-          };
-          after_is = it.happens;
+      follows_so (f.after_is ∙ ap (λ (g : Gateway). answered_world w g f.answer f.sent) x.after_is) (λ merged is. record {
+        gateway = after_request m.gateway request ends.merged (settled_by s x.settled m.gateway.board ends.merged.board) x.failure;
+        answer = f.answer;
+        sent = f.sent;
+        executed = record {
+          end = ends.merged;
+          settled = settled_by s x.settled m.gateway.board ends.merged.board;
+          failure = x.failure;
+          is_fresh = offer_same s w m along request own ∙ x.is_fresh;
+          room = subst (λ (link : CallLink). link.notes + length request.commands ≤ last_number) (sym (along.link request.call own)) x.room;
+          runs = ends.runs;
+          is_settled = board_settled script s w m contained along merge request own x.end x.settled x.failure chosen x.is_settled ends;
+          after_is = refl;
+          reply_is = x.reply_is ∙ sym (reply_same script s w m contained along merge request own x.end x.settled x.failure chosen x.is_settled ends);
+          notes_are = x.notes_are ∙ sym (notes_same script s w m contained along merge request own x.end x.settled x.failure chosen x.is_settled ends);
         };
-        contained = subst (IsContained script s) (sym after_is) it.contained;
-        along = subst (λ (v : World). IsBeside s v it.merged) (sym after_is) it.along;
-        merge = it.merge;
-        others = it.others;
-      }
+        after_is = is;
+      }) (answered script s w m contained along merge request own x.end x.settled x.failure chosen x.is_settled ends f.answer x.reply_is f.sent)
 
   repeat_follows : IsRepeat w request after → Follows script s after m (IsRepeat m request)
-  repeat_follows x = record {
-    merged = again m x.answer;
-    happens = record { answer = x.answer; kept = offer_same s w m along request own ∙ x.kept; after_is = refl };
-    contained = subst (IsContained script s) (sym x.after_is) it;
-    along = subst (λ (v : World). IsBeside s v (again m x.answer)) (sym x.after_is) side;
-    merge = record { board = merge.board; contexts = merge.contexts; ephemerals = merge.ephemerals; creator = merge.creator };
-    others = outside;
-  }
+  repeat_follows x = follows_so x.after_is (λ merged is. record { answer = x.answer; kept = offer_same s w m along request own ∙ x.kept; after_is = is }) it
     where
-      it : IsContained script s (again w x.answer)
+      replies_within : (reply : Reply) → Contains (x.answer ∷ w.replies) reply → IsReplyWithin s reply
+      replies_within reply among = elim (first_or_later x.answer w.replies reply among) [
+        | inl new ↦ subst (IsReplyWithin s) new (contained.link request.call x.answer (kept_at w.gateway request x.answer x.kept))
+        | inr before ↦ contained.replies reply before
+      ]
+
+      it : Follows script s (again w x.answer) m (λ merged. merged ≡ again m x.answer)
       it = record {
-        board = contained.board;
-        holder = contained.holder;
-        creator = contained.creator;
-        link = contained.link;
-        agents = contained.agents;
-        requests = contained.requests;
-        replies = λ reply among. elim (Contains-append_cases (x.answer ∷ []) w.replies reply among) [
-          | inl new ↦ subst (IsReplyWithin s) (only_one x.answer reply new) (contained.link request.call x.answer (kept_at w.gateway request x.answer x.kept))
-          | inr before ↦ contained.replies reply before
-        ];
+        merged = again m x.answer;
+        happens = refl;
+        contained = assumption replies_within;
+        along = assumption (added_to_both (x.answer ∷ []) w.replies m.replies along.replies);
+        merge = assumption;
+        others = assumption (same_outside s m.gateway.board, Contains-append_right (x.answer ∷ []) m.replies);
       }
-
-      side : IsBeside s (again w x.answer) (again m x.answer)
-      side = record {
-        association = along.association;
-        board = along.board;
-        line = along.line;
-        holder = along.holder;
-        creator = along.creator;
-        link = along.link;
-        retired = along.retired;
-        agent = along.agent;
-        requests = along.requests;
-        replies = λ reply among. added_to_both (x.answer ∷ []) w.replies m.replies reply (along.replies reply) among;
-        notes = along.notes;
-        own_holder = along.own_holder;
-        own_creator = along.own_creator;
-      }
-
-      outside : LeavesOthers s m (again m x.answer)
-      outside =
-          let same = leaves_itself s m in
-          record {
-            association = same.association;
-            board = same.board;
-            line = same.line;
-            holder = same.holder;
-            creator = same.creator;
-            link = same.link;
-            retired = same.retired;
-            agent = same.agent;
-            requests = same.requests;
-            replies = λ reply among. Contains-append_right (x.answer ∷ []) m.replies reply among;
-            notes = same.notes;
-          }
 
   pub executes_follows : Executes w request chosen after → Follows script s after m (Executes m request chosen)
-  executes_follows (inl f) =
-      let it = first_follows f in
-      record { merged = it.merged; happens = inl it.happens; contained = it.contained; along = it.along; merge = it.merge; others = it.others }
-  executes_follows (inr (inl x)) =
-      let it = repeat_follows x in
-      record { merged = it.merged; happens = inr (inl it.happens); contained = it.contained; along = it.along; merge = it.merge; others = it.others }
+  executes_follows (inl f) = follows_so refl (λ merged is. inl is) (first_follows f)
+  executes_follows (inr (inl x)) = follows_so refl (λ merged is. inr (inl is)) (repeat_follows x)
   executes_follows (inr (inr (dropped, same))) = record {
     merged = m;
     happens = inr (inr (offer_same s w m along request own ∙ dropped, refl));

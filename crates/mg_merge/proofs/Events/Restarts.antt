@@ -1,14 +1,9 @@
 -- A restart of a shard beside that of the merge: one restart of the merge stands for those of all shards.
-use Rattle.std.proofs.Common.{◌≡◌, ◌∙◌, ◌+◌, ℕ, refl, sym, ap}
-use Rattle.mg_names.specs.declared.identifiers.TermId.TheVariants.{Eph}
-use Rattle.mg_model.specs.Board.{Board}
-use Rattle.mg_model.specs.Gateway.{restarted, board_restarted, link_restarted, row_restarted}
-use Rattle.mg_model.specs.LineEvents.{cleared}
-use Rattle.mg_model.specs.Script.{Script}
-use Rattle.mg_model.specs.World.{World, with_gateway}
-use Rattle.mg_model.proofs.Cases.{false_not_true, none_is_some}
+use Rattle.std.proofs.Common.{◌∙◌, ◌+◌, ℕ, refl, sym, ap, ◌≡◌, true, Some, None}
+use Rattle.mg_merge.proofs.Words.{Board, Eph, Script, World, board_restarted, cleared, false_not_true, link_restarted, none_is_some, restarted, row_restarted}
+use Rattle.mg_merge.proofs.Words.{with_gateway}
 use Rattle.mg_model.proofs.Settled.{restarted_gone, restarted_in_null}
-use Rattle.mg_merge.proofs.Scopes.{Scope, IsWithin}
+use Rattle.mg_merge.proofs.Scopes.{Scope, IsWithin, IsPart}
 use Rattle.mg_merge.proofs.Events.Worlds.{IsContained, IsBeside, IsMerge}
 
 within_restarted : (s : Scope) (b : Board) → IsWithin s b → IsWithin s (board_restarted b)
@@ -31,28 +26,26 @@ contained_restarted script s w contained = record {
 }
 
 pub beside_restarted : (s : Scope) (w m : World) → IsBeside s w m → IsBeside s (with_gateway w (restarted w.gateway)) (with_gateway m (restarted m.gateway))
-beside_restarted s w m along = record {
-  association = ap (λ (n : ℕ). n + 1) along.association;
-  board = record {
-    class = along.board.class;
-    row = λ t own. ap (row_restarted t) (along.board.row t own);
-    cut = λ t u own also. refl;
-    used_context = λ n own. refl;
-    used_ephemeral = λ n own. refl;
-    members = λ t real class. absurd (real (restarted_in_null t (m.gateway.board.row t)));
-  };
-  line = λ l own. ap cleared (along.line l own);
-  holder = along.holder;
-  creator = λ k own. refl;
-  link = λ c own. ap link_restarted (along.link c own);
-  retired = along.retired;
-  agent = along.agent;
-  requests = along.requests;
-  replies = along.replies;
-  notes = along.notes;
-  own_holder = along.own_holder;
-  own_creator = λ k c is own. absurd (none_is_some c is);
-}
+beside_restarted s w m along = assumption (
+  ap (λ (n : ℕ). n + 1) along.association,
+  parts,
+  λ (l : ℕ) (own : s.lines l ≡ true). ap cleared (along.line l own),
+  λ (c : ℕ) (own : s.numbers c ≡ true). ap link_restarted (along.link c own),
+  none_created,
+)
+  where
+    parts : IsPart s (board_restarted w.gateway.board) (board_restarted m.gateway.board)
+    parts = record {
+      class = along.board.class;
+      row = λ t own. ap (row_restarted t) (along.board.row t own);
+      cut = λ t u own also. refl;
+      used_context = λ n own. refl;
+      used_ephemeral = λ n own. refl;
+      members = λ t real class. absurd (real (restarted_in_null t (m.gateway.board.row t)));
+    }
+
+    none_created : (k c : ℕ) → None ≡ Some c → s.numbers c ≡ true → s.class k ≡ true
+    none_created k c is own = absurd (none_is_some c is)
 
 pub merge_restarted : (m : World) → IsMerge (with_gateway m (restarted m.gateway))
 merge_restarted m = record {

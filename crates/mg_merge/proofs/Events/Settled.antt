@@ -1,12 +1,7 @@
 -- Where a request of a shard ends: the board of the merge is settled as the shard's is, at what is the shard's, and stays settled at the rest.
-use Rattle.std.proofs.Common.{◌≡◌, ◌∙◌, ℕ, Bool, true, false, Option, is_some, refl, sym, ap, subst}
-use Rattle.std.specs.Prelude.{IsTrue, if◌then◌else◌, ◌↔◌}
-use Rattle.mg_names.specs.declared.identifiers.TermId.{TermId}
-use Rattle.mg_names.specs.declared.identifiers.TermId.TheVariants.{Eph}
-use Rattle.mg_model.specs.declared.rows.Row.{Row}
-use Rattle.mg_model.specs.Board.{Board, exists, place_of, place_in, ContextExists, IsSettled}
-use Rattle.mg_model.specs.Numbers.{null}
-use Rattle.mg_model.proofs.Cases.{not_both, where_true, where_false}
+use Rattle.std.proofs.Common.{◌≡◌, ◌∙◌, ℕ, Bool, true, false, Option, is_some, refl, sym, ap, subst, IsTrue, if◌then◌else◌, ◌↔◌, inl, inr}
+use Rattle.mg_merge.proofs.Words.{Board, ContextExists, Eph, IsSettled, Row, TermId, cases_Bool, exists, not_both, null, place_in, place_of, where_false}
+use Rattle.mg_merge.proofs.Words.{where_true}
 use Rattle.mg_merge.proofs.Commands.SameCodes.{merge_context, shard_context}
 use Rattle.mg_merge.proofs.Scopes.{Scope, mine, IsContextOf, IsEphemeralOf, IsWithin, IsPart, IsWhole, IsSameOutside}
 
@@ -33,22 +28,18 @@ module _ (s : Scope) (was m b end settled : Board) (before : IsWithin s was) (be
     (contexts : (c : ℕ) → IsTrue (m.used_context c) ↔ ContextExists m c) (ephemerals : (k : ℕ) → m.used_ephemeral k ≡ exists m (Eph k)) where
   -- who stands in a context of another shard stands there after as before
   stood : (c : ℕ) → s.class c ≡ false → ContextExists end c → ContextExists m c
-  stood c other (real, (t, at)) = go (mine s t) refl
-    where
-      go : (test : Bool) → mine s t ≡ test → ContextExists m c
-      go true e =
-          let its : place_of b t ≡ c = sym (ap place_in (part.row t e)) ∙ at in
-          absurd (not_both (sym (ap s.class its) ∙ (within.places t (λ null. real (sym its ∙ null))).1) other)
-      go false e = (real, (t, sym (ap place_in (outside.row t e)) ∙ at))
+  stood c other (real, (t, at)) = elim (cases_Bool (mine s t)) [
+    | inl e ↦ (let its : place_of b t ≡ c = sym (ap place_in (part.row t e)) ∙ at in
+        absurd (not_both (sym (ap s.class its) ∙ (within.places t (λ null. real (sym its ∙ null))).1) other))
+    | inr e ↦ (real, (t, sym (ap place_in (outside.row t e)) ∙ at))
+  ]
 
   stands : (c : ℕ) → s.class c ≡ false → ContextExists m c → ContextExists end c
-  stands c other (real, (t, at)) = go (mine s t) refl
-    where
-      go : (test : Bool) → mine s t ≡ test → ContextExists end c
-      go true e =
-          let its : place_of was t ≡ c = sym (ap place_in (beside.row t e)) ∙ at in
-          absurd (not_both (sym (ap s.class its) ∙ (before.places t (λ null. real (sym its ∙ null))).1) other)
-      go false e = (real, (t, ap place_in (outside.row t e) ∙ at))
+  stands c other (real, (t, at)) = elim (cases_Bool (mine s t)) [
+    | inl e ↦ (let its : place_of was t ≡ c = sym (ap place_in (beside.row t e)) ∙ at in
+        absurd (not_both (sym (ap s.class its) ∙ (before.places t (λ null. real (sym its ∙ null))).1) other))
+    | inr e ↦ (real, (t, ap place_in (outside.row t e) ∙ at))
+  ]
 
   settled_contexts : (c : ℕ) → IsTrue (if s.class c then settled.used_context c else m.used_context c) ↔ ContextExists end c
   settled_contexts c = go (s.class c) refl

@@ -1,14 +1,7 @@
 -- The world of a shard beside the world of the merge: what each is, and that an event of one shard leaves the other shards beside the merge.
-use Rattle.std.proofs.Common.{◌≡◌, ◌∙◌, ℕ, Bool, true, false, Some, None, refl, sym, ap}
-use Rattle.std.specs.Prelude.{Contains, IsTrue, ◌↔◌}
-use Rattle.mg_names.specs.declared.identifiers.TermId.{TermId}
-use Rattle.mg_names.specs.declared.identifiers.TermId.TheVariants.{Line, Eph}
-use Rattle.mg_model.specs.Agent.{Agent}
-use Rattle.mg_model.specs.Board.{exists, place_of, place_in, ContextExists}
-use Rattle.mg_model.specs.Messages.{Request, Reply, SentNote}
-use Rattle.mg_model.specs.Numbers.{null}
-use Rattle.mg_model.specs.Script.{Script}
-use Rattle.mg_model.specs.World.{World}
+use Rattle.std.proofs.Common.{◌≡◌, ◌∙◌, ℕ, Bool, true, false, Some, None, refl, sym, ap, Contains, IsTrue, ◌↔◌, inl, inr}
+use Rattle.mg_merge.proofs.Words.{Agent, ContextExists, Eph, Line, Reply, Request, Script, SentNote, TermId, World, cases_Bool, exists, null, place_in}
+use Rattle.mg_merge.proofs.Words.{place_of}
 use Rattle.mg_merge.proofs.Events.AgentNames.{IsAgentWithin, IsRequestWithin, IsReplyWithin}
 use Rattle.mg_merge.proofs.Scopes.{Scope, mine, AreSeparate, IsWithin, IsPart, IsWhole, IsSameOutside}
 
@@ -82,29 +75,24 @@ module _ (s u : Scope) (separate : AreSeparate s u) where
   module _ (script : Script) (w v m after : World) (contained : IsContained script s w) (ours : IsBeside s w after) (leaves : LeavesOthers s m after)
       (theirs : IsBeside u v m) where
     members : (t : TermId) → (place_of after.gateway.board t ≡ null → ⊥) → u.class (place_of after.gateway.board t) ≡ true → mine u t ≡ true
-    members t real class = go (mine s t) refl
-      where
-        go : (test : Bool) → mine s t ≡ test → mine u t ≡ true
-        go true e =
-            let at : place_of after.gateway.board t ≡ place_of w.gateway.board t = ap place_in (ours.board.row t e) in
-            absurd (separate.classes (place_of w.gateway.board t) (contained.board.places t (λ is. real (at ∙ is))).1 (sym (ap u.class at) ∙ class))
-        go false e =
-            let at : place_of after.gateway.board t ≡ place_of m.gateway.board t = ap place_in (leaves.board.row t e) in
-            theirs.board.members t (λ is. real (at ∙ is)) (sym (ap u.class at) ∙ class)
+    members t real class = elim (cases_Bool (mine s t)) [
+      | inl e ↦ (let at : place_of after.gateway.board t ≡ place_of w.gateway.board t = ap place_in (ours.board.row t e) in
+          absurd (separate.classes (place_of w.gateway.board t) (contained.board.places t (λ is. real (at ∙ is))).1 (sym (ap u.class at) ∙ class)))
+      | inr e ↦ (let at : place_of after.gateway.board t ≡ place_of m.gateway.board t = ap place_in (leaves.board.row t e) in
+          theirs.board.members t (λ is. real (at ∙ is)) (sym (ap u.class at) ∙ class))
+    ]
 
     own_holder : (l c : ℕ) → after.gateway.holder l ≡ Some c → u.numbers c ≡ true → u.lines l ≡ true
-    own_holder l c is own = go (s.lines l) refl
-      where
-        go : (test : Bool) → s.lines l ≡ test → u.lines l ≡ true
-        go true e = absurd (separate.numbers c (contained.holder l c (sym (ours.holder l e) ∙ is)).1 own)
-        go false e = theirs.own_holder l c (sym (leaves.holder l e) ∙ is) own
+    own_holder l c is own = elim (cases_Bool (s.lines l)) [
+      | inl e ↦ absurd (separate.numbers c (contained.holder l c (sym (ours.holder l e) ∙ is)).1 own)
+      | inr e ↦ theirs.own_holder l c (sym (leaves.holder l e) ∙ is) own
+    ]
 
     own_creator : (k c : ℕ) → after.gateway.creator k ≡ Some c → u.numbers c ≡ true → u.class k ≡ true
-    own_creator k c is own = go (s.class k) refl
-      where
-        go : (test : Bool) → s.class k ≡ test → u.class k ≡ true
-        go true e = absurd (separate.numbers c (contained.creator k c (sym (ours.creator k e) ∙ is)).1 own)
-        go false e = theirs.own_creator k c (sym (leaves.creator k e) ∙ is) own
+    own_creator k c is own = elim (cases_Bool (s.class k)) [
+      | inl e ↦ absurd (separate.numbers c (contained.creator k c (sym (ours.creator k e) ∙ is)).1 own)
+      | inr e ↦ theirs.own_creator k c (sym (leaves.creator k e) ∙ is) own
+    ]
 
     -- an event of the one shard leaves the other beside the merge
     pub others_beside : IsBeside u v after

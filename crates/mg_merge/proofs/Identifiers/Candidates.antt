@@ -1,10 +1,7 @@
 -- The numbers of a class, in rising order from one of them on; and how many of them are in none of a list of numbers.
-use Rattle.std.proofs.Common.{◌≡◌, ◌∙◌, ◌+◌, ◌*◌, ◌%◌, ◌<◌, ◌≤◌, ℕ, zero, suc, List, [], ◌∷◌, length, refl, sym, ap, arith, inl, inr}
-use Rattle.std.specs.Prelude.{Contains}
+use Rattle.std.proofs.Common.{◌≡◌, ◌∙◌, ◌+◌, ◌*◌, ◌%◌, ◌<◌, ◌≤◌, ℕ, zero, suc, List, [], ◌∷◌, length, refl, sym, ap, arith, inl, inr, Contains}
 use Rattle.std.proofs.Math.Nat.{add-mod_right}
-use Rattle.mg_model.specs.Items.{IsRising}
-use Rattle.mg_model.specs.Shards.{AreLeft}
-use Rattle.mg_model.proofs.Single.{none_in, first_or_later}
+use Rattle.mg_merge.proofs.Words.{AreLeft, IsRising, first_or_later, none_in}
 use Rattle.mg_merge.specs.Identifiers.{most_shards}
 use Rattle.mg_merge.proofs.Commands.IdentifiersLeft.{without, was_there, still_rising, one_less, taken_out}
 

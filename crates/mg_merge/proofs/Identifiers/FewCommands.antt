@@ -1,20 +1,13 @@
 -- How long requests are: a request has at most as many commands as the state that it is built of, so where each state has few, each step of an
 -- agent sends few.
-use Rattle.std.proofs.Common.{◌≡◌, ◌+◌, ◌≤◌, ℕ, Bool, true, false, List, [], ◌∷◌, length, Option, Some, None, refl, sym, subst, arith, inl, inr}
-use Rattle.std.specs.Prelude.{◌==◌, if◌then◌else◌, nat_lt, nat_le, unwrap_or, Contains}
-use Rattle.std.proofs.lemmas.Bool.{cases_lt}
-use Rattle.std.proofs.lemmas.Option.{unwrap_or-slice_get, slice_get_past}
-use Rattle.mg_model.specs.declared.commands.Command.{Command}
-use Rattle.mg_model.specs.declared.failures.Failure.{Failure}
-use Rattle.mg_model.specs.Agent.{answers, Agent, Made, none_made, made_after, Phase, awaits_reply, awaits_pass, resting, entered_with, entered, entered_or_rests, entered_if, entered_or_stays, built_by, bound_by, request_of, after_results, leads_on, replied_to, replied, passed_in, passed, may_accept, inbox_of, target_of, line_in, noted, is_resting, timed, forgotten, heard, commands_of}
-use Rattle.mg_model.specs.Delivery.{with_accepted, arrival, is_new}
-use Rattle.mg_model.specs.Messages.{Request, Reply, SentNote}
-use Rattle.mg_model.specs.Numbers.{last_number}
-use Rattle.mg_model.specs.Script.{Script, State}
-use Rattle.mg_model.specs.Tables.{state_of, no_state, is_empty}
-use Rattle.mg_model.specs.World.{sent_in}
-use Rattle.mg_model.proofs.Cases.{the_some, none_is_some, false_not_true, and_first, and_second}
-use Rattle.mg_model.proofs.Single.{none_in, only_one}
+use Rattle.std.proofs.Common.{◌≡◌, ◌+◌, ◌≤◌, ℕ, Bool, true, false, List, [], ◌∷◌, length, Option, Some, None, refl, sym, subst, arith, inl, inr, ◌==◌}
+use Rattle.std.proofs.Common.{if◌then◌else◌, nat_lt, nat_le, unwrap_or, Contains}
+use Rattle.mg_merge.proofs.Words.{Agent, Command, Failure, Made, Phase, Reply, Request, Script, SentNote, State, after_results, and_first, and_second, answers}
+use Rattle.mg_merge.proofs.Words.{arrival, awaits_pass, awaits_reply, bound_by, built_by, cases_lt, commands_of, entered, entered_if, entered_or_rests}
+use Rattle.mg_merge.proofs.Words.{entered_or_stays, entered_with, false_not_true, forgotten, heard, inbox_of, is_empty, is_new, is_resting, last_number}
+use Rattle.mg_merge.proofs.Words.{leads_on, line_in, made_after, may_accept, no_state, none_in, none_is_some, none_made, noted, only_one, passed, passed_in}
+use Rattle.mg_merge.proofs.Words.{replied, replied_to, request_of, resting, sent_in, slice_get_past, state_of, target_of, the_some, timed, unwrap_or-slice_get}
+use Rattle.mg_merge.proofs.Words.{with_accepted}
 use Rattle.mg_model.proofs.Built.{built_no_more}
 use Rattle.mg_merge.specs.Identifiers.{HasFewCommands, most_commands}
 
@@ -26,7 +19,8 @@ few_in_state script few state = elim (cases_lt state (length script.states)) [
   | inr past ↦ subst (λ (found : Option State). length (unwrap_or found no_state).commands ≤ most_commands) (sym (slice_get_past script.states state past)) (omega (arith))
 ]
 
-sent_as_many : (script : Script) (a : Agent) (made : Made) (place : ℕ) (commands : List Command) → length (commands_of script a made place commands) ≡ length commands
+pub sent_as_many : (script : Script) (a : Agent) (made : Made) (place : ℕ) (commands : List Command)
+    → length (commands_of script a made place commands) ≡ length commands
 sent_as_many script a made place [] = refl
 sent_as_many script a made place (command ∷ more) =
     let later = sent_as_many script a (made_after made command place) (place + 1) more in omega (arith, later)
@@ -41,6 +35,10 @@ GivesShort o = (b : Agent) → o ≡ Some b → (request : Request) → Contains
 
 gives_none : GivesShort None
 gives_none b e = absurd (none_is_some b e)
+
+gives_where : (test : Bool) (o : Option Agent) → (test ≡ true → GivesShort o) → GivesShort (if test then o else None)
+gives_where true o gives = gives refl
+gives_where false o gives = gives_none
 
 -- an agent that sends nothing
 sends_nothing : (c : Agent) → sent_in c.phase ≡ [] → GivesShort (Some c)
@@ -58,15 +56,12 @@ module _ (script : Script) (few : HasFewCommands script) where
 
   enters_with : (a : Agent) (state : ℕ) (empty : Bool) → GivesShort (entered_with script a state empty)
   enters_with a state true = sends_nothing (record a { state = state; phase = awaits_pass }) refl
-  enters_with a state false = numbered (nat_le a.next last_number)
+  enters_with a state false = gives_where (nat_le a.next last_number) (Some c) (λ room b e request there. subst IsShort
+      (only_one (request_of script a state) request (subst (λ (x : Agent). Contains (sent_in x.phase) request) (sym (the_some c b e)) there))
+      (request_short a state))
     where
       c : Agent
       c = record a { state = state; phase = awaits_reply (request_of script a state); next = a.next + 1 }
-
-      numbered : (room : Bool) → GivesShort (if room then Some c else None)
-      numbered true b e request there = subst IsShort
-          (only_one (request_of script a state) request (subst (λ (x : Agent). Contains (sent_in x.phase) request) (sym (the_some c b e)) there)) (request_short a state)
-      numbered false b e request there = absurd (none_is_some b e)
 
   enters : (a : Agent) (state : ℕ) → GivesShort (entered script a state)
   enters a state = enters_with a state (is_empty (built_by script a state))
@@ -86,46 +81,32 @@ module _ (script : Script) (few : HasFewCommands script) where
   pub replied_short : (a : Agent) (reply : Reply) → GivesShort (replied script a reply)
   replied_short a reply = in_phase a.phase
     where
-      answered : (fits : Bool) → GivesShort (if fits
-          then leads_on script a (after_results a (built_by script a a.state) reply.results reply.number) reply.failure else None)
-      answered true = leads a (after_results a (built_by script a a.state) reply.results reply.number) reply.failure
-      answered false = gives_none
-
       in_phase : (phase : Phase) → GivesShort (replied_to script a phase reply)
-      in_phase (awaits_reply request) = answered (answers reply request)
-      in_phase awaits_pass = gives_none
-      in_phase resting = gives_none
+      in_phase (awaits_reply request) = gives_where (answers reply request) _
+          (λ fits. leads a (after_results a (built_by script a a.state) reply.results reply.number) reply.failure)
+      in_phase _ = gives_none
 
   pub passed_short : (a : Agent) → GivesShort (passed script a)
   passed_short a = in_phase a.phase
     where
       in_phase : (phase : Phase) → GivesShort (passed_in script a phase)
       in_phase awaits_pass = rests a (state_of script a.state).ok
-      in_phase (awaits_reply request) = gives_none
-      in_phase resting = gives_none
+      in_phase _ = gives_none
 
   pub timed_short : (a : Agent) → GivesShort (timed script a)
-  timed_short a = at_rest (is_resting a.phase)
-    where
-      at_rest : (rest : Bool) → GivesShort (if rest then entered_if script a (state_of script a.state).timer else None)
-      at_rest true = enters_if a (state_of script a.state).timer
-      at_rest false = gives_none
+  timed_short a = gives_where (is_resting a.phase) _ (λ rest. enters_if a (state_of script a.state).timer)
 
   pub heard_short : (a : Agent) (association : ℕ) → GivesShort (heard script a association)
-  heard_short a association = newer (nat_lt a.association association)
-    where
-      newer : (test : Bool) → GivesShort (if test then entered script (forgotten a association) script.restart else None)
-      newer true = enters (forgotten a association) script.restart
-      newer false = gives_none
+  heard_short a association = gives_where (nat_lt a.association association) _ (λ newer. enters (forgotten a association) script.restart)
 
   rest_sends_nothing : (phase : Phase) → is_resting phase ≡ true → sent_in phase ≡ []
-  rest_sends_nothing (awaits_reply request) e = absurd (false_not_true e)
-  rest_sends_nothing awaits_pass e = absurd (false_not_true e)
   rest_sends_nothing resting e = refl
+  rest_sends_nothing _ e = absurd (false_not_true e)
 
   -- a note is accepted at rest alone
   pub noted_short : (a : Agent) (slots : List ℕ) (sent : SentNote) → GivesShort (noted script a slots sent)
-  noted_short a slots sent = accepting (may_accept script a sent) refl
+  noted_short a slots sent = gives_where (may_accept script a sent) _
+      (λ may. goes (rest_sends_nothing a.phase (at_rest may)) (target_of script b (line_in b sent.line slots) sent.note))
     where
       b : Agent
       b = record a { accepted = (with_accepted (inbox_of a) sent.number).accepted }
@@ -136,8 +117,3 @@ module _ (script : Script) (few : HasFewCommands script) where
 
       at_rest : may_accept script a sent ≡ true → is_resting a.phase ≡ true
       at_rest may = and_first (is_resting a.phase) _ (and_first _ (is_new (arrival (inbox_of a) sent.association sent.number)) (and_second (sent.call == a.call) _ may))
-
-      accepting : (test : Bool) → may_accept script a sent ≡ test
-          → GivesShort (if test then entered_or_stays script b (target_of script b (line_in b sent.line slots) sent.note) else None)
-      accepting true may = goes (rest_sends_nothing a.phase (at_rest may)) (target_of script b (line_in b sent.line slots) sent.note)
-      accepting false may = gives_none

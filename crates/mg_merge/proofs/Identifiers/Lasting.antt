@@ -1,25 +1,12 @@
 -- The law that identifiers last: with each execute at most sixteen contexts and ephemerals more are used, and with no other event any; so before each
 -- event of a run that has few executes, and at its end, a class has as many left as a request may want.
 use Rattle.std.proofs.Common.{◌≡◌, ◌∙◌, ◌+◌, ◌*◌, ◌%◌, ◌<◌, ◌≤◌, ℕ, Bool, true, List, [], ◌∷◌, length, Option, is_some, refl, sym, ap, subst, arith, inl, inr}
-use Rattle.std.specs.Prelude.{Contains}
+use Rattle.std.proofs.Common.{Contains}
 use Rattle.std.proofs.Math.Nat.{add-mod_right, mod-eq_of_lt}
-use Rattle.std.proofs.lemmas.Bool.{false_from_ne_true}
-use Rattle.std.proofs.lemmas.List.Elements.{Contains-append_cases}
-use Rattle.mg_model.specs.declared.events.CallEvent.{CallEvent}
+use Rattle.mg_merge.proofs.Words.{Agent, AgentSteps, AreLeft, Board, CallEvent, ChosenRefusal, Contains-append_cases, Event, Executes, Gateway}
+use Rattle.mg_merge.proofs.Words.{HasIdentifiersLeft, IsContextLeft, IsEphemeralLeft, IsOpening, Occurs, OccursTo, OfCall, Opened, Request, Restart, Runs}
+use Rattle.mg_merge.proofs.Words.{RunsWithin, Script, World, choose, false_from_ne_true, heard, line_places, noted, nothing_in, passed, replied, sent_in, timed}
 use Rattle.mg_model.specs.declared.events.CallEvent.TheVariants as to_call
-use Rattle.mg_model.specs.declared.events.Event.{Event}
-use Rattle.mg_model.specs.declared.events.Event.TheVariants.{OfCall, Restart}
-use Rattle.mg_model.specs.declared.failures.ChosenRefusal.{ChosenRefusal}
-use Rattle.mg_model.specs.Agent.{Agent, replied, passed, noted, timed, heard}
-use Rattle.mg_model.specs.Board.{Board}
-use Rattle.mg_model.specs.Gateway.{Gateway}
-use Rattle.mg_model.specs.Messages.{Request}
-use Rattle.mg_model.specs.Numbers.{choose}
-use Rattle.mg_model.specs.Script.{Script}
-use Rattle.mg_model.specs.Shards.{HasIdentifiersLeft, RunsWithin, IsContextLeft, IsEphemeralLeft, AreLeft}
-use Rattle.mg_model.specs.Tables.{line_places}
-use Rattle.mg_model.specs.World.{World, Opened, Occurs, OccursTo, Runs, IsOpening, AgentSteps, Executes, sent_in}
-use Rattle.mg_model.proofs.Single.{nothing_in}
 use Rattle.mg_merge.specs.Identifiers.{HasFewCommands, IdentifiersAreLeft, IdentifiersLast, executes_of, executes_in, most_commands, most_shards, most_executes}
 use Rattle.mg_merge.proofs.Identifiers.Candidates.{class_has_more}
 use Rattle.mg_merge.proofs.Identifiers.FewCommands.{IsShort, GivesShort, replied_short, passed_short, noted_short, timed_short, heard_short}
@@ -55,11 +42,7 @@ module _ (script : Script) (few : HasFewCommands script) (class : ℕ → Bool) 
   })
 
   with_more : (w : World) (most more : ℕ) → most ≤ more → IsSparing class w most → IsSparing class w more
-  with_more w most more less sparing = record {
-    board = or_more w.gateway.board most more less sparing.board;
-    class_is = sparing.class_is;
-    requests = sparing.requests;
-  }
+  with_more w most more less sparing = assumption (or_more w.gateway.board most more less sparing.board)
 
   -- ---- executes
 
@@ -108,11 +91,8 @@ module _ (script : Script) (few : HasFewCommands script) (class : ℕ → Bool) 
   event_sparing : (w after : World) (most : ℕ) (event : Event) → IsSparing class w most → Occurs script w event after
       → IsSparing class after (most + most_commands * executes_of event)
   event_sparing w after most (OfCall call event) sparing occurs = call_sparing w after most call.0 event sparing occurs
-  event_sparing w after most Restart sparing (may, is) = with_more after most _ (omega (arith)) (subst (λ (v : World). IsSparing class v most) (sym is) (record {
-    board = restarted_uses_none w.gateway.board most;
-    class_is = sparing.class_is;
-    requests = sparing.requests;
-  }))
+  event_sparing w after most Restart sparing (may, is) = with_more after most _ (omega (arith))
+      (subst (λ (v : World). IsSparing class v most) (sym is) (assumption (restarted_uses_none w.gateway.board most)))
 
   -- ---- what is left
 

@@ -1,24 +1,12 @@
 -- The numbers that are used, and those of what stands, are in two lists: each command adds one to each of them at most, and settling and restarts none.
-use Rattle.std.proofs.Common.{◌≡◌, ◌∙◌, ◌+◌, ◌≤◌, ℕ, suc, Bool, true, false, List, [], ◌∷◌, length, Option, Some, None, is_some, refl, sym, ap, subst, arith, inl, inr}
-use Rattle.std.specs.Prelude.{◌==◌, ◌||◌, ◌⊎◌, not, Contains, IsTrue, if◌then◌else◌}
-use Rattle.std.proofs.lemmas.Bool.{eqb-true, eq-eqb}
-use Rattle.mg_names.specs.declared.codes.Code.TheVariants.{UnknownContext, UnknownTermination}
-use Rattle.mg_names.specs.declared.identifiers.TermId.{TermId}
-use Rattle.mg_names.specs.declared.identifiers.TermId.TheVariants.{Line, Eph}
-use Rattle.mg_model.specs.declared.failures.ChosenRefusal.{ChosenRefusal}
-use Rattle.mg_model.specs.declared.failures.Failure.{Failure}
+use Rattle.std.proofs.Common.{◌≡◌, ◌∙◌, ◌+◌, ◌≤◌, ℕ, suc, Bool, true, false, List, [], ◌∷◌, length, Option, Some, None, is_some, refl, sym, ap, subst, arith}
+use Rattle.std.proofs.Common.{inl, inr, ◌==◌, ◌||◌, ◌⊎◌, not, Contains, IsTrue, if◌then◌else◌}
+use Rattle.mg_merge.proofs.Words.{Add, Board, Chosen, ChosenRefusal, ContextExists, Eph, Failure, IsLegal, IsSettled, Item, Line, Modify, Move, RequestCommand}
+use Rattle.mg_merge.proofs.Words.{Row, Running, RunsFrom, SetTopology, Subtract, SubtractAll, TermId, UnknownContext, UnknownTermination, board_restarted}
+use Rattle.mg_merge.proofs.Words.{by_test, choose, creates_context, creates_ephemeral, effect, eq-eqb, eqb-true, exists, false_not_true, first_in}
+use Rattle.mg_merge.proofs.Words.{first_or_later, given, later_in, mode_of, neither_first, none_in, not_refused, null, place_in, place_of, remote_of, row_at}
+use Rattle.mg_merge.proofs.Words.{same_term, subtracted, target}
 use Rattle.mg_model.specs.declared.items.Added.TheVariants as added
-use Rattle.mg_model.specs.declared.items.Item.{Item}
-use Rattle.mg_model.specs.declared.items.Item.TheVariants.{Add, Modify, Move, Subtract, SubtractAll, SetTopology}
-use Rattle.mg_model.specs.declared.rows.Row.{Row}
-use Rattle.mg_model.specs.Board.{Board, same_term, exists, place_of, place_in, mode_of, remote_of, ContextExists, IsSettled}
-use Rattle.mg_model.specs.Gateway.{board_restarted}
-use Rattle.mg_model.specs.Items.{IsLegal, Chosen, target, row_at, effect, subtracted, given, creates_context, creates_ephemeral}
-use Rattle.mg_model.specs.Messages.{RequestCommand}
-use Rattle.mg_model.specs.Numbers.{null, choose}
-use Rattle.mg_model.specs.RequestRun.{Running, RunsFrom}
-use Rattle.mg_model.proofs.Cases.{false_not_true, by_test, neither_first, not_refused}
-use Rattle.mg_model.proofs.Single.{none_in, first_in, first_or_later, later_in}
 use Rattle.mg_model.proofs.Terminations.{same_term_is}
 use Rattle.mg_model.proofs.Settled.{restarted_gone, restarted_in_null}
 use Rattle.mg_merge.proofs.Commands.Changes.{class_stays}

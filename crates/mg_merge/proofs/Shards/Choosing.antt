@@ -1,11 +1,6 @@
 -- What one of several shards has and no other: the first that has it, taken shard by shard; and two shards among those that are all apart.
-use Rattle.std.proofs.Common.{◌≡◌, ◌∙◌, ℕ, Bool, true, false, List, [], ◌∷◌, Option, Some, None, refl, sym, ap, subst, inl, inr}
-use Rattle.std.specs.Prelude.{◌||◌, ◌⊎◌, Contains}
-use Rattle.std.proofs.lemmas.Bool.{or_left, or_right}
-use Rattle.mg_model.specs.Script.{Script}
-use Rattle.mg_model.specs.Shards.{Shard, AreApart, AreAllApart}
-use Rattle.mg_model.proofs.Cases.{none_is_some}
-use Rattle.mg_model.proofs.Single.{first_in, none_in, first_or_later, later_in}
+use Rattle.std.proofs.Common.{◌≡◌, ◌∙◌, ℕ, Bool, true, false, List, [], ◌∷◌, Option, Some, None, refl, sym, ap, subst, inl, inr, ◌||◌, ◌⊎◌, Contains}
+use Rattle.mg_merge.proofs.Words.{AreAllApart, AreApart, Script, Shard, first_in, first_or_later, later_in, none_in, none_is_some, or_left, or_right}
 
 -- ---- the first that has it
 

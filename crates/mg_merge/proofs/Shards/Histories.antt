@@ -1,14 +1,7 @@
 -- A history cut at its restarts: its first association, what comes after it, and how the histories of several go on together from one association
 -- to the next.
-use Rattle.std.proofs.Common.{◌≡◌, ◌∙◌, ◌+◌, ◌++◌, ℕ, zero, suc, List, [], ◌∷◌, refl, sym, ap, subst, arith}
-use Rattle.std.specs.Prelude.{slice_index_or}
-use Rattle.std.specs.List.{All}
-use Rattle.std.proofs.lemmas.List.Elements.{All-tail}
-use Rattle.mg_model.specs.declared.events.Event.{Event}
-use Rattle.mg_model.specs.declared.events.Event.TheVariants.{OfCall, Restart}
-use Rattle.mg_model.specs.Script.{Script}
-use Rattle.mg_model.specs.Shards.{History, cut_at_restarts, restarts_in, together, merged_from}
-use Rattle.mg_model.specs.World.{World, Runs}
+use Rattle.std.proofs.Common.{◌≡◌, ◌∙◌, ◌+◌, ◌++◌, ℕ, zero, suc, List, [], ◌∷◌, refl, sym, ap, subst, arith, slice_index_or}
+use Rattle.mg_merge.proofs.Words.{All, All-tail, Event, History, OfCall, Restart, Runs, Script, World, cut_at_restarts, merged_from, restarts_in, together}
 use Rattle.mg_model.proofs.Histories.{first_with, later_with}
 
 -- ---- one history

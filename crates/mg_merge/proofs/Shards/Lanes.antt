@@ -1,13 +1,6 @@
 -- The shards side by side, each with what is left of its history: one association of all of them in the merge, shard after shard.
 use Rattle.std.proofs.Common.{List, [], ◌∷◌, refl}
-use Rattle.std.specs.List.{All}
-use Rattle.std.proofs.lemmas.List.Elements.{All-head, All-tail}
-use Rattle.mg_model.specs.declared.events.Event.{Event}
-use Rattle.mg_model.specs.declared.events.Event.TheVariants.{OfCall, Restart}
-use Rattle.mg_model.specs.Accepted.{IsScript}
-use Rattle.mg_model.specs.Script.{Script}
-use Rattle.mg_model.specs.Shards.{Shard, IsEventOf, RunsWithin}
-use Rattle.mg_model.specs.World.{World, Runs}
+use Rattle.mg_merge.proofs.Words.{All, All-head, All-tail, Event, IsEventOf, IsScript, OfCall, Restart, Runs, RunsWithin, Script, Shard, World}
 use Rattle.mg_merge.proofs.Events.CallEvents.{call_follows}
 use Rattle.mg_merge.proofs.Shards.Histories.{before_restart, from_restart, all_before, runs_after}
 use Rattle.mg_merge.proofs.Shards.Opening.{turned}

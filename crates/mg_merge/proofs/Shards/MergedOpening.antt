@@ -1,24 +1,24 @@
 -- Where the merge opens: the lines, the holders and the agents of all shards. It is an opening of all their calls, and each shard stands beside it.
-use Rattle.std.proofs.Common.{◌<◌, length, ◌≡◌, ◌∙◌, ℕ, Bool, true, false, List, [], Option, Some, None, is_some, refl, sym, ap, subst, inl, inr}
-use Rattle.std.specs.Prelude.{◌⊎◌, Contains}
-use Rattle.mg_names.specs.declared.identifiers.TermId.{TermId}
-use Rattle.mg_names.specs.declared.identifiers.TermId.TheVariants.{Line, Eph}
-use Rattle.mg_model.specs.declared.rows.Row.{Row}
-use Rattle.mg_model.specs.Agent.{Agent}
-use Rattle.mg_model.specs.Board.{null_row, place_of}
-use Rattle.mg_model.specs.Gateway.{CallLink}
-use Rattle.mg_model.specs.Numbers.{first_association}
-use Rattle.mg_model.specs.Script.{Script}
-use Rattle.mg_model.specs.Shards.{Shard, IsShardRun, AreAllApart, all_calls}
-use Rattle.mg_model.specs.World.{World, Opened, IsOpening, AreDistinct, AreOpenedLines, IsLineOf, armed_line}
-use Rattle.mg_model.proofs.Cases.{false_not_true, none_is_some, the_some}
+use Rattle.std.proofs.Common.{◌<◌, length, ◌≡◌, ◌∙◌, ℕ, Bool, true, false, List, [], Option, Some, None, is_some, refl, sym, ap, subst, inl, inr, ◌⊎◌, Contains}
+use Rattle.std.proofs.Common.{◌∷◌}
+use Rattle.mg_merge.proofs.Words.{Agent, AreAllApart, AreDistinct, AreOpenedLines, CallLink, Contains-append_cases, Eph, IsLineOf, IsOpening, IsShardRun, Line}
+use Rattle.mg_merge.proofs.Words.{Opened, Row, Script, Shard, TermId, World, all_calls, armed_line, false_not_true, first_association, first_in, flat_map}
+use Rattle.mg_merge.proofs.Words.{in_joined, later_in, none_in, none_is_some, nothing_in, null_row, place_of, the_some}
 use Rattle.mg_model.proofs.OpenedLines.{line_armed, line_held, line_stands, opened_lines}
-use Rattle.mg_model.proofs.Single.{in_joined, nothing_in}
 use Rattle.mg_merge.proofs.Shards.Choosing.{first_with, only_with, from_first, class_of, in_class, two_of}
-use Rattle.mg_merge.proofs.Lists.{from_joined}
 use Rattle.mg_merge.proofs.Shards.Opening.{line_of_call, call_line, start_contained, separate}
 use Rattle.mg_merge.proofs.Scopes.{scope_of, mine}
 use Rattle.mg_merge.proofs.Events.Worlds.{IsBeside, IsMerge}
+
+-- what stands in lists that are joined
+from_joined : {X A : Type 0} (f : X → List A) (xs : List X) (a : A) → Contains (flat_map f xs) a → (x : X) × Contains xs x × Contains (f x) a
+from_joined f [] a among = absurd (none_in a among)
+from_joined f (y ∷ ys) a among = go (Contains-append_cases (f y) (flat_map f ys) a among) (from_joined f ys a)
+  where
+    go : Contains (f y) a ⊎ Contains (flat_map f ys) a → (Contains (flat_map f ys) a → (x : _) × Contains ys x × Contains (f x) a)
+        → (x : _) × Contains (y ∷ ys) x × Contains (f x) a
+    go (inl first) on = (y, first_in y ys, first)
+    go (inr later) on = let it = on later in (it.0, later_in y ys it.0 it.1, it.2)
 
 -- ---- the world
 
@@ -185,16 +185,7 @@ module _ (script : Script) (shards : List Shard) (runs : (shard : Shard) → Con
   opens = record {
     distinct = distinct;
     lines = merged_lines;
-    gateway = record {
-      association = refl;
-      no_ephemeral = λ k. refl;
-      nothing_cut = refl;
-      no_context_given = refl;
-      no_ephemeral_given = refl;
-      no_creator = refl;
-      no_reply_kept = refl;
-      none_retired = refl;
-    };
+    gateway = assumption;
     agents = record {
       opened = λ one here.
           let a = whose one here in
@@ -204,5 +195,5 @@ module _ (script : Script) (shards : List Shard) (runs : (shard : Shard) → Con
           let one = (runs it.0 it.1).opens.agents.no_other c a it.2 in
           (one.0, in_joined (λ (shard : Shard). shard.calls) shards it.0 one.0 it.1 one.1, one.2);
     };
-    messages = record { no_request = refl; no_answer = refl; no_note = refl };
+    messages = assumption;
   }

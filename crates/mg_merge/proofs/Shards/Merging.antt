@@ -1,17 +1,9 @@
 -- The law: association by association, with one restart of all between two, the histories of the shards are one run of all their calls.
-use Rattle.std.proofs.Common.{◌≡◌, ◌∙◌, ◌+◌, ◌<◌, ◌++◌, ℕ, zero, suc, List, [], ◌∷◌, refl, sym, ap, subst, inl, inr}
-use Rattle.std.specs.Prelude.{Contains}
-use Rattle.std.proofs.lemmas.List.Elements.{All-weaker, All-contains_itself}
-use Rattle.mg_model.specs.declared.events.Event.{Event}
-use Rattle.mg_model.specs.declared.events.Event.TheVariants.{Restart}
-use Rattle.mg_model.specs.Accepted.{IsScript}
-use Rattle.mg_model.specs.Gateway.{restarted}
-use Rattle.mg_model.specs.Numbers.{last_association}
-use Rattle.mg_model.specs.Script.{Script}
+use Rattle.std.proofs.Common.{◌≡◌, ◌∙◌, ◌+◌, ◌<◌, ◌++◌, ℕ, zero, suc, List, [], ◌∷◌, refl, sym, ap, subst, inl, inr, Contains}
+use Rattle.mg_merge.proofs.Words.{AgreesWith, All-contains_itself, All-weaker, AreAllApart, Event, History, IsEventOf, IsScript, IsShardRun, Restart, Runs}
+use Rattle.mg_merge.proofs.Words.{RunsWithin, Script, Shard, World, cut_at_restarts, first_in, first_or_later, histories, last_association, later_in}
+use Rattle.mg_merge.proofs.Words.{merged_from, none_in, restarted, restarts_in, with_gateway}
 use Rattle.mg_merge.specs.Laws.{MergesAreRuns}
-use Rattle.mg_model.specs.Shards.{History, Shard, IsShardRun, IsEventOf, AgreesWith, AreAllApart, RunsWithin, cut_at_restarts, histories, merged_from, restarts_in}
-use Rattle.mg_model.specs.World.{World, Runs, with_gateway}
-use Rattle.mg_model.proofs.Single.{first_in, none_in, first_or_later, later_in}
 use Rattle.mg_merge.proofs.Shards.Histories.{after_restart, all_after, all_before, all_cut, first_together, later_merged, later_own, none_left, one_left, runs_after}
 use Rattle.mg_merge.proofs.Shards.Lanes.{Lane, scope_in, Each, AreAllSeparate, rests, each_both, Begins, Stops, all_pass}
 use Rattle.mg_merge.proofs.Shards.MergedOpening.{merged_start, start_beside, start_merge, opens}

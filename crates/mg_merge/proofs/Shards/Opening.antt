@@ -1,17 +1,7 @@
 -- Where a shard opens: its world is contained in what it owns; and shards that are apart own nothing in common.
-use Rattle.std.proofs.Common.{◌≡◌, ◌∙◌, ◌<◌, ℕ, true, List, [], length, Option, Some, None, is_some, refl, sym, ap, subst}
-use Rattle.std.specs.Prelude.{Contains}
-use Rattle.mg_names.specs.declared.identifiers.TermId.{TermId}
-use Rattle.mg_names.specs.declared.identifiers.TermId.TheVariants.{Line, Eph}
-use Rattle.mg_model.specs.declared.rows.Row.{Row}
-use Rattle.mg_model.specs.Agent.{Agent, opened}
-use Rattle.mg_model.specs.Board.{place_of, place_in}
-use Rattle.mg_model.specs.Gateway.{CallLink}
-use Rattle.mg_model.specs.Script.{Script}
-use Rattle.mg_model.specs.Shards.{Shard, IsShardRun, AreApart}
-use Rattle.mg_model.specs.World.{World, Opened, IsOpening}
-use Rattle.mg_model.proofs.Cases.{false_not_true, none_is_some, some_of, the_some}
-use Rattle.mg_model.proofs.Single.{nothing_in}
+use Rattle.std.proofs.Common.{◌≡◌, ◌∙◌, ◌<◌, ℕ, true, List, length, Option, Some, None, is_some, refl, sym, ap, subst, Contains}
+use Rattle.mg_merge.proofs.Words.{Agent, AreApart, CallLink, Eph, IsOpening, IsShardRun, Line, Opened, Row, Script, Shard, TermId, World, false_not_true}
+use Rattle.mg_merge.proofs.Words.{none_is_some, nothing_in, opened, place_in, place_of, some_of, the_some}
 use Rattle.mg_model.proofs.OpenedLines.{line_held}
 use Rattle.mg_merge.proofs.Events.AgentNames.{IsAgentWithin, opened_within}
 use Rattle.mg_merge.proofs.Scopes.{Scope, scope_of, AreSeparate, IsWithin}
