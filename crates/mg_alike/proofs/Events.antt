@@ -6,6 +6,7 @@ pub mod Requests
 pub mod Steps
 pub mod LineEvents
 pub mod Every
+pub mod Kept
 pub mod Settled
 pub mod Settling
 pub mod Happening

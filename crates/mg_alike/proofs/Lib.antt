@@ -1,3 +1,4 @@
+pub mod Words
 pub mod Shared
 pub mod Agents
 pub mod Commands

@@ -1,24 +1,14 @@
 -- The requests that agents build which are alike: the same commands of the script, by names that are bound alike.
 use Rattle.std.proofs.Common.{◌≡◌, ◌∙◌, ◌+◌, ℕ, Bool, true, false, List, [], ◌∷◌, Option, Some, None, is_some, option_map, refl, sym, ap, subst, inl, inr}
 use Rattle.std.proofs.Math.Path.{fun_ext}
-use Rattle.mg_model.specs.declared.commands.Command.{Command}
-use Rattle.mg_model.specs.declared.commands.Command.TheVariants.{AddLine, AddEphemeral, ModifyLine, ModifyEphemeral, MoveLine, MoveEphemeral, Subtract, SubtractAll, SetTopology}
-use Rattle.mg_model.specs.declared.commands.EphemeralOptions.{EphemeralOptions}
-use Rattle.mg_model.specs.declared.commands.LineOptions.{LineOptions}
-use Rattle.mg_model.specs.declared.commands.Place.{Place}
-use Rattle.mg_model.specs.declared.commands.Place.TheVariants.{NullContext, Context}
-use Rattle.mg_model.specs.declared.commands.RemoteOption.{RemoteOption}
-use Rattle.mg_model.specs.declared.commands.RemoteOption.TheVariants.{NoneGiven, Peer}
-use Rattle.mg_model.specs.declared.commands.Termination.{Termination}
+use Rattle.mg_merge.proofs.Words.{AddEphemeral, AddLine, Agent, Command, Context, EphemeralOptions, LineOptions, Made, ModifyEphemeral, ModifyLine}
+use Rattle.mg_merge.proofs.Words.{MoveEphemeral, MoveLine, Names, NoneGiven, NullContext, Peer, Place, RemoteOption, Script, Termination, added_to, bound_by}
+use Rattle.mg_merge.proofs.Words.{built, built_by, command_of, commands_of, context_or, context_ref, ephemeral_descriptors, ephemeral_or, ephemeral_ref}
+use Rattle.mg_merge.proofs.Words.{line_descriptors, made_after, none_made, place_ref, remote_ref, request_of, state_of, termination_ref, the_line}
+use Rattle.mg_alike.proofs.Words.{AgentsAlike, CommandsAlike, ContextRefsAlike, DescriptorsAlike, EphemeralRefsAlike, OptionsAlike, Pairwise, RemoteRefsAlike}
+use Rattle.mg_alike.proofs.Words.{Renaming, RequestsAlike, TerminationRefsAlike}
+use Rattle.mg_model.specs.declared.commands.Command.TheVariants.{Subtract, SubtractAll, SetTopology}
 use Rattle.mg_model.specs.declared.commands.Termination.TheVariants as termination
-use Rattle.mg_model.specs.Agent.{Agent, Made, none_made, made_after, context_or, ephemeral_or, context_ref, ephemeral_ref, added_to, place_ref, termination_ref, remote_ref, line_descriptors, ephemeral_descriptors, command_of, commands_of, bound_by, built_by, request_of}
-use Rattle.mg_model.specs.Numbers.{the_line}
-use Rattle.mg_model.specs.Request.{Names, built}
-use Rattle.mg_model.specs.Script.{Script}
-use Rattle.mg_model.specs.Tables.{state_of}
-use Rattle.mg_alike.specs.Agents.{AgentsAlike}
-use Rattle.mg_alike.specs.Messages.{ContextRefsAlike, EphemeralRefsAlike, TerminationRefsAlike, RemoteRefsAlike, DescriptorsAlike, CommandsAlike, RequestsAlike}
-use Rattle.mg_alike.specs.Renaming.{Renaming, OptionsAlike, Pairwise}
 use Rattle.mg_alike.proofs.Shared.Options.{bound_same}
 
 abbrev names_of : (ℕ → Bool) → (ℕ → Bool) → Names
@@ -34,15 +24,13 @@ module _ (r : Renaming) where
   context_or_alike (Some place) o p alike = refl
   context_or_alike None None None alike = inl (inr (inr refl), refl)
   context_or_alike None (Some x) (Some y) alike = inr alike
-  context_or_alike None None (Some y) alike = absurd alike
-  context_or_alike None (Some x) None alike = absurd alike
+  context_or_alike _ _ _ alike = absurd alike
 
   ephemeral_or_alike : (made o p : Option ℕ) → OptionsAlike r.ephemerals o p → EphemeralRefsAlike r (ephemeral_or made o) (ephemeral_or made p)
   ephemeral_or_alike (Some place) o p alike = refl
   ephemeral_or_alike None None None alike = inl (refl, refl)
   ephemeral_or_alike None (Some x) (Some y) alike = inr alike
-  ephemeral_or_alike None None (Some y) alike = absurd alike
-  ephemeral_or_alike None (Some x) None alike = absurd alike
+  ephemeral_or_alike _ _ _ alike = absurd alike
 
 -- names that are bound alike build requests that are alike
 module _ (script : Script) (r : Renaming) (a b : Agent) (lines : b.lines ≡ a.lines) (contexts : (j : ℕ) → OptionsAlike r.contexts (a.contexts j) (b.contexts j))

@@ -1,24 +1,17 @@
 -- Agents that are alike step alike: what they enter, what a reply binds, and where a note leads.
-use Rattle.std.proofs.Common.{◌≡◌, ◌∙◌, ◌+◌, ℕ, Bool, true, false, List, [], ◌∷◌, Option, Some, None, is_some, refl, sym, ap, subst}
-use Rattle.std.specs.Prelude.{◌==◌, nat_le, nat_lt, if◌then◌else◌}
-use Rattle.mg_model.specs.declared.commands.Command.{Command}
-use Rattle.mg_model.specs.declared.commands.Command.TheVariants.{AddLine, AddEphemeral, ModifyLine, ModifyEphemeral, MoveLine, MoveEphemeral, Subtract, SubtractAll, SetTopology}
+use Rattle.std.proofs.Common.{◌≡◌, ◌∙◌, ◌+◌, ℕ, Bool, true, false, List, [], ◌∷◌, Option, Some, None, is_some, refl, sym, ap, subst, ◌==◌, nat_le, nat_lt}
+use Rattle.std.proofs.Common.{if◌then◌else◌}
+use Rattle.mg_merge.proofs.Words.{AddEphemeral, AddLine, Agent, Command, Done, Failure, ModifyLine, MoveLine, Note, Phase, Reply, Request, Script, SentNote}
+use Rattle.mg_merge.proofs.Words.{after_result, after_results, answers, awaits_pass, awaits_reply, begun, built_by, entered, entered_if, entered_or_rests}
+use Rattle.mg_merge.proofs.Words.{entered_or_stays, entered_with, expected_if, forgotten, heard, is_empty, is_listed, is_resting, last_number, leads_on}
+use Rattle.mg_merge.proofs.Words.{line_in, may_accept, noted, passed_in, replied_to, request_of, resting, same_number, state_of, target_in, target_of, timed}
+use Rattle.mg_merge.proofs.Words.{with_at}
+use Rattle.mg_alike.proofs.Words.{AgentsAlike, AgentsStepAlike, DoneAlike, IsRenaming, OptionsAlike, Pairwise, PhasesAlike, Renaming, RepliesAlike}
+use Rattle.mg_alike.proofs.Words.{RequestsAlike, StepsAlike}
+use Rattle.mg_model.specs.declared.commands.Command.TheVariants.{Subtract, SubtractAll}
 use Rattle.mg_model.specs.declared.commands.Termination.TheVariants as termination
-use Rattle.mg_model.specs.declared.failures.Failure.{Failure}
-use Rattle.mg_model.specs.Agent.{Agent, Phase, awaits_reply, awaits_pass, resting, is_resting, request_of, built_by, entered_with, entered, entered_or_rests, entered_if, entered_or_stays, bound_if, expected_if, is_listed, after_result, after_results, leads_on, answers, replied_to, passed_in, line_in, target_of, same_number, may_accept, noted, timed, forgotten, heard, begun}
-use Rattle.mg_model.specs.Items.{Done}
-use Rattle.mg_model.specs.LineEvents.{Note}
-use Rattle.mg_model.specs.Messages.{Request, Reply, SentNote}
-use Rattle.mg_model.specs.Numbers.{last_number}
-use Rattle.mg_model.specs.Script.{Script}
-use Rattle.mg_model.specs.Tables.{state_of, is_empty, target_in}
-use Rattle.mg_model.specs.Updates.{with_at}
-use Rattle.mg_alike.specs.Agents.{PhasesAlike, AgentsAlike, StepsAlike}
-use Rattle.mg_alike.specs.Laws.{AgentsStepAlike}
-use Rattle.mg_alike.specs.Messages.{RequestsAlike, DoneAlike, RepliesAlike}
-use Rattle.mg_alike.specs.Renaming.{Renaming, IsRenaming, OptionsAlike, Pairwise}
 use Rattle.mg_alike.proofs.Agents.Requests.{built_same, request_alike}
-use Rattle.mg_alike.proofs.Shared.Options.{where_alike, listed_same}
+use Rattle.mg_alike.proofs.Shared.Options.{where_alike, listed_same, bound_if_alike}
 
 -- ---- a step by a test
 
@@ -31,39 +24,6 @@ module _ (r : Renaming) where
       go true = alike
       go false = tt
 
-  -- ---- agents of which parts are changed alike
-
-  moved : (a b : Agent) → AgentsAlike r a b → (state : ℕ) (p q : Phase) → PhasesAlike r p q → (n m : ℕ) → m ≡ n
-      → AgentsAlike r (record a { state = state; phase = p; next = n }) (record b { state = state; phase = q; next = m })
-  moved a b alike state p q phases n m next = record {
-    call = alike.call;
-    state = refl;
-    phase = phases;
-    association = alike.association;
-    lines = alike.lines;
-    contexts = alike.contexts;
-    ephemerals = alike.ephemerals;
-    next = next;
-    expected = alike.expected;
-    accepted = alike.accepted;
-  }
-
-  named : (a b : Agent) → AgentsAlike r a b → (c d e f x y : ℕ → Option ℕ) → ((j : ℕ) → OptionsAlike r.contexts (c j) (d j))
-      → ((k : ℕ) → OptionsAlike r.ephemerals (e k) (f k)) → y ≡ x
-      → AgentsAlike r (record a { contexts = c; ephemerals = e; expected = x }) (record b { contexts = d; ephemerals = f; expected = y })
-  named a b alike c d e f x y contexts ephemerals expected = record {
-    call = alike.call;
-    state = alike.state;
-    phase = alike.phase;
-    association = alike.association;
-    lines = alike.lines;
-    contexts = contexts;
-    ephemerals = ephemerals;
-    next = alike.next;
-    expected = expected;
-    accepted = alike.accepted;
-  }
-
 -- the RequestIDs that are expected after lines were told to be free
 abbrev unexpected : List ℕ → (ℕ → ℕ) → (ℕ → Option ℕ) → ℕ → Option ℕ
 unexpected lines of expected i = if is_listed lines (Some (of i)) then None else expected i
@@ -73,13 +33,12 @@ unexpected lines of expected i = if is_listed lines (Some (of i)) then None else
 module _ (script : Script) (r : Renaming) where
   entered_with_alike : (a b : Agent) → AgentsAlike r a b → (state : ℕ) (empty : Bool) → RequestsAlike r (request_of script a state) (request_of script b state)
       → StepsAlike r (entered_with script a state empty) (entered_with script b state empty)
-  entered_with_alike a b alike state true request = moved r a b alike state awaits_pass awaits_pass tt a.next b.next alike.next
+  entered_with_alike a b alike state true request = assumption
   entered_with_alike a b alike state false request =
       both_where r (nat_le a.next last_number) (nat_le b.next last_number) (ap (λ (n : ℕ). nat_le n last_number) alike.next)
       (Some (record a { state = state; phase = awaits_reply (request_of script a state); next = a.next + 1 }))
       (Some (record b { state = state; phase = awaits_reply (request_of script b state); next = b.next + 1 }))
-      (moved r a b alike state (awaits_reply (request_of script a state)) (awaits_reply (request_of script b state)) request (a.next + 1) (b.next + 1)
-      (ap (λ (n : ℕ). n + 1) alike.next))
+      (assumption (ap (λ (n : ℕ). n + 1) alike.next))
 
   pub entered_alike : (a b : Agent) → AgentsAlike r a b → (state : ℕ) → StepsAlike r (entered script a state) (entered script b state)
   entered_alike a b alike state =
@@ -87,18 +46,7 @@ module _ (script : Script) (r : Renaming) where
       (entered_with_alike a b alike state (is_empty (built_by script a state)) (request_alike script r a b alike state))
 
   rests_alike : (a b : Agent) → AgentsAlike r a b → (o : Option ℕ) → StepsAlike r (entered_or_rests script a o) (entered_or_rests script b o)
-  rests_alike a b alike None = record {
-    call = alike.call;
-    state = alike.state;
-    phase = tt;
-    association = alike.association;
-    lines = alike.lines;
-    contexts = alike.contexts;
-    ephemerals = alike.ephemerals;
-    next = alike.next;
-    expected = alike.expected;
-    accepted = alike.accepted;
-  }
+  rests_alike a b alike None = assumption
   rests_alike a b alike (Some state) = entered_alike a b alike state
 
   if_alike : (a b : Agent) → AgentsAlike r a b → (o : Option ℕ) → StepsAlike r (entered_if script a o) (entered_if script b o)
@@ -111,54 +59,32 @@ module _ (script : Script) (r : Renaming) where
 
   -- ---- what a reply binds
 
-  bound_if_alike : (pairs : ℕ → ℕ → Bool) (create : Bool) (c d : ℕ → Option ℕ) (name : ℕ) (o p : Option ℕ) → ((j : ℕ) → OptionsAlike pairs (c j) (d j))
-      → OptionsAlike pairs o p → (j : ℕ) → OptionsAlike pairs (bound_if create c name o j) (bound_if create d name p j)
-  bound_if_alike pairs true c d name o p before new j = where_alike pairs (j == name) o p (c j) (d j) new (before j)
-  bound_if_alike pairs false c d name o p before new j = before j
-
-  with_alike : (pairs : ℕ → ℕ → Bool) (c d : ℕ → Option ℕ) (name : ℕ) (o p : Option ℕ) → ((j : ℕ) → OptionsAlike pairs (c j) (d j))
-      → OptionsAlike pairs o p → (j : ℕ) → OptionsAlike pairs (with_at c name o j) (with_at d name p j)
-  with_alike pairs c d name o p before new j = where_alike pairs (j == name) o p (c j) (d j) new (before j)
-
   module _ (renaming : IsRenaming r) where
     result_alike : (a b : Agent) → AgentsAlike r a b → (command : Command) (done other : Done) → DoneAlike r done other → (number : ℕ)
         → AgentsAlike r (after_result a command done number) (after_result b command other number)
-    result_alike a b alike (AddLine create j i o) done other same number =
-        named r a b alike (bound_if create a.contexts j done.context) (bound_if create b.contexts j other.context) a.ephemerals b.ephemerals
-        (expected_if (is_some o.events) a.expected i number) (expected_if (is_some o.events) b.expected i number)
-        (bound_if_alike r.contexts create a.contexts b.contexts j done.context other.context alike.contexts same.context) alike.ephemerals
-        (ap (λ (x : ℕ → Option ℕ). expected_if (is_some o.events) x i number) alike.expected)
-    result_alike a b alike (AddEphemeral create j k o) done other same number =
-        named r a b alike (bound_if create a.contexts j done.context) (bound_if create b.contexts j other.context)
-        (with_at a.ephemerals k done.ephemeral) (with_at b.ephemerals k other.ephemeral) a.expected b.expected
-        (bound_if_alike r.contexts create a.contexts b.contexts j done.context other.context alike.contexts same.context)
-        (with_alike r.ephemerals a.ephemerals b.ephemerals k done.ephemeral other.ephemeral alike.ephemerals same.ephemeral) alike.expected
+    result_alike a b alike (AddLine create j i o) done other same number = assumption (
+      bound_if_alike r.contexts create a.contexts b.contexts j done.context other.context alike.contexts same.context,
+      ap (λ (x : ℕ → Option ℕ). expected_if (is_some o.events) x i number) alike.expected,
+    )
+    result_alike a b alike (AddEphemeral create j k o) done other same number = assumption (
+      bound_if_alike r.contexts create a.contexts b.contexts j done.context other.context alike.contexts same.context,
+      bound_if_alike r.ephemerals true a.ephemerals b.ephemerals k done.ephemeral other.ephemeral alike.ephemerals same.ephemeral,
+    )
     result_alike a b alike (ModifyLine place i o) done other same number =
-        named r a b alike a.contexts b.contexts a.ephemerals b.ephemerals (expected_if (is_some o.events) a.expected i number)
-        (expected_if (is_some o.events) b.expected i number) alike.contexts alike.ephemerals
-        (ap (λ (x : ℕ → Option ℕ). expected_if (is_some o.events) x i number) alike.expected)
-    result_alike a b alike (ModifyEphemeral place k o) done other same number = alike
+        assumption (ap (λ (x : ℕ → Option ℕ). expected_if (is_some o.events) x i number) alike.expected)
     result_alike a b alike (MoveLine j i o) done other same number =
-        named r a b alike a.contexts b.contexts a.ephemerals b.ephemerals (expected_if (is_some o.events) a.expected i number)
-        (expected_if (is_some o.events) b.expected i number) alike.contexts alike.ephemerals
-        (ap (λ (x : ℕ → Option ℕ). expected_if (is_some o.events) x i number) alike.expected)
-    result_alike a b alike (MoveEphemeral j k o) done other same number = alike
+        assumption (ap (λ (x : ℕ → Option ℕ). expected_if (is_some o.events) x i number) alike.expected)
     result_alike a b alike (Subtract j (termination.Line i)) done other same number =
-        named r a b alike a.contexts b.contexts a.ephemerals b.ephemerals (with_at a.expected i None) (with_at b.expected i None)
-        alike.contexts alike.ephemerals (ap (λ (x : ℕ → Option ℕ). with_at x i None) alike.expected)
+        assumption (ap (λ (x : ℕ → Option ℕ). with_at x i None) alike.expected)
     result_alike a b alike (Subtract j (termination.Ephemeral k)) done other same number =
-        named r a b alike a.contexts b.contexts (with_at a.ephemerals k None) (with_at b.ephemerals k None) a.expected b.expected alike.contexts
-        (with_alike r.ephemerals a.ephemerals b.ephemerals k None None alike.ephemerals tt) alike.expected
-    result_alike a b alike (SubtractAll j) done other same number =
-        named r a b alike (with_at a.contexts j None) (with_at b.contexts j None)
-        (λ k. if is_listed done.ephemerals (a.ephemerals k) then None else a.ephemerals k)
-        (λ k. if is_listed other.ephemerals (b.ephemerals k) then None else b.ephemerals k)
-        (λ i. if is_listed done.lines (Some (a.lines i)) then None else a.expected i)
-        (λ i. if is_listed other.lines (Some (b.lines i)) then None else b.expected i)
-        (with_alike r.contexts a.contexts b.contexts j None None alike.contexts tt) unlisted
-        (ap (λ (lines : List ℕ). unexpected lines b.lines b.expected) same.lines
-        ∙ ap (λ (of : ℕ → ℕ). unexpected done.lines of b.expected) alike.lines
-        ∙ ap (λ (x : ℕ → Option ℕ). unexpected done.lines a.lines x) alike.expected)
+        assumption (bound_if_alike r.ephemerals true a.ephemerals b.ephemerals k None None alike.ephemerals tt)
+    result_alike a b alike (SubtractAll j) done other same number = assumption (
+      bound_if_alike r.contexts true a.contexts b.contexts j None None alike.contexts tt,
+      unlisted,
+      ap (λ (lines : List ℕ). unexpected lines b.lines b.expected) same.lines
+          ∙ ap (λ (of : ℕ → ℕ). unexpected done.lines of b.expected) alike.lines
+          ∙ ap (λ (x : ℕ → Option ℕ). unexpected done.lines a.lines x) alike.expected,
+    )
       where
         unlisted : (k : ℕ) → OptionsAlike r.ephemerals (if is_listed done.ephemerals (a.ephemerals k) then None else a.ephemerals k)
             (if is_listed other.ephemerals (b.ephemerals k) then None else b.ephemerals k)
@@ -166,7 +92,7 @@ module _ (script : Script) (r : Renaming) where
             (if test then None else b.ephemerals k))
             (sym (listed_same r.ephemerals renaming.ephemerals done.ephemerals other.ephemerals same.ephemerals (a.ephemerals k) (b.ephemerals k) (alike.ephemerals k)))
             (where_alike r.ephemerals (is_listed done.ephemerals (a.ephemerals k)) None None (a.ephemerals k) (b.ephemerals k) tt (alike.ephemerals k))
-    result_alike a b alike (SetTopology j t u topology) done other same number = alike
+    result_alike a b alike _ done other same number = alike
 
     pub results_alike : (commands : List Command) (results others : List Done) → Pairwise (DoneAlike r) results others → (number : ℕ) (a b : Agent)
         → AgentsAlike r a b → AgentsAlike r (after_results a commands results number) (after_results b commands others number)
@@ -175,18 +101,13 @@ module _ (script : Script) (r : Renaming) where
     results_alike (command ∷ more) (done ∷ results) (other ∷ others) same number a b alike =
         results_alike more results others same.1 number (after_result a command done number) (after_result b command other number)
         (result_alike a b alike command done other same.0 number)
-    results_alike (command ∷ more) [] (other ∷ others) same number a b alike = absurd same
-    results_alike (command ∷ more) (done ∷ results) [] same number a b alike = absurd same
+    results_alike _ _ _ same number a b alike = absurd same
 
     -- ---- a reply
 
     leads_alike : (a b x y : Agent) → b.state ≡ a.state → AgentsAlike r x y → (f : Option Failure) → StepsAlike r (leads_on script a x f) (leads_on script b y f)
-    leads_alike a b x y state alike None =
-        subst (λ (n : ℕ). StepsAlike r (entered_or_rests script x (state_of script a.state).ok) (entered_or_rests script y (state_of script n).ok)) (sym state)
-        (rests_alike x y alike (state_of script a.state).ok)
-    leads_alike a b x y state alike (Some failure) =
-        subst (λ (n : ℕ). StepsAlike r (entered_if script x (state_of script a.state).fault) (entered_if script y (state_of script n).fault)) (sym state)
-        (if_alike x y alike (state_of script a.state).fault)
+    leads_alike a b x y state alike None = rw state (rests_alike x y alike (state_of script a.state).ok)
+    leads_alike a b x y state alike (Some failure) = rw state (if_alike x y alike (state_of script a.state).fault)
 
     answers_same : (one other : Reply) (x y : Request) → RepliesAlike r one other → RequestsAlike r x y → answers other y ≡ answers one x
     answers_same one other x y replies requests =
@@ -198,9 +119,7 @@ module _ (script : Script) (r : Renaming) where
         both_where r (answers one x) (answers other y) (answers_same one other x y replies requests)
         (leads_on script a (after_results a (built_by script a a.state) one.results one.number) one.failure)
         (leads_on script b (after_results b (built_by script b b.state) other.results other.number) other.failure)
-        (subst (λ (f : Option Failure). StepsAlike r (leads_on script a (after_results a (built_by script a a.state) one.results one.number) one.failure)
-        (leads_on script b (after_results b (built_by script b b.state) other.results other.number) f)) (sym replies.failure)
-        (leads_alike a b (after_results a (built_by script a a.state) one.results one.number)
+        (rw replies.failure (leads_alike a b (after_results a (built_by script a a.state) one.results one.number)
         (after_results b (built_by script b b.state) other.results other.number) alike.state taken one.failure))
       where
         commands : built_by script b b.state ≡ built_by script a a.state
@@ -208,19 +127,10 @@ module _ (script : Script) (r : Renaming) where
 
         taken : AgentsAlike r (after_results a (built_by script a a.state) one.results one.number)
             (after_results b (built_by script b b.state) other.results other.number)
-        taken = subst (λ (n : ℕ). AgentsAlike r (after_results a (built_by script a a.state) one.results one.number)
-            (after_results b (built_by script b b.state) other.results n)) (sym replies.number)
-            (subst (λ (list : List Command). AgentsAlike r (after_results a (built_by script a a.state) one.results one.number)
-            (after_results b list other.results one.number)) (sym commands)
-            (results_alike (built_by script a a.state) one.results other.results replies.results one.number a b alike))
+        taken = rw (replies.number, commands) (results_alike (built_by script a a.state) one.results other.results replies.results one.number a b alike)
     replied_alike a b alike one other replies awaits_pass awaits_pass phases = tt
     replied_alike a b alike one other replies resting resting phases = tt
-    replied_alike a b alike one other replies (awaits_reply x) awaits_pass phases = absurd phases
-    replied_alike a b alike one other replies (awaits_reply x) resting phases = absurd phases
-    replied_alike a b alike one other replies awaits_pass (awaits_reply y) phases = absurd phases
-    replied_alike a b alike one other replies awaits_pass resting phases = absurd phases
-    replied_alike a b alike one other replies resting (awaits_reply y) phases = absurd phases
-    replied_alike a b alike one other replies resting awaits_pass phases = absurd phases
+    replied_alike a b alike one other replies _ _ phases = absurd phases
 
   -- ---- a pass
 
@@ -230,12 +140,7 @@ module _ (script : Script) (r : Renaming) where
       (rests_alike a b alike (state_of script a.state).ok)
   passed_alike a b alike (awaits_reply x) (awaits_reply y) phases = tt
   passed_alike a b alike resting resting phases = tt
-  passed_alike a b alike (awaits_reply x) awaits_pass phases = absurd phases
-  passed_alike a b alike (awaits_reply x) resting phases = absurd phases
-  passed_alike a b alike awaits_pass (awaits_reply y) phases = absurd phases
-  passed_alike a b alike awaits_pass resting phases = absurd phases
-  passed_alike a b alike resting (awaits_reply y) phases = absurd phases
-  passed_alike a b alike resting awaits_pass phases = absurd phases
+  passed_alike a b alike _ _ phases = absurd phases
 
   -- ---- at rest
 
@@ -243,19 +148,13 @@ module _ (script : Script) (r : Renaming) where
   resting_same (awaits_reply x) (awaits_reply y) phases = refl
   resting_same awaits_pass awaits_pass phases = refl
   resting_same resting resting phases = refl
-  resting_same (awaits_reply x) awaits_pass phases = absurd phases
-  resting_same (awaits_reply x) resting phases = absurd phases
-  resting_same awaits_pass (awaits_reply y) phases = absurd phases
-  resting_same awaits_pass resting phases = absurd phases
-  resting_same resting (awaits_reply y) phases = absurd phases
-  resting_same resting awaits_pass phases = absurd phases
+  resting_same _ _ phases = absurd phases
 
   timed_alike : (a b : Agent) → AgentsAlike r a b → StepsAlike r (timed script a) (timed script b)
   timed_alike a b alike =
       both_where r (is_resting a.phase) (is_resting b.phase) (resting_same a.phase b.phase alike.phase) (entered_if script a (state_of script a.state).timer)
       (entered_if script b (state_of script b.state).timer)
-      (subst (λ (n : ℕ). StepsAlike r (entered_if script a (state_of script a.state).timer) (entered_if script b (state_of script n).timer)) (sym alike.state)
-      (if_alike a b alike (state_of script a.state).timer))
+      (rw alike.state (if_alike a b alike (state_of script a.state).timer))
 
   -- ---- a note
 
@@ -289,34 +188,12 @@ module _ (script : Script) (r : Renaming) where
         (target_of script a (line_in a sent.line places) sent.note)))
       where
         taken : AgentsAlike r (record a { accepted = with_at a.accepted sent.number true }) (record b { accepted = with_at b.accepted sent.number true })
-        taken = record {
-          call = alike.call;
-          state = alike.state;
-          phase = alike.phase;
-          association = alike.association;
-          lines = alike.lines;
-          contexts = alike.contexts;
-          ephemerals = alike.ephemerals;
-          next = alike.next;
-          expected = alike.expected;
-          accepted = ap (λ (accepted : ℕ → Bool). with_at accepted sent.number true) alike.accepted;
-        }
+        taken = assumption (ap (λ (accepted : ℕ → Bool). with_at accepted sent.number true) alike.accepted)
 
     -- ---- a newer association, and a call that begins
 
     forgotten_alike : (association : ℕ) → AgentsAlike r (forgotten a association) (forgotten b association)
-    forgotten_alike association = record {
-      call = alike.call;
-      state = alike.state;
-      phase = alike.phase;
-      association = refl;
-      lines = alike.lines;
-      contexts = λ j. tt;
-      ephemerals = λ k. tt;
-      next = alike.next;
-      expected = refl;
-      accepted = refl;
-    }
+    forgotten_alike association = assumption
 
     heard_alike : (association : ℕ) → StepsAlike r (heard script a association) (heard script b association)
     heard_alike association =
@@ -325,18 +202,7 @@ module _ (script : Script) (r : Renaming) where
         (entered_alike (forgotten a association) (forgotten b association) (forgotten_alike association) script.restart)
 
     begun_alike : (call : ℕ) → AgentsAlike r (begun script call a) (begun script call b)
-    begun_alike call = record {
-      call = refl;
-      state = refl;
-      phase = tt;
-      association = alike.association;
-      lines = alike.lines;
-      contexts = λ j. tt;
-      ephemerals = λ k. tt;
-      next = alike.next;
-      expected = alike.expected;
-      accepted = refl;
-    }
+    begun_alike call = assumption
 
 pub agents_step : AgentsStepAlike
 agents_step script r a b renaming alike = record {

@@ -1,26 +1,13 @@
 -- A call that is alone never runs out of identifiers: at most eight contexts and four ephemerals are in use, each by a name of the call.
-use Rattle.std.proofs.Common.{◌≡◌, ◌∙◌, ◌+◌, ◌%◌, ◌<◌, ◌≤◌, ◌++◌, ℕ, zero, suc, Bool, true, List, [], ◌∷◌, length, length-append, Option, Some, None, is_some, refl, sym, ap, subst, arith, inl, inr}
+use Rattle.std.proofs.Common.{◌≡◌, ◌∙◌, ◌+◌, ◌%◌, ◌<◌, ◌≤◌, ◌++◌, ℕ, zero, suc, Bool, true, List, [], ◌∷◌, length, length-append, Option, Some, None, is_some}
+use Rattle.std.proofs.Common.{refl, sym, ap, subst, arith, inl, inr, ◌⊎◌, Contains, unwrap_or}
 use Rattle.std.proofs.Math.Nat.{add-mod_right, mod-eq_of_lt}
-use Rattle.std.specs.Prelude.{◌⊎◌, Contains, unwrap_or}
-use Rattle.std.proofs.lemmas.Bool.{cases_lt, eq-eqb, false_from_ne_true}
-use Rattle.std.proofs.lemmas.List.Elements.{Contains-append_left, Contains-append_right}
-use Rattle.mg_names.specs.declared.identifiers.TermId.{TermId}
-use Rattle.mg_names.specs.declared.identifiers.TermId.TheVariants.{Line, Eph}
-use Rattle.mg_model.specs.declared.commands.Termination.{Termination}
+use Rattle.mg_merge.proofs.Words.{Agent, AreLeft, Board, Contains-append_left, Contains-append_right, Entry, Eph, HasIdentifiersLeft, IsContextLeft}
+use Rattle.mg_merge.proofs.Words.{IsEphemeralLeft, IsScript, IsSettled, Line, Row, Script, TermId, Termination, World, cases_lt, choose, eq-eqb, exists}
+use Rattle.mg_merge.proofs.Words.{false_from_ne_true, first_in, first_or_later, is_context_number, is_ephemeral_number, later_in, none_in, place_in, place_of}
+use Rattle.mg_merge.proofs.Words.{the_line, the_some}
+use Rattle.mg_alike.proofs.Words.{CallsAloneNeverRunOut, ClassesGiveEnough, HasEnoughNumbers, most_commands, most_in_use, most_shards}
 use Rattle.mg_model.specs.declared.commands.Termination.TheVariants as termination
-use Rattle.mg_model.specs.declared.rows.Row.{Row}
-use Rattle.mg_model.specs.Accepted.{IsScript}
-use Rattle.mg_model.specs.Agent.{Agent}
-use Rattle.mg_model.specs.Board.{Board, IsSettled, exists, place_of, place_in}
-use Rattle.mg_model.specs.Entries.{Entry}
-use Rattle.mg_model.specs.Items.{is_context_number, is_ephemeral_number}
-use Rattle.mg_model.specs.Numbers.{choose, the_line}
-use Rattle.mg_model.specs.Script.{Script}
-use Rattle.mg_model.specs.Shards.{AreLeft, IsContextLeft, IsEphemeralLeft, HasIdentifiersLeft}
-use Rattle.mg_model.specs.World.{World}
-use Rattle.mg_model.proofs.Cases.{the_some}
-use Rattle.mg_model.proofs.Single.{first_in, first_or_later, later_in, none_in}
-use Rattle.mg_merge.specs.Identifiers.{most_commands, most_shards}
 use Rattle.mg_merge.proofs.Commands.IdentifiersLeft.{one_taken, passed_on}
 use Rattle.mg_merge.proofs.Identifiers.Candidates.{class_has_more}
 use Rattle.mg_safety.proofs.Agents.EffectiveAgent.{same_lines}
@@ -28,7 +15,6 @@ use Rattle.mg_safety.proofs.Events.Others.{created_only}
 use Rattle.mg_safety.proofs.GoodWorlds.Beginning.{reached}
 use Rattle.mg_safety.proofs.Invariant.Shown.{naming, eph_of, row_on, term_of}
 use Rattle.mg_safety.proofs.Invariant.Sound.{is_call, owned_in, IsCurrent, IsLost, IsSound}
-use Rattle.mg_alike.specs.Alone.{CallsAloneNeverRunOut, ClassesGiveEnough, HasEnoughNumbers, most_in_use}
 use Rattle.mg_alike.proofs.Alone.OneCall.{IsLone, opening_lone, runs_lone}
 use Rattle.mg_alike.proofs.Events.Settled.{opening_settled, runs_settled}
 

@@ -1,26 +1,13 @@
 -- On a gateway with one call exactly one is open at each moment: that one, or the last that began on its lines. Its requests are short, and the numbers that
 -- the gateway gives stay the same.
-use Rattle.std.proofs.Common.{◌≡◌, ◌∙◌, ◌+◌, ℕ, Bool, true, false, List, [], ◌∷◌, Option, Some, None, refl, sym, ap, subst, inl, inr}
-use Rattle.std.specs.Prelude.{◌==◌, Contains, if◌then◌else◌}
-use Rattle.std.proofs.lemmas.Bool.{eqb-true, eqb-false}
-use Rattle.std.proofs.lemmas.List.Elements.{Contains-append_cases}
-use Rattle.mg_model.specs.declared.events.CallEvent.{CallEvent}
+use Rattle.std.proofs.Common.{◌≡◌, ◌∙◌, ◌+◌, ℕ, Bool, true, false, List, [], ◌∷◌, Option, Some, None, refl, sym, ap, subst, inl, inr, ◌==◌, Contains}
+use Rattle.std.proofs.Common.{if◌then◌else◌}
+use Rattle.mg_merge.proofs.Words.{Agent, AgentSteps, Begins, Board, CallEvent, ChosenRefusal, Contains-append_cases, Event, Executes, Failure, Gateway}
+use Rattle.mg_merge.proofs.Words.{IsOpening, Occurs, OccursTo, OfCall, Opened, Request, RequestCommand, Restart, Running, Runs, RunsFrom, Script, World, at_one}
+use Rattle.mg_merge.proofs.Words.{begun, eqb-false, eqb-true, heard, item_at, line_places, none_in, none_is_some, noted, only_here, only_one, opened, passed}
+use Rattle.mg_merge.proofs.Words.{replied, sent_in, start_of, timed}
+use Rattle.mg_alike.proofs.Words.{HasFewCommands}
 use Rattle.mg_model.specs.declared.events.CallEvent.TheVariants as to_call
-use Rattle.mg_model.specs.declared.events.Event.{Event}
-use Rattle.mg_model.specs.declared.events.Event.TheVariants.{OfCall, Restart}
-use Rattle.mg_model.specs.declared.failures.ChosenRefusal.{ChosenRefusal}
-use Rattle.mg_model.specs.declared.failures.Failure.{Failure}
-use Rattle.mg_model.specs.Agent.{Agent, replied, passed, noted, timed, heard, opened, begun}
-use Rattle.mg_model.specs.Board.{Board}
-use Rattle.mg_model.specs.Gateway.{Gateway, start_of}
-use Rattle.mg_model.specs.Messages.{Request, RequestCommand}
-use Rattle.mg_model.specs.RequestRun.{Running, RunsFrom, item_at}
-use Rattle.mg_model.specs.Script.{Script}
-use Rattle.mg_model.specs.Tables.{line_places}
-use Rattle.mg_model.specs.World.{World, Opened, AgentSteps, Executes, Begins, IsOpening, Occurs, OccursTo, Runs, sent_in}
-use Rattle.mg_model.proofs.Cases.{at_one, none_is_some}
-use Rattle.mg_model.proofs.Single.{none_in, only_here, only_one}
-use Rattle.mg_merge.specs.Identifiers.{HasFewCommands}
 use Rattle.mg_merge.proofs.Commands.Changes.{class_stays}
 use Rattle.mg_merge.proofs.Identifiers.FewCommands.{IsShort, GivesShort, replied_short, passed_short, noted_short, timed_short, heard_short}
 

@@ -1,13 +1,8 @@
 -- For each call of an opening there is an opening of it alone.
-use Rattle.std.proofs.Common.{◌≡◌, ◌∙◌, ℕ, Bool, true, false, List, [], ◌∷◌, length, Option, Some, None, refl, sym, ap, subst}
-use Rattle.std.specs.Prelude.{◌==◌, Contains, if◌then◌else◌}
-use Rattle.std.proofs.lemmas.Bool.{eq-eqb, eqb-true}
-use Rattle.mg_model.specs.Agent.{Agent, opened}
-use Rattle.mg_model.specs.Script.{Script}
-use Rattle.mg_model.specs.World.{World, Opened, AreDistinct, AreOpenedLines, IsLineOf, IsOpening}
-use Rattle.mg_model.proofs.Cases.{at_one, none_is_some, the_some, where_true}
-use Rattle.mg_model.proofs.Single.{only_here, only_one}
-use Rattle.mg_alike.specs.Alone.{CallsOpenAlone}
+use Rattle.std.proofs.Common.{◌≡◌, ◌∙◌, ℕ, Bool, true, false, List, [], ◌∷◌, length, Option, Some, None, refl, sym, ap, subst, ◌==◌, Contains, if◌then◌else◌}
+use Rattle.mg_merge.proofs.Words.{Agent, AreDistinct, AreOpenedLines, IsLineOf, IsOpening, Opened, Script, World, at_one, eq-eqb, eqb-true, none_is_some}
+use Rattle.mg_merge.proofs.Words.{only_here, only_one, opened, the_some, where_true}
+use Rattle.mg_alike.proofs.Words.{CallsOpenAlone}
 use Rattle.mg_alike.proofs.Events.Settling.{found_below}
 use Rattle.mg_alike.proofs.Shared.Below.{any_below, any_there}
 
@@ -80,23 +75,14 @@ module _ (script : Script) (calls : List Opened) (one : Opened) (start : World) 
   opens_alone = record {
     distinct = distinct;
     lines = lines;
-    gateway = record {
-      association = opens.gateway.association;
-      no_ephemeral = opens.gateway.no_ephemeral;
-      nothing_cut = opens.gateway.nothing_cut;
-      no_context_given = opens.gateway.no_context_given;
-      no_ephemeral_given = opens.gateway.no_ephemeral_given;
-      no_creator = opens.gateway.no_creator;
-      no_reply_kept = opens.gateway.no_reply_kept;
-      none_retired = opens.gateway.none_retired;
-    };
+    gateway = assumption;
     agents = record {
       opened = λ p there.
           subst (λ (o : Opened). (if o.call == one.call then Some (opened script one.call one.lines) else None) ≡ Some (opened script o.call o.lines)) (only_one one p there)
           (at_one one.call (Some (opened script one.call one.lines)) None);
       no_other = λ call a is. only_agent call a (call == one.call) refl is;
     };
-    messages = record { no_request = opens.messages.no_request; no_answer = opens.messages.no_answer; no_note = opens.messages.no_note };
+    messages = assumption;
   }
 
 pub calls_open_alone : CallsOpenAlone

@@ -1,27 +1,12 @@
 -- A call of a run of any calls, with those that begin on its lines, goes at each moment as it would go alone.
-use Rattle.std.proofs.Common.{◌≡◌, ◌∙◌, ◌<◌, ◌++◌, ℕ, Bool, true, false, List, [], ◌∷◌, refl, sym, ap, subst}
-use Rattle.std.specs.Prelude.{◌==◌, ◌||◌, if◌then◌else◌}
-use Rattle.std.specs.List.{All}
-use Rattle.std.proofs.lemmas.Bool.{eqb-true, eqb-false}
-use Rattle.mg_model.specs.declared.events.CallEvent.{CallEvent}
-use Rattle.mg_model.specs.declared.events.Event.{Event}
-use Rattle.mg_model.specs.declared.events.Event.TheVariants.{OfCall, Restart}
-use Rattle.mg_model.specs.Accepted.{IsScript, IsEntryOf}
-use Rattle.mg_model.specs.Entries.{Entry}
-use Rattle.mg_model.specs.Gateway.{restarted}
-use Rattle.mg_model.specs.Numbers.{last_association}
-use Rattle.mg_model.specs.Obligations.{NoneBroken}
-use Rattle.mg_model.specs.Script.{Script}
-use Rattle.mg_model.specs.Shards.{HasIdentifiersLeft, RunsWithin}
-use Rattle.mg_model.specs.World.{World, Opened, Begins, IsOpening, Occurs, OccursTo, Runs, with_gateway}
-use Rattle.mg_model.proofs.Cases.{not_both}
-use Rattle.mg_model.proofs.Single.{only_here}
-use Rattle.mg_merge.specs.Identifiers.{HasFewCommands}
-use Rattle.mg_alike.specs.Alone.{CallsAreIsolatedThroughout, HappensAlone, HasEnoughNumbers, RunsBeside, begins_on}
-use Rattle.mg_alike.proofs.Alone.Heirs.{begun_on, stays_open, none_retired, both_reached, has_left, unused_alone, not_retired_alone, kept_begun}
-use Rattle.mg_alike.specs.Laws.{AreReached}
-use Rattle.mg_alike.specs.Worlds.{TreatAlike}
-use Rattle.mg_alike.proofs.Events.Alone.{runs_on, not_beginning, event_retired}
+use Rattle.std.proofs.Common.{◌≡◌, ◌∙◌, ◌<◌, ◌++◌, ℕ, Bool, true, false, List, [], ◌∷◌, refl, sym, ap, subst, ◌==◌, ◌||◌, if◌then◌else◌}
+use Rattle.mg_merge.proofs.Words.{All, Begins, CallEvent, Entry, Event, HasIdentifiersLeft, IsEntryOf, IsOpening, IsScript, NoneBroken, Occurs, OccursTo}
+use Rattle.mg_merge.proofs.Words.{OfCall, Opened, Restart, Runs, RunsWithin, Script, World, eqb-false, eqb-true, last_association, not_both, only_here}
+use Rattle.mg_merge.proofs.Words.{restarted, with_gateway}
+use Rattle.mg_alike.proofs.Words.{AreReached, CallsAreIsolatedThroughout, CallsWithHeirsAreIsolated, HappensAlone, HasEnoughNumbers, HasFewCommands, RunsBeside}
+use Rattle.mg_alike.proofs.Words.{TreatAlike, begins_on, events_with_heirs, heir_of}
+use Rattle.mg_alike.proofs.Alone.Heirs.{begun_on, stays_open, none_retired, has_left, unused_alone, not_retired_alone, kept_begun}
+use Rattle.mg_alike.proofs.Events.Alone.{runs_on, not_beginning, event_retired, reached_both}
 use Rattle.mg_alike.proofs.Events.Begun.{beginnings_alike, beginnings_happen}
 use Rattle.mg_alike.proofs.Events.Every.{events_alike, restarts_alike}
 use Rattle.mg_alike.proofs.Events.Happening.{events_happen}
@@ -33,7 +18,7 @@ module _ (script : Script) (entries : List Entry) (is_script : IsScript script) 
     (few : HasFewCommands script) (calls : List Opened) (one : Opened) (start lone : World) (opens : IsOpening script calls start)
     (also_opens : IsOpening script (one ∷ []) lone) (enough : HasEnoughNumbers lone.gateway.board.class) where
   at_both : (past history : List Event) (w v : World) → Runs script past start w → Runs script history lone v → AreReached script w v
-  at_both = both_reached script entries is_script listed none_broken few calls one start lone opens also_opens enough
+  at_both = reached_both script entries is_script listed none_broken calls (one ∷ []) start lone opens also_opens
 
   left_alone : (history : List Event) (v : World) → Runs script history lone v → HasIdentifiersLeft v
   left_alone = has_left script entries is_script listed none_broken few calls one start lone opens also_opens enough
@@ -134,3 +119,34 @@ isolated_throughout script entries is_script listed none_broken few calls one ev
     throughout script entries is_script listed none_broken few calls one start lone opens also_opens enough events one.call start lone end [] [] refl refl
     (openings_alike script calls (one ∷ []) one start lone opens also_opens among (only_here one))
     (λ c gone. absurd (not_both gone (ap (λ (retired : ℕ → Bool). retired c) also_opens.gateway.none_retired))) within
+
+-- ---- and so at its end
+
+at_end : (script : Script) (events : List Event) (call : ℕ) (w v end : World) → RunsBeside script call events w v end
+    → (last : World) × (Runs script (events_with_heirs call events) v last × TreatAlike end last (heir_of call events))
+unfolding Runs RunsBeside
+at_end script [] call w v end (is, treat) = (v, (refl, subst (λ (x : World). TreatAlike x v call) (sym is) treat))
+at_end script (Restart ∷ more) call w v end (treat, (next, (occurs, (too, (alone, beside))))) =
+    let it = at_end script more call next too end beside in (it.0, ((too, (alone, it.1.0)), it.1.1))
+at_end script (OfCall one happens ∷ more) call w v end (treat, (next, (occurs, (too, (alone, beside))))) =
+    go (begins_on call happens) (one.0 == call) alone beside (at_end script more one.0 next too end) (at_end script more call next too end)
+  where
+    go : (begins own : Bool) → HappensAlone (begins || own) script (OfCall one happens) v too
+        → RunsBeside script (if begins then one.0 else call) more next too end
+        → (RunsBeside script one.0 more next too end
+        → (last : World) × (Runs script (events_with_heirs one.0 more) too last × TreatAlike end last (heir_of one.0 more)))
+        → (RunsBeside script call more next too end
+        → (last : World) × (Runs script (events_with_heirs call more) too last × TreatAlike end last (heir_of call more)))
+        → (last : World) × (Runs script (if begins then OfCall one happens ∷ events_with_heirs one.0 more
+        else if own then OfCall one happens ∷ events_with_heirs call more else events_with_heirs call more) v last
+        × TreatAlike end last (if begins then heir_of one.0 more else heir_of call more))
+    go true own alone beside heir same = let it = heir beside in (it.0, ((too, (alone, it.1.0)), it.1.1))
+    go false true alone beside heir same = let it = same beside in (it.0, ((too, (alone, it.1.0)), it.1.1))
+    go false false alone beside heir same =
+        let it = same beside in (it.0, (subst (λ (x : World). Runs script (events_with_heirs call more) x it.0) alone it.1.0, it.1.1))
+
+pub heirs_isolated : CallsWithHeirsAreIsolated
+heirs_isolated script entries is_script listed none_broken few calls one events start end lone among opens also_opens within enough =
+    let it = at_end script events one.call start lone end
+    (isolated_throughout script entries is_script listed none_broken few calls one events start end lone among opens also_opens within enough) in
+    record { last = it.0; runs = it.1.0; alike = it.1.1 }

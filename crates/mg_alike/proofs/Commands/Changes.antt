@@ -1,27 +1,18 @@
 -- What a command changes on a board: the row of the termination that it names, and those of the terminations that leave. So whoever stands in a context of
 -- the call is still the call's, and what stands can't be given again.
-use Rattle.std.proofs.Common.{◌≡◌, ◌∙◌, ℕ, Bool, true, false, Option, is_some, refl, sym, ap, subst, inl, inr}
-use Rattle.std.specs.Prelude.{◌==◌, ◌&&◌, ◌⊎◌, if◌then◌else◌}
-use Rattle.std.proofs.lemmas.Bool.{or_left, or_right, and_from}
-use Rattle.mg_names.specs.declared.identifiers.TermId.{TermId}
-use Rattle.mg_names.specs.declared.identifiers.TermId.TheVariants.{Line, Eph}
+use Rattle.std.proofs.Common.{◌≡◌, ◌∙◌, ℕ, Bool, true, false, Option, is_some, refl, sym, ap, subst, inl, inr, ◌==◌, ◌&&◌, ◌⊎◌, if◌then◌else◌}
+use Rattle.mg_merge.proofs.Words.{Add, Board, Chosen, Eph, IsFresh, Item, Line, Modify, Move, Row, SetTopology, Subtract, SubtractAll, TermId, and_from}
+use Rattle.mg_merge.proofs.Words.{creates_context, creates_ephemeral, effect, given, not_both, null, or_left, or_right, place_in, place_of, row_with}
+use Rattle.mg_merge.proofs.Words.{same_itself, same_term, subtracted, the_line}
+use Rattle.mg_alike.proofs.Words.{BoardsAlike, IsRenaming, OptionalRowsAlike, PlacesAlike, Renaming, TermsAlike}
 use Rattle.mg_model.specs.declared.items.Added.TheVariants as added
-use Rattle.mg_model.specs.declared.items.Item.{Item}
-use Rattle.mg_model.specs.declared.items.Item.TheVariants.{Add, Modify, Move, Subtract, SubtractAll, SetTopology}
-use Rattle.mg_model.specs.declared.rows.Row.{Row}
-use Rattle.mg_model.specs.Board.{Board, same_term, place_of, place_in, row_with}
-use Rattle.mg_model.specs.Items.{Chosen, IsFresh, effect, subtracted, given, creates_context, creates_ephemeral}
-use Rattle.mg_model.specs.Numbers.{null, the_line}
-use Rattle.mg_model.proofs.Cases.{not_both, same_itself}
 use Rattle.mg_model.proofs.Terminations.{same_term_is}
 use Rattle.mg_safety.proofs.Invariant.Shown.{IsAccounted}
-use Rattle.mg_alike.specs.Boards.{TermsAlike, PlacesAlike, OptionalRowsAlike, BoardsAlike}
-use Rattle.mg_alike.specs.Renaming.{Renaming, IsRenaming}
 use Rattle.mg_alike.proofs.Commands.Reading.{first_real, second_real, rows_place}
 use Rattle.mg_alike.proofs.Commands.Renamed.{renamed, renamed_wider, renaming_after, creates_same, makes_same}
 use Rattle.mg_alike.proofs.Commands.Effects.{rows_after, cuts_after}
-use Rattle.mg_alike.proofs.Commands.Twins.{Twin, add_line, add_ephemeral, modify, move, subtract, subtract_all, set_topology, one_of, other_of, IsTwin, InUse}
-use Rattle.mg_alike.proofs.Shared.Pairs.{pair_cases, pair_new, terms_more}
+use Rattle.mg_alike.proofs.Commands.Twins.{Twin, add_line, add_ephemeral, modify, move, one_of, other_of, IsTwin, InUse}
+use Rattle.mg_alike.proofs.Shared.Pairs.{pair_cases, pair_new, terms_more, with_pair}
 
 -- ---- whose row changes
 
@@ -31,9 +22,7 @@ NamedBy (Add context (added.Line l) settings) chosen t = t ≡ Line l
 NamedBy (Add context added.NewEphemeral settings) chosen t = t ≡ Eph chosen.ephemeral
 NamedBy (Modify context u settings) chosen t = t ≡ u
 NamedBy (Move context u settings) chosen t = t ≡ u
-NamedBy (Subtract context u) chosen t = ⊥
-NamedBy (SubtractAll context) chosen t = ⊥
-NamedBy (SetTopology context u v topology) chosen t = ⊥
+NamedBy _ chosen t = ⊥
 
 set_or_not : (rows : TermId → Option Row) (v : TermId) (row : Option Row) (t : TermId) (P : Type 0) → (t ≡ v → P)
     → (row_with rows v row t ≡ rows t) ⊎ ((row_with rows v row t ≡ subtracted t) ⊎ P)
@@ -70,6 +59,18 @@ given_on b item chosen k used = or_right _ (b.used_ephemeral k) used
 
 new_given : (creates : Bool) (number : ℕ) (was : ℕ → Bool) → creates ≡ true → given creates number was number ≡ true
 new_given creates number was is = or_left (creates && number == number) (was number) (and_from creates (number == number) is (same_itself number))
+
+-- what stands for one another is given in both
+used_both : (pairs : ℕ → ℕ → Bool) (creates also : Bool) (x y : ℕ) (was its : ℕ → Bool) → also ≡ creates
+    → ((p q : ℕ) → pairs p q ≡ true → (was p ≡ true) × (its q ≡ true)) → (p q : ℕ)
+    → with_pair creates x y pairs p q ≡ true → (given creates x was p ≡ true) × (given also y its q ≡ true)
+used_both pairs creates also x y was its same used p q it = elim (pair_cases creates x y pairs p q it) [
+  | inl new ↦ (
+    subst (λ (n : ℕ). given creates x was n ≡ true) (sym new.1) (new_given creates x was new.0),
+    subst (λ (n : ℕ). given also y its n ≡ true) (sym new.2) (new_given also y its (same ∙ new.0)),
+  )
+  | inr old ↦ let both = used p q old in (or_right _ (was p) both.0, or_right _ (its q) both.1)
+]
 
 -- ---- what stands can't be given again
 
@@ -112,67 +113,44 @@ module _ (r : Renaming) (held : ℕ → Bool) (renaming : IsRenaming r) (b m : B
 
   contexts_used : (x y : ℕ) → (renamed r (one_of twin) one other).contexts x y ≡ true
       → ((effect b (one_of twin) one).used_context x ≡ true) × ((effect m (other_of twin) other).used_context y ≡ true)
-  contexts_used x y it = elim (pair_cases (creates_context (one_of twin)) one.context other.context r.contexts x y it) [
-    | inl new ↦ (
-      subst (λ (n : ℕ). (effect b (one_of twin) one).used_context n ≡ true) (sym new.1) (new_given (creates_context (one_of twin)) one.context b.used_context new.0),
-      subst (λ (n : ℕ). (effect m (other_of twin) other).used_context n ≡ true) (sym new.2)
-          (new_given (creates_context (other_of twin)) other.context m.used_context (creates_same r held renaming twin is ∙ new.0)),
-    )
-    | inr old ↦ (used_on b (one_of twin) one x (ready.contexts x y old).0, used_on m (other_of twin) other y (ready.contexts x y old).1)
-  ]
+  contexts_used = used_both r.contexts (creates_context (one_of twin)) (creates_context (other_of twin)) one.context other.context b.used_context m.used_context
+      (creates_same r held renaming twin is) ready.contexts
 
   ephemerals_used : (x y : ℕ) → (renamed r (one_of twin) one other).ephemerals x y ≡ true
       → ((effect b (one_of twin) one).used_ephemeral x ≡ true) × ((effect m (other_of twin) other).used_ephemeral y ≡ true)
-  ephemerals_used x y it = elim (pair_cases (creates_ephemeral (one_of twin)) one.ephemeral other.ephemeral r.ephemerals x y it) [
-    | inl new ↦ (
-      subst (λ (n : ℕ). (effect b (one_of twin) one).used_ephemeral n ≡ true) (sym new.1) (new_given (creates_ephemeral (one_of twin)) one.ephemeral b.used_ephemeral new.0),
-      subst (λ (n : ℕ). (effect m (other_of twin) other).used_ephemeral n ≡ true) (sym new.2)
-          (new_given (creates_ephemeral (other_of twin)) other.ephemeral m.used_ephemeral (makes_same r held renaming twin ∙ new.0)),
-    )
-    | inr old ↦ (given_on b (one_of twin) one x (ready.ephemerals x y old).0, given_on m (other_of twin) other y (ready.ephemerals x y old).1)
-  ]
+  ephemerals_used = used_both r.ephemerals (creates_ephemeral (one_of twin)) (creates_ephemeral (other_of twin)) one.ephemeral other.ephemeral b.used_ephemeral
+      m.used_ephemeral (makes_same r held renaming twin) ready.ephemerals
 
   -- ---- the termination on which the command sets
 
-  named_term : (t : TermId) → NamedBy (one_of twin) one t → (u : TermId) × TermsAlike (renamed r (one_of twin) one other) held t u
-  named_term = of twin is (pair_new (creates_ephemeral (one_of twin)) one.ephemeral other.ephemeral r.ephemerals) more
+  -- the two that it sets on stand for one another, or it sets on none
+  named_pair : (((t : TermId) → NamedBy (one_of twin) one t → ⊥) × ((u : TermId) → NamedBy (other_of twin) other u → ⊥))
+      ⊎ ((t : TermId) × (u : TermId) × ((v : TermId) → NamedBy (one_of twin) one v → v ≡ t) × ((v : TermId) → NamedBy (other_of twin) other v → v ≡ u)
+      × TermsAlike (renamed r (one_of twin) one other) held t u)
+  named_pair = of twin is (pair_new (creates_ephemeral (one_of twin)) one.ephemeral other.ephemeral r.ephemerals) more
     where
       of : (twin : Twin) → IsTwin r held twin → (creates_ephemeral (one_of twin) ≡ true → (renamed r (one_of twin) one other).ephemerals one.ephemeral other.ephemeral ≡ true)
           → ((t u : TermId) → TermsAlike r held t u → TermsAlike (renamed r (one_of twin) one other) held t u)
-          → (t : TermId) → NamedBy (one_of twin) one t → (u : TermId) × TermsAlike (renamed r (one_of twin) one other) held t u
-      of (add_line c d l s z) is new more t e = (
-        Line (the_line l),
-        subst (λ (v : TermId). TermsAlike (renamed r (one_of (add_line c d l s z)) one other) held v (Line (the_line l))) (sym e) (refl, is.1),
-      )
-      of (add_ephemeral c d s z) is new more t e = (
-        Eph other.ephemeral,
-        subst (λ (v : TermId). TermsAlike (renamed r (one_of (add_ephemeral c d s z)) one other) held v (Eph other.ephemeral)) (sym e) (new refl),
-      )
-      of (modify c d v x s z) is new more t e = (x, more t x (subst (λ (k : TermId). TermsAlike r held k x) (sym e) is.1))
-      of (move c d v x s z) is new more t e = (x, more t x (subst (λ (k : TermId). TermsAlike r held k x) (sym e) is.1))
-      of (subtract c d v x) is new more t e = absurd e
-      of (subtract_all c d) is new more t e = absurd e
-      of (set_topology c d v x k i topology) is new more t e = absurd e
+          → (((t : TermId) → NamedBy (one_of twin) one t → ⊥) × ((u : TermId) → NamedBy (other_of twin) other u → ⊥))
+          ⊎ ((t : TermId) × (u : TermId) × ((v : TermId) → NamedBy (one_of twin) one v → v ≡ t) × ((v : TermId) → NamedBy (other_of twin) other v → v ≡ u)
+          × TermsAlike (renamed r (one_of twin) one other) held t u)
+      of (add_line c d l s z) is new more = inr (Line (the_line l), Line (the_line l), λ v e. e, λ v e. e, (refl, is.1))
+      of (add_ephemeral c d s z) is new more = inr (Eph one.ephemeral, Eph other.ephemeral, λ v e. e, λ v e. e, new refl)
+      of (modify c d v x s z) is new more = inr (v, x, λ v e. e, λ v e. e, more v x is.1)
+      of (move c d v x s z) is new more = inr (v, x, λ v e. e, λ v e. e, more v x is.1)
+      of _ is new more = inl (λ t e. e, λ u e. e)
+
+  named_term : (t : TermId) → NamedBy (one_of twin) one t → (u : TermId) × TermsAlike (renamed r (one_of twin) one other) held t u
+  named_term t named = elim named_pair [
+    | inl none ↦ absurd (none.0 t named)
+    | inr it ↦ (it.1, subst (λ (k : TermId). TermsAlike (renamed r (one_of twin) one other) held k it.1) (sym (it.2 t named)) it.4)
+  ]
 
   named_back : (u : TermId) → NamedBy (other_of twin) other u → (t : TermId) × TermsAlike (renamed r (one_of twin) one other) held t u
-  named_back = of twin is (pair_new (creates_ephemeral (one_of twin)) one.ephemeral other.ephemeral r.ephemerals) more
-    where
-      of : (twin : Twin) → IsTwin r held twin → (creates_ephemeral (one_of twin) ≡ true → (renamed r (one_of twin) one other).ephemerals one.ephemeral other.ephemeral ≡ true)
-          → ((t u : TermId) → TermsAlike r held t u → TermsAlike (renamed r (one_of twin) one other) held t u)
-          → (u : TermId) → NamedBy (other_of twin) other u → (t : TermId) × TermsAlike (renamed r (one_of twin) one other) held t u
-      of (add_line c d l s z) is new more u e = (
-        Line (the_line l),
-        subst (λ (v : TermId). TermsAlike (renamed r (one_of (add_line c d l s z)) one other) held (Line (the_line l)) v) (sym e) (refl, is.1),
-      )
-      of (add_ephemeral c d s z) is new more u e = (
-        Eph one.ephemeral,
-        subst (λ (v : TermId). TermsAlike (renamed r (one_of (add_ephemeral c d s z)) one other) held (Eph one.ephemeral) v) (sym e) (new refl),
-      )
-      of (modify c d v x s z) is new more u e = (v, more v u (subst (λ (k : TermId). TermsAlike r held v k) (sym e) is.1))
-      of (move c d v x s z) is new more u e = (v, more v u (subst (λ (k : TermId). TermsAlike r held v k) (sym e) is.1))
-      of (subtract c d v x) is new more u e = absurd e
-      of (subtract_all c d) is new more u e = absurd e
-      of (set_topology c d v x k i topology) is new more u e = absurd e
+  named_back u named = elim named_pair [
+    | inl none ↦ absurd (none.1 u named)
+    | inr it ↦ (it.0, subst (λ (k : TermId). TermsAlike (renamed r (one_of twin) one other) held it.0 k) (sym (it.3 u named)) it.4)
+  ]
 
   rows_end : (t u : TermId) → TermsAlike (renamed r (one_of twin) one other) held t u
       → OptionalRowsAlike (renamed r (one_of twin) one other) t ((effect b (one_of twin) one).row t) ((effect m (other_of twin) other).row u)

@@ -1,22 +1,11 @@
 -- The boards after a command that both execute: their rows and their cuts are alike, what it created standing for one another.
-use Rattle.std.proofs.Common.{◌≡◌, ◌∙◌, ℕ, Bool, true, false, Option, Some, None, refl, sym, ap, subst, inl, inr}
-use Rattle.std.specs.Prelude.{◌==◌, ◌||◌, if◌then◌else◌, unwrap_or}
-use Rattle.mg_names.specs.declared.identifiers.TermId.{TermId}
-use Rattle.mg_names.specs.declared.identifiers.TermId.TheVariants.{Line, Eph}
-use Rattle.mg_names.specs.declared.modes.Mode.{Mode}
-use Rattle.mg_names.specs.declared.modes.Mode.TheVariants.{Inactive}
-use Rattle.mg_model.specs.declared.items.RemoteSetting.{RemoteSetting}
-use Rattle.mg_model.specs.declared.items.RemoteSetting.TheVariants.{Nothing, Ephemeral}
-use Rattle.mg_model.specs.declared.items.Settings.{Settings}
-use Rattle.mg_model.specs.declared.rows.Row.{Row}
-use Rattle.mg_model.specs.Board.{Board, same_term, place_of, mode_of, remote_of}
-use Rattle.mg_model.specs.Items.{Chosen, IsFresh, effect, row_at, remote_set, subtracted, target}
-use Rattle.mg_model.specs.Numbers.{the_context, the_line}
-use Rattle.mg_model.proofs.Cases.{false_not_true}
+use Rattle.std.proofs.Common.{◌≡◌, ◌∙◌, ℕ, Bool, true, false, Option, Some, None, refl, sym, ap, subst, inl, inr, ◌==◌, ◌||◌, if◌then◌else◌, unwrap_or}
+use Rattle.mg_merge.proofs.Words.{Board, Chosen, Eph, Ephemeral, Inactive, IsFresh, Line, Mode, Nothing, RemoteSetting, Row, Settings, TermId}
+use Rattle.mg_merge.proofs.Words.{creates_ephemeral, effect, false_not_true, mode_of, place_of, remote_of, remote_set, row_at, same_term, subtracted, target}
+use Rattle.mg_merge.proofs.Words.{the_context, the_line}
+use Rattle.mg_alike.proofs.Words.{BoardsAlike, IsRenaming, OptionalRowsAlike, PlacesAlike, RemotesAlike, Renaming, RowsAlike, TermsAlike}
 use Rattle.mg_model.proofs.Terminations.{same_term_is, same_term_turned}
-use Rattle.mg_alike.specs.Boards.{TermsAlike, PlacesAlike, RemotesAlike, RowsAlike, OptionalRowsAlike, BoardsAlike}
-use Rattle.mg_alike.specs.Renaming.{Renaming, IsRenaming}
-use Rattle.mg_alike.proofs.Commands.Reading.{rows_mode, rows_remote, no_remote, same_term_same, at_same, place_alike}
+use Rattle.mg_alike.proofs.Commands.Reading.{rows_mode, rows_remote, no_remote, same_term_same, at_same, place_alike, both_or}
 use Rattle.mg_alike.proofs.Commands.Renamed.{renamed, renamed_wider, renaming_after, target_renamed, old_term}
 use Rattle.mg_alike.proofs.Commands.Twins.{Twin, add_line, add_ephemeral, modify, move, subtract, subtract_all, set_topology, one_of, other_of, SetRemotesAlike, SettingsAlike, IsTwin, InUse}
 use Rattle.mg_alike.proofs.Shared.Pairs.{IsWider, pair_new, places_more, remotes_more, rows_more, terms_more}
@@ -40,17 +29,13 @@ where_cuts test other same p q second = ap (λ (t : Bool). if t then false else 
     go true second = refl
     go false second = second refl
 
-both_or : (p q s t : Bool) → s ≡ p → t ≡ q → (s || t) ≡ (p || q)
-both_or p q s t first second = ap (λ (x : Bool). x || t) first ∙ ap (λ (x : Bool). p || x) second
-
 first_false : (p q : Bool) → (p || q) ≡ false → p ≡ false
 first_false false q e = refl
 first_false true q e = e
 
 second_false : (p q : Bool) → (p || q) ≡ false → q ≡ false
-second_false false q e = e
 second_false true false e = refl
-second_false true true e = e
+second_false _ _ e = e
 
 -- ---- a row that is set
 
@@ -60,19 +45,13 @@ set_alike r (Line l) s z is o p was = tt
 set_alike r (Eph x) None None is o p was = was
 set_alike r (Eph x) (Some Nothing) (Some Nothing) is o p was = tt
 set_alike r (Eph x) (Some (Ephemeral k)) (Some (Ephemeral i)) is o p was = is
-set_alike r (Eph x) None (Some z) is o p was = absurd is
-set_alike r (Eph x) (Some s) None is o p was = absurd is
-set_alike r (Eph x) (Some Nothing) (Some (Ephemeral i)) is o p was = absurd is
-set_alike r (Eph x) (Some (Ephemeral k)) (Some Nothing) is o p was = absurd is
+set_alike r _ _ _ is o p was = absurd is
 
 settings_more : (r wide : Renaming) → IsWider r wide → (s z : Option RemoteSetting) → SetRemotesAlike r s z → SetRemotesAlike wide s z
 settings_more r wide wider None None is = tt
 settings_more r wide wider (Some Nothing) (Some Nothing) is = tt
 settings_more r wide wider (Some (Ephemeral k)) (Some (Ephemeral i)) is = wider.ephemerals k i is
-settings_more r wide wider None (Some z) is = absurd is
-settings_more r wide wider (Some s) None is = absurd is
-settings_more r wide wider (Some Nothing) (Some (Ephemeral i)) is = absurd is
-settings_more r wide wider (Some (Ephemeral k)) (Some Nothing) is = absurd is
+settings_more r wide wider _ _ is = absurd is
 
 row_alike : (r : Renaming) (t : TermId) (p q : ℕ) (s z : Settings) (mode its : Mode) (remote also : Option ℕ) → PlacesAlike r p q → z.mode ≡ s.mode
     → SetRemotesAlike r s.remote z.remote → its ≡ mode → RemotesAlike r t remote also → RowsAlike r t (row_at p s mode remote) (row_at q z its also)
@@ -85,8 +64,7 @@ row_alike r t p q s z mode its remote also place set remotes modes were = record
 subtracted_alike : (r : Renaming) (held : ℕ → Bool) (t u : TermId) → TermsAlike r held t u → OptionalRowsAlike r t (subtracted t) (subtracted u)
 subtracted_alike r held (Line l) (Line k) is = record { place = inl (refl, refl); mode = refl; remote = tt }
 subtracted_alike r held (Eph x) (Eph y) is = tt
-subtracted_alike r held (Line l) (Eph y) is = absurd is
-subtracted_alike r held (Eph x) (Line k) is = absurd is
+subtracted_alike r held _ _ is = absurd is
 
 -- ---- after a command
 
@@ -176,12 +154,27 @@ module _ (r : Renaming) (held : ℕ → Bool) (renaming : IsRenaming r) (b m : B
         old_row (renamed r (one_of (set_topology c d v x y w topology)) one other) (renamed_wider r (one_of (set_topology c d v x y w topology)) one other) t u
         (old_term r held (one_of (set_topology c d v x y w topology)) one other t u it (λ e. no_other e))
 
+    -- a command that creates no ephemeral
+    cuts_kept : (twin : Twin) (is : IsTwin r held twin) (one other : Chosen) → creates_ephemeral (one_of twin) ≡ false → (t u v x : TermId)
+        → TermsAlike r held t u → TermsAlike r held v x → (effect m (other_of twin) other).cut u x ≡ (effect b (one_of twin) one).cut t v
+    cuts_kept (add_ephemeral c d s z) is one other none t u v x first second = no_other (sym none)
+    cuts_kept (move c d w y s z) is one other none t u v x first second = left_cuts (same_term w) (same_term y) (named_is w y is.1) t u v x first second
+    cuts_kept (subtract c d w y) is one other none t u v x first second =
+        left_cuts (λ k. same_term k w) (λ k. same_term k y) (is_named w y is.1) t u v x first second
+    cuts_kept (subtract_all c d) is one other none t u v x first second =
+        left_cuts (λ k. place_of b k == c) (λ k. place_of m k == d) (stands_in c d is) t u v x first second
+    cuts_kept (set_topology c d w y k i topology) is one other none t u v x first second = rw (
+      is_named k i is.2 t u first,
+      is_named w y is.1 v x second,
+      is_named w y is.1 t u first,
+      is_named k i is.2 v x second,
+      alike.cuts t u v x first second,
+    ) refl
+    cuts_kept _ is one other none t u v x first second = alike.cuts t u v x first second
+
     pub cuts_after : (twin : Twin) (is : IsTwin r held twin) (one other : Chosen) → IsFresh b (one_of twin) one → IsFresh m (other_of twin) other
         → (t u v x : TermId) → TermsAlike (renamed r (one_of twin) one other) held t u → TermsAlike (renamed r (one_of twin) one other) held v x
         → (effect m (other_of twin) other).cut u x ≡ (effect b (one_of twin) one).cut t v
-    cuts_after (add_line c d l s z) is one other fresh also t u v x first second =
-        alike.cuts t u v x (old_term r held (one_of (add_line c d l s z)) one other t u first (λ e. no_other e))
-        (old_term r held (one_of (add_line c d l s z)) one other v x second (λ e. no_other e))
     cuts_after (add_ephemeral c d s z) is one other fresh also t u v x first second =
         where_cuts (same_term (Eph one.ephemeral) t || same_term (Eph one.ephemeral) v) (same_term (Eph other.ephemeral) u || same_term (Eph other.ephemeral) x)
         (both_or (same_term (Eph one.ephemeral) t) (same_term (Eph one.ephemeral) v) (same_term (Eph other.ephemeral) u) (same_term (Eph other.ephemeral) x)
@@ -194,21 +187,5 @@ module _ (r : Renaming) (held : ℕ → Bool) (renaming : IsRenaming r) (b m : B
             → same_term (Eph other.ephemeral) q ≡ same_term (Eph one.ephemeral) p
         turned p q it =
             same_term_turned (Eph other.ephemeral) q ∙ is_new c d s z is one other fresh also p q it ∙ same_term_turned p (Eph one.ephemeral)
-    cuts_after (modify c d w y s z) is one other fresh also t u v x first second =
-        alike.cuts t u v x (old_term r held (one_of (modify c d w y s z)) one other t u first (λ e. no_other e))
-        (old_term r held (one_of (modify c d w y s z)) one other v x second (λ e. no_other e))
-    cuts_after (move c d w y s z) is one other fresh also t u v x first second =
-        left_cuts (same_term w) (same_term y) (named_is w y is.1) t u v x (old_term r held (one_of (move c d w y s z)) one other t u first (λ e. no_other e))
-        (old_term r held (one_of (move c d w y s z)) one other v x second (λ e. no_other e))
-    cuts_after (subtract c d w y) is one other fresh also t u v x first second =
-        left_cuts (λ k. same_term k w) (λ k. same_term k y) (is_named w y is.1) t u v x
-        (old_term r held (one_of (subtract c d w y)) one other t u first (λ e. no_other e))
-        (old_term r held (one_of (subtract c d w y)) one other v x second (λ e. no_other e))
-    cuts_after (subtract_all c d) is one other fresh also t u v x first second =
-        left_cuts (λ k. place_of b k == c) (λ k. place_of m k == d) (stands_in c d is) t u v x
-        (old_term r held (one_of (subtract_all c d)) one other t u first (λ e. no_other e))
-        (old_term r held (one_of (subtract_all c d)) one other v x second (λ e. no_other e))
-    cuts_after (set_topology c d w y k i topology) is one other fresh also t u v x first second =
-        let p = old_term r held (one_of (set_topology c d w y k i topology)) one other t u first (λ e. no_other e) in
-        let q = old_term r held (one_of (set_topology c d w y k i topology)) one other v x second (λ e. no_other e) in
-        rw (is_named k i is.2 t u p, is_named w y is.1 v x q, is_named w y is.1 t u p, is_named k i is.2 v x q, alike.cuts t u v x p q) refl
+    cuts_after twin is one other fresh also t u v x first second = cuts_kept twin is one other refl t u v x
+        (old_term r held (one_of twin) one other t u first (λ e. no_other e)) (old_term r held (one_of twin) one other v x second (λ e. no_other e))

@@ -1,21 +1,10 @@
 -- What is read of two boards that are alike: what exists, where it stands, and so the codes that refuse a command.
-use Rattle.std.proofs.Common.{◌≡◌, ◌∙◌, ◌<◌, ℕ, Bool, true, Option, Some, None, is_some, refl, sym, ap, subst, arith, inl, inr}
-use Rattle.std.specs.Prelude.{◌==◌, ◌||◌, ◌↔◌, not}
-use Rattle.std.proofs.lemmas.Bool.{eqb-true, eq-eqb}
-use Rattle.mg_names.specs.declared.codes.Code.{Code}
-use Rattle.mg_names.specs.declared.codes.Code.TheVariants.{UnknownContext, UnknownTermination, AlreadyInContext, NotInContext, InternalFailure, InsufficientResources}
-use Rattle.mg_names.specs.declared.identifiers.LineNo.{LineNo}
-use Rattle.mg_names.specs.declared.identifiers.TermId.{TermId}
-use Rattle.mg_names.specs.declared.identifiers.TermId.TheVariants.{Line, Eph}
-use Rattle.mg_model.specs.declared.items.RemoteSetting.{RemoteSetting}
-use Rattle.mg_model.specs.declared.items.RemoteSetting.TheVariants.{Nothing, Ephemeral}
-use Rattle.mg_model.specs.declared.rows.Row.{Row}
-use Rattle.mg_model.specs.Board.{Board, same_term, exists, place_of, place_in, mode_in, remote_in, ContextExists}
-use Rattle.mg_model.specs.Items.{LacksContext, names_nothing, remote_refused, lacks_termination, is_taken, is_misplaced, IsUsedUp, Applies}
-use Rattle.mg_model.specs.Numbers.{null, choose, the_line}
-use Rattle.mg_model.proofs.Cases.{same_test}
-use Rattle.mg_alike.specs.Boards.{TermsAlike, PlacesAlike, RemotesAlike, OptionalRowsAlike, BoardsAlike}
-use Rattle.mg_alike.specs.Renaming.{Renaming, IsRenaming}
+use Rattle.std.proofs.Common.{◌≡◌, ◌∙◌, ◌<◌, ℕ, Bool, true, Option, Some, None, is_some, refl, sym, ap, subst, arith, inl, inr, ◌==◌, ◌||◌, ◌↔◌, not}
+use Rattle.mg_merge.proofs.Words.{AlreadyInContext, Applies, Board, Code, ContextExists, Eph, Ephemeral, InsufficientResources, InternalFailure, IsUsedUp}
+use Rattle.mg_merge.proofs.Words.{LacksContext, Line, LineNo, NotInContext, Nothing, RemoteSetting, Row, TermId, UnknownContext, UnknownTermination, choose}
+use Rattle.mg_merge.proofs.Words.{eq-eqb, eqb-true, exists, is_misplaced, is_taken, lacks_termination, mode_in, names_nothing, null, place_in, place_of}
+use Rattle.mg_merge.proofs.Words.{remote_in, remote_refused, same_term, same_test, the_line}
+use Rattle.mg_alike.proofs.Words.{BoardsAlike, IsRenaming, OptionalRowsAlike, PlacesAlike, RemotesAlike, Renaming, TermsAlike}
 use Rattle.mg_alike.proofs.Commands.Twins.{Twin, add_line, add_ephemeral, modify, move, subtract, subtract_all, set_topology, one_of, other_of, SetRemotesAlike, TargetsAlike, IsTwin, InUse}
 
 -- ---- rows
@@ -24,20 +13,17 @@ module _ (r : Renaming) where
   pub rows_exist : (t : TermId) (o p : Option Row) → OptionalRowsAlike r t o p → is_some p ≡ is_some o
   rows_exist t None None alike = refl
   rows_exist t (Some one) (Some other) alike = refl
-  rows_exist t None (Some other) alike = absurd alike
-  rows_exist t (Some one) None alike = absurd alike
+  rows_exist t _ _ alike = absurd alike
 
   pub rows_place : (t : TermId) (o p : Option Row) → OptionalRowsAlike r t o p → PlacesAlike r (place_in o) (place_in p)
   rows_place t None None alike = inl (refl, refl)
   rows_place t (Some one) (Some other) alike = alike.place
-  rows_place t None (Some other) alike = absurd alike
-  rows_place t (Some one) None alike = absurd alike
+  rows_place t _ _ alike = absurd alike
 
   pub rows_mode : (t : TermId) (o p : Option Row) → OptionalRowsAlike r t o p → mode_in p ≡ mode_in o
   rows_mode t None None alike = refl
   rows_mode t (Some one) (Some other) alike = alike.mode
-  rows_mode t None (Some other) alike = absurd alike
-  rows_mode t (Some one) None alike = absurd alike
+  rows_mode t _ _ alike = absurd alike
 
   pub no_remote : (t : TermId) → RemotesAlike r t None None
   no_remote (Line l) = tt
@@ -46,12 +32,11 @@ module _ (r : Renaming) where
   pub rows_remote : (t : TermId) (o p : Option Row) → OptionalRowsAlike r t o p → RemotesAlike r t (remote_in o) (remote_in p)
   rows_remote t None None alike = no_remote t
   rows_remote t (Some one) (Some other) alike = alike.remote
-  rows_remote t None (Some other) alike = absurd alike
-  rows_remote t (Some one) None alike = absurd alike
+  rows_remote t _ _ alike = absurd alike
 
 -- ---- tests
 
-both_or : (p q s t : Bool) → s ≡ p → t ≡ q → (s || t) ≡ (p || q)
+pub both_or : (p q s t : Bool) → s ≡ p → t ≡ q → (s || t) ≡ (p || q)
 both_or p q s t first second = ap (λ (x : Bool). x || t) first ∙ ap (λ (x : Bool). p || x) second
 
 module _ (r : Renaming) (held : ℕ → Bool) (renaming : IsRenaming r) where
@@ -65,10 +50,7 @@ module _ (r : Renaming) (held : ℕ → Bool) (renaming : IsRenaming r) where
       (λ e. eq-eqb m o (renaming.ephemerals.onward n m o (subst (λ (k : ℕ). r.ephemerals k m ≡ true) (eqb-true l n e) first) second))
   same_term_same (Line l) (Eph m) v x first second = absurd first
   same_term_same (Eph l) (Line m) v x first second = absurd first
-  same_term_same (Line l) (Line m) (Line n) (Eph o) first second = absurd second
-  same_term_same (Line l) (Line m) (Eph n) (Line o) first second = absurd second
-  same_term_same (Eph l) (Eph m) (Line n) (Eph o) first second = absurd second
-  same_term_same (Eph l) (Eph m) (Eph n) (Line o) first second = absurd second
+  same_term_same _ _ _ _ first second = absurd second
 
   pub first_real : (c d : ℕ) → r.contexts c d ≡ true → c ≡ null → ⊥
   first_real c d is e = let above : 0 < c = (renaming.numbers c d is).0.0 in let none : c ≡ 0 = e in omega (arith, above, none)
@@ -110,19 +92,15 @@ module _ (r : Renaming) (held : ℕ → Bool) (renaming : IsRenaming r) where
     nothing_same None None is = refl
     nothing_same (Some Nothing) (Some Nothing) is = refl
     nothing_same (Some (Ephemeral k)) (Some (Ephemeral i)) is = ap not (exists_same (Eph k) (Eph i) is)
-    nothing_same None (Some z) is = absurd is
-    nothing_same (Some s) None is = absurd is
-    nothing_same (Some Nothing) (Some (Ephemeral i)) is = absurd is
-    nothing_same (Some (Ephemeral k)) (Some Nothing) is = absurd is
+    nothing_same _ _ is = absurd is
 
     refused_same : (t u : TermId) → TermsAlike r held t u → (s z : Option RemoteSetting) → SetRemotesAlike r s z → remote_refused m u z ≡ remote_refused b t s
     refused_same (Line l) (Line k) is None None also = refl
     refused_same (Line l) (Line k) is (Some s) (Some z) also = refl
-    refused_same (Line l) (Line k) is None (Some z) also = absurd also
-    refused_same (Line l) (Line k) is (Some s) None also = absurd also
     refused_same (Eph l) (Eph k) is s z also = nothing_same s z also
     refused_same (Line l) (Eph k) is s z also = absurd is
     refused_same (Eph l) (Line k) is s z also = absurd is
+    refused_same _ _ is _ _ also = absurd also
 
     unknown_same : (t u : TermId) → TermsAlike r held t u → not (exists m u) ≡ not (exists b t)
     unknown_same t u is = ap not (exists_same t u is)
@@ -148,27 +126,20 @@ module _ (r : Renaming) (held : ℕ → Bool) (renaming : IsRenaming r) where
 
     taken_same : (twin : Twin) → IsTwin r held twin → is_taken m (other_of twin) ≡ is_taken b (one_of twin)
     taken_same (add_line c d l s z) is = ap not (stands_same (Line (the_line l)) (Line (the_line l)) (refl, is.1) null null (inl (refl, refl)))
-    taken_same (add_ephemeral c d s z) is = refl
-    taken_same (modify c d t u s z) is = refl
-    taken_same (move c d t u s z) is = refl
-    taken_same (subtract c d t u) is = refl
-    taken_same (subtract_all c d) is = refl
-    taken_same (set_topology c d t u v x topology) is = refl
+    taken_same _ is = refl
 
     misplaced_same : (twin : Twin) → IsTwin r held twin → is_misplaced m (other_of twin) ≡ is_misplaced b (one_of twin)
-    misplaced_same (add_line c d l s z) is = refl
-    misplaced_same (add_ephemeral c d s z) is = refl
     misplaced_same (modify c d t u s z) is = ap not (stands_same t u is.1 c d is.0)
     misplaced_same (move c d t u s z) is =
         both_or (place_of b t == null) (place_of b t == c) (place_of m u == null) (place_of m u == d) (stands_same t u is.1 null null (inl (refl, refl)))
         (stands_same t u is.1 c d (inr is.0))
     misplaced_same (subtract c d t u) is = ap not (stands_same t u is.1 c d (inr is.0))
-    misplaced_same (subtract_all c d) is = refl
     misplaced_same (set_topology c d t u v x topology) is =
         both_or (not (place_of b t == c)) (not (place_of b v == c) || same_term t v) (not (place_of m u == d)) (not (place_of m x == d) || same_term u x)
         (ap not (stands_same t u is.1 c d (inr is.0)))
         (both_or (not (place_of b v == c)) (same_term t v) (not (place_of m x == d)) (same_term u x)
         (ap not (stands_same v x is.2 c d (inr is.0))) (same_term_same t u v x is.1 is.2))
+    misplaced_same _ is = refl
 
     -- ---- 411
 

@@ -1,18 +1,10 @@
 -- The renaming after a command: what it created in the one world stands for what it created in the other.
-use Rattle.std.proofs.Common.{◌≡◌, ◌∙◌, ℕ, Bool, true, false, refl, sym, subst, inl, inr}
-use Rattle.std.specs.Prelude.{◌==◌, if◌then◌else◌}
-use Rattle.std.proofs.lemmas.Bool.{eq-eqb}
-use Rattle.mg_names.specs.declared.identifiers.TermId.{TermId}
-use Rattle.mg_names.specs.declared.identifiers.TermId.TheVariants.{Line, Eph}
-use Rattle.mg_model.specs.declared.items.Item.{Item}
-use Rattle.mg_model.specs.Board.{Board, same_term}
-use Rattle.mg_model.specs.Items.{Chosen, IsFresh, is_context_number, creates_context, creates_ephemeral}
-use Rattle.mg_model.specs.Numbers.{choose}
-use Rattle.mg_model.proofs.Cases.{different, not_both, where_true, where_false}
-use Rattle.mg_alike.specs.Boards.{TermsAlike}
-use Rattle.mg_alike.specs.Renaming.{Renaming, IsRenaming}
+use Rattle.std.proofs.Common.{◌≡◌, ◌∙◌, ℕ, Bool, true, false, refl, sym, subst, inl, inr, ◌==◌, if◌then◌else◌}
+use Rattle.mg_merge.proofs.Words.{Board, Chosen, Eph, IsFresh, Item, Line, TermId, choose, creates_context, creates_ephemeral, different, eq-eqb}
+use Rattle.mg_merge.proofs.Words.{is_context_number, not_both, same_term, where_false, where_true}
+use Rattle.mg_alike.proofs.Words.{IsRenaming, Renaming, TermsAlike}
 use Rattle.mg_alike.proofs.Commands.Reading.{first_not_choose, second_not_choose}
-use Rattle.mg_alike.proofs.Commands.Twins.{Twin, add_line, add_ephemeral, modify, move, subtract, subtract_all, set_topology, one_of, other_of, TargetsAlike, IsTwin, InUse}
+use Rattle.mg_alike.proofs.Commands.Twins.{Twin, add_line, add_ephemeral, one_of, other_of, TargetsAlike, IsTwin, InUse}
 use Rattle.mg_alike.proofs.Shared.Pairs.{with_pair, IsNew, pair_cases, pair_more, pair_new, still_one_to_one, IsWider}
 
 abbrev pub renamed : Renaming → Item → Chosen → Chosen → Renaming
@@ -37,20 +29,11 @@ module _ (r : Renaming) (held : ℕ → Bool) (renaming : IsRenaming r) where
   pub creates_same : (twin : Twin) → IsTwin r held twin → creates_context (other_of twin) ≡ creates_context (one_of twin)
   creates_same (add_line c d l s z) is = choose_same c d is.0
   creates_same (add_ephemeral c d s z) is = choose_same c d is.0
-  creates_same (modify c d t u s z) is = refl
-  creates_same (move c d t u s z) is = refl
-  creates_same (subtract c d t u) is = refl
-  creates_same (subtract_all c d) is = refl
-  creates_same (set_topology c d t u v x topology) is = refl
+  creates_same _ is = refl
 
   pub makes_same : (twin : Twin) → creates_ephemeral (other_of twin) ≡ creates_ephemeral (one_of twin)
   makes_same (add_line c d l s z) = refl
-  makes_same (add_ephemeral c d s z) = refl
-  makes_same (modify c d t u s z) = refl
-  makes_same (move c d t u s z) = refl
-  makes_same (subtract c d t u) = refl
-  makes_same (subtract_all c d) = refl
-  makes_same (set_topology c d t u v x topology) = refl
+  makes_same _ = refl
 
   -- the context that is added to
   pub target_renamed : (c d x y : ℕ) → TargetsAlike r c d
@@ -102,5 +85,4 @@ old_term r held item one other (Eph x) (Eph y) is old = elim (pair_cases (create
   | inl new ↦ absurd (not_both (eq-eqb one.ephemeral x (sym new.1)) (old new.0))
   | inr before ↦ before
 ]
-old_term r held item one other (Line l) (Eph y) is old = absurd is
-old_term r held item one other (Eph x) (Line k) is old = absurd is
+old_term r held item one other _ _ is old = absurd is

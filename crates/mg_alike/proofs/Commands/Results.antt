@@ -1,21 +1,12 @@
 -- The results of a command that both execute: who leaves the context, and what is told.
-use Rattle.std.proofs.Common.{◌≡◌, ◌∙◌, ℕ, Bool, true, false, List, Option, refl, sym, ap, subst, inr}
-use Rattle.std.specs.Prelude.{◌&&◌}
-use Rattle.std.proofs.lemmas.Bool.{eqb-true, and_from}
-use Rattle.mg_names.specs.declared.identifiers.LineNo.{LineNo}
-use Rattle.mg_names.specs.declared.identifiers.TermId.{TermId}
-use Rattle.mg_names.specs.declared.identifiers.TermId.TheVariants.{Line, Eph}
-use Rattle.mg_model.specs.Board.{Board, exists, place_of}
-use Rattle.mg_model.specs.Items.{Chosen, Done, IsResult, Lists, subtracts, only_if, creates_context, creates_ephemeral}
-use Rattle.mg_model.specs.Numbers.{the_line}
-use Rattle.mg_model.proofs.Cases.{and_first, and_second, false_not_true, same_test}
+use Rattle.std.proofs.Common.{◌≡◌, ◌∙◌, ℕ, Bool, true, false, List, Option, refl, sym, ap, subst, inr, ◌&&◌}
+use Rattle.mg_merge.proofs.Words.{Board, Chosen, Done, Eph, IsResult, Line, LineNo, Lists, TermId, and_first, and_from, and_second, creates_context}
+use Rattle.mg_merge.proofs.Words.{creates_ephemeral, eqb-true, exists, false_not_true, only_if, place_of, same_test, subtracts, the_line}
+use Rattle.mg_alike.proofs.Words.{BoardsAlike, DoneAlike, IsRenaming, OptionsAlike, Renaming, TermsAlike}
 use Rattle.mg_model.proofs.Terminations.{same_term_is}
-use Rattle.mg_alike.specs.Boards.{TermsAlike, BoardsAlike}
-use Rattle.mg_alike.specs.Messages.{DoneAlike}
-use Rattle.mg_alike.specs.Renaming.{Renaming, IsRenaming, OptionsAlike}
 use Rattle.mg_alike.proofs.Commands.Reading.{same_term_same, at_same, place_alike, exists_same}
 use Rattle.mg_alike.proofs.Commands.Renamed.{renamed, renamed_wider, creates_same, makes_same}
-use Rattle.mg_alike.proofs.Commands.Twins.{Twin, add_line, add_ephemeral, modify, move, subtract, subtract_all, set_topology, one_of, other_of, IsTwin, InUse}
+use Rattle.mg_alike.proofs.Commands.Twins.{Twin, subtract, subtract_all, one_of, other_of, IsTwin, InUse}
 use Rattle.mg_alike.proofs.Shared.Pairs.{pair_new}
 use Rattle.mg_alike.proofs.Shared.Rising.{rising_same}
 
@@ -23,32 +14,20 @@ module _ (r : Renaming) (held : ℕ → Bool) (renaming : IsRenaming r) (b m : B
   -- ---- who leaves
 
   pub leaves_same : (twin : Twin) → IsTwin r held twin → (t u : TermId) → TermsAlike r held t u → subtracts m (other_of twin) u ≡ subtracts b (one_of twin) t
-  leaves_same (add_line c d l s z) is t u it = refl
-  leaves_same (add_ephemeral c d s z) is t u it = refl
-  leaves_same (modify c d v x s z) is t u it = refl
-  leaves_same (move c d v x s z) is t u it = refl
   leaves_same (subtract c d v x) is t u it = same_term_same r held renaming t u v x it is.1
   leaves_same (subtract_all c d) is t u it =
       at_same r held renaming (place_of b t) (place_of m u) c d (place_alike r held renaming b m alike t u it) (inr is)
-  leaves_same (set_topology c d v x k i topology) is t u it = refl
+  leaves_same _ is t u it = refl
 
   leaves_known : (twin : Twin) → IsTwin r held twin → (t : TermId) → subtracts b (one_of twin) t ≡ true → (u : TermId) × TermsAlike r held t u
-  leaves_known (add_line c d l s z) is t e = absurd (false_not_true e)
-  leaves_known (add_ephemeral c d s z) is t e = absurd (false_not_true e)
-  leaves_known (modify c d v x s z) is t e = absurd (false_not_true e)
-  leaves_known (move c d v x s z) is t e = absurd (false_not_true e)
   leaves_known (subtract c d v x) is t e = (x, subst (λ (k : TermId). TermsAlike r held k x) (sym (same_term_is t v e)) is.1)
   leaves_known (subtract_all c d) is t e = ready.members c d is t (eqb-true (place_of b t) c e)
-  leaves_known (set_topology c d v x k i topology) is t e = absurd (false_not_true e)
+  leaves_known _ is t e = absurd (false_not_true e)
 
   leaves_back : (twin : Twin) → IsTwin r held twin → (u : TermId) → subtracts m (other_of twin) u ≡ true → (t : TermId) × TermsAlike r held t u
-  leaves_back (add_line c d l s z) is u e = absurd (false_not_true e)
-  leaves_back (add_ephemeral c d s z) is u e = absurd (false_not_true e)
-  leaves_back (modify c d v x s z) is u e = absurd (false_not_true e)
-  leaves_back (move c d v x s z) is u e = absurd (false_not_true e)
   leaves_back (subtract c d v x) is u e = (v, subst (λ (k : TermId). TermsAlike r held v k) (sym (same_term_is u x e)) is.1)
   leaves_back (subtract_all c d) is u e = ready.members_back c d is u (eqb-true (place_of m u) d e)
-  leaves_back (set_topology c d v x k i topology) is u e = absurd (false_not_true e)
+  leaves_back _ is u e = absurd (false_not_true e)
 
   -- ---- lines that leave
 

@@ -1,19 +1,11 @@
 -- One command in two worlds: the items that it is on the two boards, which name what stands for one another; and what holds of the two boards while a
 -- request runs.
-use Rattle.std.specs.Prelude.{◌≡◌, ℕ, Bool, true, IsTrue, Option, Some, None, ◌⊎◌}
-use Rattle.mg_names.specs.declared.identifiers.TermId.{TermId}
-use Rattle.mg_names.specs.declared.topologies.Topology.{Topology}
+use Rattle.std.proofs.Common.{◌≡◌, ℕ, Bool, true, IsTrue, Option, Some, None, ◌⊎◌}
+use Rattle.mg_merge.proofs.Words.{Add, Board, Ephemeral, Item, Modify, Move, Nothing, RemoteSetting, SetTopology, Settings, Subtract, SubtractAll, TermId}
+use Rattle.mg_merge.proofs.Words.{Topology, choose, place_of, the_context, the_line}
+use Rattle.mg_alike.proofs.Words.{PlacesAlike, Renaming, TermsAlike}
 use Rattle.mg_model.specs.declared.items.Added.TheVariants as added
-use Rattle.mg_model.specs.declared.items.Item.{Item}
-use Rattle.mg_model.specs.declared.items.Item.TheVariants.{Add, Modify, Move, Subtract, SubtractAll, SetTopology}
-use Rattle.mg_model.specs.declared.items.RemoteSetting.{RemoteSetting}
-use Rattle.mg_model.specs.declared.items.RemoteSetting.TheVariants.{Nothing, Ephemeral}
-use Rattle.mg_model.specs.declared.items.Settings.{Settings}
-use Rattle.mg_model.specs.Board.{Board, place_of}
-use Rattle.mg_model.specs.Numbers.{choose, the_context, the_line}
 use Rattle.mg_safety.proofs.Invariant.Shown.{IsAccounted}
-use Rattle.mg_alike.specs.Boards.{TermsAlike, PlacesAlike}
-use Rattle.mg_alike.specs.Renaming.{Renaming}
 
 -- ---- items
 
@@ -46,12 +38,11 @@ other_of (set_topology c d t u v x topology) = SetTopology (the_context d) u x t
 
 abbrev pub SetRemotesAlike : Renaming → Option RemoteSetting → Option RemoteSetting → Type 0
 SetRemotesAlike r None None = Unit {0}
+SetRemotesAlike r (Some s) None = ⊥
+SetRemotesAlike r None (Some z) = ⊥
 SetRemotesAlike r (Some Nothing) (Some Nothing) = Unit {0}
 SetRemotesAlike r (Some (Ephemeral k)) (Some (Ephemeral i)) = IsTrue (r.ephemerals k i)
-SetRemotesAlike r None (Some z) = ⊥
-SetRemotesAlike r (Some s) None = ⊥
-SetRemotesAlike r (Some Nothing) (Some (Ephemeral i)) = ⊥
-SetRemotesAlike r (Some (Ephemeral k)) (Some Nothing) = ⊥
+SetRemotesAlike r _ _ = ⊥
 
 pub record SettingsAlike (r : Renaming) (s z : Settings) : Type 0 where
   pub mode : z.mode ≡ s.mode

@@ -1,34 +1,16 @@
 -- A call of a run of any calls goes as it would go alone.
-use Rattle.std.proofs.Common.{◌≡◌, ◌∙◌, ◌<◌, ◌++◌, ℕ, Bool, true, false, List, [], ◌∷◌, Option, Some, refl, sym, ap, subst, inl, inr}
-use Rattle.std.specs.Prelude.{◌==◌, ◌⊎◌, if◌then◌else◌}
-use Rattle.std.specs.List.{All}
-use Rattle.std.proofs.lemmas.Bool.{eqb-true, eqb-false}
-use Rattle.mg_model.specs.declared.events.CallEvent.{CallEvent}
+use Rattle.std.proofs.Common.{◌≡◌, ◌∙◌, ◌<◌, ◌++◌, ℕ, Bool, true, false, List, [], ◌∷◌, Option, Some, refl, sym, ap, subst, inl, inr, ◌==◌, ◌⊎◌, if◌then◌else◌}
+use Rattle.mg_merge.proofs.Words.{Agent, AgentSteps, All, CallEvent, ChosenRefusal, Entry, Event, Executes, Gateway, IsEntryOf, IsOpening, IsScript, NoneBroken}
+use Rattle.mg_merge.proofs.Words.{Occurs, OccursTo, OfCall, Opened, Request, Restart, Runs, RunsWithin, Script, World, eqb-false, eqb-true, last_association}
+use Rattle.mg_merge.proofs.Words.{none_is_some, not_both, only_here, restarted, with_gateway}
+use Rattle.mg_alike.proofs.Words.{AreReached, CallsAreIsolated, IsBeginning, IsRetiredBy, NeverRunsOut, TreatAlike, events_alone}
 use Rattle.mg_model.specs.declared.events.CallEvent.TheVariants as to_call
-use Rattle.mg_model.specs.declared.events.Event.{Event}
-use Rattle.mg_model.specs.declared.events.Event.TheVariants.{OfCall, Restart}
-use Rattle.mg_model.specs.declared.failures.ChosenRefusal.{ChosenRefusal}
-use Rattle.mg_model.specs.Accepted.{IsScript, IsEntryOf}
-use Rattle.mg_model.specs.Agent.{Agent}
-use Rattle.mg_model.specs.Entries.{Entry}
-use Rattle.mg_model.specs.Gateway.{Gateway, restarted}
-use Rattle.mg_model.specs.Messages.{Request}
-use Rattle.mg_model.specs.Numbers.{last_association}
-use Rattle.mg_model.specs.Obligations.{NoneBroken}
-use Rattle.mg_model.specs.Script.{Script}
-use Rattle.mg_model.specs.Shards.{RunsWithin}
-use Rattle.mg_model.specs.World.{World, Opened, AgentSteps, Executes, IsOpening, Occurs, OccursTo, Runs, with_gateway}
-use Rattle.mg_model.proofs.Cases.{none_is_some, not_both}
-use Rattle.mg_model.proofs.Single.{only_here}
-use Rattle.mg_safety.specs.Laws.{IsRetiredBy}
 use Rattle.mg_safety.proofs.Messages.NamedMessages.{event_numbered, opening_numbered, runs_numbered}
 use Rattle.mg_safety.proofs.Messages.NumberedWorlds.{IsNumbered}
-use Rattle.mg_alike.specs.Alone.{CallsAreIsolated, NeverRunsOut, events_alone}
-use Rattle.mg_alike.specs.Laws.{AreReached, IsBeginning}
-use Rattle.mg_alike.specs.Worlds.{TreatAlike}
 use Rattle.mg_alike.proofs.Events.Every.{events_alike, restarts_alike}
 use Rattle.mg_alike.proofs.Events.Happening.{events_happen}
 use Rattle.mg_alike.proofs.Events.Others.{others_alike, openings_alike}
+use Rattle.mg_alike.proofs.Events.Kept.{step_of}
 
 -- ---- runs
 
@@ -63,17 +45,14 @@ call_retired script w after one call (to_call.OnLine line event) (held, o) is =
     same_retired w after call (ap (λ (x : World). x.gateway.retired) o.after_is ∙ ap (λ (g : Gateway). g.retired) o.happens.after_is) is
 call_retired script w after one call (to_call.Execute number chosen) (request, of, executes) is =
     same_retired w after call (execute_retired w after request chosen executes) is
-call_retired script w after one call (to_call.Reply number) (answer, of, s) is = same_retired w after call (steps_retired w after one _ s) is
-call_retired script w after one call to_call.Pass s is = same_retired w after call (steps_retired w after one _ s) is
-call_retired script w after one call (to_call.Note number) (sent, of, s) is = same_retired w after call (steps_retired w after one _ s) is
-call_retired script w after one call to_call.Timer s is = same_retired w after call (steps_retired w after one _ s) is
 call_retired script w after one call (to_call.Begin old) b is =
     ap (λ (x : World). x.gateway.retired call) b.after_is ∙ either (call == old.0) (w.gateway.retired call) is
   where
     either : (test was : Bool) → was ≡ true → (if test then true else was) ≡ true
     either true was is = refl
     either false was is = is
-call_retired script w after one call (to_call.Hear association) (past, s) is = same_retired w after call (steps_retired w after one _ s) is
+call_retired script w after one call happens occurs is =
+    same_retired w after call (steps_retired w after one _ (step_of script w after one happens tt occurs).1) is
 
 pub event_retired : (script : Script) (w after : World) (call : ℕ) (event : Event) → Occurs script w event after → w.gateway.retired call ≡ true
     → after.gateway.retired call ≡ true
@@ -92,53 +71,44 @@ stays_retired script (event ∷ more) w end call (next, (occurs, runs)) is =
 -- a call that is open doesn't begin
 pub not_beginning : (script : Script) (w after : World) (call : ℕ) (a : Agent) → w.agent call ≡ Some a → (happens : CallEvent) → OccursTo script w call happens after
     → IsBeginning happens → ⊥
-not_beginning script w after call a there (to_call.OnLine line event) occurs is = is
-not_beginning script w after call a there (to_call.Execute number chosen) occurs is = is
-not_beginning script w after call a there (to_call.Reply number) occurs is = is
-not_beginning script w after call a there to_call.Pass occurs is = is
-not_beginning script w after call a there (to_call.Note number) occurs is = is
-not_beginning script w after call a there to_call.Timer occurs is = is
 not_beginning script w after call a there (to_call.Begin old) b is = none_is_some a (sym b.unused ∙ there)
-not_beginning script w after call a there (to_call.Hear association) occurs is = is
+not_beginning script w after call a there _ occurs is = is
 
 -- an event ends a call, or it doesn't
 ends_or_not : (script : Script) (w after : World) (one call : ℕ) (happens : CallEvent) → OccursTo script w one happens after
     → (after.gateway.retired call ≡ true) ⊎ (IsRetiredBy happens call → ⊥)
-ends_or_not script w after one call (to_call.OnLine line event) occurs = inr (λ is. is)
-ends_or_not script w after one call (to_call.Execute number chosen) occurs = inr (λ is. is)
-ends_or_not script w after one call (to_call.Reply number) occurs = inr (λ is. is)
-ends_or_not script w after one call to_call.Pass occurs = inr (λ is. is)
-ends_or_not script w after one call (to_call.Note number) occurs = inr (λ is. is)
-ends_or_not script w after one call to_call.Timer occurs = inr (λ is. is)
 ends_or_not script w after one call (to_call.Begin old) b = go (call == old.0) refl
   where
     go : (test : Bool) → (call == old.0) ≡ test → (after.gateway.retired call ≡ true) ⊎ (old.0 ≡ call → ⊥)
     go true e = inl (ap (λ (x : World). x.gateway.retired call) b.after_is ∙ ap (λ (test : Bool). if test then true else w.gateway.retired call) e)
     go false e = inr (λ is. eqb-false call old.0 e (sym is))
-ends_or_not script w after one call (to_call.Hear association) occurs = inr (λ is. is)
+ends_or_not script w after one call _ occurs = inr (λ is. is)
 
 -- ---- a run beside a run of the call alone
 
+-- two worlds that are reached from two openings of one script
+pub reached_both : (script : Script) (entries : List Entry) → IsScript script → All (IsEntryOf script) entries → NoneBroken script entries
+    → (calls others : List Opened) (start lone : World) → IsOpening script calls start → IsOpening script others lone
+    → (past history : List Event) (w v : World) → Runs script past start w → Runs script history lone v → AreReached script w v
+reached_both script entries is_script listed none_broken calls others start lone opens also_opens past history w v runs also_runs = record {
+  entries = entries;
+  is_script = is_script;
+  listed = listed;
+  none_broken = none_broken;
+  calls = calls;
+  others = others;
+  events = past;
+  history = history;
+  start = start;
+  first = lone;
+  opens = opens;
+  also_opens = also_opens;
+  runs = runs;
+  also_runs = also_runs;
+}
+
 module _ (script : Script) (entries : List Entry) (is_script : IsScript script) (listed : All (IsEntryOf script) entries) (none_broken : NoneBroken script entries)
     (calls others : List Opened) (start lone : World) (opens : IsOpening script calls start) (also_opens : IsOpening script others lone) (enough : NeverRunsOut script lone) (call : ℕ) where
-  reached : (past history : List Event) (w v : World) → Runs script past start w → Runs script history lone v → AreReached script w v
-  reached past history w v runs also_runs = record {
-    entries = entries;
-    is_script = is_script;
-    listed = listed;
-    none_broken = none_broken;
-    calls = calls;
-    others = others;
-    events = past;
-    history = history;
-    start = start;
-    first = lone;
-    opens = opens;
-    also_opens = also_opens;
-    runs = runs;
-    also_runs = also_runs;
-  }
-
   -- the call stays open to the end, so no event ended it
   never_ended : (past : List Event) (w next end : World) (event : Event) (more : List Event) → Runs script past start w → Occurs script w event next
       → RunsWithin script more next end → (a : Agent) → end.agent call ≡ Some a → next.gateway.retired call ≡ true → ⊥
@@ -163,7 +133,7 @@ module _ (script : Script) (entries : List Entry) (is_script : IsScript script) 
       by_call (one.0 == call) refl (alone more next)
     where
       at : AreReached script w v
-      at = reached past history w v runs also_runs
+      at = reached_both script entries is_script listed none_broken calls others start lone opens also_opens past history w v runs also_runs
 
       on : Runs script (past ++ OfCall one happens ∷ []) start next
       on = runs_on script past start w next (OfCall one happens) runs occurs

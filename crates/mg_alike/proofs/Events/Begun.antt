@@ -1,36 +1,18 @@
 -- A call begins in two worlds on the lines of one that they treat alike.
-use Rattle.std.proofs.Common.{◌≡◌, ◌∙◌, ℕ, Bool, true, false, List, Option, Some, None, refl, sym, ap, subst, arith, inl, inr}
-use Rattle.std.specs.Prelude.{◌==◌, ◌⊎◌, Contains, if◌then◌else◌}
-use Rattle.std.proofs.lemmas.Bool.{eq-eqb}
-use Rattle.mg_names.specs.declared.identifiers.LineNo.{LineNo}
-use Rattle.mg_names.specs.declared.identifiers.TermId.{TermId}
-use Rattle.mg_names.specs.declared.identifiers.TermId.TheVariants.{Line, Eph}
-use Rattle.mg_names.specs.declared.modes.Mode.{Mode}
-use Rattle.mg_names.specs.declared.modes.Mode.TheVariants.{Inactive}
-use Rattle.mg_model.specs.declared.rows.Row.{Row}
+use Rattle.std.proofs.Common.{◌≡◌, ◌∙◌, ℕ, Bool, true, false, List, Option, Some, None, refl, sym, ap, subst, arith, inl, inr, ◌==◌, ◌⊎◌, Contains}
+use Rattle.std.proofs.Common.{if◌then◌else◌}
+use Rattle.mg_merge.proofs.Words.{Agent, Begins, CallLink, Entry, Eph, Gateway, HasEnded, Inactive, Line, LineNo, LineRow, MayBegin, Mode, Phase, Reply}
+use Rattle.mg_merge.proofs.Words.{Request, Row, Script, SentNote, TermId, World, at_another, at_one, eq-eqb, handed_over, none_is_some, not_both, null}
+use Rattle.mg_merge.proofs.Words.{null_row, remote_in, resting, state_of, the_context, the_line, the_some}
+use Rattle.mg_alike.proofs.Words.{AreSentInBoth, BeginningsAlike, BeginningsHappenAlike, CallAlike, KeptAlike, OptionalRowsAlike, OwnAlike, PhasesAlike}
+use Rattle.mg_alike.proofs.Words.{Renaming}
 use Rattle.mg_model.specs.Agent as agents
-use Rattle.mg_model.specs.Agent.{Agent, Phase, awaits_reply, awaits_pass, resting}
-use Rattle.mg_model.specs.Board.{null_row, remote_in}
-use Rattle.mg_model.specs.Entries.{Entry}
 use Rattle.mg_model.specs.Gateway as gateway
-use Rattle.mg_model.specs.Gateway.{Gateway, CallLink, MayBegin, handed_over}
-use Rattle.mg_model.specs.LineEvents.{LineRow}
-use Rattle.mg_model.specs.Messages.{Request, Reply, SentNote}
-use Rattle.mg_model.specs.Numbers.{null, the_context, the_line}
-use Rattle.mg_model.specs.Script.{Script}
-use Rattle.mg_model.specs.Tables.{state_of}
-use Rattle.mg_model.specs.World.{World, Begins, HasEnded}
-use Rattle.mg_model.proofs.Cases.{at_one, at_another, none_is_some, not_both, the_some}
 use Rattle.mg_safety.proofs.Agents.AgentSound.{rest_quiet}
 use Rattle.mg_safety.proofs.Events.Handover.{handed_from, handed_own}
 use Rattle.mg_safety.proofs.Events.Others.{created_only, is_call_of}
 use Rattle.mg_safety.proofs.GoodWorlds.Beginning.{reached}
 use Rattle.mg_safety.proofs.Invariant.Sound.{is_call, owned_in, IsAt, IsCurrent, IsKnown, IsLost, IsSound}
-use Rattle.mg_alike.specs.Agents.{PhasesAlike}
-use Rattle.mg_alike.specs.Boards.{OptionalRowsAlike}
-use Rattle.mg_alike.specs.Laws.{BeginningsAlike, BeginningsHappenAlike}
-use Rattle.mg_alike.specs.Renaming.{Renaming}
-use Rattle.mg_alike.specs.Worlds.{AreSentInBoth, KeptAlike, OwnAlike, CallAlike}
 use Rattle.mg_alike.proofs.Agents.Steps.{agents_step}
 use Rattle.mg_alike.proofs.Commands.Reading.{first_real}
 use Rattle.mg_alike.proofs.Events.Plain.{IsPlain, opening_plain, runs_plain}
@@ -88,8 +70,7 @@ module _ (script : Script) (entries : List Entry) (w v : World) (sound : IsSound
   owns : (t u : TermId) → OwnAlike r (world_begun script w call old a) (world_begun script v call old b) call t u → OwnAlike r w v old t u
   owns (Line l) (Line m) own = (own.0, was_held script entries w sound call unused not_retired old l.0 own.1)
   owns (Eph x) (Eph y) own = absurd (no_creation script entries w sound call unused not_retired x own.1)
-  owns (Line l) (Eph y) own = absurd own
-  owns (Eph x) (Line m) own = absurd own
+  owns _ _ own = absurd own
 
   begun_alike : CallAlike r (world_begun script w call old a) (world_begun script v call old b) call (agents.begun script call a) (agents.begun script call b)
   begun_alike = record {
@@ -142,8 +123,7 @@ rests_too r p q same is = go q (subst (λ (x : Phase). PhasesAlike r x q) is sam
   where
     go : (q : Phase) → PhasesAlike r resting q → q ≡ resting
     go resting same = refl
-    go awaits_pass same = absurd same
-    go (awaits_reply request) same = absurd same
+    go _ same = absurd same
 
 abbrev row_of : ℕ → Mode → Option ℕ → Row
 row_of place mode remote = record { place = the_context place; mode = mode; remote = remote }

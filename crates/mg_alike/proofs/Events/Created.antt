@@ -1,16 +1,7 @@
 -- Whose an ephemeral is after a request: the call's exactly where a name of the call stands for it.
-use Rattle.std.proofs.Common.{◌≡◌, ◌∙◌, ℕ, Bool, true, false, Option, Some, None, refl, sym, ap, inl, inr}
-use Rattle.std.specs.Prelude.{◌||◌, ◌&&◌, ◌⊎◌, not, if◌then◌else◌}
-use Rattle.std.proofs.lemmas.Bool.{and_from, eq-eqb, or_left, or_right}
-use Rattle.mg_names.specs.declared.identifiers.TermId.TheVariants.{Eph}
-use Rattle.mg_model.specs.Agent.{Agent}
-use Rattle.mg_model.specs.Board.{exists}
-use Rattle.mg_model.specs.Configuration.{Configuration}
-use Rattle.mg_model.specs.Gateway.{Gateway, creator_after}
-use Rattle.mg_model.specs.Messages.{Request}
-use Rattle.mg_model.specs.RequestRun.{Running}
-use Rattle.mg_model.specs.Script.{Script}
-use Rattle.mg_model.proofs.Cases.{false_not_true, none_is_some}
+use Rattle.std.proofs.Common.{◌≡◌, ◌∙◌, ℕ, Bool, true, false, Option, Some, None, refl, sym, ap, inl, inr, ◌||◌, ◌&&◌, ◌⊎◌, not, if◌then◌else◌}
+use Rattle.mg_merge.proofs.Words.{Agent, Configuration, Eph, Gateway, Request, Running, Script, and_from, creator_after, eq-eqb, exists, false_not_true}
+use Rattle.mg_merge.proofs.Words.{none_is_some, or_left, or_right}
 use Rattle.mg_safety.proofs.Events.Others.{is_call_of}
 use Rattle.mg_safety.proofs.Invariant.Shown.{naming, ChangesOwned, IsAccounted, Shown, owned_at}
 use Rattle.mg_safety.proofs.Invariant.Sound.{is_call, owner_of}
@@ -40,9 +31,8 @@ module _ (script : Script) (g : Gateway) (request : Request) (a e : Agent) (call
     where
       was_its : (created now used : Bool) → (created || (now && not used)) ≡ true → used ≡ true → created ≡ true
       was_its true now used own given = refl
-      was_its false true true own given = absurd (false_not_true own)
-      was_its false false used own given = absurd (false_not_true own)
       was_its false true false own given = absurd (false_not_true given)
+      was_its _ _ _ own given = absurd (false_not_true own)
 
       go : (stands stood : Bool) → exists end.board (Eph x) ≡ stands → exists g.board (Eph x) ≡ stood → exists end.board (Eph x) ≡ true
           → (if stands then (if stood then g.creator x else Some request.call) else None) ≡ Some call

@@ -1,25 +1,14 @@
 -- Each event of a call that is open leaves two worlds that treat it alike alike.
-use Rattle.std.proofs.Common.{◌≡◌, ◌∙◌, ℕ, Bool, true, false, Option, Some, None, refl, sym, ap, subst}
-use Rattle.std.specs.Prelude.{if◌then◌else◌}
-use Rattle.mg_model.specs.declared.events.CallEvent.{CallEvent}
+use Rattle.std.proofs.Common.{◌≡◌, ◌∙◌, ℕ, Bool, true, false, Option, Some, None, refl, sym, ap, subst, if◌then◌else◌}
+use Rattle.mg_merge.proofs.Words.{Agent, AgentSteps, CallEvent, HasIdentifiersLeft, IsNoteOf, IsReplyOf, OccursTo, Phase, Reply, Script, SentNote, World}
+use Rattle.mg_merge.proofs.Words.{answers, awaits_reply, heard, line_places, none_is_some, noted, passed, replied, replied_to, restarted, the_some, timed}
+use Rattle.mg_merge.proofs.Words.{with_gateway}
+use Rattle.mg_alike.proofs.Words.{AreNamedByNumber, AreReached, CallAlike, EventsAlike, IsBeginning, Renaming, RepliesAlike, RestartsAlike, StepAlike}
+use Rattle.mg_alike.proofs.Words.{StepsAlike, TreatAlike, is_awaited}
 use Rattle.mg_model.specs.declared.events.CallEvent.TheVariants as to_call
-use Rattle.mg_model.specs.Agent.{Agent, Phase, awaits_reply, awaits_pass, resting, answers, replied, replied_to, passed, noted, timed, heard}
-use Rattle.mg_model.specs.Messages.{Reply, SentNote}
-use Rattle.mg_model.specs.Script.{Script}
-use Rattle.mg_model.specs.Shards.{HasIdentifiersLeft}
-use Rattle.mg_model.specs.Tables.{line_places}
-use Rattle.mg_model.specs.Gateway.{restarted}
-use Rattle.mg_model.specs.World.{World, AgentSteps, IsReplyOf, IsNoteOf, OccursTo, with_gateway}
-use Rattle.mg_model.proofs.Cases.{none_is_some, the_some}
-use Rattle.mg_safety.specs.MessageNumbers.{AreNamedByNumber}
 use Rattle.mg_safety.proofs.Messages.AgentNumbers.{replied_next, passed_next, noted_next, timed_next, heard_next}
 use Rattle.mg_safety.proofs.Messages.NamedMessages.{named_by_number, opening_numbered, runs_numbered}
 use Rattle.mg_safety.proofs.Messages.NumberedWorlds.{IsNumbered}
-use Rattle.mg_alike.specs.Agents.{StepsAlike}
-use Rattle.mg_alike.specs.Laws.{AreReached, IsBeginning, StepAlike, EventsAlike, RestartsAlike}
-use Rattle.mg_alike.specs.Messages.{RepliesAlike}
-use Rattle.mg_alike.specs.Renaming.{Renaming}
-use Rattle.mg_alike.specs.Worlds.{is_awaited, CallAlike, TreatAlike}
 use Rattle.mg_alike.proofs.Agents.Steps.{agents_step}
 use Rattle.mg_alike.proofs.Events.LineEvents.{lines_alike, restarted_alike}
 use Rattle.mg_alike.proofs.Events.Requests.{executes_alike}
@@ -32,8 +21,7 @@ taken_is_awaited script a b (awaits_reply request) answer e = go _ (answers answ
     go : (o : Option Agent) (test : Bool) → (if test then o else None) ≡ Some b → test ≡ true
     go o true is = refl
     go o false is = absurd (none_is_some b is)
-taken_is_awaited script a b awaits_pass answer e = absurd (none_is_some b e)
-taken_is_awaited script a b resting answer e = absurd (none_is_some b e)
+taken_is_awaited script a b _ answer e = absurd (none_is_some b e)
 
 module _ (script : Script) (w v : World) (numbered : IsNumbered w) (once : AreNamedByNumber v) (call : ℕ) (r : Renaming) (a b : Agent) (alike : CallAlike r w v call a b) where
   each : StepAlike script r a b

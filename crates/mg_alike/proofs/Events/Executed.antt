@@ -1,29 +1,13 @@
 -- The worlds after a request that both gateways executed: they treat its call alike, by the renaming that the two runs leave.
-use Rattle.std.proofs.Common.{◌≡◌, ◌∙◌, ◌+◌, ◌++◌, ℕ, Bool, true, List, ◌∷◌, length, Option, Some, refl, sym, ap, subst, inl, inr}
-use Rattle.std.specs.Prelude.{Contains}
-use Rattle.std.proofs.lemmas.Bool.{eq-eqb}
-use Rattle.std.proofs.lemmas.List.Elements.{Contains-append_left, Contains-append_right, Contains-append_cases}
-use Rattle.mg_names.specs.declared.identifiers.TermId.{TermId}
-use Rattle.mg_names.specs.declared.identifiers.TermId.TheVariants.{Line, Eph}
-use Rattle.mg_model.specs.declared.failures.Failure.{Failure}
-use Rattle.mg_model.specs.declared.rows.Row.{Row}
-use Rattle.mg_model.specs.Agent.{Agent, Phase}
-use Rattle.mg_model.specs.Board.{Board, IsSettled}
-use Rattle.mg_model.specs.Gateway.{Gateway, CallLink, after_request, reply_of, sent_notes}
-use Rattle.mg_model.specs.Messages.{Request, Reply, SentNote}
-use Rattle.mg_model.specs.RequestRun.{Running, RaisedNote}
-use Rattle.mg_model.specs.Script.{Script}
-use Rattle.mg_model.specs.World.{World}
-use Rattle.mg_model.proofs.Cases.{at_one}
-use Rattle.mg_model.proofs.Single.{first_in, first_or_later, later_in}
+use Rattle.std.proofs.Common.{◌≡◌, ◌∙◌, ◌+◌, ◌++◌, ℕ, Bool, true, List, ◌∷◌, length, Option, Some, refl, sym, ap, subst, inl, inr, Contains}
+use Rattle.mg_merge.proofs.Words.{Agent, Board, CallLink, Contains-append_cases, Contains-append_left, Contains-append_right, Eph, Failure, Gateway, IsSettled}
+use Rattle.mg_merge.proofs.Words.{Line, Phase, RaisedNote, Reply, Request, Row, Running, Script, SentNote, TermId, World, after_request, at_one, eq-eqb}
+use Rattle.mg_merge.proofs.Words.{first_in, first_or_later, later_in, reply_of, sent_notes}
+use Rattle.mg_alike.proofs.Words.{AgentsAlike, AreSentInBoth, CallAlike, KeptAlike, OptionalRowsAlike, OptionsAlike, OwnAlike, PhasesAlike, Renaming}
+use Rattle.mg_alike.proofs.Words.{RepliesAlike, SameReply, TermsAlike, anything, is_awaited}
 use Rattle.mg_safety.proofs.Events.Executing.{link_made}
 use Rattle.mg_safety.proofs.Events.ExecutedCalls.{world_after}
 use Rattle.mg_safety.proofs.Invariant.Sound.{is_call}
-use Rattle.mg_alike.specs.Agents.{AgentsAlike, PhasesAlike}
-use Rattle.mg_alike.specs.Boards.{TermsAlike, OptionalRowsAlike}
-use Rattle.mg_alike.specs.Messages.{RepliesAlike}
-use Rattle.mg_alike.specs.Renaming.{Renaming, OptionsAlike}
-use Rattle.mg_alike.specs.Worlds.{AreSentInBoth, anything, is_awaited, SameReply, KeptAlike, OwnAlike, CallAlike}
 use Rattle.mg_alike.proofs.Requests.OneCommand.{RunningAlike}
 use Rattle.mg_alike.proofs.Shared.Pairs.{IsWider, results_more}
 
@@ -33,35 +17,34 @@ pub anything_wider : (r : Renaming) → IsWider r anything
 anything_wider r = record { contexts = λ x y is. refl; ephemerals = λ x y is. refl }
 
 pub reply_shape : (r : Renaming) (one other : Reply) → RepliesAlike r one other → RepliesAlike anything one other
-reply_shape r one other alike = record {
-  call = alike.call;
-  association = alike.association;
-  number = alike.number;
-  results = results_more r anything (anything_wider r) one.results other.results alike.results;
-  failure = alike.failure;
-}
+reply_shape r one other alike = assumption (results_more r anything (anything_wider r) one.results other.results alike.results)
+
+-- one more message in both
+pub sent_more : {A : Type 0} (of : A → ℕ) (call : ℕ) (alike wide : A → A → Type 0) (one other : A) (sent others : List A) → wide one other
+    → ((x y : A) → alike x y → of y ≡ of x) → ((x y : A) → Contains sent x → of x ≡ call → alike x y → wide x y) → AreSentInBoth of call alike sent others
+    → AreSentInBoth of call wide (one ∷ sent) (other ∷ others)
+sent_more of call alike wide one other sent others new same still before = record { onward = onward; back = back }
+  where
+    onward : (x : _) → Contains (one ∷ sent) x → of x ≡ call → (y : _) × Contains (other ∷ others) y × wide x y
+    onward x there its = elim (first_or_later one sent x there) [
+      | inl is ↦ (other, first_in other others, subst (λ z. wide z other) is new)
+      | inr later ↦ (let y = before.onward x later its in (y.0, later_in other others y.0 y.1, still x y.0 later its y.2))
+    ]
+
+    back : (y : _) → Contains (other ∷ others) y → of y ≡ call → (x : _) × Contains (one ∷ sent) x × wide x y
+    back y there its = elim (first_or_later other others y there) [
+      | inl is ↦ (one, first_in one sent, subst (λ z. wide one z) is new)
+      | inr later ↦ (let x = before.back y later its in (x.0, later_in one sent x.0 x.1, still x.0 y x.1 (sym (same x.0 y x.2) ∙ its) x.2))
+    ]
 
 -- one more reply in both
 pub one_more : (r wide : Renaming) (phase its : Phase) (call : ℕ) (one other : Reply) (sent others : List Reply) → RepliesAlike wide one other
     → ((x y : Reply) → Contains sent x → x.call ≡ call → SameReply r phase x y → SameReply wide its x y)
     → AreSentInBoth (λ (q : Reply). q.call) call (SameReply r phase) sent others
     → AreSentInBoth (λ (q : Reply). q.call) call (SameReply wide its) (one ∷ sent) (other ∷ others)
-one_more r wide phase its call one other sent others new still before = record { onward = onward; back = back }
-  where
-    both : SameReply wide its one other
-    both = record { shape = reply_shape wide one other new; awaited = λ e. new }
-
-    onward : (x : Reply) → Contains (one ∷ sent) x → x.call ≡ call → (y : Reply) × Contains (other ∷ others) y × SameReply wide its x y
-    onward x there of = elim (first_or_later one sent x there) [
-      | inl is ↦ (other, first_in other others, subst (λ (z : Reply). SameReply wide its z other) is both)
-      | inr later ↦ (let y = before.onward x later of in (y.0, later_in other others y.0 y.1, still x y.0 later of y.2))
-    ]
-
-    back : (y : Reply) → Contains (other ∷ others) y → y.call ≡ call → (x : Reply) × Contains (one ∷ sent) x × SameReply wide its x y
-    back y there of = elim (first_or_later other others y there) [
-      | inl is ↦ (one, first_in one sent, subst (λ (z : Reply). SameReply wide its one z) is both)
-      | inr later ↦ (let x = before.back y later of in (x.0, later_in one sent x.0 x.1, still x.0 y x.1 (sym x.2.shape.call ∙ of) x.2))
-    ]
+one_more r wide phase its call one other sent others new still before =
+    sent_more (λ (q : Reply). q.call) call (SameReply r phase) (SameReply wide its) one other sent others
+    (record { shape = reply_shape wide one other new; awaited = λ e. new }) (λ x y same. same.shape.call) still before
 
 -- the same notes more in both
 pub more_notes : (call : ℕ) (new other sent others : List SentNote) → new ≡ other
@@ -102,27 +85,10 @@ module _ (script : Script) (w v : World) (call : ℕ) (r : Renaming) (a b : Agen
     → (x : ℕ) × (wide.ephemerals x y ≡ true) × ((world_after w q end settled failure).gateway.creator x ≡ Some call))
     (phases : PhasesAlike wide a.phase b.phase) (unanswered : (x : Reply) → Contains w.replies x → x.call ≡ call → is_awaited a.phase x ≡ true → ⊥) where
   new_reply : RepliesAlike wide (reply_of q end failure) (reply_of p last other)
-  new_reply = record {
-    call = its ∙ sym of;
-    association = association;
-    number = number;
-    results = running.results;
-    failure = same;
-  }
+  new_reply = assumption (its ∙ sym of)
 
   agents : AgentsAlike wide a b
-  agents = record {
-    call = alike.agents.call;
-    state = alike.agents.state;
-    phase = phases;
-    association = alike.agents.association;
-    lines = alike.agents.lines;
-    contexts = contexts;
-    ephemerals = ephemerals;
-    next = alike.agents.next;
-    expected = alike.agents.expected;
-    accepted = alike.agents.accepted;
-  }
+  agents = assumption
 
   holds : (l : ℕ) → w.gateway.holder l ≡ Some call → is_call (w.gateway.holder l) call ≡ true
   holds l held = ap (λ (o : Option ℕ). is_call o call) held ∙ eq-eqb call call refl
@@ -131,8 +97,7 @@ module _ (script : Script) (w v : World) (call : ℕ) (r : Renaming) (a b : Agen
       → TermsAlike wide (λ l. is_call (w.gateway.holder l) call) t u
   terms (Line l) (Line m) own = (own.0, holds l.0 own.1)
   terms (Eph x) (Eph y) own = own.0
-  terms (Line l) (Eph y) own = absurd own
-  terms (Eph x) (Line m) own = absurd own
+  terms _ _ own = absurd own
 
   kept : KeptAlike wide ((after_request w.gateway q end settled failure).link call).last ((after_request v.gateway p last also other).link call).last
   kept =

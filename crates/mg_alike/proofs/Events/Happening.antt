@@ -1,24 +1,11 @@
 -- An event of a call that can happen in the one world can happen in the other that treats it alike.
 use Rattle.std.proofs.Common.{◌≡◌, ◌∙◌, ◌+◌, ◌<◌, ◌≤◌, ◌++◌, ℕ, true, List, ◌∷◌, length, Option, Some, refl, sym, ap, subst, inl, inr}
-use Rattle.mg_model.specs.declared.commands.Command.{Command}
-use Rattle.mg_model.specs.declared.events.CallEvent.{CallEvent}
+use Rattle.mg_merge.proofs.Words.{Agent, Board, CallEvent, ChosenRefusal, Command, Entry, Executes, HasIdentifiersLeft, IsFirst, IsRequestOf, IsScript}
+use Rattle.mg_merge.proofs.Words.{IsSettled, OccursTo, Offer, Reply, Request, RequestCommand, Running, RunsFrom, Script, SentNote, World, after_request}
+use Rattle.mg_merge.proofs.Words.{after_results, built_by, commands_of, discard, fresh, heard, kept, last_number, line_places, none_made, noted, offer_to}
+use Rattle.mg_merge.proofs.Words.{passed, replied, reply_of, sent_notes, start_of, the_some, timed, with_gateway}
+use Rattle.mg_alike.proofs.Words.{AreNamedByNumber, AreReached, CallAlike, EventsHappenAlike, IsBeginning, Renaming, StepAlike, StepsAlike, TreatAlike}
 use Rattle.mg_model.specs.declared.events.CallEvent.TheVariants as to_call
-use Rattle.mg_model.specs.declared.failures.ChosenRefusal.{ChosenRefusal}
-use Rattle.mg_model.specs.Accepted.{IsScript}
-use Rattle.mg_model.specs.Agent.{Agent, built_by, commands_of, none_made, after_results, replied, passed, noted, timed, heard}
-use Rattle.mg_model.specs.Board.{Board, IsSettled}
-use Rattle.mg_model.specs.Delivery.{Offer, fresh, kept, discard}
-use Rattle.mg_model.specs.Entries.{Entry}
-use Rattle.mg_model.specs.Gateway.{offer_to, start_of, after_request, reply_of, sent_notes}
-use Rattle.mg_model.specs.Messages.{Request, RequestCommand, Reply, SentNote}
-use Rattle.mg_model.specs.Numbers.{last_number}
-use Rattle.mg_model.specs.RequestRun.{Running, RunsFrom}
-use Rattle.mg_model.specs.Script.{Script}
-use Rattle.mg_model.specs.Shards.{HasIdentifiersLeft}
-use Rattle.mg_model.specs.Tables.{line_places}
-use Rattle.mg_model.specs.World.{World, with_gateway, Executes, IsFirst, IsRequestOf, OccursTo}
-use Rattle.mg_model.proofs.Cases.{the_some}
-use Rattle.mg_safety.specs.MessageNumbers.{AreNamedByNumber}
 use Rattle.mg_safety.proofs.Agents.EffectiveAgent.{results_keep}
 use Rattle.mg_safety.proofs.Certificate.Closed.{closed}
 use Rattle.mg_safety.proofs.Events.Executing.{due_runs}
@@ -30,21 +17,18 @@ use Rattle.mg_safety.proofs.Invariant.Sound.{is_call, owner_of, IsSound}
 use Rattle.mg_safety.proofs.Invariant.Statements.{IsClosed, IsRunOf}
 use Rattle.mg_safety.proofs.Messages.NamedMessages.{named_by_number}
 use Rattle.mg_safety.proofs.Requests.Run.{requests_run}
-use Rattle.mg_alike.specs.Agents.{StepsAlike}
-use Rattle.mg_alike.specs.Laws.{AreReached, IsBeginning, StepAlike, EventsHappenAlike}
-use Rattle.mg_alike.specs.Renaming.{Renaming}
-use Rattle.mg_alike.specs.Worlds.{CallAlike, TreatAlike}
 use Rattle.mg_alike.proofs.Agents.Steps.{agents_step}
 use Rattle.mg_alike.proofs.Events.Every.{taken_is_awaited}
 use Rattle.mg_alike.proofs.Events.LineEvents.{lines_too}
 use Rattle.mg_alike.proofs.Events.Offers.{OffersAlike}
-use Rattle.mg_alike.proofs.Events.Requests.{IsStarted, as_many, numbers, offers, one, other, own_line, built, begins}
+use Rattle.mg_alike.proofs.Events.Requests.{IsStarted, numbers, offers, one, other, own_line, built, begins}
 use Rattle.mg_alike.proofs.Events.Settled.{opening_settled, runs_settled}
 use Rattle.mg_alike.proofs.Events.Settling.{board_settled, is_settled}
 use Rattle.mg_alike.proofs.Events.Steps.{steps_too}
-use Rattle.mg_alike.proofs.Requests.Exist.{runs_too}
+use Rattle.mg_alike.proofs.Requests.Runs.{runs_too}
 use Rattle.mg_alike.proofs.Requests.Starting.{by_names}
 use Rattle.mg_alike.proofs.Shared.Turned.{treated_mutually}
+use Rattle.mg_merge.proofs.Identifiers.FewCommands.{sent_as_many}
 
 -- ---- what a link says
 
@@ -54,24 +38,21 @@ module _ (r : Renaming) where
     where
       go : (s : Offer Reply) → OffersAlike r fresh s → s ≡ fresh
       go fresh same = refl
-      go (kept reply) same = absurd same
-      go discard same = absurd same
+      go _ same = absurd same
 
   kept_too : (o s : Offer Reply) (answer : Reply) → o ≡ kept answer → OffersAlike r o s → (also : Reply) × (s ≡ kept also)
   kept_too o s answer is same = go s (subst (λ (x : Offer Reply). OffersAlike r x s) is same)
     where
       go : (s : Offer Reply) → OffersAlike r (kept answer) s → (also : Reply) × (s ≡ kept also)
-      go fresh same = absurd same
       go (kept reply) same = (reply, refl)
-      go discard same = absurd same
+      go _ same = absurd same
 
   dropped_too : (o s : Offer Reply) → o ≡ discard → OffersAlike r o s → s ≡ discard
   dropped_too o s is same = go s (subst (λ (x : Offer Reply). OffersAlike r x s) is same)
     where
       go : (s : Offer Reply) → OffersAlike r discard s → s ≡ discard
-      go fresh same = absurd same
-      go (kept reply) same = absurd same
       go discard same = refl
+      go _ same = absurd same
 
 -- ---- a request
 
@@ -148,8 +129,9 @@ module _ (script : Script) (entries : List Entry) (is_script : IsScript script) 
 
     as_long : length p.commands ≡ length q.commands
     as_long =
-        ap (λ (list : List RequestCommand). length list) commands ∙ as_many script b none_made 0 (built_by script a a.state)
-        ∙ sym (as_many script a none_made 0 (built_by script a a.state)) ∙ sym (ap (λ (list : List RequestCommand). length list) was.due.outstanding.commands)
+        ap (λ (list : List RequestCommand). length list) commands ∙ sent_as_many script b none_made 0 (built_by script a a.state)
+        ∙ sym (sent_as_many script a none_made 0 (built_by script a a.state))
+        ∙ sym (ap (λ (list : List RequestCommand). length list) was.due.outstanding.commands)
 
     counts : (v.gateway.link p.call).notes ≡ (w.gateway.link q.call).notes
     counts = ap (λ (n : ℕ). (v.gateway.link n).notes) its.1 ∙ alike.count ∙ ap (λ (n : ℕ). (w.gateway.link n).notes) (sym of.1)

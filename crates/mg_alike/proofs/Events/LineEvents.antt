@@ -1,20 +1,9 @@
 -- An event of a line, and a restart, in two worlds that treat a call alike.
-use Rattle.std.proofs.Common.{◌≡◌, ◌∙◌, ◌+◌, ◌≤◌, ◌++◌, ℕ, List, [], ◌∷◌, length, Option, Some, None, refl, sym, ap, subst, inl}
-use Rattle.std.specs.Prelude.{◌==◌, if◌then◌else◌}
-use Rattle.mg_names.specs.declared.identifiers.TermId.{TermId}
-use Rattle.mg_names.specs.declared.identifiers.TermId.TheVariants.{Line, Eph}
-use Rattle.mg_model.specs.declared.line_events.LineEvent.{LineEvent}
-use Rattle.mg_model.specs.declared.rows.Row.{Row}
-use Rattle.mg_model.specs.Agent.{Agent}
-use Rattle.mg_model.specs.Gateway.{Gateway, CallLink, outcome_of, with_line, with_notes, notes_from, restarted, row_restarted}
-use Rattle.mg_model.specs.LineEvents.{LineRow, Note, Outcome, cleared}
-use Rattle.mg_model.specs.Messages.{Reply, SentNote}
-use Rattle.mg_model.specs.Numbers.{last_number}
-use Rattle.mg_model.specs.World.{World, LineOccurs, with_gateway}
-use Rattle.mg_model.proofs.Cases.{at_one, none_is_some, the_some}
-use Rattle.mg_alike.specs.Boards.{OptionalRowsAlike}
-use Rattle.mg_alike.specs.Renaming.{Renaming}
-use Rattle.mg_alike.specs.Worlds.{KeptAlike, OwnAlike, CallAlike, TreatAlike}
+use Rattle.std.proofs.Common.{◌≡◌, ◌∙◌, ◌+◌, ◌≤◌, ◌++◌, ℕ, List, [], ◌∷◌, length, Option, Some, None, refl, sym, ap, subst, inl, ◌==◌, if◌then◌else◌}
+use Rattle.mg_merge.proofs.Words.{Agent, CallLink, Eph, Gateway, Line, LineEvent, LineOccurs, LineRow, Note, Outcome, Reply, Row, SentNote, TermId, World}
+use Rattle.mg_merge.proofs.Words.{at_one, cleared, last_number, none_is_some, notes_from, outcome_of, restarted, row_restarted, the_some, with_gateway}
+use Rattle.mg_merge.proofs.Words.{with_line, with_notes}
+use Rattle.mg_alike.proofs.Words.{CallAlike, KeptAlike, OptionalRowsAlike, OwnAlike, Renaming, TreatAlike}
 use Rattle.mg_alike.proofs.Events.Executed.{more_notes}
 
 -- a world in which an event of a line occurred, written out
@@ -68,28 +57,19 @@ module _ (w v : World) (call : ℕ) (r : Renaming) (a b : Agent) (alike : CallAl
   link_count g outcome = ap (λ (link : CallLink). link.notes) (at_one call (record { last = (g.link call).last; notes = (g.link call).notes + length (notes_from g call l outcome.note) }) (g.link call))
 
   happened : (outcome : Outcome) → CallAlike r (occurred_world w l call outcome) (occurred_world v l call outcome) call a b
-  happened outcome = record {
-    renaming = alike.renaming;
-    open_one = alike.open_one;
-    open_other = alike.open_other;
-    agents = alike.agents;
-    association = alike.association;
-    kept = subst (λ (o : Option Reply). KeptAlike r o ((occurred_gateway v.gateway l call outcome).link call).last) (sym (link_last w.gateway outcome))
-        (subst (λ (o : Option Reply). KeptAlike r (w.gateway.link call).last o) (sym (link_last v.gateway outcome)) alike.kept);
-    count = link_count v.gateway outcome
+  happened outcome = assumption (
+    subst (λ (o : Option Reply). KeptAlike r o ((occurred_gateway v.gateway l call outcome).link call).last) (sym (link_last w.gateway outcome))
+        (subst (λ (o : Option Reply). KeptAlike r (w.gateway.link call).last o) (sym (link_last v.gateway outcome)) alike.kept),
+    link_count v.gateway outcome
         ∙ ap (λ (n : ℕ). n + length (notes_from v.gateway call l outcome.note)) alike.count
         ∙ ap (λ (notes : List SentNote). (w.gateway.link call).notes + length notes) (sym (notes_same outcome.note))
-        ∙ sym (link_count w.gateway outcome);
-    held = alike.held;
-    lines = λ other its. ap (λ (row : LineRow). if other == l then outcome.row else row) (alike.lines other its);
-    rows = λ t u own. alike.rows t u own;
-    created = alike.created;
-    created_back = alike.created_back;
-    cuts = λ t u s x first second. alike.cuts t u s x first second;
-    requests = alike.requests;
-    replies = alike.replies;
-    notes = more_notes call (notes_from w.gateway call l outcome.note) (notes_from v.gateway call l outcome.note) w.notes v.notes (notes_same outcome.note) alike.notes;
-  }
+        ∙ sym (link_count w.gateway outcome),
+    λ (other : ℕ) (its : w.gateway.holder other ≡ Some call). ap (λ (row : LineRow). if other == l then outcome.row else row) (alike.lines other its),
+    λ (t u : TermId) (own : OwnAlike r (occurred_world w l call outcome) (occurred_world v l call outcome) call t u). alike.rows t u own,
+    λ (t u s x : TermId) (first : OwnAlike r (occurred_world w l call outcome) (occurred_world v l call outcome) call t u)
+        (second : OwnAlike r (occurred_world w l call outcome) (occurred_world v l call outcome) call s x). alike.cuts t u s x first second,
+    more_notes call (notes_from w.gateway call l outcome.note) (notes_from v.gateway call l outcome.note) w.notes v.notes (notes_same outcome.note) alike.notes,
+  )
 
   pub lines_alike : (event : LineEvent) (after next : World) → LineOccurs w l event after → v.gateway.holder l ≡ Some call → LineOccurs v l event next → TreatAlike after next call
   lines_alike event after next o also p =
@@ -137,18 +117,16 @@ rows_restart : (r : Renaming) (w v : World) (call : ℕ) (t u : TermId) → OwnA
     → (o p : Option Row) → OptionalRowsAlike r t o p → OptionalRowsAlike r t (row_restarted t o) (row_restarted u p)
 rows_restart r w v call (Line l) (Line m) own None None alike = tt
 rows_restart r w v call (Line l) (Line m) own (Some one) (Some other) alike = record { place = inl (refl, refl); mode = refl; remote = tt }
-rows_restart r w v call (Line l) (Line m) own None (Some other) alike = absurd alike
-rows_restart r w v call (Line l) (Line m) own (Some one) None alike = absurd alike
 rows_restart r w v call (Eph x) (Eph y) own o p alike = absurd (none_is_some call own.1)
 rows_restart r w v call (Line l) (Eph y) own o p alike = absurd own
 rows_restart r w v call (Eph x) (Line m) own o p alike = absurd own
+rows_restart r w v call _ _ own _ _ alike = absurd alike
 
 lines_own : (r : Renaming) (w v : World) (call : ℕ) (t u : TermId) → OwnAlike r (with_gateway w (restarted w.gateway)) (with_gateway v (restarted v.gateway)) call t u
     → OwnAlike r w v call t u
 lines_own r w v call (Line l) (Line m) own = own
 lines_own r w v call (Eph x) (Eph y) own = absurd (none_is_some call own.1)
-lines_own r w v call (Line l) (Eph y) own = absurd own
-lines_own r w v call (Eph x) (Line m) own = absurd own
+lines_own r w v call _ _ own = absurd own
 
 pub restarted_alike : (w v : World) (call : ℕ) (r : Renaming) (a b : Agent) → CallAlike r w v call a b
     → CallAlike r (with_gateway w (restarted w.gateway)) (with_gateway v (restarted v.gateway)) call a b

@@ -1,23 +1,13 @@
 -- What two links that are alike say of a request: both execute it, or both send the kept reply once more, or both drop it.
-use Rattle.std.proofs.Common.{◌≡◌, ℕ, Bool, true, false, Option, Some, None, sym, subst}
-use Rattle.std.specs.Prelude.{◌==◌, nat_lt, if◌then◌else◌}
-use Rattle.mg_model.specs.Delivery.{Offer, fresh, kept, discard, offer_by}
-use Rattle.mg_model.specs.Gateway.{Gateway, numbered, offer_to}
-use Rattle.mg_model.specs.Messages.{Request, Reply}
-use Rattle.mg_alike.specs.Messages.{RepliesAlike}
-use Rattle.mg_alike.specs.Renaming.{Renaming}
-use Rattle.mg_alike.specs.Worlds.{KeptAlike}
+use Rattle.std.proofs.Common.{◌≡◌, ℕ, Bool, true, false, Option, Some, None, sym, subst, ◌==◌, nat_lt, if◌then◌else◌}
+use Rattle.mg_merge.proofs.Words.{Gateway, Offer, Reply, Request, discard, fresh, kept, numbered, offer_by, offer_to}
+use Rattle.mg_alike.proofs.Words.{KeptAlike, Renaming, RepliesAlike}
 
 abbrev pub OffersAlike : Renaming → Offer Reply → Offer Reply → Type 0
 OffersAlike r fresh fresh = Unit {0}
 OffersAlike r (kept one) (kept other) = RepliesAlike r one other
 OffersAlike r discard discard = Unit {0}
-OffersAlike r fresh (kept other) = ⊥
-OffersAlike r fresh discard = ⊥
-OffersAlike r (kept one) fresh = ⊥
-OffersAlike r (kept one) discard = ⊥
-OffersAlike r discard fresh = ⊥
-OffersAlike r discard (kept other) = ⊥
+OffersAlike r _ _ = ⊥
 
 abbrev offer_at : Bool → (association current : ℕ) → Option Reply → ℕ → Offer Reply
 offer_at retired association current last number =
@@ -35,8 +25,7 @@ module _ (r : Renaming) where
       (if nat_lt last number then fresh else if number == last then kept other else discard)) (sym same.number)
       (where_offers (nat_lt one.number number) fresh fresh (if number == one.number then kept one else discard) (if number == one.number then kept other else discard) tt
       (where_offers (number == one.number) (kept one) (kept other) discard discard same tt))
-  by_last None (Some other) same number = absurd same
-  by_last (Some one) None same number = absurd same
+  by_last _ _ same number = absurd same
 
   at_last : (retired : Bool) (association current : ℕ) (one other : Option Reply) (number : ℕ) → KeptAlike r one other
       → OffersAlike r (offer_at retired association current one number) (offer_at retired association current other number)

@@ -1,28 +1,13 @@
 -- An event of another call, and the opening: what they leave of a call that isn't theirs is as it was.
-use Rattle.std.proofs.Common.{◌≡◌, ◌∙◌, ℕ, Bool, true, false, List, [], Option, Some, None, is_some, refl, sym, ap, subst, inl, inr}
-use Rattle.std.specs.Prelude.{◌==◌, ◌||◌, ◌&&◌, ◌↔◌, not, Contains, if◌then◌else◌}
-use Rattle.std.proofs.lemmas.Bool.{eqb-true}
-use Rattle.std.proofs.lemmas.List.Elements.{Contains-append_right}
-use Rattle.mg_names.specs.declared.identifiers.LineNo.{LineNo}
-use Rattle.mg_names.specs.declared.identifiers.TermId.{TermId}
-use Rattle.mg_names.specs.declared.identifiers.TermId.TheVariants.{Line, Eph}
-use Rattle.mg_model.specs.declared.events.CallEvent.{CallEvent}
+use Rattle.std.proofs.Common.{◌≡◌, ◌∙◌, ℕ, Bool, true, false, List, [], Option, Some, None, is_some, refl, sym, ap, subst, inl, inr, ◌||◌, ◌&&◌, ◌↔◌, not}
+use Rattle.std.proofs.Common.{Contains, if◌then◌else◌}
+use Rattle.mg_merge.proofs.Words.{Agent, AgentSteps, CallEvent, CallLink, ChosenRefusal, Contains-append_right, Entry, Eph, Executes, Gateway, IsFirst}
+use Rattle.mg_merge.proofs.Words.{IsLineOf, IsOpening, IsRepeat, IsRequestOf, IsScript, Line, LineNo, OccursTo, Opened, Reply, Request, Row, Script, SentNote}
+use Rattle.mg_merge.proofs.Words.{TermId, World, at_another, exists, false_not_true, handed_over, later_in, none_in, none_is_some, notes_from, null_row, opened}
+use Rattle.mg_merge.proofs.Words.{sent_in, the_some}
+use Rattle.mg_alike.proofs.Words.{AreSentInBoth, CallAlike, IsLeftAlone, IsOwnedBy, IsRetiredBy, IsSameFor, KeptAlike, OpeningsTreatAlike, OptionalRowsAlike}
+use Rattle.mg_alike.proofs.Words.{OthersLeaveAlike, OwnAlike, Renaming}
 use Rattle.mg_model.specs.declared.events.CallEvent.TheVariants as to_call
-use Rattle.mg_model.specs.declared.failures.ChosenRefusal.{ChosenRefusal}
-use Rattle.mg_model.specs.declared.rows.Row.{Row}
-use Rattle.mg_model.specs.Accepted.{IsScript}
-use Rattle.mg_model.specs.Agent.{Agent, opened}
-use Rattle.mg_model.specs.Board.{exists, null_row}
-use Rattle.mg_model.specs.Entries.{Entry}
-use Rattle.mg_model.specs.Gateway.{Gateway, CallLink}
-use Rattle.mg_model.specs.LineEvents.{LineRow}
-use Rattle.mg_model.specs.Messages.{Request, Reply, SentNote}
-use Rattle.mg_model.specs.Script.{Script}
-use Rattle.mg_model.specs.World.{World, Opened, AgentSteps, Executes, IsFirst, IsRepeat, IsRequestOf, IsLineOf, IsOpening, OccursTo}
-use Rattle.mg_model.proofs.Cases.{none_is_some, the_some, false_not_true}
-use Rattle.mg_model.proofs.Single.{later_in, none_in}
-use Rattle.mg_safety.specs.Laws.{IsRetiredBy, IsSameFor}
-use Rattle.mg_safety.specs.Others.{IsLeftAlone, IsOwnedBy}
 use Rattle.mg_safety.proofs.Certificate.Closed.{closed}
 use Rattle.mg_safety.proofs.Events.Executing.{HasRun, not_call_of}
 use Rattle.mg_safety.proofs.Events.ExecuteSound.{has_run}
@@ -33,11 +18,8 @@ use Rattle.mg_safety.proofs.GoodWorlds.LeftAlone.{left_alone, others_kept}
 use Rattle.mg_safety.proofs.Invariant.Sound.{IsSound, is_call}
 use Rattle.mg_safety.proofs.Invariant.Statements.{IsClosed}
 use Rattle.mg_safety.proofs.Requests.Run.{requests_run}
-use Rattle.mg_alike.specs.Boards.{OptionalRowsAlike}
-use Rattle.mg_alike.specs.Laws.{OthersLeaveAlike, OpeningsTreatAlike}
-use Rattle.mg_alike.specs.Renaming.{Renaming}
-use Rattle.mg_alike.specs.Worlds.{AreSentInBoth, KeptAlike, OwnAlike, CallAlike}
 use Rattle.mg_alike.proofs.Events.LineEvents.{occurred}
+use Rattle.mg_alike.proofs.Events.Kept.{step_of}
 
 -- ---- what an event of another call leaves
 
@@ -53,30 +35,11 @@ pub record IsLeft (w after : World) (call : ℕ) : Type 0 where
   pub notes : (n : SentNote) → Contains w.notes n → Contains after.notes n
 
 left_itself : (w : World) (call : ℕ) → IsLeft w w call
-left_itself w call = record {
-  association = refl;
-  holds = λ l e. e;
-  held = λ l e. e;
-  line = λ l e. refl;
-  creator = λ x e. e;
-  created = λ x e. e;
-  requests = λ q there. there;
-  replies = λ q there. there;
-  notes = λ n there. there;
-}
+left_itself w call = assumption
 
 steps_left : (w after : World) (call other : ℕ) (step : Agent → Option Agent) → AgentSteps w other step after → IsLeft w after call
-steps_left w after call other step s = subst (λ (x : World). IsLeft w x call) (sym s.after_is) (record {
-  association = refl;
-  holds = λ l e. e;
-  held = λ l e. e;
-  line = λ l e. refl;
-  creator = λ x e. e;
-  created = λ x e. e;
-  requests = λ q there. Contains-append_right _ w.requests q there;
-  replies = λ q there. there;
-  notes = λ n there. there;
-})
+steps_left w after call other step s =
+    subst (λ (x : World). IsLeft w x call) (sym s.after_is) (assumption (Contains-append_right (sent_in s.agent.phase) w.requests))
 
 -- whose an ephemeral is after a request of another call
 still_created : (stands stood : Bool) (was : Option ℕ) (other call : ℕ) → (other ≡ call → ⊥)
@@ -92,9 +55,8 @@ still_there false stood was other first second = absurd (false_not_true first)
 
 not_its : (created now before : Bool) → created ≡ false → before ≡ true → (created || (now && not before)) ≡ false
 not_its true now before e given = absurd (false_not_true (sym e))
-not_its false true true e given = refl
-not_its false false before e given = refl
 not_its false true false e given = absurd (false_not_true given)
+not_its _ _ _ e given = refl
 
 module _ (script : Script) (entries : List Entry) (is_script : IsScript script) (closes : IsClosed script entries) (w after : World) (sound : IsSound script entries w)
     (call other : ℕ) (differ : other ≡ call → ⊥) where
@@ -127,17 +89,7 @@ module _ (script : Script) (entries : List Entry) (is_script : IsScript script) 
       holder l = ap (λ (x : World). x.gateway.holder l) f.after_is ∙ ap (λ (g : Gateway). g.holder l) f.executed.after_is
 
   repeat_left : (request : Request) → IsRepeat w request after → IsLeft w after call
-  repeat_left request f = subst (λ (x : World). IsLeft w x call) (sym f.after_is) (record {
-    association = refl;
-    holds = λ l e. e;
-    held = λ l e. e;
-    line = λ l e. refl;
-    creator = λ x e. e;
-    created = λ x e. e;
-    requests = λ q there. there;
-    replies = λ q there. later_in f.answer w.replies q there;
-    notes = λ n there. there;
-  })
+  repeat_left request f = subst (λ (x : World). IsLeft w x call) (sym f.after_is) (assumption (later_in f.answer w.replies))
 
   execute_left : (request : Request) (number : ℕ) (chosen : Option ChosenRefusal) → IsRequestOf w other number request → Executes w request chosen after → IsLeft w after call
   execute_left request number chosen of (inl f) = first_left request number chosen of f
@@ -147,42 +99,23 @@ module _ (script : Script) (entries : List Entry) (is_script : IsScript script) 
   event_left : (happens : CallEvent) → (IsRetiredBy happens call → ⊥) → OccursTo script w other happens after → IsLeft w after call
   event_left (to_call.OnLine line event) stays (held, o) =
       let it = occurred w line.0 other event after held o in
-      subst (λ (x : World). IsLeft w x call) (sym it.after_is) (record {
-        association = refl;
-        holds = λ l e. e;
-        held = λ l e. e;
-        line = λ l e. another l e (l == line.0) refl it.outcome.row held;
-        creator = λ x e. e;
-        created = λ x e. e;
-        requests = λ q there. there;
-        replies = λ q there. there;
-        notes = λ n there. Contains-append_right _ w.notes n there;
-      })
-    where
-      another : (l : ℕ) → w.gateway.holder l ≡ Some call → (test : Bool) → (l == line.0) ≡ test → (row : LineRow) → w.gateway.holder line.0 ≡ Some other
-          → (if test then row else w.gateway.line l) ≡ w.gateway.line l
-      another l e true is row held = absurd (differ (the_some other call (sym held ∙ ap w.gateway.holder (sym (eqb-true l line.0 is)) ∙ e)))
-      another l e false is row held = refl
+      subst (λ (x : World). IsLeft w x call) (sym it.after_is) (assumption (
+        λ (l : ℕ) (e : w.gateway.holder l ≡ Some call). at_another line.0 l it.outcome.row (w.gateway.line l)
+            (λ is. differ (the_some other call (sym held ∙ ap w.gateway.holder (sym is) ∙ e))),
+        Contains-append_right (notes_from w.gateway other line.0 it.outcome.note) w.notes,
+      ))
   event_left (to_call.Execute number chosen) stays (request, of, executes) = execute_left request number chosen of executes
-  event_left (to_call.Reply number) stays (answer, of, s) = steps_left w after call other _ s
-  event_left to_call.Pass stays s = steps_left w after call other _ s
-  event_left (to_call.Note number) stays (sent, of, s) = steps_left w after call other _ s
-  event_left to_call.Timer stays s = steps_left w after call other _ s
-  event_left (to_call.Begin old) stays b = subst (λ (x : World). IsLeft w x call) (sym b.after_is) (record {
-    association = refl;
-    holds = λ l e. handed_other old.0 other call (w.gateway.holder l) e (λ is. stays (sym is));
-    held = λ l e. elim (handed_from old.0 other (w.gateway.holder l) call e) [
-      | inl new ↦ absurd (differ (sym new.1))
-      | inr same ↦ same.0
-    ];
-    line = λ l e. refl;
-    creator = λ x e. e;
-    created = λ x e. e;
-    requests = λ q there. there;
-    replies = λ q there. there;
-    notes = λ n there. there;
-  })
-  event_left (to_call.Hear association) stays (past, s) = steps_left w after call other _ s
+  event_left (to_call.Begin old) stays b = subst (λ (x : World). IsLeft w x call) (sym b.after_is) (assumption (
+    λ (l : ℕ) (e : w.gateway.holder l ≡ Some call). handed_other old.0 other call (w.gateway.holder l) e (λ is. stays (sym is)),
+    was_held,
+  ))
+    where
+      was_held : (l : ℕ) → handed_over old.0 other (w.gateway.holder l) ≡ Some call → w.gateway.holder l ≡ Some call
+      was_held l e = elim (handed_from old.0 other (w.gateway.holder l) call e) [
+        | inl new ↦ absurd (differ (sym new.1))
+        | inr same ↦ same.0
+      ]
+  event_left happens stays occurs = steps_left w after call other _ (step_of script w after other happens tt occurs).1
 
 -- ---- so it leaves them alike
 
@@ -198,20 +131,17 @@ module _ (w v after : World) (call : ℕ) (r : Renaming) (a b : Agent) (alike : 
   was_own : (t u : TermId) → OwnAlike r after v call t u → OwnAlike r w v call t u
   was_own (Line l) (Line m) own = (own.0, left.held l.0 own.1)
   was_own (Eph x) (Eph y) own = (own.0, left.creator x own.1, own.2)
-  was_own (Line l) (Eph y) own = absurd own
-  was_own (Eph x) (Line m) own = absurd own
+  was_own _ _ own = absurd own
 
   row_same : (t u : TermId) → OwnAlike r after v call t u → after.gateway.board.row t ≡ w.gateway.board.row t
   row_same (Line l) (Line m) own = kept.row (Line l) (left.held l.0 own.1)
   row_same (Eph x) (Eph y) own = kept.row (Eph x) (left.creator x own.1)
-  row_same (Line l) (Eph y) own = absurd own
-  row_same (Eph x) (Line m) own = absurd own
+  row_same _ _ own = absurd own
 
   owned : (t u : TermId) → OwnAlike r after v call t u → IsOwnedBy w call t
   owned (Line l) (Line m) own = left.held l.0 own.1
   owned (Eph x) (Eph y) own = left.creator x own.1
-  owned (Line l) (Eph y) own = absurd own
-  owned (Eph x) (Line m) own = absurd own
+  owned _ _ own = absurd own
 
   pub left_alike : CallAlike r after v call a b
   left_alike = record {
@@ -287,8 +217,7 @@ module _ (script : Script) (one : Opened) where
         (sym (also.lines.stand m.0 one.call ((held_too m.0).0 (subst (λ (k : LineNo). w.gateway.holder k.0 ≡ Some one.call) own.0 own.1))))
         (record { place = inl (refl, refl); mode = refl; remote = tt }))
     rows_too (Eph x) (Eph y) own = absurd (false_not_true own.0)
-    rows_too (Line l) (Eph y) own = absurd own
-    rows_too (Eph x) (Line m) own = absurd own
+    rows_too _ _ own = absurd own
 
     opened_alike : CallAlike nothing_renamed w v one.call (opened script one.call one.lines) (opened script one.call one.lines)
     opened_alike = record {
@@ -299,18 +228,7 @@ module _ (script : Script) (one : Opened) where
       };
       open_one = opens.agents.opened one among;
       open_other = also.agents.opened one there;
-      agents = record {
-        call = refl;
-        state = refl;
-        phase = tt;
-        association = refl;
-        lines = refl;
-        contexts = λ j. tt;
-        ephemerals = λ k. tt;
-        next = refl;
-        expected = refl;
-        accepted = refl;
-      };
+      agents = assumption;
       association = also.gateway.association ∙ sym opens.gateway.association;
       kept = subst (λ (o : Option Reply). KeptAlike nothing_renamed o (v.gateway.link one.call).last) (sym (ap (λ (link : ℕ → CallLink). (link one.call).last) opens.gateway.no_reply_kept))
           (subst (λ (o : Option Reply). KeptAlike nothing_renamed None o) (sym (ap (λ (link : ℕ → CallLink). (link one.call).last) also.gateway.no_reply_kept)) tt);

@@ -1,24 +1,13 @@
 -- A request of a call that reaches both gateways: both execute it, or both send its reply once more, or both drop it.
-use Rattle.std.proofs.Common.{◌≡◌, ◌∙◌, ◌+◌, ◌<◌, ◌++◌, ℕ, suc, true, List, [], ◌∷◌, length, Option, Some, refl, sym, ap, subst, arith, inl, inr}
-use Rattle.std.specs.Prelude.{◌==◌, ◌&&◌, Contains}
-use Rattle.std.proofs.lemmas.Bool.{eq-eqb, eqb-true}
-use Rattle.mg_model.specs.declared.commands.Command.{Command}
-use Rattle.mg_model.specs.declared.failures.ChosenRefusal.{ChosenRefusal}
-use Rattle.mg_model.specs.Accepted.{IsScript}
-use Rattle.mg_model.specs.Agent.{Agent, after_results, Made, Phase, awaits_reply, answers, built_by, commands_of, made_after, none_made}
-use Rattle.mg_model.specs.Delivery.{Offer, fresh, kept, discard}
-use Rattle.mg_model.specs.Entries.{Entry}
-use Rattle.mg_model.specs.Gateway.{Gateway, last_executed, offer_to, start_of, after_request, reply_of, sent_notes, creator_after}
-use Rattle.mg_model.specs.Messages.{Request, RequestCommand, Reply, SentNote}
-use Rattle.mg_model.specs.Obligations.{IsLive}
-use Rattle.mg_model.specs.RequestRun.{RunsFrom}
-use Rattle.mg_model.specs.Script.{Script}
-use Rattle.mg_model.specs.Shards.{AreLeft, IsContextLeft, IsEphemeralLeft, HasIdentifiersLeft}
-use Rattle.mg_model.specs.World.{World, with_gateway, Executes, IsFirst, IsRepeat, IsRequestOf}
-use Rattle.mg_model.proofs.Cases.{and_first, and_second, the_some}
+use Rattle.std.proofs.Common.{◌≡◌, ◌∙◌, ◌<◌, ◌++◌, ℕ, true, List, ◌∷◌, length, Option, Some, refl, sym, ap, subst, arith, inl, inr, ◌==◌, ◌&&◌, Contains}
+use Rattle.mg_merge.proofs.Words.{Agent, AreLeft, ChosenRefusal, Command, Entry, Executes, Gateway, HasIdentifiersLeft, IsContextLeft, IsEphemeralLeft, IsFirst}
+use Rattle.mg_merge.proofs.Words.{IsLive, IsRepeat, IsRequestOf, IsScript, Offer, Phase, Reply, Request, RequestCommand, RunsFrom, Script, SentNote, TermId}
+use Rattle.mg_merge.proofs.Words.{World, after_results, and_first, and_second, answers, awaits_reply, built_by, commands_of, creator_after, discard, eq-eqb}
+use Rattle.mg_merge.proofs.Words.{eqb-true, fresh, kept, last_executed, none_made, offer_to, start_of, the_some, with_gateway}
+use Rattle.mg_alike.proofs.Words.{AgentsAlike, AreNamedByNumber, CallAlike, CommandsAlike, ExecutesAlike, KeptAlike, OptionsAlike, OwnAlike, Pairwise}
+use Rattle.mg_alike.proofs.Words.{PhasesAlike, Renaming, RequestsAlike, TreatAlike, is_awaited}
 use Rattle.mg_model.proofs.Offered.{fresh_at, number_of}
 use Rattle.mg_merge.proofs.Commands.IdentifiersLeft.{Remain}
-use Rattle.mg_safety.specs.MessageNumbers.{AreNamedByNumber}
 use Rattle.mg_safety.proofs.Events.Executing.{IsDue, due_runs, is_due}
 use Rattle.mg_safety.proofs.Events.ExecutedCalls.{world_after}
 use Rattle.mg_safety.proofs.Events.Others.{is_call_of}
@@ -31,11 +20,6 @@ use Rattle.mg_safety.proofs.Requests.Starting.{shown_at_start}
 use Rattle.mg_safety.proofs.GoodWorlds.Beginning.{reached}
 use Rattle.mg_safety.proofs.Certificate.Closed.{closed}
 use Rattle.mg_safety.proofs.Messages.NamedMessages.{named_by_number}
-use Rattle.mg_alike.specs.Agents.{AgentsAlike, PhasesAlike}
-use Rattle.mg_alike.specs.Laws.{ExecutesAlike}
-use Rattle.mg_alike.specs.Messages.{CommandsAlike, RequestsAlike}
-use Rattle.mg_alike.specs.Renaming.{Renaming, OptionsAlike, Pairwise}
-use Rattle.mg_alike.specs.Worlds.{is_awaited, KeptAlike, CallAlike, TreatAlike}
 use Rattle.mg_alike.proofs.Agents.Requests.{built_same, commands_alike}
 use Rattle.mg_alike.proofs.Agents.Steps.{results_alike}
 use Rattle.mg_alike.proofs.Events.Created.{named_of, created_of}
@@ -44,11 +28,7 @@ use Rattle.mg_alike.proofs.Events.Offers.{OffersAlike, offers_alike}
 use Rattle.mg_alike.proofs.Requests.Runs.{IsUnderway, HaveEnded, runs_alike}
 use Rattle.mg_alike.proofs.Requests.Starting.{by_names, partner, partner_back, small_contexts, small_ephemerals, starts_alike}
 use Rattle.mg_alike.proofs.Shared.Options.{options_more}
-
--- a request has as many commands as were built
-pub as_many : (script : Script) (a : Agent) (made : Made) (place : ℕ) (commands : List Command) → length (commands_of script a made place commands) ≡ length commands
-as_many script a made place [] = refl
-as_many script a made place (command ∷ more) = ap (λ (n : ℕ). suc n) (as_many script a (made_after made command place) (place + 1) more)
+use Rattle.mg_merge.proofs.Identifiers.FewCommands.{sent_as_many}
 
 -- a world in which a request was executed, written out
 executed_world : World → Gateway → Reply → List SentNote → World
@@ -57,6 +37,11 @@ executed_world w g answer sent = record (with_gateway w g) { replies = answer �
 same_world : (w : World) (g h : Gateway) (answer other : Reply) (sent more : List SentNote) → g ≡ h → answer ≡ other → sent ≡ more
     → executed_world w g answer sent ≡ executed_world w h other more
 same_world w g h answer other sent more first second third = cc
+
+first_is : (w : World) (q : Request) (chosen : Option ChosenRefusal) (after : World) (f : IsFirst w q chosen after)
+    → after ≡ world_after w q f.executed.end f.executed.settled f.executed.failure
+unfolding executed_world
+first_is w q chosen after f = f.after_is ∙ same_world w f.gateway _ f.answer _ f.sent _ f.executed.after_is f.executed.reply_is f.executed.notes_are
 
 -- what one world has of a call of which it executes a request
 pub record IsStarted (script : Script) (entries : List Entry) (w : World) (call : ℕ) (a : Agent) (q : Request) : Type 0 where
@@ -85,7 +70,8 @@ module _ (script : Script) (entries : List Entry) (closes : IsClosed script entr
   live_now = closes.live due_now.k.c due_now.k.stands (inl due_now.link)
 
   counted : length q.commands ≡ length (built_by script a a.state)
-  counted = ap (λ (commands : List RequestCommand). length commands) due_now.outstanding.commands ∙ as_many script a none_made 0 (built_by script a a.state)
+  counted = ap (λ (commands : List RequestCommand). length commands) due_now.outstanding.commands
+      ∙ sent_as_many script a none_made 0 (built_by script a a.state)
 
   started : IsStarted script entries w call a q
   started = record {
@@ -184,16 +170,15 @@ module _ (script : Script) (entries : List Entry) (is_script : IsScript script) 
           sound.gateway.accounted also_sound.gateway.accounted held_of k)
 
       outstanding_wide : RequestsAlike ended.wide q p
-      outstanding_wide = record {
-        call = its.1 ∙ sym of.1;
-        association = associations;
-        number = numbers;
-        commands =
-            subst (λ (commands : List RequestCommand). Pairwise (CommandsAlike ended.wide) commands p.commands) (sym one.due.outstanding.commands)
+      outstanding_wide = assumption (
+        its.1 ∙ sym of.1,
+        associations,
+        numbers,
+        subst (λ (commands : List RequestCommand). Pairwise (CommandsAlike ended.wide) commands p.commands) (sym one.due.outstanding.commands)
             (subst (λ (commands : List RequestCommand). Pairwise (CommandsAlike ended.wide) (commands_of script a none_made 0 (built_by script a a.state)) commands)
             (sym (other.due.outstanding.commands ∙ ap (λ (list : List Command). commands_of script b none_made 0 list) built))
-            (commands_alike script ended.wide a b alike.agents.lines contexts_wide ephemerals_wide none_made 0 (built_by script a a.state)));
-      }
+            (commands_alike script ended.wide a b alike.agents.lines contexts_wide ephemerals_wide none_made 0 (built_by script a a.state))),
+      )
 
       phases_wide : PhasesAlike ended.wide a.phase b.phase
       phases_wide =
@@ -209,27 +194,15 @@ module _ (script : Script) (entries : List Entry) (is_script : IsScript script) 
           g.executed.runs
 
       agents_wide : AgentsAlike ended.wide a b
-      agents_wide = record {
-        call = alike.agents.call;
-        state = alike.agents.state;
-        phase = phases_wide;
-        association = alike.agents.association;
-        lines = alike.agents.lines;
-        contexts = contexts_wide;
-        ephemerals = ephemerals_wide;
-        next = alike.agents.next;
-        expected = alike.agents.expected;
-        accepted = alike.agents.accepted;
-      }
+      agents_wide = assumption (phases_wide, contexts_wide, ephemerals_wide)
 
       taken_wide : AgentsAlike ended.wide (after_results a (built_by script a a.state) f.executed.end.results q.number)
           (after_results b (built_by script b b.state) g.executed.end.results p.number)
       taken_wide =
           subst (λ (n : ℕ). AgentsAlike ended.wide (after_results a (built_by script a a.state) f.executed.end.results q.number)
           (after_results b (built_by script b b.state) g.executed.end.results n)) (sym numbers)
-          (subst (λ (list : List Command). AgentsAlike ended.wide (after_results a (built_by script a a.state) f.executed.end.results q.number)
-          (after_results b list g.executed.end.results q.number)) (sym built)
-          (results_alike script ended.wide ended.running.renaming (built_by script a a.state) f.executed.end.results g.executed.end.results ended.running.results q.number a b agents_wide))
+          (rw built (results_alike script ended.wide ended.running.renaming (built_by script a a.state) f.executed.end.results g.executed.end.results
+          ended.running.results q.number a b agents_wide))
 
       created_wide : (x : ℕ) → creator_after w.gateway q f.executed.end x ≡ Some call
           → (y : ℕ) × (ended.wide.ephemerals x y ≡ true) × (creator_after v.gateway p g.executed.end y ≡ Some call)
@@ -257,23 +230,14 @@ module _ (script : Script) (entries : List Entry) (is_script : IsScript script) 
                 (sound.calls call a alike.open_one).numbered f.executed.end run_one.c run_one.shown run_one.changes sound.gateway.accounted run_one.accounted k.0 it.0 it.1,
           )
 
-      after_is : after ≡ world_after w q f.executed.end f.executed.settled f.executed.failure
-      unfolding executed_world
-      after_is = f.after_is ∙ same_world w f.gateway (after_request w.gateway q f.executed.end f.executed.settled f.executed.failure) f.answer (reply_of q f.executed.end f.executed.failure)
-          f.sent (sent_notes q.call q.association (w.gateway.link q.call).notes f.executed.end.notes) f.executed.after_is f.executed.reply_is f.executed.notes_are
-
-      next_is : next ≡ world_after v p g.executed.end g.executed.settled g.executed.failure
-      unfolding executed_world
-      next_is = g.after_is ∙ same_world v g.gateway (after_request v.gateway p g.executed.end g.executed.settled g.executed.failure) g.answer (reply_of p g.executed.end g.executed.failure)
-          g.sent (sent_notes p.call p.association (v.gateway.link p.call).notes g.executed.end.notes) g.executed.after_is g.executed.reply_is g.executed.notes_are
-
       both_first : TreatAlike after next call
       both_first = record {
         renaming = ended.wide;
         one = a;
         other = b;
-        alike = subst (λ (x : World). CallAlike ended.wide x next call a b) (sym after_is)
-            (subst (λ (x : World). CallAlike ended.wide (world_after w q f.executed.end f.executed.settled f.executed.failure) x call a b) (sym next_is)
+        alike = subst (λ (x : World). CallAlike ended.wide x next call a b) (sym (first_is w q chosen after f))
+            (subst (λ (x : World). CallAlike ended.wide (world_after w q f.executed.end f.executed.settled f.executed.failure) x call a b)
+            (sym (first_is v p chosen next g))
             (after_alike script w v call r a b alike q p of.1 its.1 associations numbers f.executed.end g.executed.end f.executed.settled g.executed.settled
             f.executed.failure g.executed.failure f.executed.is_settled g.executed.is_settled ended.wide ended.running ended.same contexts_wide ephemerals_wide created_wide created_back phases_wide
             (unanswered script entries closes w sound left call a alike.open_one q of.0 of.1 first)));
@@ -281,30 +245,22 @@ module _ (script : Script) (entries : List Entry) (is_script : IsScript script) 
 
   -- ---- both send the reply once more
 
+  abbrev again : World → Reply → World
+  again x answer = record x { replies = answer ∷ x.replies }
+
   both_repeat : (after next : World) → IsRepeat w q after → IsRepeat v p next → TreatAlike after next call
   both_repeat after next f g = record {
     renaming = r;
     one = a;
     other = b;
     alike = subst (λ (x : World). CallAlike r x next call a b) (sym f.after_is)
-        (subst (λ (x : World). CallAlike r (record w { replies = f.answer ∷ w.replies }) x call a b) (sym g.after_is) (record {
-          renaming = alike.renaming;
-          open_one = alike.open_one;
-          open_other = alike.open_other;
-          agents = alike.agents;
-          association = alike.association;
-          kept = alike.kept;
-          count = alike.count;
-          held = alike.held;
-          lines = alike.lines;
-          rows = λ t u own. alike.rows t u own;
-          created = alike.created;
-          created_back = alike.created_back;
-          cuts = λ t u s x first second. alike.cuts t u s x first second;
-          requests = alike.requests;
-          replies = one_more r r a.phase a.phase call f.answer g.answer w.replies v.replies (clash (kept f.answer) (kept g.answer) f.kept g.kept) (λ x y there its same. same) alike.replies;
-          notes = alike.notes;
-        }));
+        (subst (λ (x : World). CallAlike r (again w f.answer) x call a b) (sym g.after_is) (assumption (
+          λ (t u : TermId) (own : OwnAlike r (again w f.answer) (again v g.answer) call t u). alike.rows t u own,
+          λ (t u s x : TermId) (first : OwnAlike r (again w f.answer) (again v g.answer) call t u)
+              (second : OwnAlike r (again w f.answer) (again v g.answer) call s x). alike.cuts t u s x first second,
+          one_more r r a.phase a.phase call f.answer g.answer w.replies v.replies (clash (kept f.answer) (kept g.answer) f.kept g.kept)
+              (λ x y there its same. same) alike.replies,
+        )));
   }
 
   by_case : (after next : World) → Executes w q chosen after → Executes v p chosen next → TreatAlike after next call

@@ -1,21 +1,8 @@
 -- Between requests the numbers that can't be given are those of what stands: so it is at an opening, where a request ends, and after a restart.
-use Rattle.std.proofs.Common.{◌≡◌, ◌∙◌, ℕ, Bool, false, List, [], ◌∷◌, Option, Some, None, is_some, refl, sym, ap, subst, inl, inr}
-use Rattle.mg_names.specs.declared.identifiers.TermId.{TermId}
-use Rattle.mg_names.specs.declared.identifiers.TermId.TheVariants.{Line, Eph}
-use Rattle.mg_model.specs.declared.events.CallEvent.{CallEvent}
-use Rattle.mg_model.specs.declared.events.CallEvent.TheVariants as to_call
-use Rattle.mg_model.specs.declared.events.Event.{Event}
-use Rattle.mg_model.specs.declared.events.Event.TheVariants.{OfCall, Restart}
-use Rattle.mg_model.specs.declared.failures.ChosenRefusal.{ChosenRefusal}
-use Rattle.mg_model.specs.declared.rows.Row.{Row}
-use Rattle.mg_model.specs.Agent.{Agent}
-use Rattle.mg_model.specs.Board.{Board, IsSettled, place_in}
-use Rattle.mg_model.specs.Gateway.{Gateway, board_restarted, row_restarted}
-use Rattle.mg_model.specs.Messages.{Request}
-use Rattle.mg_model.specs.Numbers.{null}
-use Rattle.mg_model.specs.Script.{Script}
-use Rattle.mg_model.specs.World.{World, Opened, AgentSteps, Executes, IsOpening, Occurs, OccursTo, Runs}
-use Rattle.mg_model.proofs.Cases.{false_not_true}
+use Rattle.std.proofs.Common.{◌≡◌, ◌∙◌, ℕ, Bool, false, List, Option, Some, None, is_some, refl, sym, ap, subst}
+use Rattle.mg_merge.proofs.Words.{Board, ChosenRefusal, Eph, Event, Gateway, IsFirst, IsOpening, IsSettled, Line, Opened, Request, Row, Runs, Script, TermId}
+use Rattle.mg_merge.proofs.Words.{World, board_restarted, false_not_true, null, place_in, row_restarted}
+use Rattle.mg_alike.proofs.Events.Kept.{boards_keep}
 
 -- a board that is settled as it stands
 settled_itself : (b settled : Board) → IsSettled b settled → IsSettled settled settled
@@ -68,43 +55,15 @@ opening_settled script calls w opens =
         go None is = ap place_in is
         go (Some row) is = ap place_in is ∙ ap (λ (r : Row). r.place.0) (opens.lines.others_null l.0 row is)
 
--- ---- an event
+-- ---- a run
 
-same_board : (b after : Board) → after ≡ b → IsSettled b b → IsSettled after after
-same_board b after same is = subst (λ (x : Board). IsSettled x x) (sym same) is
-
-steps_settled : (w after : World) (call : ℕ) (step : Agent → Option Agent) → AgentSteps w call step after → IsSettled w.gateway.board w.gateway.board
+executed_settled : (w after : World) (request : Request) (chosen : Option ChosenRefusal) → IsFirst w request chosen after
     → IsSettled after.gateway.board after.gateway.board
-steps_settled w after call step s is = same_board w.gateway.board after.gateway.board (ap (λ (x : World). x.gateway.board) s.after_is) is
-
-execute_settled : (w after : World) (request : Request) (chosen : Option ChosenRefusal) → Executes w request chosen after → IsSettled w.gateway.board w.gateway.board
-    → IsSettled after.gateway.board after.gateway.board
-execute_settled w after request chosen (inl first) is =
-    same_board first.executed.settled after.gateway.board (ap (λ (x : World). x.gateway.board) first.after_is ∙ ap (λ (g : Gateway). g.board) first.executed.after_is)
-    (settled_itself first.executed.end.board first.executed.settled first.executed.is_settled)
-execute_settled w after request chosen (inr (inl again)) is = same_board w.gateway.board after.gateway.board (ap (λ (x : World). x.gateway.board) again.after_is) is
-execute_settled w after request chosen (inr (inr dropped)) is = same_board w.gateway.board after.gateway.board (ap (λ (x : World). x.gateway.board) dropped.1) is
-
-call_settled : (script : Script) (w after : World) (call : ℕ) (happens : CallEvent) → OccursTo script w call happens after → IsSettled w.gateway.board w.gateway.board
-    → IsSettled after.gateway.board after.gateway.board
-call_settled script w after call (to_call.OnLine line event) (held, o) is =
-    same_board w.gateway.board after.gateway.board (ap (λ (x : World). x.gateway.board) o.after_is ∙ ap (λ (g : Gateway). g.board) o.happens.after_is) is
-call_settled script w after call (to_call.Execute number chosen) (request, of, executes) is = execute_settled w after request chosen executes is
-call_settled script w after call (to_call.Reply number) (answer, of, s) is = steps_settled w after call _ s is
-call_settled script w after call to_call.Pass s is = steps_settled w after call _ s is
-call_settled script w after call (to_call.Note number) (sent, of, s) is = steps_settled w after call _ s is
-call_settled script w after call to_call.Timer s is = steps_settled w after call _ s is
-call_settled script w after call (to_call.Begin old) begins is = same_board w.gateway.board after.gateway.board (ap (λ (x : World). x.gateway.board) begins.after_is) is
-call_settled script w after call (to_call.Hear association) (past, s) is = steps_settled w after call _ s is
-
-event_settled : (script : Script) (w after : World) (event : Event) → Occurs script w event after → IsSettled w.gateway.board w.gateway.board
-    → IsSettled after.gateway.board after.gateway.board
-event_settled script w after (OfCall call happens) occurs is = call_settled script w after call.0 happens occurs is
-event_settled script w after Restart (less, same) is =
-    same_board (board_restarted w.gateway.board) after.gateway.board (ap (λ (x : World). x.gateway.board) same) (restarted_settled w.gateway.board)
+executed_settled w after request chosen f =
+    subst (λ (b : Board). IsSettled b b) (sym (ap (λ (x : World). x.gateway.board) f.after_is ∙ ap (λ (g : Gateway). g.board) f.executed.after_is))
+    (settled_itself f.executed.end.board f.executed.settled f.executed.is_settled)
 
 pub runs_settled : (script : Script) (events : List Event) (w end : World) → IsSettled w.gateway.board w.gateway.board → Runs script events w end
     → IsSettled end.gateway.board end.gateway.board
-unfolding Runs
-runs_settled script [] w end is runs = subst (λ (x : World). IsSettled x.gateway.board x.gateway.board) (sym runs) is
-runs_settled script (event ∷ more) w end is (next, (occurs, runs)) = runs_settled script more next end (event_settled script w next event occurs is) runs
+runs_settled script =
+    boards_keep script (λ b. IsSettled b b) (λ w after request chosen f is. executed_settled w after request chosen f) (λ b is. restarted_settled b)

@@ -1,22 +1,11 @@
 -- Where a request has run the board can be settled: a context is used where a name of the call says that someone stands in it, or where it was used before and
 -- was none of the call's.
-use Rattle.std.proofs.Common.{◌≡◌, ◌∙◌, ◌<◌, ℕ, zero, suc, Bool, true, false, length, Option, Some, None, is_some, refl, sym, ap, arith}
-use Rattle.std.specs.Prelude.{◌==◌, ◌||◌, ◌&&◌, not, unwrap_or}
-use Rattle.std.proofs.lemmas.Bool.{eqb-true, eq-eqb, and_from, or_left, or_right}
-use Rattle.mg_names.specs.declared.identifiers.TermId.{TermId}
-use Rattle.mg_names.specs.declared.identifiers.TermId.TheVariants.{Line, Eph}
-use Rattle.mg_model.specs.declared.commands.Termination.{Termination}
+use Rattle.std.proofs.Common.{◌≡◌, ◌∙◌, ◌<◌, ℕ, zero, suc, Bool, true, false, length, Option, Some, None, is_some, refl, sym, ap, arith, ◌==◌, ◌||◌, ◌&&◌, not}
+use Rattle.std.proofs.Common.{unwrap_or}
+use Rattle.mg_merge.proofs.Words.{Absent, Board, Configuration, ContextExists, Eph, Gateway, In, IsSettled, IsSlot, Line, Null, Row, Script, Spot, TermId}
+use Rattle.mg_merge.proofs.Words.{Termination, and_first, and_from, and_second, denied, different, eq-eqb, eqb-true, exists, false_not_true, not_both, or_left}
+use Rattle.mg_merge.proofs.Words.{or_right, place_in, place_of, some_of, the_line}
 use Rattle.mg_model.specs.declared.commands.Termination.TheVariants as termination
-use Rattle.mg_model.specs.declared.components.Spot.{Spot}
-use Rattle.mg_model.specs.declared.components.Spot.TheVariants.{Absent, Null, In}
-use Rattle.mg_model.specs.declared.rows.Row.{Row}
-use Rattle.mg_model.specs.Accepted.{IsSlot}
-use Rattle.mg_model.specs.Board.{Board, ContextExists, IsSettled, exists, place_of, place_in}
-use Rattle.mg_model.specs.Configuration.{Configuration}
-use Rattle.mg_model.specs.Gateway.{Gateway}
-use Rattle.mg_model.specs.Numbers.{the_line}
-use Rattle.mg_model.specs.Script.{Script}
-use Rattle.mg_model.proofs.Cases.{and_first, and_second, denied, different, false_not_true, not_both, some_of}
 use Rattle.mg_safety.proofs.Events.Others.{created_only, name_owned}
 use Rattle.mg_safety.proofs.Invariant.Shown.{Naming, Shown, ChangesOwned, IsAccounted, eph_of, number_at, owned_at, row_on, term_of}
 use Rattle.mg_safety.proofs.Invariant.Sound.{is_call, owner_of, owned_in}

@@ -1,29 +1,15 @@
 -- A command of the script by names that are bound alike is one command on both boards.
-use Rattle.std.proofs.Common.{◌≡◌, ◌<◌, ℕ, zero, suc, Bool, true, false, List, [], ◌∷◌, length, Option, Some, None, is_some, option_map, refl, sym, ap, inl, inr}
-use Rattle.std.specs.Prelude.{◌==◌, ◌&&◌, ◌||◌, unwrap_or, slice_get, option_and_then}
-use Rattle.mg_names.specs.declared.identifiers.TermId.TheVariants.{Line, Eph}
-use Rattle.mg_model.specs.declared.commands.Command.{Command}
-use Rattle.mg_model.specs.declared.commands.Command.TheVariants.{AddLine, AddEphemeral, ModifyLine, ModifyEphemeral, MoveLine, MoveEphemeral, Subtract, SubtractAll, SetTopology}
-use Rattle.mg_model.specs.declared.commands.EphemeralOptions.{EphemeralOptions}
-use Rattle.mg_model.specs.declared.commands.Place.{Place}
-use Rattle.mg_model.specs.declared.commands.Place.TheVariants.{NullContext, Context}
-use Rattle.mg_model.specs.declared.commands.RemoteOption.{RemoteOption}
-use Rattle.mg_model.specs.declared.commands.RemoteOption.TheVariants.{NoneGiven, Peer}
-use Rattle.mg_model.specs.declared.commands.Termination.{Termination}
+use Rattle.std.proofs.Common.{◌≡◌, ◌<◌, ℕ, zero, suc, Bool, true, false, List, [], ◌∷◌, length, Option, Some, None, is_some, option_map, refl, sym, ap, inl}
+use Rattle.std.proofs.Common.{inr, ◌&&◌, ◌||◌, unwrap_or, slice_get, option_and_then}
+use Rattle.mg_merge.proofs.Words.{AddEphemeral, AddLine, Agent, Command, Context, Done, Eph, EphemeralOptions, IsCommandOf, IsSlot, Line, Made, ModifyEphemeral}
+use Rattle.mg_merge.proofs.Words.{ModifyLine, MoveEphemeral, MoveLine, NoneGiven, NullContext, Peer, Place, RemoteOption, Script, Termination, all, and_first}
+use Rattle.mg_merge.proofs.Words.{and_second, false_not_true, place_known, remote_option_known, termination_known, the_line, uses_known}
+use Rattle.mg_alike.proofs.Words.{DoneAlike, OptionsAlike, Pairwise, PlacesAlike, Renaming, TermsAlike}
+use Rattle.mg_model.specs.declared.commands.Command.TheVariants.{Subtract, SubtractAll, SetTopology}
 use Rattle.mg_model.specs.declared.commands.Termination.TheVariants as termination
-use Rattle.mg_model.specs.Accepted.{IsCommandOf, IsSlot}
-use Rattle.mg_model.specs.Agent.{Agent, Made, bound_if}
-use Rattle.mg_model.specs.Items.{Done}
-use Rattle.mg_model.specs.Numbers.{all, the_line}
-use Rattle.mg_model.specs.Request.{uses_known, place_known, termination_known, remote_option_known}
-use Rattle.mg_model.specs.Script.{Script}
-use Rattle.mg_model.proofs.Cases.{and_first, and_second, false_not_true}
 use Rattle.mg_safety.proofs.Invariant.Shown.{Naming, naming_at, context_made, ephemeral_made, known_by, context_for, ephemeral_for, target_for, place_for, term_for, remote_for, line_settings, ephemeral_settings, item_for, built_after}
-use Rattle.mg_alike.specs.Boards.{TermsAlike, PlacesAlike}
-use Rattle.mg_alike.specs.Messages.{DoneAlike}
-use Rattle.mg_alike.specs.Renaming.{Renaming, OptionsAlike, Pairwise}
 use Rattle.mg_alike.proofs.Commands.Twins.{Twin, add_line, add_ephemeral, modify, move, subtract, subtract_all, set_topology, one_of, other_of, SetRemotesAlike, SettingsAlike, TargetsAlike, IsTwin}
-use Rattle.mg_alike.proofs.Shared.Options.{where_alike, options_more}
+use Rattle.mg_alike.proofs.Shared.Options.{options_more, bound_if_alike}
 use Rattle.mg_alike.proofs.Shared.Pairs.{IsWider}
 
 -- names that are bound to what stands for one another
@@ -47,8 +33,7 @@ result_there : (r : Renaming) (results others : List Done) → Pairwise (DoneAli
 result_there r [] [] alike place = (tt, tt)
 result_there r (one ∷ results) (other ∷ others) alike zero = (alike.0.context, alike.0.ephemeral)
 result_there r (one ∷ results) (other ∷ others) alike (suc place) = result_there r results others alike.1 place
-result_there r [] (other ∷ others) alike place = absurd alike
-result_there r (one ∷ results) [] alike place = absurd alike
+result_there r _ _ alike place = absurd alike
 
 module _ (r : Renaming) (results others : List Done) (same : Pairwise (DoneAlike r) results others) where
   context_made_alike : (made o p : Option ℕ) → OptionsAlike r.contexts o p → OptionsAlike r.contexts (context_made results made o) (context_made others made p)
@@ -88,31 +73,16 @@ twin_for n m (SetTopology j t u topology) =
 
 pub one_is : (n m : Naming) (command : Command) → one_of (twin_for n m command) ≡ item_for n command
 one_is n m (AddLine create j i o) = refl
-one_is n m (AddEphemeral create j k o) = refl
-one_is n m (ModifyLine place i o) = refl
-one_is n m (ModifyEphemeral place k o) = refl
-one_is n m (MoveLine j i o) = refl
-one_is n m (MoveEphemeral j k o) = refl
-one_is n m (Subtract j t) = refl
-one_is n m (SubtractAll j) = refl
-one_is n m (SetTopology j t u topology) = refl
+one_is n m _ = refl
 
 pub other_is : (n m : Naming) → m.lines ≡ n.lines → (command : Command) → other_of (twin_for n m command) ≡ item_for m command
 other_is n m lines (AddLine create j i o) = rw lines refl
-other_is n m lines (AddEphemeral create j k o) = refl
-other_is n m lines (ModifyLine place i o) = refl
-other_is n m lines (ModifyEphemeral place k o) = refl
-other_is n m lines (MoveLine j i o) = refl
-other_is n m lines (MoveEphemeral j k o) = refl
-other_is n m lines (Subtract j t) = refl
-other_is n m lines (SubtractAll j) = refl
-other_is n m lines (SetTopology j t u topology) = refl
+other_is n m lines _ = refl
 
 known_paired : (pairs : ℕ → ℕ → Bool) (o p : Option ℕ) (d e : ℕ) → OptionsAlike pairs o p → is_some o ≡ true → pairs (unwrap_or o d) (unwrap_or p e) ≡ true
 known_paired pairs None None d e alike known = absurd (false_not_true known)
 known_paired pairs (Some x) (Some y) d e alike known = alike
-known_paired pairs None (Some y) d e alike known = absurd alike
-known_paired pairs (Some x) None d e alike known = absurd alike
+known_paired pairs _ _ d e alike known = absurd alike
 
 module _ (script : Script) (r : Renaming) (held : ℕ → Bool) (n m : Naming) (alike : NamesAlike r n m)
     (own : (i : ℕ) → i < length script.lines → held (n.lines i) ≡ true) where
@@ -180,27 +150,12 @@ module _ (script : Script) (r : Renaming) (held : ℕ → Bool) (n m : Naming) (
 
 -- ---- the names of later commands
 
-bound_alike : (pairs : ℕ → ℕ → Bool) (create : Bool) (c d : ℕ → Option ℕ) (name : ℕ) (o p : Option ℕ) → ((j : ℕ) → OptionsAlike pairs (c j) (d j))
-    → OptionsAlike pairs o p → (j : ℕ) → OptionsAlike pairs (bound_if create c name o j) (bound_if create d name p j)
-bound_alike pairs true c d name o p before new j = where_alike pairs (j == name) o p (c j) (d j) new (before j)
-bound_alike pairs false c d name o p before new j = before j
-
 pub built_alike : (r : Renaming) (n m : Naming) → NamesAlike r n m → (command : Command) (done other : Done) → DoneAlike r done other
     → NamesAlike r (built_after n command done) (built_after m command other)
-built_alike r n m alike (AddLine create j i o) done other same = record {
-  lines = alike.lines;
-  contexts = bound_alike r.contexts create n.contexts m.contexts j done.context other.context alike.contexts same.context;
-  ephemerals = alike.ephemerals;
-}
-built_alike r n m alike (AddEphemeral create j k o) done other same = record {
-  lines = alike.lines;
-  contexts = bound_alike r.contexts create n.contexts m.contexts j done.context other.context alike.contexts same.context;
-  ephemerals = bound_alike r.ephemerals true n.ephemerals m.ephemerals k done.ephemeral other.ephemeral alike.ephemerals same.ephemeral;
-}
-built_alike r n m alike (ModifyLine place i o) done other same = alike
-built_alike r n m alike (ModifyEphemeral place k o) done other same = alike
-built_alike r n m alike (MoveLine j i o) done other same = alike
-built_alike r n m alike (MoveEphemeral j k o) done other same = alike
-built_alike r n m alike (Subtract j t) done other same = alike
-built_alike r n m alike (SubtractAll j) done other same = alike
-built_alike r n m alike (SetTopology j t u topology) done other same = alike
+built_alike r n m alike (AddLine create j i o) done other same =
+    assumption (bound_if_alike r.contexts create n.contexts m.contexts j done.context other.context alike.contexts same.context)
+built_alike r n m alike (AddEphemeral create j k o) done other same = assumption (
+  bound_if_alike r.contexts create n.contexts m.contexts j done.context other.context alike.contexts same.context,
+  bound_if_alike r.ephemerals true n.ephemerals m.ephemerals k done.ephemeral other.ephemeral alike.ephemerals same.ephemeral,
+)
+built_alike r n m alike _ done other same = alike

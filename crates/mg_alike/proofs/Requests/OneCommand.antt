@@ -1,29 +1,14 @@
 -- A command of a request that runs in two worlds: both execute it, or both refuse it with one code; and after it the two requests are alike.
-use Rattle.std.proofs.Common.{◌≡◌, ◌∙◌, ◌<◌, ◌++◌, ℕ, zero, suc, Bool, true, List, [], ◌∷◌, length, Option, Some, None, option_map, refl, sym, ap, subst, arith, inl, inr}
-use Rattle.std.specs.Prelude.{◌||◌, not, filter, if◌then◌else◌}
+use Rattle.std.proofs.Common.{◌≡◌, ◌∙◌, ◌<◌, ◌++◌, ℕ, zero, suc, Bool, true, List, [], ◌∷◌, length, Option, Some, None, option_map, refl, sym, ap, subst, arith}
+use Rattle.std.proofs.Common.{inl, inr, ◌||◌, not, filter, if◌then◌else◌}
 use Rattle.std.proofs.Math.Path.{fun_ext}
-use Rattle.std.proofs.lemmas.Bool.{eqb-true}
-use Rattle.mg_names.specs.declared.codes.Code.{Code}
-use Rattle.mg_names.specs.declared.codes.Code.TheVariants.{UnknownContext, UnknownTermination, AlreadyInContext, NotInContext, InternalFailure, InsufficientResources}
-use Rattle.mg_names.specs.declared.identifiers.TermId.TheVariants.{Line}
-use Rattle.mg_model.specs.declared.commands.Command.{Command}
-use Rattle.mg_model.specs.declared.commands.Command.TheVariants.{AddLine, AddEphemeral, ModifyLine, ModifyEphemeral, MoveLine, MoveEphemeral, Subtract, SubtractAll, SetTopology}
-use Rattle.mg_model.specs.declared.failures.Refusal.{Refusal}
-use Rattle.mg_model.specs.declared.items.Item.{Item}
-use Rattle.mg_model.specs.Accepted.{IsCommandOf}
-use Rattle.mg_model.specs.Agent.{Agent, Made, command_of, line_descriptors}
-use Rattle.mg_model.specs.Board.{Board}
-use Rattle.mg_model.specs.Failures.{code_of}
-use Rattle.mg_model.specs.Items.{Chosen, Done, IsFresh, IsLegal, IsResult, IsUsedUp, effect, rank, subtracts}
-use Rattle.mg_model.specs.LineEvents.{LineRow, cleared}
-use Rattle.mg_model.specs.Messages.{RequestCommand}
-use Rattle.mg_model.specs.Numbers.{the_line}
-use Rattle.mg_model.specs.RequestRun.{Running, RaisedNote, IsRefusedWith, MayRefuse, LineDescriptors, after_command, descriptors_for, described_row, has_new_events, is_line, line_after, note_from, on_line, raised, standing, with_descriptors}
-use Rattle.mg_model.specs.Script.{Script}
-use Rattle.mg_model.proofs.Cases.{none_is_some, false_not_true, same_itself}
-use Rattle.mg_alike.specs.Boards.{BoardsAlike}
-use Rattle.mg_alike.specs.Messages.{DoneAlike}
-use Rattle.mg_alike.specs.Renaming.{Renaming, IsRenaming, Pairwise}
+use Rattle.mg_merge.proofs.Words.{AddLine, Agent, AlreadyInContext, Board, Chosen, Code, Command, Done, InsufficientResources, InternalFailure, IsCommandOf}
+use Rattle.mg_merge.proofs.Words.{IsFresh, IsLegal, IsRefusedWith, IsResult, IsUsedUp, Item, Line, LineDescriptors, LineRow, Made, MayRefuse, ModifyLine}
+use Rattle.mg_merge.proofs.Words.{MoveLine, NotInContext, RaisedNote, Refusal, RequestCommand, Running, Script, UnknownContext, UnknownTermination}
+use Rattle.mg_merge.proofs.Words.{after_command, cleared, code_of, command_of, described_row, descriptors_for, effect, eqb-true, false_not_true, has_new_events}
+use Rattle.mg_merge.proofs.Words.{is_line, line_after, line_descriptors, none_is_some, note_from, on_line, raised, rank, same_itself, standing, subtracts}
+use Rattle.mg_merge.proofs.Words.{the_line, with_descriptors}
+use Rattle.mg_alike.proofs.Words.{BoardsAlike, DoneAlike, IsRenaming, Pairwise, Renaming}
 use Rattle.mg_alike.proofs.Commands.Changes.{boards_after, use_after}
 use Rattle.mg_alike.proofs.Commands.Reading.{applies_onward, applies_back}
 use Rattle.mg_alike.proofs.Commands.Renamed.{renamed, renamed_wider, renaming_after}
@@ -52,14 +37,10 @@ code_at (suc (suc (suc (suc (suc n))))) = InsufficientResources
 
 of_rank : (code : Code) → code_at (rank code) ≡ code
 of_rank UnknownContext = refl
-of_rank UnknownTermination = refl
-of_rank AlreadyInContext = refl
-of_rank NotInContext = refl
-of_rank InternalFailure = refl
-of_rank InsufficientResources = refl
+of_rank _ = refl
 
 -- the first of two sets of codes, of which each is the other
-one_code : (b m : Board) (item other : Item) (refusal : Option Refusal) → ((code : Code) → MayRefuse b item refusal code → MayRefuse m other refusal code)
+pub one_code : (b m : Board) (item other : Item) (refusal : Option Refusal) → ((code : Code) → MayRefuse b item refusal code → MayRefuse m other refusal code)
     → ((code : Code) → MayRefuse m other refusal code → MayRefuse b item refusal code) → (code also : Code) → IsRefusedWith b item refusal code
     → IsRefusedWith m other refusal also → code ≡ also
 one_code b m item other refusal onward back code also x y = sym (of_rank code) ∙ ap code_at same ∙ of_rank also
@@ -78,27 +59,17 @@ one_code b m item other refusal onward back code also x y = sym (of_rank code) �
 module _ (script : Script) (a b : Agent) (lines : b.lines ≡ a.lines) (made : Made) where
   pub descriptors_same : (command : Command) → descriptors_for (command_of script b made command) ≡ descriptors_for (command_of script a made command)
   descriptors_same (AddLine create j i o) = ap (λ (of : ℕ → ℕ). Some (on_line (of i) (line_descriptors script o))) lines
-  descriptors_same (AddEphemeral create j k o) = refl
   descriptors_same (ModifyLine place i o) = ap (λ (of : ℕ → ℕ). Some (on_line (of i) (line_descriptors script o))) lines
-  descriptors_same (ModifyEphemeral place k o) = refl
   descriptors_same (MoveLine j i o) = ap (λ (of : ℕ → ℕ). Some (on_line (of i) (line_descriptors script o))) lines
-  descriptors_same (MoveEphemeral j k o) = refl
-  descriptors_same (Subtract j t) = refl
-  descriptors_same (SubtractAll j) = refl
-  descriptors_same (SetTopology j t u topology) = refl
+  descriptors_same _ = refl
 
 -- a line for which a command has descriptors is the call's
 pub descriptors_held : (script : Script) (a : Agent) (made : Made) (held : ℕ → Bool) → ((i : ℕ) → i < length script.lines → held (a.lines i) ≡ true)
     → (command : Command) → IsCommandOf script command → (l : ℕ) → is_line (descriptors_for (command_of script a made command)) l ≡ true → held l ≡ true
 descriptors_held script a made held own (AddLine create j i o) declared l e = subst (λ (n : ℕ). held n ≡ true) (eqb-true (a.lines i) l e) (own i declared.1)
-descriptors_held script a made held own (AddEphemeral create j k o) declared l e = absurd (false_not_true e)
 descriptors_held script a made held own (ModifyLine place i o) declared l e = subst (λ (n : ℕ). held n ≡ true) (eqb-true (a.lines i) l e) (own i declared.1)
-descriptors_held script a made held own (ModifyEphemeral place k o) declared l e = absurd (false_not_true e)
 descriptors_held script a made held own (MoveLine j i o) declared l e = subst (λ (n : ℕ). held n ≡ true) (eqb-true (a.lines i) l e) (own i declared.1)
-descriptors_held script a made held own (MoveEphemeral j k o) declared l e = absurd (false_not_true e)
-descriptors_held script a made held own (Subtract j t) declared l e = absurd (false_not_true e)
-descriptors_held script a made held own (SubtractAll j) declared l e = absurd (false_not_true e)
-descriptors_held script a made held own (SetTopology j t u topology) declared l e = absurd (false_not_true e)
+descriptors_held script a made held own _ declared l e = absurd (false_not_true e)
 
 -- ---- lines and notes after a command
 
@@ -154,8 +125,7 @@ module _ (r : Renaming) (held : ℕ → Bool) (x y : Running) (alike : RunningAl
           → Pairwise (DoneAlike (renamed r (one_of twin) one also)) (results ++ done ∷ []) (others ++ told ∷ [])
       pushed [] [] results_alike new = (new, tt)
       pushed (p ∷ results) (q ∷ others) results_alike new = (results_alike.0, pushed results others results_alike.1 new)
-      pushed [] (q ∷ others) results_alike new = absurd results_alike
-      pushed (p ∷ results) [] results_alike new = absurd results_alike
+      pushed _ _ results_alike new = absurd results_alike
 
 -- ---- both refuse it
 

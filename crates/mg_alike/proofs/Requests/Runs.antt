@@ -1,32 +1,23 @@
 -- A request that runs in two worlds that are alike, whatever identifiers either gateway chooses: it ends at the same place, with the same failure or none,
--- and what it leaves is alike.
-use Rattle.std.proofs.Common.{◌≡◌, ◌∙◌, ◌+◌, ◌<◌, ◌++◌, ℕ, Bool, true, List, [], ◌∷◌, length, Option, Some, sym, ap, subst, inl, inr, length-append}
-use Rattle.std.proofs.lemmas.List.Elements.{All-head, All-tail}
-use Rattle.std.specs.List.{All}
-use Rattle.mg_names.specs.declared.codes.Code.{Code}
-use Rattle.mg_model.specs.declared.commands.Command.{Command}
-use Rattle.mg_model.specs.declared.failures.ChosenRefusal.{ChosenRefusal}
-use Rattle.mg_model.specs.declared.failures.Failure.{Failure}
-use Rattle.mg_model.specs.declared.items.Item.{Item}
-use Rattle.mg_model.specs.Accepted.{IsCommandOf}
-use Rattle.mg_model.specs.Agent.{Agent, Made, command_of, commands_of, made_after}
-use Rattle.mg_model.specs.Board.{Board}
-use Rattle.mg_model.specs.Items.{Done, IsExecuted, IsLegal, IsUsedUp, effect}
-use Rattle.mg_model.specs.Request.{Names}
-use Rattle.mg_model.specs.RequestRun.{Running, RunsFrom, Succeeds, Fails, IsRefusedWith, after_command, chosen_at, descriptors_for, is_line, item_at}
-use Rattle.mg_model.specs.Script.{Script}
+-- and what it leaves is alike. And it runs in the one where it runs in the other.
+use Rattle.std.proofs.Common.{◌≡◌, ◌∙◌, ◌+◌, ◌<◌, ◌++◌, ℕ, Bool, true, List, [], ◌∷◌, length, Option, Some, sym, ap, subst, inl, inr, length-append, refl}
+use Rattle.mg_merge.proofs.Words.{Agent, All, All-head, All-tail, Board, ChosenRefusal, Code, Command, Done, Fails, Failure, IsCommandOf, IsExecuted, IsLegal}
+use Rattle.mg_merge.proofs.Words.{IsRefusedWith, IsUsedUp, Item, Made, Names, Running, RunsFrom, Script, Succeeds, after_command, chosen_at, command_of}
+use Rattle.mg_merge.proofs.Words.{commands_of, descriptors_for, effect, is_line, item_at, made_after}
+use Rattle.mg_alike.proofs.Words.{DoneAlike, Renaming}
 use Rattle.mg_merge.proofs.Commands.IdentifiersLeft.{Remain, remain_after, not_used_up}
 use Rattle.mg_safety.proofs.Invariant.Shown.{Naming, naming_at, known_by, built_after}
 use Rattle.mg_safety.proofs.Requests.RunKnown.{AreKnown, binds, known_on}
 use Rattle.mg_safety.proofs.Requests.RunNames.{IsMadeBelow, built_on, item_is, made_below_next}
-use Rattle.mg_alike.specs.Messages.{DoneAlike}
-use Rattle.mg_alike.specs.Renaming.{Renaming}
 use Rattle.mg_alike.proofs.Commands.Renamed.{renamed, renamed_wider}
 use Rattle.mg_alike.proofs.Commands.Results.{done_after}
 use Rattle.mg_alike.proofs.Commands.Twins.{Twin, one_of, other_of, IsTwin}
 use Rattle.mg_alike.proofs.Requests.Names.{NamesAlike, names_more, twin_for, one_is, other_is, is_twin, built_alike}
 use Rattle.mg_alike.proofs.Requests.OneCommand.{RunningAlike, descriptors_same, descriptors_held, after_alike, refused_alike, legal_back, legal_onward}
+use Rattle.mg_alike.proofs.Requests.OneCommand.{refuses_onward, refuses_back}
 use Rattle.mg_alike.proofs.Shared.Pairs.{IsWider, wider_itself, wider_on}
+use Rattle.mg_alike.proofs.Requests.Exist.{told, result_there, choice}
+use Rattle.mg_alike.proofs.Commands.Reading.{applies_back}
 
 -- the request of an agent is at a place in both worlds: what was done is alike, and these commands are left
 pub record IsUnderway (script : Script) (held : ℕ → Bool) (a b : Agent) (r : Renaming) (x y : Running) (place : ℕ) (left : List Command) (made : Made) : Type 0 where
@@ -66,13 +57,13 @@ module _ (script : Script) (held : ℕ → Bool) (a b : Agent) (own : (i : ℕ) 
     abbrev twin : Twin
     twin = twin_for n m command
 
-    pub paired : IsTwin r held (twin_for (naming_at a made x.results) (naming_at b made y.results) command)
+    paired : IsTwin r held twin
     paired = is_twin script r held n m u.names own command (All-head (IsCommandOf script) command more u.declared) u.known.0
 
-    pub first_item : item_at x.results (command_of script a made command) ≡ one_of (twin_for (naming_at a made x.results) (naming_at b made y.results) command)
+    first_item : item_at x.results (command_of script a made command) ≡ one_of twin
     first_item = item_is script a made x.results command ∙ sym (one_is n m command)
 
-    pub second_item : item_at y.results (command_of script b made command) ≡ other_of (twin_for (naming_at a made x.results) (naming_at b made y.results) command)
+    second_item : item_at y.results (command_of script b made command) ≡ other_of twin
     second_item = item_is script b made y.results command ∙ sym (other_is n m u.names.lines command)
 
     describing : (l : ℕ) → is_line (descriptors_for (command_of script a made command)) l ≡ true → held l ≡ true
@@ -80,8 +71,8 @@ module _ (script : Script) (held : ℕ → Bool) (a b : Agent) (own : (i : ℕ) 
 
     -- ---- both execute the command
 
-    module _ (end last : Board) (done told : Done) (ran : IsExecuted x.board (one_of (twin_for (naming_at a made x.results) (naming_at b made y.results) command)) end done)
-        (also : IsExecuted y.board (other_of (twin_for (naming_at a made x.results) (naming_at b made y.results) command)) last told) where
+    module _ (end last : Board) (done told : Done) (ran : IsExecuted x.board (one_of twin) end done)
+        (also : IsExecuted y.board (other_of twin) last told) where
       abbrev wide : Renaming
       wide = renamed r (one_of twin) ran.chosen also.chosen
 
@@ -106,9 +97,9 @@ module _ (script : Script) (held : ℕ → Bool) (a b : Agent) (own : (i : ℕ) 
       other_names_on = subst (λ (p : ℕ). naming_at b (made_after made command p) (y.results ++ told ∷ []) ≡ built_after (naming_at b made y.results) command told) u.other_count
           (built_on y.results told b made (subst (IsMadeBelow made) (sym u.other_count) u.below) command)
 
-      pub next_underway : IsUnderway script held a b (renamed r (one_of (twin_for (naming_at a made x.results) (naming_at b made y.results) command)) ran.chosen also.chosen)
-          (after_command x (command_of script a made command) (one_of (twin_for (naming_at a made x.results) (naming_at b made y.results) command)) end done number)
-          (after_command y (command_of script b made command) (other_of (twin_for (naming_at a made x.results) (naming_at b made y.results) command)) last told number)
+      next_underway : IsUnderway script held a b (renamed r (one_of twin) ran.chosen also.chosen)
+          (after_command x (command_of script a made command) (one_of twin) end done number)
+          (after_command y (command_of script b made command) (other_of twin) last told number)
           (place + 1) more (made_after made command place)
       next_underway = record {
         running = running;
@@ -126,7 +117,7 @@ module _ (script : Script) (held : ℕ → Bool) (a b : Agent) (own : (i : ℕ) 
         other_remain = subst (λ (e : Board). Remain e (length more)) (sym also.effect_is) (remain_after y.board (other_of twin) also.chosen (length more) u.other_remain);
       }
 
-    pub both_succeed : (next later : Running) → Succeeds x (command_of script a made command) place refusal number next
+    both_succeed : (next later : Running) → Succeeds x (command_of script a made command) place refusal number next
         → Succeeds y (command_of script b made command) place refusal number later → HaveNext script held a b r next later (place + 1) more (made_after made command place)
     both_succeed next later s t =
         let ran : IsExecuted x.board (one_of twin) s.board s.done = subst (λ (item : Item). IsExecuted x.board item s.board s.done) first_item s.executed in
@@ -144,10 +135,10 @@ module _ (script : Script) (held : ℕ → Bool) (a b : Agent) (own : (i : ℕ) 
 
     -- ---- one refuses it, and the other too
 
-    pub left : IsUsedUp x.board (one_of (twin_for (naming_at a made x.results) (naming_at b made y.results) command)) → ⊥
+    left : IsUsedUp x.board (one_of twin) → ⊥
     left = not_used_up x.board (length more) u.remain (one_of twin)
 
-    pub other_left : IsUsedUp y.board (other_of (twin_for (naming_at a made x.results) (naming_at b made y.results) command)) → ⊥
+    other_left : IsUsedUp y.board (other_of twin) → ⊥
     other_left = not_used_up y.board (length more) u.other_remain (other_of twin)
 
     refused_one : (code : Code) → Fails x (command_of script a made command) place refusal code → IsRefusedWith x.board (one_of twin) (chosen_at refusal place) code
@@ -156,22 +147,59 @@ module _ (script : Script) (held : ℕ → Bool) (a b : Agent) (own : (i : ℕ) 
     refused_other : (code : Code) → Fails y (command_of script b made command) place refusal code → IsRefusedWith y.board (other_of twin) (chosen_at refusal place) code
     refused_other code fails = subst (λ (item : Item). IsRefusedWith y.board item (chosen_at refusal place) code) second_item fails
 
-    pub not_other : (next : Running) (code : Code) → Succeeds x (command_of script a made command) place refusal number next
+    not_other : (next : Running) (code : Code) → Succeeds x (command_of script a made command) place refusal number next
         → Fails y (command_of script b made command) place refusal code → ⊥
     not_other next code s fails =
         legal_back r held x y u.running twin paired left other_left (subst (λ (item : Item). IsLegal x.board item) first_item s.executed.legal)
         (chosen_at refusal place) s.not_chosen code (refused_other code fails)
 
-    pub not_one : (later : Running) (code : Code) → Succeeds y (command_of script b made command) place refusal number later
+    not_one : (later : Running) (code : Code) → Succeeds y (command_of script b made command) place refusal number later
         → Fails x (command_of script a made command) place refusal code → ⊥
     not_one later code t fails =
         legal_onward r held x y u.running twin paired left other_left (subst (λ (item : Item). IsLegal y.board item) second_item t.executed.legal)
         (chosen_at refusal place) t.not_chosen code (refused_one code fails)
 
-    pub same_code : (code its : Code) → Fails x (command_of script a made command) place refusal code → Fails y (command_of script b made command) place refusal its
+    same_code : (code its : Code) → Fails x (command_of script a made command) place refusal code → Fails y (command_of script b made command) place refusal its
         → code ≡ its
     same_code code its fails also =
         refused_alike r held x y u.running twin paired left other_left (chosen_at refusal place) code its (refused_one code fails) (refused_other its also)
+
+    -- ---- what happens in the one can happen in the other
+
+    succeeds_too : (next : Running) → Succeeds x (command_of script a made command) place refusal number next
+        → (later : Running) × Succeeds y (command_of script b made command) place refusal number later
+    succeeds_too next s =
+        let ran : IsExecuted x.board (one_of twin) s.board s.done = subst (λ (item : Item). IsExecuted x.board item s.board s.done) first_item s.executed in
+        let it = choice y.board (length more) u.other_remain (other_of twin) in
+        let done = told r held x y u.running twin paired ran.chosen it.0 s.done ran.result in
+        let board : Board = effect y.board (other_of twin) it.0 in
+        let also : IsExecuted y.board (other_of twin) board done = record {
+          chosen = it.0;
+          fresh = it.1;
+          legal = λ code applies. ran.legal code (applies_back r held u.running.renaming x.board y.board u.running.boards u.running.ready twin paired other_left
+              code applies);
+          effect_is = refl;
+          result = result_there r held x y u.running twin paired ran.chosen it.0 s.done ran.result;
+        } in (
+          after_command y (command_of script b made command) (item_at y.results (command_of script b made command)) board done number,
+          record {
+            board = board;
+            done = done;
+            not_chosen = s.not_chosen;
+            executed = subst (λ (item : Item). IsExecuted y.board item board done) (sym second_item) also;
+            next_is = refl;
+          },
+        )
+
+    fails_too : (code : Code) → Fails x (command_of script a made command) place refusal code → Fails y (command_of script b made command) place refusal code
+    fails_too code fails =
+        let was : IsRefusedWith x.board (one_of twin) (chosen_at refusal place) code = refused_one code fails in
+        let it : IsRefusedWith y.board (other_of twin) (chosen_at refusal place) code = record {
+          may = refuses_onward r held x y u.running twin paired left other_left (chosen_at refusal place) code was.may;
+          first = λ earlier below applies. was.first earlier below
+              (refuses_back r held x y u.running twin paired left other_left (chosen_at refusal place) earlier applies);
+        } in
+        subst (λ (item : Item). IsRefusedWith y.board item (chosen_at refusal place) code) (sym second_item) it
 
   -- ---- to the end
 
@@ -200,3 +228,16 @@ module _ (script : Script) (held : ℕ → Bool) (a b : Agent) (own : (i : ℕ) 
   runs_alike (command ∷ more) r x y place made u end last failure also (inr (code, fails, at, tells)) (inr (its, refused, is, told)) =
       ended_here r x y end last failure also u.running at is
       (told ∙ ap (λ (c : Code). Some (record { place = place; code = c })) (sym (same_code r x y place command more made u code its fails refused)) ∙ sym tells)
+
+  pub runs_too : (left : List Command) (r : Renaming) (x y : Running) (place : ℕ) (made : Made) → IsUnderway script held a b r x y place left made
+      → (end : Running) (failure : Option Failure) → RunsFrom number refusal x place (commands_of script a made place left) end failure
+      → (last : Running) × RunsFrom number refusal y place (commands_of script b made place left) last failure
+  unfolding RunsFrom
+  runs_too [] r x y place made u end failure runs = (y, (refl, runs.1))
+  runs_too (command ∷ more) r x y place made u end failure (inl (next, s, runs)) =
+      let t = succeeds_too r x y place command more made u next s in
+      let step = both_succeed r x y place command more made u next t.0 s t.1 in
+      let rest = runs_too more step.wide next t.0 (place + 1) (made_after made command place) step.underway end failure runs in
+      (rest.0, inl (t.0, t.1, rest.1))
+  runs_too (command ∷ more) r x y place made u end failure (inr (code, fails, at, tells)) =
+      (y, inr (code, fails_too r x y place command more made u code fails, refl, tells))

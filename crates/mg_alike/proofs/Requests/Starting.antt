@@ -1,39 +1,20 @@
 -- The start of a request: no name is stale then, so what the call owns is what its names stand for; and by its names, the two boards are alike as long as the
 -- request runs.
-use Rattle.std.proofs.Common.{◌≡◌, ◌∙◌, ◌<◌, ◌≤◌, ℕ, Bool, true, length, Option, Some, None, is_some, refl, sym, ap, subst, inl, inr, true≢false}
-use Rattle.std.proofs.lemmas.Bool.{cases_lt, and_from}
-use Rattle.std.specs.Prelude.{◌&&◌, ◌⊎◌, not, unwrap_or}
-use Rattle.mg_names.specs.declared.context_values.ContextValue.{ContextValue}
-use Rattle.mg_names.specs.declared.identifiers.TermId.{TermId}
-use Rattle.mg_names.specs.declared.identifiers.TermId.TheVariants.{Line, Eph}
-use Rattle.mg_model.specs.declared.commands.Termination.{Termination}
+use Rattle.std.proofs.Common.{◌≡◌, ◌∙◌, ◌<◌, ◌≤◌, ℕ, Bool, true, length, Option, Some, None, is_some, refl, sym, ap, subst, inl, inr, true≢false, ◌&&◌, ◌⊎◌}
+use Rattle.std.proofs.Common.{not, unwrap_or}
+use Rattle.mg_merge.proofs.Words.{Agent, Configuration, ContextValue, Eph, Gone, In, IsCommandOf, IsLive, IsScript, IsSlot, Line, Remote, Row, Script, Spot}
+use Rattle.mg_merge.proofs.Words.{TermId, Termination, Unset, World, and_first, and_from, and_second, bound_by, built_by, cases_lt, is_free, is_number}
+use Rattle.mg_merge.proofs.Words.{none_made, place_in, place_of, remote_in, remote_of, some_is_none, some_of, start_of, state_of, the_line, the_some}
+use Rattle.mg_alike.proofs.Words.{BoardsAlike, CallAlike, IsRenaming, OptionalRowsAlike, OptionsAlike, OwnAlike, PlacesAlike, RemotesAlike, Renaming}
+use Rattle.mg_alike.proofs.Words.{TermsAlike}
 use Rattle.mg_model.specs.declared.commands.Termination.TheVariants as termination
-use Rattle.mg_model.specs.declared.components.Remote.{Remote}
-use Rattle.mg_model.specs.declared.components.Remote.TheVariants.{Unset, Gone, To}
-use Rattle.mg_model.specs.declared.components.Spot.{Spot}
-use Rattle.mg_model.specs.declared.components.Spot.TheVariants.{Absent, Null, In}
-use Rattle.mg_model.specs.declared.rows.Row.{Row}
-use Rattle.mg_model.specs.Accepted.{IsScript, IsSlot, IsCommandOf}
-use Rattle.mg_model.specs.Agent.{Agent, none_made, bound_by, built_by}
-use Rattle.mg_model.specs.Board.{place_of, place_in, remote_of, remote_in}
-use Rattle.mg_model.specs.Configuration.{Configuration, is_free}
-use Rattle.mg_model.specs.Gateway.{start_of}
-use Rattle.mg_model.specs.Media.{is_number}
-use Rattle.mg_model.specs.Numbers.{the_line}
-use Rattle.mg_model.specs.Obligations.{IsLive}
-use Rattle.mg_model.specs.Script.{Script}
-use Rattle.mg_model.specs.Tables.{state_of}
-use Rattle.mg_model.specs.World.{World}
-use Rattle.mg_model.proofs.Cases.{and_first, and_second, some_is_none, some_of, the_some}
+use Rattle.mg_model.specs.declared.components.Remote.TheVariants.{To}
 use Rattle.mg_merge.proofs.Commands.IdentifiersLeft.{Remain}
 use Rattle.mg_safety.proofs.Events.Others.{created_only, is_call_of}
 use Rattle.mg_safety.proofs.Invariant.Shown.{naming, Shown, RemoteReads, IsAccounted, eph_of, number_at, row_on, term_of}
 use Rattle.mg_safety.proofs.Invariant.Sound.{IsOfScript, is_call, owned_in}
 use Rattle.mg_safety.proofs.Requests.RunKnown.{built_all, built_known, state_is}
 use Rattle.mg_safety.proofs.Requests.RunNames.{none_below}
-use Rattle.mg_alike.specs.Boards.{TermsAlike, PlacesAlike, RemotesAlike, OptionalRowsAlike, BoardsAlike}
-use Rattle.mg_alike.specs.Renaming.{Renaming, IsRenaming, OptionsAlike}
-use Rattle.mg_alike.specs.Worlds.{CallAlike, OwnAlike}
 use Rattle.mg_alike.proofs.Commands.Reading.{first_real}
 use Rattle.mg_alike.proofs.Commands.Twins.{InUse}
 use Rattle.mg_alike.proofs.Requests.Runs.{IsUnderway}
@@ -73,8 +54,7 @@ narrow_row : (r small : Renaming) (t : TermId) (o p : Option Row) → OptionalRo
     → (RemotesAlike r t (remote_in o) (remote_in p) → RemotesAlike small t (remote_in o) (remote_in p)) → OptionalRowsAlike small t o p
 narrow_row r small t None None alike place remote = tt
 narrow_row r small t (Some one) (Some other) alike place remote = record { place = place alike.place; mode = alike.mode; remote = remote alike.remote }
-narrow_row r small t None (Some other) alike place remote = absurd alike
-narrow_row r small t (Some one) None alike place remote = absurd alike
+narrow_row r small t _ _ alike place remote = absurd alike
 
 module _ (script : Script) (is_script : IsScript script) (w v : World) (call : ℕ) (r : Renaming) (a b : Agent) (alike : CallAlike r w v call a b) (c d : Configuration)
     (shown : Shown script (owned_in w.gateway call) (naming a) w.gateway.board c) (also : Shown script (owned_in v.gateway call) (naming b) v.gateway.board d)
@@ -148,8 +128,7 @@ module _ (script : Script) (is_script : IsScript script) (w v : World) (call : �
       go : (o p : Option ℕ) → a.contexts j ≡ o → b.contexts j ≡ p → OptionsAlike r.contexts o p → OptionsAlike (by_names script a b).contexts o p
       go None None first second same = tt
       go (Some x) (Some y) first second same = named_context j x y first second
-      go None (Some y) first second same = absurd same
-      go (Some x) None first second same = absurd same
+      go _ _ first second same = absurd same
 
   pub small_ephemerals : (k : ℕ) → OptionsAlike (by_names script a b).ephemerals (a.ephemerals k) (b.ephemerals k)
   small_ephemerals k = go (a.ephemerals k) (b.ephemerals k) refl refl (alike.agents.ephemerals k)
@@ -157,8 +136,7 @@ module _ (script : Script) (is_script : IsScript script) (w v : World) (call : �
       go : (o p : Option ℕ) → a.ephemerals k ≡ o → b.ephemerals k ≡ p → OptionsAlike r.ephemerals o p → OptionsAlike (by_names script a b).ephemerals o p
       go None None first second same = tt
       go (Some x) (Some y) first second same = named_ephemeral k x y first second
-      go None (Some y) first second same = absurd same
-      go (Some x) None first second same = absurd same
+      go _ _ first second same = absurd same
 
   -- ---- rows
 
@@ -174,14 +152,13 @@ module _ (script : Script) (is_script : IsScript script) (w v : World) (call : �
       none zeroth = absurd (first_real r held alike.renaming (place_of w.gateway.board u) q is zeroth)
 
       go : (spot : Spot) → c.spot t ≡ spot → place_of w.gateway.board u ≡ number_at (naming a) (c.spot t) → PlacesAlike (by_names script a b) (place_of w.gateway.board u) q
-      go Absent at reads = none (reads ∙ ap (number_at (naming a)) at)
-      go Null at reads = none (reads ∙ ap (number_at (naming a)) at)
       go (In j) at reads =
           let bound = some_of (a.contexts j) (shown.in_bound t j slot at) in
           let here : place_of w.gateway.board u ≡ bound.0 = reads ∙ ap (number_at (naming a)) at ∙ ap (λ (o : Option ℕ). unwrap_or o 0) bound.1 in
           let its = partner r.contexts (a.contexts j) (b.contexts j) bound.0 bound.1 (alike.agents.contexts j) in
           let there : q ≡ its.0 = alike.renaming.contexts.onward bound.0 q its.0 (subst (λ (n : ℕ). r.contexts n q ≡ true) here is) its.2 in
           inr (named_context j (place_of w.gateway.board u) q (bound.1 ∙ ap (λ (n : ℕ). Some n) (sym here)) (its.1 ∙ ap (λ (n : ℕ). Some n) (sym there)))
+      go _ at reads = none (reads ∙ ap (number_at (naming a)) at)
 
   remote_small : (k x : ℕ) → a.ephemerals k ≡ Some x → (p : Option ℕ) → OptionsAlike r.ephemerals (remote_of w.gateway.board (Eph x)) p
       → OptionsAlike (by_names script a b).ephemerals (remote_of w.gateway.board (Eph x)) p
@@ -220,8 +197,7 @@ module _ (script : Script) (is_script : IsScript script) (w v : World) (call : �
   own_pair (Eph x) (Eph y) it =
       let k = ephemeral_named x y it in
       (ephemeral_there x y it, created_one x (shown.ephemeral_owned k.0 x k.1), created_other y (also.ephemeral_owned k.0 y k.2))
-  own_pair (Line l) (Eph y) it = absurd it
-  own_pair (Eph x) (Line m) it = absurd it
+  own_pair _ _ it = absurd it
 
   rows_small : (t u : TermId) → TermsAlike (by_names script a b) held t u → OptionalRowsAlike (by_names script a b) t (w.gateway.board.row t) (v.gateway.board.row u)
   rows_small (Line l) (Line m) it =
@@ -233,8 +209,7 @@ module _ (script : Script) (is_script : IsScript script) (w v : World) (call : �
       narrow_row r (by_names script a b) (Eph x) (w.gateway.board.row (Eph x)) (v.gateway.board.row (Eph y)) (alike.rows (Eph x) (Eph y) (own_pair (Eph x) (Eph y) it))
       (place_small (termination.Ephemeral k.0) (Eph x) (shown.ephemeral_slot k.0 x k.1) (ap eph_of k.1) (place_of v.gateway.board (Eph y)))
       (remote_small k.0 x k.1 (remote_of v.gateway.board (Eph y)))
-  rows_small (Line l) (Eph y) it = absurd it
-  rows_small (Eph x) (Line m) it = absurd it
+  rows_small _ _ it = absurd it
 
   boards_small : BoardsAlike (by_names script a b) held w.gateway.board v.gateway.board
   boards_small = record {

@@ -1,9 +1,6 @@
 -- Whether a number below a bound passes a test.
-use Rattle.std.proofs.Common.{◌≡◌, ◌∙◌, ◌<◌, ◌≤◌, ℕ, zero, suc, Bool, true, false, Option, Some, None, refl, ap, subst, arith, inl, inr}
-use Rattle.std.specs.Prelude.{◌||◌, ◌⊎◌}
-use Rattle.std.proofs.lemmas.Bool.{cases_lt, eqb-true, or_left, or_right}
-use Rattle.mg_model.specs.Media.{is_number}
-use Rattle.mg_model.proofs.Cases.{false_not_true, same_itself}
+use Rattle.std.proofs.Common.{◌≡◌, ◌∙◌, ◌<◌, ◌≤◌, ℕ, zero, suc, Bool, true, false, Option, Some, None, refl, ap, subst, arith, inl, inr, ◌||◌, ◌⊎◌}
+use Rattle.mg_merge.proofs.Words.{cases_lt, eqb-true, false_not_true, is_number, or_left, or_right, same_itself}
 
 abbrev pub any_below : (ℕ → Bool) → ℕ → Bool
 any_below p zero = false

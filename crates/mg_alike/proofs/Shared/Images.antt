@@ -1,9 +1,6 @@
 -- The numbers that stand for those of a list, in rising order.
-use Rattle.std.proofs.Common.{◌≡◌, ◌∙◌, ◌<◌, ◌≤◌, ℕ, Bool, true, false, List, [], ◌∷◌, refl, sym, subst, arith, inl, inr}
-use Rattle.std.specs.Prelude.{◌==◌, ◌⊎◌, ◌↔◌, Contains}
-use Rattle.std.proofs.lemmas.Bool.{eqb-true, eqb-false, cases_lt}
-use Rattle.mg_model.specs.Items.{IsRising}
-use Rattle.mg_model.proofs.Single.{none_in, first_in, first_or_later, later_in}
+use Rattle.std.proofs.Common.{◌≡◌, ◌∙◌, ◌<◌, ◌≤◌, ℕ, Bool, true, false, List, [], ◌∷◌, refl, sym, subst, arith, inl, inr, ◌==◌, ◌⊎◌, ◌↔◌, Contains}
+use Rattle.mg_merge.proofs.Words.{IsRising, cases_lt, eqb-false, eqb-true, first_in, first_or_later, later_in, none_in}
 
 -- a rising list of these members
 pub record IsListed (has : ℕ → Type 0) : Type 0 where

@@ -1,15 +1,7 @@
 -- A renaming to which a pair is added: it stays one to one where neither number of the pair is renamed. And what is alike stays so where more is renamed.
-use Rattle.std.proofs.Common.{◌≡◌, ◌∙◌, ℕ, Bool, true, false, List, [], ◌∷◌, Option, Some, None, refl, sym, subst, inl, inr}
-use Rattle.std.specs.Prelude.{◌==◌, ◌||◌, ◌&&◌, ◌⊎◌}
-use Rattle.std.proofs.lemmas.Bool.{eqb-true, or_left, or_right, and_from}
-use Rattle.mg_names.specs.declared.identifiers.TermId.{TermId}
-use Rattle.mg_names.specs.declared.identifiers.TermId.TheVariants.{Line, Eph}
-use Rattle.mg_model.specs.declared.rows.Row.{Row}
-use Rattle.mg_model.specs.Items.{Done}
-use Rattle.mg_model.proofs.Cases.{same_itself}
-use Rattle.mg_alike.specs.Boards.{TermsAlike, PlacesAlike, RemotesAlike, OptionalRowsAlike}
-use Rattle.mg_alike.specs.Messages.{DoneAlike}
-use Rattle.mg_alike.specs.Renaming.{Renaming, IsOneToOne, Pairwise}
+use Rattle.std.proofs.Common.{◌≡◌, ◌∙◌, ℕ, Bool, true, false, List, [], ◌∷◌, Option, Some, None, refl, sym, subst, inl, inr, ◌==◌, ◌||◌, ◌&&◌, ◌⊎◌}
+use Rattle.mg_merge.proofs.Words.{Done, Eph, Line, Row, TermId, and_from, eqb-true, or_left, or_right, same_itself}
+use Rattle.mg_alike.proofs.Words.{DoneAlike, IsOneToOne, OptionalRowsAlike, Pairwise, PlacesAlike, RemotesAlike, Renaming, TermsAlike}
 use Rattle.mg_alike.proofs.Shared.Options.{options_more, sets_more}
 
 -- ---- one pair more
@@ -30,8 +22,7 @@ pair_cases true x y pairs p q e = go (p == x) (q == y) refl refl e
     go : (first second : Bool) → (p == x) ≡ first → (q == y) ≡ second → ((first && second) || pairs p q) ≡ true
         → ((true ≡ true) × (p ≡ x) × (q ≡ y)) ⊎ (pairs p q ≡ true)
     go true true is its e = inl (refl, eqb-true p x is, eqb-true q y its)
-    go true false is its e = inr e
-    go false second is its e = inr e
+    go _ _ is its e = inr e
 
 pub pair_more : (creates : Bool) (x y : ℕ) (pairs : ℕ → ℕ → Bool) (p q : ℕ) → pairs p q ≡ true → with_pair creates x y pairs p q ≡ true
 pair_more creates x y pairs p q is = or_right (creates && ((p == x) && (q == y))) (pairs p q) is
@@ -78,8 +69,7 @@ pub terms_more : (r wide : Renaming) (held : ℕ → Bool) → ((x y : ℕ) → 
     → TermsAlike r held t u → TermsAlike wide held t u
 terms_more r wide held also (Line l) (Line k) is = is
 terms_more r wide held also (Eph x) (Eph y) is = also x y is
-terms_more r wide held also (Line l) (Eph y) is = absurd is
-terms_more r wide held also (Eph x) (Line k) is = absurd is
+terms_more r wide held also _ _ is = absurd is
 
 module _ (r wide : Renaming) (wider : IsWider r wide) where
   pub places_more : (c d : ℕ) → PlacesAlike r c d → PlacesAlike wide c d
@@ -92,13 +82,9 @@ module _ (r wide : Renaming) (wider : IsWider r wide) where
 
   pub rows_more : (t : TermId) (o p : Option Row) → OptionalRowsAlike r t o p → OptionalRowsAlike wide t o p
   rows_more t None None alike = tt
-  rows_more t (Some one) (Some other) alike = record {
-    place = places_more one.place.0 other.place.0 alike.place;
-    mode = alike.mode;
-    remote = remotes_more t one.remote other.remote alike.remote;
-  }
-  rows_more t None (Some other) alike = absurd alike
-  rows_more t (Some one) None alike = absurd alike
+  rows_more t (Some one) (Some other) alike =
+      assumption (places_more one.place.0 other.place.0 alike.place, remotes_more t one.remote other.remote alike.remote)
+  rows_more t _ _ alike = absurd alike
 
   pub done_more : (one other : Done) → DoneAlike r one other → DoneAlike wide one other
   done_more one other alike = record {
@@ -111,5 +97,4 @@ module _ (r wide : Renaming) (wider : IsWider r wide) where
   pub results_more : (results others : List Done) → Pairwise (DoneAlike r) results others → Pairwise (DoneAlike wide) results others
   results_more [] [] alike = tt
   results_more (one ∷ results) (other ∷ others) alike = (done_more one other alike.0, results_more results others alike.1)
-  results_more [] (other ∷ others) alike = absurd alike
-  results_more (one ∷ results) [] alike = absurd alike
+  results_more _ _ alike = absurd alike

@@ -1,8 +1,6 @@
 -- Two lists of rising numbers with the same members are one.
-use Rattle.std.proofs.Common.{◌≡◌, ◌∙◌, ◌<◌, ℕ, List, [], ◌∷◌, refl, sym, ap, arith, inl, inr}
-use Rattle.std.specs.Prelude.{◌⊎◌, ◌↔◌, Contains}
-use Rattle.mg_model.specs.Items.{IsRising}
-use Rattle.mg_model.proofs.Single.{none_in, first_in, first_or_later, later_in}
+use Rattle.std.proofs.Common.{◌≡◌, ◌∙◌, ◌<◌, ℕ, List, [], ◌∷◌, refl, sym, ap, arith, inl, inr, ◌⊎◌, ◌↔◌, Contains}
+use Rattle.mg_merge.proofs.Words.{IsRising, first_in, first_or_later, later_in, none_in}
 
 same_first : (x y : ℕ) (xs ys : List ℕ) → IsRising (x ∷ xs) → IsRising (y ∷ ys) → (x ≡ y) ⊎ Contains xs y → (y ≡ x) ⊎ Contains ys x → x ≡ y
 same_first x y xs ys first second (inl is) there = is

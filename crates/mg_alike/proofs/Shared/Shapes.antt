@@ -1,16 +1,12 @@
 -- A request that is the same but for a renaming is the same where more is renamed; so it has one shape.
 use Rattle.std.proofs.Common.{ℕ, List, [], ◌∷◌, Option, Some, None, inl, inr}
-use Rattle.mg_model.specs.declared.references.ContextRef.{ContextRef}
-use Rattle.mg_model.specs.declared.references.ContextRef.TheVariants.{Number, MadeAt}
-use Rattle.mg_model.specs.declared.references.EphemeralRef.{EphemeralRef}
+use Rattle.mg_merge.proofs.Words.{ContextRef, Descriptors, EphemeralRef, MadeAt, Number, RemoteRef, Request, RequestCommand, TerminationRef, To, add_ephemeral}
+use Rattle.mg_merge.proofs.Words.{add_line, modify, move, set_topology, subtract, subtract_all}
+use Rattle.mg_alike.proofs.Words.{CommandsAlike, ContextRefsAlike, ContextsAlike, DescriptorsAlike, EphemeralRefsAlike, EphemeralsAlike, Pairwise}
+use Rattle.mg_alike.proofs.Words.{RemoteRefsAlike, Renaming, RequestsAlike, TerminationRefsAlike}
 use Rattle.mg_model.specs.declared.references.EphemeralRef.TheVariants as ephemeral
-use Rattle.mg_model.specs.declared.references.RemoteRef.{RemoteRef}
-use Rattle.mg_model.specs.declared.references.RemoteRef.TheVariants.{Nothing, To}
-use Rattle.mg_model.specs.declared.references.TerminationRef.{TerminationRef}
+use Rattle.mg_model.specs.declared.references.RemoteRef.TheVariants.{Nothing}
 use Rattle.mg_model.specs.declared.references.TerminationRef.TheVariants.{Line, Ephemeral}
-use Rattle.mg_model.specs.Messages.{Descriptors, RequestCommand, add_line, add_ephemeral, modify, move, subtract, subtract_all, set_topology, Request}
-use Rattle.mg_alike.specs.Messages.{ContextRefsAlike, EphemeralRefsAlike, TerminationRefsAlike, RemoteRefsAlike, DescriptorsAlike, CommandsAlike, RequestsAlike}
-use Rattle.mg_alike.specs.Renaming.{Renaming, ContextsAlike, EphemeralsAlike, Pairwise}
 use Rattle.mg_alike.proofs.Shared.Pairs.{IsWider}
 
 module _ (r wide : Renaming) (wider : IsWider r wide) where
@@ -25,20 +21,17 @@ module _ (r wide : Renaming) (wider : IsWider r wide) where
   context_refs_more : (c d : ContextRef) → ContextRefsAlike r c d → ContextRefsAlike wide c d
   context_refs_more (Number c) (Number d) is = contexts_more c.0 d.0 is
   context_refs_more (MadeAt p) (MadeAt q) is = is
-  context_refs_more (Number c) (MadeAt q) is = absurd is
-  context_refs_more (MadeAt p) (Number d) is = absurd is
+  context_refs_more _ _ is = absurd is
 
   ephemeral_refs_more : (e f : EphemeralRef) → EphemeralRefsAlike r e f → EphemeralRefsAlike wide e f
   ephemeral_refs_more (ephemeral.Number x) (ephemeral.Number y) is = ephemerals_more x y is
   ephemeral_refs_more (ephemeral.MadeAt p) (ephemeral.MadeAt q) is = is
-  ephemeral_refs_more (ephemeral.Number x) (ephemeral.MadeAt q) is = absurd is
-  ephemeral_refs_more (ephemeral.MadeAt p) (ephemeral.Number y) is = absurd is
+  ephemeral_refs_more _ _ is = absurd is
 
   termination_refs_more : (t u : TerminationRef) → TerminationRefsAlike r t u → TerminationRefsAlike wide t u
   termination_refs_more (Line l) (Line m) is = is
   termination_refs_more (Ephemeral e) (Ephemeral f) is = ephemeral_refs_more e f is
-  termination_refs_more (Line l) (Ephemeral f) is = absurd is
-  termination_refs_more (Ephemeral e) (Line m) is = absurd is
+  termination_refs_more _ _ is = absurd is
 
   remote_refs_more : (e f : Option RemoteRef) → RemoteRefsAlike r e f → RemoteRefsAlike wide e f
   remote_refs_more None None is = tt
@@ -47,12 +40,7 @@ module _ (r wide : Renaming) (wider : IsWider r wide) where
   remote_refs_more _ _ is = absurd is
 
   descriptors_more : (d e : Descriptors) → DescriptorsAlike r d e → DescriptorsAlike wide d e
-  descriptors_more d e is = record {
-    mode = is.mode;
-    remote = remote_refs_more d.remote e.remote is.remote;
-    events = is.events;
-    signals = is.signals;
-  }
+  descriptors_more d e is = assumption (remote_refs_more d.remote e.remote is.remote)
 
   commands_more : (one other : RequestCommand) → CommandsAlike r one other → CommandsAlike wide one other
   commands_more (add_line c l d) (add_line e m f) is = (context_refs_more c e is.0, is.1, descriptors_more d f is.2)
@@ -68,13 +56,7 @@ module _ (r wide : Renaming) (wider : IsWider r wide) where
   all_more : (some others : List RequestCommand) → Pairwise (CommandsAlike r) some others → Pairwise (CommandsAlike wide) some others
   all_more [] [] is = tt
   all_more (one ∷ some) (other ∷ others) is = (commands_more one other is.0, all_more some others is.1)
-  all_more [] (other ∷ others) is = absurd is
-  all_more (one ∷ some) [] is = absurd is
+  all_more _ _ is = absurd is
 
   pub requests_more : (one other : Request) → RequestsAlike r one other → RequestsAlike wide one other
-  requests_more one other is = record {
-    call = is.call;
-    association = is.association;
-    number = is.number;
-    commands = all_more one.commands other.commands is.commands;
-  }
+  requests_more one other is = assumption (all_more one.commands other.commands is.commands)

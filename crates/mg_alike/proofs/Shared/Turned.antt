@@ -1,27 +1,16 @@
 -- What is alike is so the other way round.
 use Rattle.std.proofs.Common.{◌≡◌, ◌∙◌, ℕ, Bool, List, [], ◌∷◌, Option, Some, None, refl, sym, subst, inl, inr}
-use Rattle.mg_names.specs.declared.identifiers.LineNo.{LineNo}
-use Rattle.mg_names.specs.declared.identifiers.TermId.{TermId}
+use Rattle.mg_merge.proofs.Words.{Agent, ContextRef, Descriptors, Done, EphemeralRef, LineNo, MadeAt, Number, Phase, RemoteRef, Reply, Request, RequestCommand}
+use Rattle.mg_merge.proofs.Words.{Row, SentNote, TermId, TerminationRef, To, World, add_ephemeral, add_line, awaits_pass, awaits_reply, modify, move, resting}
+use Rattle.mg_merge.proofs.Words.{set_topology, subtract, subtract_all}
+use Rattle.mg_alike.proofs.Words.{AgentsAlike, AreSentInBoth, CallAlike, CommandsAlike, ContextRefsAlike, ContextsAlike, DescriptorsAlike, DoneAlike}
+use Rattle.mg_alike.proofs.Words.{EphemeralRefsAlike, EphemeralsAlike, IsOneToOne, IsWord, KeptAlike, OptionalRowsAlike, OptionsAlike, OwnAlike, Pairwise}
+use Rattle.mg_alike.proofs.Words.{PhasesAlike, PlacesAlike, RemoteRefsAlike, Renaming, RepliesAlike, RequestsAlike, SameReply, SetsAlike, TerminationRefsAlike}
+use Rattle.mg_alike.proofs.Words.{TreatmentIsMutual, anything, is_awaited}
 use Rattle.mg_names.specs.declared.identifiers.TermId.TheVariants as term
-use Rattle.mg_model.specs.declared.references.ContextRef.{ContextRef}
-use Rattle.mg_model.specs.declared.references.ContextRef.TheVariants.{Number, MadeAt}
-use Rattle.mg_model.specs.declared.references.EphemeralRef.{EphemeralRef}
 use Rattle.mg_model.specs.declared.references.EphemeralRef.TheVariants as ephemeral
-use Rattle.mg_model.specs.declared.references.RemoteRef.{RemoteRef}
-use Rattle.mg_model.specs.declared.references.RemoteRef.TheVariants.{Nothing, To}
-use Rattle.mg_model.specs.declared.references.TerminationRef.{TerminationRef}
+use Rattle.mg_model.specs.declared.references.RemoteRef.TheVariants.{Nothing}
 use Rattle.mg_model.specs.declared.references.TerminationRef.TheVariants.{Line, Ephemeral}
-use Rattle.mg_model.specs.declared.rows.Row.{Row}
-use Rattle.mg_model.specs.Agent.{Agent, Phase, awaits_reply, awaits_pass, resting}
-use Rattle.mg_model.specs.Items.{Done}
-use Rattle.mg_model.specs.Messages.{Descriptors, RequestCommand, add_line, add_ephemeral, modify, move, subtract, subtract_all, set_topology, Request, Reply, SentNote}
-use Rattle.mg_model.specs.World.{World}
-use Rattle.mg_alike.specs.Agents.{PhasesAlike, AgentsAlike}
-use Rattle.mg_alike.specs.Boards.{PlacesAlike, OptionalRowsAlike}
-use Rattle.mg_alike.specs.Laws.{TreatmentIsMutual}
-use Rattle.mg_alike.specs.Messages.{ContextRefsAlike, EphemeralRefsAlike, TerminationRefsAlike, RemoteRefsAlike, DescriptorsAlike, CommandsAlike, RequestsAlike, DoneAlike, RepliesAlike}
-use Rattle.mg_alike.specs.Renaming.{Renaming, IsOneToOne, OptionsAlike, SetsAlike, IsWord, ContextsAlike, EphemeralsAlike, Pairwise}
-use Rattle.mg_alike.specs.Worlds.{AreSentInBoth, anything, is_awaited, SameReply, KeptAlike, OwnAlike, CallAlike}
 
 abbrev turned : Renaming → Renaming
 turned r = record { contexts = λ x y. r.contexts y x; ephemerals = λ x y. r.ephemerals y x }
@@ -32,8 +21,7 @@ one_turned pairs one = record { onward = λ x y z first second. one.back y z x f
 options_turned : (pairs : ℕ → ℕ → Bool) (o p : Option ℕ) → OptionsAlike pairs o p → OptionsAlike (λ x y. pairs y x) p o
 options_turned pairs None None is = tt
 options_turned pairs (Some x) (Some y) is = is
-options_turned pairs None (Some y) is = absurd is
-options_turned pairs (Some x) None is = absurd is
+options_turned pairs _ _ is = absurd is
 
 sets_turned : (pairs : ℕ → ℕ → Bool) (xs ys : List ℕ) → SetsAlike pairs xs ys → SetsAlike (λ x y. pairs y x) ys xs
 sets_turned pairs xs ys sets = record { onward = sets.back; back = sets.onward }
@@ -41,8 +29,7 @@ sets_turned pairs xs ys sets = record { onward = sets.back; back = sets.onward }
 pairwise_turned : {A : Type 0} (alike other : A → A → Type 0) → ((x y : A) → alike x y → other y x) → (xs ys : List A) → Pairwise alike xs ys → Pairwise other ys xs
 pairwise_turned alike other turn [] [] is = tt
 pairwise_turned alike other turn (x ∷ xs) (y ∷ ys) is = (turn x y is.0, pairwise_turned alike other turn xs ys is.1)
-pairwise_turned alike other turn [] (y ∷ ys) is = absurd is
-pairwise_turned alike other turn (x ∷ xs) [] is = absurd is
+pairwise_turned alike other turn _ _ is = absurd is
 
 sent_turned : {A : Type 0} (of : A → ℕ) (call : ℕ) (alike other : A → A → Type 0) → ((x y : A) → alike x y → other y x) → (sent others : List A)
     → AreSentInBoth of call alike sent others → AreSentInBoth of call other others sent
@@ -65,20 +52,17 @@ module _ (r : Renaming) where
   context_refs_turned : (c d : ContextRef) → ContextRefsAlike r c d → ContextRefsAlike (turned r) d c
   context_refs_turned (Number c) (Number d) is = contexts_turned c.0 d.0 is
   context_refs_turned (MadeAt p) (MadeAt q) is = sym is
-  context_refs_turned (Number c) (MadeAt q) is = absurd is
-  context_refs_turned (MadeAt p) (Number d) is = absurd is
+  context_refs_turned _ _ is = absurd is
 
   ephemeral_refs_turned : (e f : EphemeralRef) → EphemeralRefsAlike r e f → EphemeralRefsAlike (turned r) f e
   ephemeral_refs_turned (ephemeral.Number x) (ephemeral.Number y) is = ephemerals_turned x y is
   ephemeral_refs_turned (ephemeral.MadeAt p) (ephemeral.MadeAt q) is = sym is
-  ephemeral_refs_turned (ephemeral.Number x) (ephemeral.MadeAt q) is = absurd is
-  ephemeral_refs_turned (ephemeral.MadeAt p) (ephemeral.Number y) is = absurd is
+  ephemeral_refs_turned _ _ is = absurd is
 
   termination_refs_turned : (t u : TerminationRef) → TerminationRefsAlike r t u → TerminationRefsAlike (turned r) u t
   termination_refs_turned (Line l) (Line m) is = sym is
   termination_refs_turned (Ephemeral e) (Ephemeral f) is = ephemeral_refs_turned e f is
-  termination_refs_turned (Line l) (Ephemeral f) is = absurd is
-  termination_refs_turned (Ephemeral e) (Line m) is = absurd is
+  termination_refs_turned _ _ is = absurd is
 
   remote_refs_turned : (e f : Option RemoteRef) → RemoteRefsAlike r e f → RemoteRefsAlike (turned r) f e
   remote_refs_turned None None is = tt
@@ -133,8 +117,7 @@ module _ (r : Renaming) where
   kept_turned : (one other : Option Reply) → KeptAlike r one other → KeptAlike (turned r) other one
   kept_turned None None is = tt
   kept_turned (Some one) (Some other) is = replies_turned one other is
-  kept_turned None (Some other) is = absurd is
-  kept_turned (Some one) None is = absurd is
+  kept_turned _ _ is = absurd is
 
   phases_turned : (p q : Phase) → PhasesAlike r p q → PhasesAlike (turned r) q p
   phases_turned (awaits_reply one) (awaits_reply other) is = requests_turned one other is
@@ -161,12 +144,7 @@ module _ (r : Renaming) where
       sym (rw (same.call, same.association, same.number, is.call, is.association, is.number) refl)
   awaited_same awaits_pass awaits_pass is one other same = refl
   awaited_same resting resting is one other same = refl
-  awaited_same (awaits_reply x) awaits_pass is one other same = absurd is
-  awaited_same (awaits_reply x) resting is one other same = absurd is
-  awaited_same awaits_pass (awaits_reply y) is one other same = absurd is
-  awaited_same awaits_pass resting is one other same = absurd is
-  awaited_same resting (awaits_reply y) is one other same = absurd is
-  awaited_same resting awaits_pass is one other same = absurd is
+  awaited_same _ _ is one other same = absurd is
 
 -- ---- worlds
 
@@ -175,8 +153,7 @@ module _ (r : Renaming) (w v : World) (call : ℕ) (a b : Agent) (alike : CallAl
   own_turned (term.Line m) (term.Line l) own =
       (sym own.0, subst (λ (k : LineNo). w.gateway.holder k.0 ≡ Some call) own.0 ((alike.held m.0).1 own.1))
   own_turned (term.Eph y) (term.Eph x) own = (own.0, own.2, own.1)
-  own_turned (term.Line m) (term.Eph x) own = absurd own
-  own_turned (term.Eph y) (term.Line l) own = absurd own
+  own_turned _ _ own = absurd own
 
   places_turned : (c d : ℕ) → PlacesAlike r c d → PlacesAlike (turned r) d c
   places_turned c d (inl none) = inl (none.1, none.0)
@@ -191,10 +168,9 @@ module _ (r : Renaming) (w v : World) (call : ℕ) (a b : Agent) (alike : CallAl
     mode = sym is.mode;
     remote = options_turned r.ephemerals one.remote other.remote is.remote;
   }
-  rows_turned (term.Line m) (term.Eph x) own (Some one) (Some other) is = absurd own
-  rows_turned (term.Eph y) (term.Line l) own (Some one) (Some other) is = absurd own
   rows_turned u t own None (Some other) is = absurd is
   rows_turned u t own (Some one) None is = absurd is
+  rows_turned _ _ own _ _ is = absurd own
 
   reply_turned : (one other : Reply) → SameReply r a.phase one other → SameReply (turned r) b.phase other one
   reply_turned one other same = record {

@@ -1,5 +1,5 @@
 -- The law.
-use Rattle.mg_alike.proofs.Alone.Heirs.{heirs_isolated}
+use Rattle.mg_alike.proofs.Alone.Throughout.{heirs_isolated}
 use Rattle.mg_alike.proofs.laws.calls_with_heirs_are_isolated.Goals as goal
 
 pub returns : goal.returns
