@@ -1,12 +1,8 @@
 -- Each step of a call alone is counted once: what was told so far grows by one at each step other than a restart.
-use Rattle.std.proofs.Common.{◌≡◌, ◌∙◌, ◌++◌, ◌+◌, ◌≤◌, ◌⊎◌, ℕ, zero, suc, List, [], ◌∷◌, length, refl, sym, ap, subst, inl, inr, arith}
-use Rattle.mg_model.specs.Agent.{Agent}
-use Rattle.mg_model.specs.declared.plans.PlanStep.{PlanStep}
-use Rattle.mg_model.specs.declared.plans.PlanStep.TheVariants.{GoesOff, GoesOn, Flashes, Dials, Pauses, Ends, Executes, TakesReply, Passes, TakesNote, TimesOut, Hears, Begins, Restarts}
-use Rattle.mg_model.specs.Plans.{Plan, PlanCall, epochs_of, steps_in}
-use Rattle.mg_model.specs.Reports.{AreReported, IsPlacing, IsReported, Progress, ReportLine, StepHappens, StepIsIdle, StepsRun, after_event, line_now, line_retired, start_as}
-use Rattle.mg_model.specs.Script.{Script}
-use Rattle.mg_model.specs.World.{World}
+use Rattle.std.proofs.Common.{◌≡◌, ◌∙◌, ◌++◌, ◌+◌, ◌≤◌, ◌⊎◌, ℕ, zero, suc, List, [], ◌∷◌, length, refl, sym, ap, inl, inr, arith}
+use Rattle.mg_merge.proofs.Words.{Agent, AreReported, GoesOff, IsPlacing, Plan, PlanCall, PlanStep, Progress, ReportLine, Restarts, Script, StepHappens}
+use Rattle.mg_merge.proofs.Words.{StepIsIdle, StepsRun, World, after_event, epochs_of, line_now, line_retired, start_as, steps_in}
+use Rattle.mg_model.specs.declared.plans.PlanStep.TheVariants.{Begins}
 use Rattle.mg_reports.specs.Sums.{AddUp, LinesAddUp, ReportsAddUp, steps_besides_restarts, steps_of_call, steps_told}
 
 -- ---- one step
@@ -17,19 +13,7 @@ counted step = steps_besides_restarts (step ∷ [])
 
 step_more : (step : PlanStep) (more : List PlanStep) → steps_besides_restarts (step ∷ more) ≡ counted step + steps_besides_restarts more
 step_more (GoesOff l) more = omega arith
-step_more (GoesOn l) more = omega arith
-step_more (Flashes l) more = omega arith
-step_more (Dials l s) more = omega arith
-step_more (Pauses l) more = omega arith
-step_more (Ends l s) more = omega arith
-step_more (Executes which place) more = omega arith
-step_more (TakesReply which) more = omega arith
-step_more Passes more = omega arith
-step_more (TakesNote which) more = omega arith
-step_more TimesOut more = omega arith
-step_more Hears more = omega arith
-step_more Begins more = omega arith
-step_more Restarts more = omega arith
+step_more _ more = omega arith
 
 told_more : (lines : List ReportLine) (line : ReportLine) → steps_told (lines ++ line ∷ []) ≡ steps_told lines + (line.events + line.idle)
 told_more [] line = omega arith
@@ -41,36 +25,12 @@ so_far p = steps_told p.retired + (p.events + p.idle)
 
 counts_event : (script : Script) (first : ℕ) (a : Agent) (p : Progress) (step : PlanStep) (w : World)
     → so_far (after_event script first a p step w) ≡ counted step + so_far p
-counts_event script first a p (GoesOff l) w = omega arith
-counts_event script first a p (GoesOn l) w = omega arith
-counts_event script first a p (Flashes l) w = omega arith
-counts_event script first a p (Dials l s) w = omega arith
-counts_event script first a p (Pauses l) w = omega arith
-counts_event script first a p (Ends l s) w = omega arith
-counts_event script first a p (Executes which place) w = omega arith
-counts_event script first a p (TakesReply which) w = omega arith
-counts_event script first a p Passes w = omega arith
-counts_event script first a p (TakesNote which) w = omega arith
-counts_event script first a p TimesOut w = omega arith
-counts_event script first a p Hears w = omega arith
 counts_event script first a p Begins w = let added = told_more p.retired (line_retired script a p) in omega (arith, added)
-counts_event script first a p Restarts w = omega arith
+counts_event script first a p _ w = omega arith
 
 counts_idle : (step : PlanStep) → (step ≡ Restarts → ⊥) → counted step ≡ 1
-counts_idle (GoesOff l) other = refl
-counts_idle (GoesOn l) other = refl
-counts_idle (Flashes l) other = refl
-counts_idle (Dials l s) other = refl
-counts_idle (Pauses l) other = refl
-counts_idle (Ends l s) other = refl
-counts_idle (Executes which place) other = refl
-counts_idle (TakesReply which) other = refl
-counts_idle Passes other = refl
-counts_idle (TakesNote which) other = refl
-counts_idle TimesOut other = refl
-counts_idle Hears other = refl
-counts_idle Begins other = refl
 counts_idle Restarts other = absurd (other refl)
+counts_idle _ other = refl
 
 step_counts : (script : Script) (first : ℕ) (p : Progress) (step : PlanStep) (after : Progress)
     → StepHappens script first p step after ⊎ StepIsIdle script first p step after → so_far after ≡ counted step + so_far p
@@ -122,14 +82,13 @@ both (step ∷ steps) more =
 -- the steps of all epochs, with the restarts between them
 in_epochs : (count : ℕ) (epochs : List (List PlanStep)) → length epochs ≤ count → steps_besides_restarts (steps_in count epochs) ≡ steps_of_call epochs
 in_epochs zero [] few = refl
-in_epochs zero (steps ∷ more) few = absurd (omega (arith, few))
 in_epochs (suc zero) [] few = refl
 in_epochs (suc zero) (steps ∷ []) few = omega arith
-in_epochs (suc zero) (steps ∷ next ∷ more) few = absurd (omega (arith, few))
 in_epochs (suc (suc count)) [] few = in_epochs (suc count) [] (omega arith)
 in_epochs (suc (suc count)) (steps ∷ more) few =
     let later = in_epochs (suc count) more (omega (arith, few)) in
     let here = both steps (Restarts ∷ steps_in (suc count) more) in omega (arith, later, here)
+in_epochs _ _ few = absurd (omega (arith, few))
 
 all_add : (script : Script) (plan : Plan) (number : ℕ) (calls : List PlanCall) (lines : List (List ReportLine)) → epochs_of calls ≤ epochs_of plan.calls
     → AreReported script plan number calls lines → AddUp calls lines
@@ -139,8 +98,7 @@ all_add script plan number (call ∷ more) (own ∷ others) few (one, are) =
     let own_few : length call.epochs ≤ epochs_of plan.calls = omega (arith, few) in
     let more_few : epochs_of more ≤ epochs_of plan.calls = omega (arith, few) in
     (lines_add script _ _ _ own one ∙ in_epochs (epochs_of plan.calls) call.epochs own_few, all_add script plan (number + 1) more others more_few are)
-all_add script plan number [] (own ∷ others) few are = absurd are
-all_add script plan number (call ∷ more) [] few are = absurd are
+all_add script plan number _ _ few are = absurd are
 
 pub reports_add : ReportsAddUp
 reports_add script plan lines is = all_add script plan 0 plan.calls lines (let same : epochs_of plan.calls ≤ epochs_of plan.calls = omega arith in same) is

@@ -1,21 +1,9 @@
 -- Two runs from two openings in which a call is beside itself: a step that happens in the one happens in the other, and is counted alike.
-use Rattle.std.proofs.Common.{◌≡◌, ◌∙◌, ◌++◌, ◌+◌, ◌⊎◌, ℕ, Bool, List, [], ◌∷◌, sym, ap, subst, inl, inr}
-use Rattle.std.specs.Prelude.{IsTrue, codes}
-use Rattle.std.specs.List.{All}
-use Rattle.mg_model.specs.declared.events.Event.{Event}
-use Rattle.mg_model.specs.declared.events.Event.TheVariants.{OfCall, Restart}
-use Rattle.mg_model.specs.declared.plans.PlanStep.{PlanStep}
-use Rattle.mg_model.specs.Accepted.{IsScript, IsEntryOf}
-use Rattle.mg_model.specs.Agent.{Agent}
-use Rattle.mg_model.specs.Entries.{Entry}
-use Rattle.mg_model.specs.Numbers.{the_call}
-use Rattle.mg_model.specs.Obligations.{NoneBroken}
-use Rattle.mg_model.specs.Plans.{number_begun}
-use Rattle.mg_model.specs.Reports.{Means, Progress, ReportLine, StepHappens, StepIsIdle, after_event, line_retired}
-use Rattle.mg_model.specs.Script.{Script}
-use Rattle.mg_model.specs.Shards.{HasIdentifiersLeft}
-use Rattle.mg_model.specs.World.{World, Opened, Begins as IsBegun, IsOpening, Occurs, OccursTo, begin}
-use Rattle.mg_model.proofs.Cases.{the_some}
+use Rattle.std.proofs.Common.{◌≡◌, ◌∙◌, ◌++◌, ◌+◌, ◌⊎◌, ℕ, Bool, List, [], ◌∷◌, sym, ap, subst, inl, inr, IsTrue, codes}
+use Rattle.mg_merge.proofs.Words.{Agent, All, Entry, Event, HasIdentifiersLeft, IsEntryOf, IsOpening, IsScript, Means, NoneBroken, Occurs, OccursTo, OfCall}
+use Rattle.mg_merge.proofs.Words.{Opened, PlanStep, Progress, ReportLine, Restart, Script, StepHappens, StepIsIdle, World, after_event, begin, line_retired}
+use Rattle.mg_merge.proofs.Words.{number_begun, the_call, the_some}
+use Rattle.mg_model.specs.World.{Begins as IsBegun}
 use Rattle.mg_reports.proofs.Placings.{one_event}
 use Rattle.mg_reports.proofs.Beside.{AreBeside, beside_turned}
 use Rattle.mg_reports.proofs.Meanings.{IsKind, kind_of}

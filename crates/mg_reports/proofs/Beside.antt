@@ -1,26 +1,12 @@
 -- Two runs from two openings in which a call goes by the same events, with those that begin on its lines: their worlds treat the one that stands alike. Of some
 -- calls, of which only this one is open, they have the same requests and replies but for identifiers, in one order, and have retired the same. Each event that
 -- happens in both leaves them so.
-use Rattle.std.proofs.Common.{◌≡◌, ◌∙◌, ◌++◌, ℕ, Bool, true, List, [], ◌∷◌, Option, Some, sym, ap, subst, inl, inr}
-use Rattle.std.specs.Prelude.{◌==◌, IsTrue, if◌then◌else◌}
-use Rattle.mg_model.specs.declared.events.CallEvent.{CallEvent}
+use Rattle.std.proofs.Common.{◌≡◌, ◌∙◌, ◌++◌, ℕ, Bool, true, List, [], ◌∷◌, Option, Some, sym, ap, subst, inl, inr, ◌==◌, IsTrue, if◌then◌else◌}
+use Rattle.mg_merge.proofs.Words.{Agent, AgentSteps, Begins, CallEvent, ChosenRefusal, Event, Executes, Gateway, IsRequestOf, Occurs, OccursTo, Offer, Phase}
+use Rattle.mg_merge.proofs.Words.{Reply, Request, Restart, Runs, Script, World, at_one, awaits_pass, awaits_reply, discard, fresh, kept, offer_to, resting}
+use Rattle.mg_merge.proofs.Words.{sent_in, the_some}
+use Rattle.mg_alike.proofs.Words.{AreOnce, CallAlike, IsBeginning, KeptAlike, Pairwise, PhasesAlike, Renaming, RepliesAlike, TreatAlike}
 use Rattle.mg_model.specs.declared.events.CallEvent.TheVariants as to_call
-use Rattle.mg_model.specs.declared.events.Event.{Event}
-use Rattle.mg_model.specs.declared.events.Event.TheVariants.{Restart}
-use Rattle.mg_model.specs.declared.failures.ChosenRefusal.{ChosenRefusal}
-use Rattle.mg_model.specs.Agent.{Agent, Phase, awaits_reply, awaits_pass, resting}
-use Rattle.mg_model.specs.Delivery.{Offer, fresh, kept, discard}
-use Rattle.mg_model.specs.Gateway.{Gateway, offer_to}
-use Rattle.mg_model.specs.Messages.{Request, Reply}
-use Rattle.mg_model.specs.Script.{Script}
-use Rattle.mg_model.specs.World.{World, AgentSteps, Begins, Executes, IsRequestOf, Occurs, OccursTo, Runs, sent_in}
-use Rattle.mg_model.proofs.Cases.{at_one, the_some}
-use Rattle.mg_safety.specs.MessageNumbers.{AreOnce}
-use Rattle.mg_alike.specs.Agents.{PhasesAlike}
-use Rattle.mg_alike.specs.Laws.{IsBeginning}
-use Rattle.mg_alike.specs.Messages.{RepliesAlike}
-use Rattle.mg_alike.specs.Renaming.{Pairwise, Renaming}
-use Rattle.mg_alike.specs.Worlds.{CallAlike, KeptAlike, TreatAlike}
 use Rattle.mg_alike.proofs.Events.Alone.{execute_retired, steps_retired}
 use Rattle.mg_alike.proofs.Events.Offers.{OffersAlike, offers_alike}
 use Rattle.mg_alike.proofs.Shared.Turned.{treated_mutually}
@@ -70,12 +56,7 @@ sent_same : (r : Renaming) (one other : Phase) → PhasesAlike r one other
 sent_same r (awaits_reply q) (awaits_reply p) same = ((same.call, same.number), tt)
 sent_same r awaits_pass awaits_pass same = tt
 sent_same r resting resting same = tt
-sent_same r (awaits_reply q) awaits_pass same = absurd same
-sent_same r (awaits_reply q) resting same = absurd same
-sent_same r awaits_pass (awaits_reply p) same = absurd same
-sent_same r awaits_pass resting same = absurd same
-sent_same r resting (awaits_reply p) same = absurd same
-sent_same r resting awaits_pass same = absurd same
+sent_same r _ _ same = absurd same
 
 steps_requests : (keep : ℕ → Bool) (w v after next : World) (call : ℕ) (step other : Agent → Option Agent) → AgentSteps w call step after
     → AgentSteps v call other next → TreatAlike after next call → RequestsInStep keep w.requests v.requests → RequestsInStep keep after.requests next.requests

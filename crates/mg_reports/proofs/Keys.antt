@@ -1,11 +1,8 @@
 -- Two lists of messages of which those of some calls have, one after the other, the same calls and the same numbers: what is found in the one by these is found
 -- in the other.
-use Rattle.std.proofs.Common.{◌≡◌, ◌∙◌, ◌++◌, ℕ, Bool, true, false, List, [], ◌∷◌, Option, Some, refl, sym, ap, subst}
-use Rattle.std.specs.Prelude.{if◌then◌else◌}
-use Rattle.std.specs.List.{filter, find}
-use Rattle.mg_model.specs.Messages.{Request, Reply}
-use Rattle.mg_model.proofs.Cases.{false_not_true, none_is_some, the_some}
-use Rattle.mg_alike.specs.Renaming.{Pairwise}
+use Rattle.std.proofs.Common.{◌≡◌, ◌∙◌, ◌++◌, ℕ, Bool, true, false, List, [], ◌∷◌, Option, Some, refl, sym, ap, subst, if◌then◌else◌}
+use Rattle.mg_merge.proofs.Words.{Reply, Request, false_not_true, filter, find, none_is_some, the_some}
+use Rattle.mg_alike.proofs.Words.{Pairwise}
 
 abbrev pub SameKey : {A : Type 0} → (of number : A → ℕ) → A → A → Type 0
 SameKey of number x y = (of y ≡ of x) × (number y ≡ number x)
@@ -40,14 +37,12 @@ joined of number keep (x ∷ new) (y ∷ other) xs ys first second =
     (sym (ap keep first.0.0))
     (first_of_both (SameKey of number) (keep (of x)) x y (those_of of keep (new ++ xs)) (those_of of keep (other ++ ys)) first.0
     (joined of number keep new other xs ys first.1 second))
-joined of number keep [] (y ∷ other) xs ys first second = absurd first
-joined of number keep (x ∷ new) [] xs ys first second = absurd first
+joined of number keep _ _ xs ys first second = absurd first
 
 turned_pairs : {A : Type 0} (of number : A → ℕ) (xs ys : List A) → Pairwise (SameKey of number) xs ys → Pairwise (SameKey of number) ys xs
 turned_pairs of number [] [] same = tt
 turned_pairs of number (x ∷ xs) (y ∷ ys) same = ((sym same.0.0, sym same.0.1), turned_pairs of number xs ys same.1)
-turned_pairs of number [] (y ∷ ys) same = absurd same
-turned_pairs of number (x ∷ xs) [] same = absurd same
+turned_pairs of number _ _ same = absurd same
 
 pub turned : {A : Type 0} (of number : A → ℕ) (keep : ℕ → Bool) (xs ys : List A) → AreInOrder of number keep xs ys → AreInOrder of number keep ys xs
 turned of number keep xs ys same = turned_pairs of number (those_of of keep xs) (those_of of keep ys) same
@@ -76,8 +71,7 @@ found_in_pairs of number test (z ∷ xs) (w ∷ ys) same x found =
         → (IsFound of number test xs x → FoundAt of number test false w ys (number x)) → FoundAt of number test passes w ys (number x)
     go true e later = (w, refl, same.0.1 ∙ ap number (the_some z x e))
     go false e later = later e
-found_in_pairs of number test [] (w ∷ ys) same x found = absurd same
-found_in_pairs of number test (z ∷ xs) [] same x found = absurd same
+found_in_pairs of number test _ _ same x found = absurd same
 
 -- what only a message of these calls passes is found among them
 found_among : {A : Type 0} (of number : A → ℕ) (keep : ℕ → Bool) (test : ℕ → ℕ → Bool) → ((call n : ℕ) → test call n ≡ true → keep call ≡ true) → (xs : List A)

@@ -1,26 +1,14 @@
 -- Where two worlds treat a call alike, its line says the same of it.
-use Rattle.std.proofs.Common.{◌≡◌, ◌∙◌, ℕ, Bool, true, false, List, refl, ap}
-use Rattle.std.specs.Prelude.{◌==◌}
-use Rattle.mg_model.specs.Agent.{Agent, Phase, awaits_reply, awaits_pass, resting}
-use Rattle.mg_model.specs.Reports.{Progress, ReportLine, line_now, phase_word}
-use Rattle.mg_model.specs.Script.{Script}
-use Rattle.mg_model.specs.Tables.{state_of}
-use Rattle.mg_model.specs.World.{World}
-use Rattle.mg_alike.specs.Agents.{PhasesAlike}
-use Rattle.mg_alike.specs.Renaming.{Renaming}
-use Rattle.mg_alike.specs.Worlds.{CallAlike}
+use Rattle.std.proofs.Common.{◌≡◌, ◌∙◌, ℕ, Bool, true, false, List, refl, ap, ◌==◌}
+use Rattle.mg_merge.proofs.Words.{Agent, Phase, Progress, ReportLine, Script, World, awaits_pass, awaits_reply, line_now, phase_word, resting, state_of}
+use Rattle.mg_alike.proofs.Words.{CallAlike, PhasesAlike, Renaming}
 
 word_same : (current is_end : Bool) (r : Renaming) (one other : Phase) → PhasesAlike r one other → phase_word current is_end other ≡ phase_word current is_end one
 word_same false is_end r one other same = refl
 word_same true is_end r (awaits_reply q) (awaits_reply p) same = refl
 word_same true is_end r awaits_pass awaits_pass same = refl
 word_same true is_end r resting resting same = refl
-word_same true is_end r (awaits_reply q) awaits_pass same = absurd same
-word_same true is_end r (awaits_reply q) resting same = absurd same
-word_same true is_end r awaits_pass (awaits_reply p) same = absurd same
-word_same true is_end r awaits_pass resting same = absurd same
-word_same true is_end r resting (awaits_reply p) same = absurd same
-word_same true is_end r resting awaits_pass same = absurd same
+word_same _ is_end r _ _ same = absurd same
 
 abbrev line_of : Script → Progress → (state association current : ℕ) → Phase → ReportLine
 line_of script p state association current phase = record {

@@ -1,27 +1,13 @@
 -- A step of a plan means the same event in two worlds that treat its call alike, and what kind of event that is.
-use Rattle.std.proofs.Common.{◌≡◌, ◌∙◌, ◌+◌, ◌⊎◌, ℕ, Bool, true, Option, Some, None, refl, sym, ap, subst, inl, inr}
-use Rattle.std.specs.Prelude.{◌==◌, ◌&&◌, IsTrue, Contains}
-use Rattle.std.proofs.lemmas.Bool.{eqb-true}
-use Rattle.mg_model.specs.declared.events.CallEvent.{CallEvent}
+use Rattle.std.proofs.Common.{◌≡◌, ◌∙◌, ◌+◌, ◌⊎◌, ℕ, Bool, true, Option, Some, None, refl, sym, ap, subst, inl, inr, ◌==◌, ◌&&◌, IsTrue, Contains}
+use Rattle.mg_merge.proofs.Words.{Agent, CallEvent, Dials, Digit, Ends, Event, Flash, Flashes, GoesOff, GoesOn, Hears, Hook, LineEvent, Means, MeansNote}
+use Rattle.mg_merge.proofs.Words.{MeansReply, MeansRequest, OfCall, Off, On, Passes, Pause, Pauses, PlanStep, Progress, Reply, Request, Restart, Restarts}
+use Rattle.mg_merge.proofs.Words.{Script, SentNote, SignalEnd, TakesNote, TakesReply, TimesOut, World, after_event, and_first, arrival, begin, eqb-true}
+use Rattle.mg_merge.proofs.Words.{execute, hear, is_new, is_of, is_waiting, note, on_a_line, pass, refusal_at, reply, the_association, the_call, the_line}
+use Rattle.mg_merge.proofs.Words.{timer}
+use Rattle.mg_alike.proofs.Words.{CallAlike, IsBeginning, Renaming}
 use Rattle.mg_model.specs.declared.events.CallEvent.TheVariants as to_call
-use Rattle.mg_model.specs.declared.events.Event.{Event}
-use Rattle.mg_model.specs.declared.events.Event.TheVariants.{OfCall, Restart}
-use Rattle.mg_model.specs.declared.line_events.Hook.TheVariants.{On, Off}
-use Rattle.mg_model.specs.declared.line_events.LineEvent.{LineEvent}
-use Rattle.mg_model.specs.declared.line_events.LineEvent.TheVariants.{Hook, Flash, Digit, Pause, SignalEnd}
-use Rattle.mg_model.specs.declared.plans.PlanStep.{PlanStep}
-use Rattle.mg_model.specs.declared.plans.PlanStep.TheVariants.{GoesOff, GoesOn, Flashes, Dials, Pauses, Ends, Executes, TakesReply, Passes, TakesNote, TimesOut, Hears, Begins, Restarts}
-use Rattle.mg_model.specs.Agent.{Agent}
-use Rattle.mg_model.specs.Delivery.{arrival, is_new}
-use Rattle.mg_model.specs.Messages.{Request, Reply, SentNote}
-use Rattle.mg_model.specs.Numbers.{the_association, the_call, the_line}
-use Rattle.mg_model.specs.Reports.{Means, MeansNote, MeansReply, MeansRequest, Progress, after_event, is_of, is_waiting, refusal_at}
-use Rattle.mg_model.specs.Script.{Script}
-use Rattle.mg_model.specs.World.{World, begin, execute, hear, note, on_a_line, pass, reply, timer}
-use Rattle.mg_model.proofs.Cases.{and_first}
-use Rattle.mg_alike.specs.Laws.{IsBeginning}
-use Rattle.mg_alike.specs.Renaming.{Renaming}
-use Rattle.mg_alike.specs.Worlds.{CallAlike}
+use Rattle.mg_model.specs.declared.plans.PlanStep.TheVariants.{Executes, Begins}
 use Rattle.mg_reports.proofs.Keys.{RequestsInStep, RepliesInStep, found_too}
 
 -- ---- the same event
@@ -112,28 +98,24 @@ abbrev pub IsKind : Agent → ℕ → PlanStep → Event → Type 0
 IsKind a next step event =
     IsOwn a step event ⊎ (((step ≡ Begins) × (event ≡ begin next a.call)) ⊎ ((step ≡ Restarts) × (event ≡ Restart)))
 
+own_kind : {a : Agent} {step : PlanStep} {event : Event} (happens : CallEvent) → event ≡ OfCall (the_call a.call) happens → (IsBeginning happens → ⊥)
+    → ((script : Script) (first : ℕ) (b : Agent) (p : Progress) (w : World)
+    → after_event script first b p step w ≡ record p { world = w; events = p.events + 1 }) → IsOwn a step event
+own_kind happens is goes_on counts = record { happens = happens; is = is; goes_on = goes_on; counts = counts }
+
 pub kind_of : (w : World) (a : Agent) (next : ℕ) (step : PlanStep) (event : Event) → Means w a next step event → IsKind a next step event
-kind_of w a next (GoesOff l) event e =
-    inl (record { happens = to_call.OnLine (the_line (a.lines l)) (Hook Off); is = e; goes_on = λ is. is; counts = λ script first b p u. refl })
-kind_of w a next (GoesOn l) event e =
-    inl (record { happens = to_call.OnLine (the_line (a.lines l)) (Hook On); is = e; goes_on = λ is. is; counts = λ script first b p u. refl })
-kind_of w a next (Flashes l) event e =
-    inl (record { happens = to_call.OnLine (the_line (a.lines l)) Flash; is = e; goes_on = λ is. is; counts = λ script first b p u. refl })
-kind_of w a next (Dials l s) event e =
-    inl (record { happens = to_call.OnLine (the_line (a.lines l)) (Digit s); is = e; goes_on = λ is. is; counts = λ script first b p u. refl })
-kind_of w a next (Pauses l) event e =
-    inl (record { happens = to_call.OnLine (the_line (a.lines l)) Pause; is = e; goes_on = λ is. is; counts = λ script first b p u. refl })
-kind_of w a next (Ends l s) event e =
-    inl (record { happens = to_call.OnLine (the_line (a.lines l)) (SignalEnd s); is = e; goes_on = λ is. is; counts = λ script first b p u. refl })
+kind_of w a next (GoesOff l) event e = inl (own_kind (to_call.OnLine (the_line (a.lines l)) (Hook Off)) e (λ is. is) (λ script first b p u. refl))
+kind_of w a next (GoesOn l) event e = inl (own_kind (to_call.OnLine (the_line (a.lines l)) (Hook On)) e (λ is. is) (λ script first b p u. refl))
+kind_of w a next (Flashes l) event e = inl (own_kind (to_call.OnLine (the_line (a.lines l)) Flash) e (λ is. is) (λ script first b p u. refl))
+kind_of w a next (Dials l s) event e = inl (own_kind (to_call.OnLine (the_line (a.lines l)) (Digit s)) e (λ is. is) (λ script first b p u. refl))
+kind_of w a next (Pauses l) event e = inl (own_kind (to_call.OnLine (the_line (a.lines l)) Pause) e (λ is. is) (λ script first b p u. refl))
+kind_of w a next (Ends l s) event e = inl (own_kind (to_call.OnLine (the_line (a.lines l)) (SignalEnd s)) e (λ is. is) (λ script first b p u. refl))
 kind_of w a next (Executes which place) event (q, found, e) =
-    inl (record { happens = to_call.Execute q.number (refusal_at place); is = e; goes_on = λ is. is; counts = λ script first b p u. refl })
-kind_of w a next (TakesReply which) event (q, found, e) =
-    inl (record { happens = to_call.Reply q.number; is = e; goes_on = λ is. is; counts = λ script first b p u. refl })
-kind_of w a next Passes event e = inl (record { happens = to_call.Pass; is = e; goes_on = λ is. is; counts = λ script first b p u. refl })
-kind_of w a next (TakesNote which) event (sent, found, e) =
-    inl (record { happens = to_call.Note sent.number; is = e; goes_on = λ is. is; counts = λ script first b p u. refl })
-kind_of w a next TimesOut event e = inl (record { happens = to_call.Timer; is = e; goes_on = λ is. is; counts = λ script first b p u. refl })
-kind_of w a next Hears event e =
-    inl (record { happens = to_call.Hear (the_association w.gateway.association); is = e; goes_on = λ is. is; counts = λ script first b p u. refl })
+    inl (own_kind (to_call.Execute q.number (refusal_at place)) e (λ is. is) (λ script first b p u. refl))
+kind_of w a next (TakesReply which) event (q, found, e) = inl (own_kind (to_call.Reply q.number) e (λ is. is) (λ script first b p u. refl))
+kind_of w a next Passes event e = inl (own_kind to_call.Pass e (λ is. is) (λ script first b p u. refl))
+kind_of w a next (TakesNote which) event (sent, found, e) = inl (own_kind (to_call.Note sent.number) e (λ is. is) (λ script first b p u. refl))
+kind_of w a next TimesOut event e = inl (own_kind to_call.Timer e (λ is. is) (λ script first b p u. refl))
+kind_of w a next Hears event e = inl (own_kind (to_call.Hear (the_association w.gateway.association)) e (λ is. is) (λ script first b p u. refl))
 kind_of w a next Begins event e = inr (inl (refl, e))
 kind_of w a next Restarts event e = inr (inr (refl, e))

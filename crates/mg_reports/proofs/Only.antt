@@ -1,16 +1,10 @@
 -- Of some calls only one is open: an event of that one leaves it the only one, or makes one that begins on its lines so, and an event of a call that is none of
 -- these leaves it too.
-use Rattle.std.proofs.Common.{◌≡◌, ◌∙◌, ◌⊎◌, ℕ, Bool, true, false, Option, Some, None, refl, sym, ap, inl, inr}
-use Rattle.std.specs.Prelude.{◌==◌, IsTrue, if◌then◌else◌}
-use Rattle.std.proofs.lemmas.Bool.{eqb-true, eqb-false}
-use Rattle.mg_model.specs.declared.events.CallEvent.{CallEvent}
+use Rattle.std.proofs.Common.{◌≡◌, ◌∙◌, ◌⊎◌, ℕ, Bool, true, false, Option, Some, None, refl, sym, ap, inl, inr, ◌==◌, IsTrue, if◌then◌else◌}
+use Rattle.mg_merge.proofs.Words.{Agent, AgentSteps, Begins, CallEvent, ChosenRefusal, Executes, OccursTo, Request, Script, World, begun, eqb-false, eqb-true}
+use Rattle.mg_merge.proofs.Words.{none_is_some}
 use Rattle.mg_model.specs.declared.events.CallEvent.TheVariants as to_call
-use Rattle.mg_model.specs.declared.failures.ChosenRefusal.{ChosenRefusal}
-use Rattle.mg_model.specs.Agent.{Agent, begun}
-use Rattle.mg_model.specs.Messages.{Request}
-use Rattle.mg_model.specs.Script.{Script}
-use Rattle.mg_model.specs.World.{World, AgentSteps, Begins, Executes, OccursTo}
-use Rattle.mg_model.proofs.Cases.{none_is_some}
+use Rattle.mg_alike.proofs.Events.Kept.{step_of}
 
 abbrev pub IsOnly : (keep : ℕ → Bool) → World → (call : ℕ) → Type 0
 IsOnly keep w call = (other : ℕ) (b : Agent) → IsTrue (keep other) → w.agent other ≡ Some b → other ≡ call
@@ -47,12 +41,8 @@ module _ (w after : World) (one other : ℕ) (b : Agent) (there : after.agent ot
   was_open : (script : Script) (happens : CallEvent) → OccursTo script w one happens after → WasOpen w one other
   was_open script (to_call.OnLine line event) (held, o) = same_open (ap (λ (x : World). x.agent) o.after_is)
   was_open script (to_call.Execute number chosen) (request, of, executes) = execute_open request chosen executes
-  was_open script (to_call.Reply number) (answer, of, s) = step_open _ s
-  was_open script to_call.Pass s = step_open _ s
-  was_open script (to_call.Note number) (sent, of, s) = step_open _ s
-  was_open script to_call.Timer s = step_open _ s
   was_open script (to_call.Begin old) s = begun_open script old.0 s
-  was_open script (to_call.Hear association) (past, s) = step_open _ s
+  was_open script happens occurs = let s = step_of script w after one happens tt occurs in step_open s.0 s.1
 
 module _ (script : Script) (keep : ℕ → Bool) (w after : World) (call : ℕ) (only : IsOnly keep w call) where
   -- an event of the call

@@ -1,9 +1,6 @@
 -- A call of two openings is beside itself in them, where of some calls it is the only one of each.
-use Rattle.std.proofs.Common.{◌≡◌, ◌∙◌, ℕ, Bool, List, [], refl, sym, ap, subst}
-use Rattle.std.specs.Prelude.{IsTrue, Contains}
-use Rattle.mg_model.specs.Messages.{Request, Reply}
-use Rattle.mg_model.specs.Script.{Script}
-use Rattle.mg_model.specs.World.{World, Opened, IsOpening, Runs}
+use Rattle.std.proofs.Common.{◌≡◌, ◌∙◌, ℕ, Bool, List, [], refl, sym, ap, subst, IsTrue, Contains}
+use Rattle.mg_merge.proofs.Words.{IsOpening, Opened, Reply, Request, Runs, Script, World}
 use Rattle.mg_alike.proofs.Events.Others.{openings_alike}
 use Rattle.mg_reports.proofs.Beside.{AreBeside}
 use Rattle.mg_reports.proofs.Keys.{RequestsInStep, RepliesInStep}

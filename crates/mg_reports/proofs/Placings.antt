@@ -1,13 +1,8 @@
 -- Where restarts are placed, and what a step means.
-use Rattle.std.proofs.Common.{◌≡◌, ◌∙◌, ℕ, List, [], ◌∷◌, Option, Some, None, refl, sym, ap, subst, inl, inr, arith}
-use Rattle.std.specs.Prelude.{◌≤◌}
-use Rattle.mg_model.specs.Agent.{Agent}
-use Rattle.mg_model.specs.Messages.{Request, Reply, SentNote}
-use Rattle.mg_model.specs.declared.plans.PlanStep.{PlanStep}
-use Rattle.mg_model.specs.declared.plans.PlanStep.TheVariants.{GoesOff, GoesOn, Flashes, Dials, Pauses, Ends, Executes, TakesReply, Passes, TakesNote, TimesOut, Hears, Begins, Restarts}
-use Rattle.mg_model.specs.Reports.{MeansNote, IsPlacing, refusal_at}
-use Rattle.mg_model.specs.World.{World, execute, reply, note}
-use Rattle.mg_model.proofs.Cases.{the_some}
+use Rattle.std.proofs.Common.{◌≡◌, ◌∙◌, ℕ, List, [], ◌∷◌, Option, Some, None, refl, sym, ap, subst, inl, inr, arith, ◌≤◌}
+use Rattle.mg_merge.proofs.Words.{Agent, IsPlacing, MeansNote, PlanStep, Reply, Request, SentNote, TakesNote, TakesReply, World, execute, note, refusal_at}
+use Rattle.mg_merge.proofs.Words.{reply, the_some}
+use Rattle.mg_model.specs.declared.plans.PlanStep.TheVariants.{Executes}
 use Rattle.mg_reports.specs.Laws.{OnePlacingWithoutRestarts, StepsMeanOneEvent}
 
 as_they_are : (steps placed : List PlanStep) → IsPlacing steps 0 placed → placed ≡ steps
@@ -34,20 +29,10 @@ one_note w a None x y first second =
 one_note w a (Some n) x y first second = first.2 ∙ sym second.2
 
 pub one_event : StepsMeanOneEvent
-one_event w a next (GoesOff l) one other e f = e ∙ sym f
-one_event w a next (GoesOn l) one other e f = e ∙ sym f
-one_event w a next (Flashes l) one other e f = e ∙ sym f
-one_event w a next (Dials l s) one other e f = e ∙ sym f
-one_event w a next (Pauses l) one other e f = e ∙ sym f
-one_event w a next (Ends l s) one other e f = e ∙ sym f
 one_event w a next (Executes which place) one other (r, found, e) (s, again, f) =
     e ∙ ap (λ (x : Request). execute a.call x.number (refusal_at place)) (the_some r s (sym found ∙ again)) ∙ sym f
 one_event w a next (TakesReply which) one other (r, found, e) (s, again, f) =
     e ∙ ap (λ (x : Reply). reply a.call x.number) (the_some r s (sym found ∙ again)) ∙ sym f
-one_event w a next Passes one other e f = e ∙ sym f
 one_event w a next (TakesNote which) one other (x, found, e) (y, again, f) =
     e ∙ ap (λ n. note a.call n) (one_note w a which x y found again) ∙ sym f
-one_event w a next TimesOut one other e f = e ∙ sym f
-one_event w a next Hears one other e f = e ∙ sym f
-one_event w a next Begins one other e f = e ∙ sym f
-one_event w a next Restarts one other e f = e ∙ sym f
+one_event w a next _ one other e f = e ∙ sym f

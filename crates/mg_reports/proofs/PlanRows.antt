@@ -1,14 +1,8 @@
 -- Rows of plans and shards, computed: where restarts stand among a call's steps, the numbers of calls that begin, and the merge of two histories. What they
 -- should give was reasoned by hand.
 use Rattle.std.proofs.Common.{◌≡◌, List, [], ◌∷◌, None, refl, inl, inr}
-use Rattle.mg_model.specs.declared.events.Event.{Event}
-use Rattle.mg_model.specs.declared.events.Event.TheVariants.{Restart}
-use Rattle.mg_model.specs.declared.plans.PlanStep.{PlanStep}
-use Rattle.mg_model.specs.declared.plans.PlanStep.TheVariants.{GoesOff, TakesNote, Hears, Restarts}
-use Rattle.mg_model.specs.Plans.{PlanCall, Plan, epochs_of, steps_in, restarts_of_others, number_begun}
-use Rattle.mg_model.specs.Reports.{IsPlacing}
-use Rattle.mg_model.specs.Shards.{cut_at_restarts, merged_from, merged, restarts_in}
-use Rattle.mg_model.specs.World.{pass, timer}
+use Rattle.mg_merge.proofs.Words.{Event, GoesOff, Hears, IsPlacing, Plan, PlanCall, PlanStep, Restart, Restarts, TakesNote, cut_at_restarts, epochs_of, merged}
+use Rattle.mg_merge.proofs.Words.{merged_from, number_begun, pass, restarts_in, restarts_of_others, steps_in, timer}
 
 -- ---- plans
 

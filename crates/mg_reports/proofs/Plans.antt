@@ -1,17 +1,8 @@
 -- A plan has one report, call by call; and where no step is a `restart`, no call has restarts of others.
-use Rattle.std.proofs.Common.{◌≡◌, ◌∙◌, ◌+◌, ℕ, List, [], ◌∷◌, refl, ap, subst, arith}
-use Rattle.std.specs.Prelude.{Contains}
-use Rattle.std.specs.List.{All}
-use Rattle.mg_model.specs.declared.plans.PlanStep.{PlanStep}
-use Rattle.mg_model.specs.declared.plans.PlanStep.TheVariants.{GoesOff, GoesOn, Flashes, Dials, Pauses, Ends, Executes, TakesReply, Passes, TakesNote, TimesOut, Hears, Begins, Restarts}
-use Rattle.mg_model.specs.Accepted.{IsScript, IsEntryOf}
-use Rattle.mg_model.specs.Entries.{Entry}
-use Rattle.mg_model.specs.Obligations.{NoneBroken}
-use Rattle.mg_model.specs.Plans.{Plan, PlanCall, epochs_of, opened_as, restarts_among, restarts_asked, restarts_of_all, restarts_of_others, steps_in}
-use Rattle.mg_model.specs.Reports.{AreReported, IsReported, ReportLine}
-use Rattle.mg_model.specs.Script.{Script}
-use Rattle.mg_model.proofs.Single.{first_in, later_in}
-use Rattle.mg_merge.specs.Identifiers.{HasFewCommands}
+use Rattle.std.proofs.Common.{◌≡◌, ◌∙◌, ◌+◌, ℕ, List, [], ◌∷◌, refl, ap, subst, arith, Contains}
+use Rattle.mg_merge.proofs.Words.{All, AreReported, Entry, IsEntryOf, IsReported, IsScript, NoneBroken, Plan, PlanCall, PlanStep, ReportLine, Restarts, Script}
+use Rattle.mg_merge.proofs.Words.{epochs_of, first_in, later_in, opened_as, restarts_among, restarts_asked, restarts_of_all, restarts_of_others, steps_in}
+use Rattle.mg_alike.proofs.Words.{HasFewCommands}
 use Rattle.mg_reports.proofs.Runs.{one_alone}
 use Rattle.mg_reports.specs.OneReport.{OneReport, PlansWithoutRestartSteps}
 
@@ -33,10 +24,9 @@ module _ (script : Script) (entries : List Entry) (is_script : IsScript script) 
       (one_alone script entries is_script listed none_broken few (opened_as number call) (steps_in (epochs_of plan.calls) call.epochs) own its one other)
       ∙ ap (λ (l : List (List ReportLine)). own ∷ l)
       (each_call (number + 1) more (λ c there. none c (later_in call more c there)) lines others are.1 also.1)
-  each_call number [] none [] (its ∷ others) are also = absurd also
   each_call number [] none (own ∷ lines) others are also = absurd are
   each_call number (call ∷ more) none [] others are also = absurd are
-  each_call number (call ∷ more) none (own ∷ lines) [] are also = absurd also
+  each_call number _ none _ _ are also = absurd also
 
 pub one_report : OneReport
 one_report script entries is_script listed none_broken few plan none lines others are also =
@@ -47,19 +37,7 @@ one_report script entries is_script listed none_broken few plan none lines other
 none_among : (steps : List PlanStep) → (Contains steps Restarts → ⊥) → restarts_among steps ≡ 0
 none_among [] none = refl
 none_among (Restarts ∷ more) none = absurd (none (first_in Restarts more))
-none_among (GoesOff l ∷ more) none = none_among more (λ there. none (later_in (GoesOff l) more Restarts there))
-none_among (GoesOn l ∷ more) none = none_among more (λ there. none (later_in (GoesOn l) more Restarts there))
-none_among (Flashes l ∷ more) none = none_among more (λ there. none (later_in (Flashes l) more Restarts there))
-none_among (Dials l s ∷ more) none = none_among more (λ there. none (later_in (Dials l s) more Restarts there))
-none_among (Pauses l ∷ more) none = none_among more (λ there. none (later_in (Pauses l) more Restarts there))
-none_among (Ends l s ∷ more) none = none_among more (λ there. none (later_in (Ends l s) more Restarts there))
-none_among (Executes which place ∷ more) none = none_among more (λ there. none (later_in (Executes which place) more Restarts there))
-none_among (TakesReply which ∷ more) none = none_among more (λ there. none (later_in (TakesReply which) more Restarts there))
-none_among (Passes ∷ more) none = none_among more (λ there. none (later_in Passes more Restarts there))
-none_among (TakesNote which ∷ more) none = none_among more (λ there. none (later_in (TakesNote which) more Restarts there))
-none_among (TimesOut ∷ more) none = none_among more (λ there. none (later_in TimesOut more Restarts there))
-none_among (Hears ∷ more) none = none_among more (λ there. none (later_in Hears more Restarts there))
-none_among (Begins ∷ more) none = none_among more (λ there. none (later_in Begins more Restarts there))
+none_among (step ∷ more) none = none_among more (λ there. none (later_in step more Restarts there))
 
 none_asked : (epochs : List (List PlanStep)) → ((steps : List PlanStep) → Contains epochs steps → Contains steps Restarts → ⊥) → restarts_asked epochs ≡ 0
 none_asked [] none = refl

@@ -1,22 +1,9 @@
 -- Two runs of a call alone by the same steps tell the same lines.
-use Rattle.std.proofs.Common.{◌≡◌, ◌∙◌, ◌++◌, ℕ, Bool, true, List, [], ◌∷◌, Some, refl, sym, ap, subst, arith}
-use Rattle.std.specs.Prelude.{IsTrue, Contains}
-use Rattle.std.specs.List.{All}
-use Rattle.mg_model.specs.declared.events.Event.{Event}
-use Rattle.mg_model.specs.declared.plans.PlanStep.{PlanStep}
-use Rattle.mg_model.specs.Accepted.{IsScript, IsEntryOf}
-use Rattle.mg_model.specs.Agent.{Agent}
-use Rattle.mg_model.specs.Entries.{Entry}
-use Rattle.mg_model.specs.Obligations.{NoneBroken}
-use Rattle.mg_model.specs.Reports.{Progress, ReportLine, StepsRun, line_now, start_as}
-use Rattle.mg_model.specs.Script.{Script}
-use Rattle.mg_model.specs.Shards.{HasIdentifiersLeft}
-use Rattle.mg_model.specs.World.{World, Opened, IsOpening, Runs}
-use Rattle.mg_model.proofs.Cases.{the_some}
-use Rattle.mg_model.proofs.Single.{only_here, only_one}
-use Rattle.mg_merge.specs.Identifiers.{HasFewCommands}
+use Rattle.std.proofs.Common.{◌≡◌, ◌∙◌, ◌++◌, ℕ, Bool, true, List, [], ◌∷◌, Some, refl, sym, ap, subst, arith, IsTrue, Contains}
+use Rattle.mg_merge.proofs.Words.{Agent, All, Entry, Event, HasIdentifiersLeft, IsEntryOf, IsOpening, IsScript, NoneBroken, Opened, PlanStep, Progress}
+use Rattle.mg_merge.proofs.Words.{ReportLine, Runs, Script, StepsRun, World, line_now, only_here, only_one, start_as, the_some}
+use Rattle.mg_alike.proofs.Words.{HasEnoughNumbers, HasFewCommands}
 use Rattle.mg_reports.proofs.Placings.{one_placing}
-use Rattle.mg_alike.specs.Alone.{HasEnoughNumbers}
 use Rattle.mg_alike.proofs.Alone.Enough.{classes_enough, never_run_out}
 use Rattle.mg_reports.proofs.Along.{AreAlong, along, next_step}
 use Rattle.mg_reports.proofs.Beside.{AreBeside}

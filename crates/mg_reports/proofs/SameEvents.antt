@@ -1,30 +1,18 @@
 -- An event happens in one way with the same replies, where messages are named by their numbers.
 use Rattle.std.proofs.Common.{◌≡◌, ◌∙◌, ◌++◌, ◌==◌, if◌then◌else◌, ℕ, List, [], ◌∷◌, length, Option, Some, None, refl, sym, ap, subst, arith, inl, inr}
 use Rattle.std.proofs.lemmas.List.{length-append as length_append}
-use Rattle.mg_model.specs.declared.events.CallEvent.{CallEvent}
+use Rattle.mg_merge.proofs.Words.{Agent, AgentSteps, Begins, Board, CallEvent, ChosenRefusal, Event, Executes, Failure, Gateway, IsExecutedBy, IsFirst}
+use Rattle.mg_merge.proofs.Words.{IsSettled, LineEvent, LineOccurs, Occurs, OccursTo, OfCall, Offer, Outcome, Reply, Request, Restart, Running, Script}
+use Rattle.mg_merge.proofs.Words.{SentNote, World, after_request, agent_steps, discard, fresh, kept, line_places, noted, notes_from, offer_to, replied}
+use Rattle.mg_merge.proofs.Words.{sent_notes, start_of, the_some, with_gateway, with_line, with_notes}
+use Rattle.mg_alike.proofs.Words.{AreNamedByNumber}
 use Rattle.mg_model.specs.declared.events.CallEvent.TheVariants as to_call
-use Rattle.mg_model.specs.declared.events.Event.{Event}
-use Rattle.mg_model.specs.declared.events.Event.TheVariants.{OfCall, Restart}
-use Rattle.mg_model.specs.declared.failures.ChosenRefusal.{ChosenRefusal}
-use Rattle.mg_model.specs.declared.failures.Failure.{Failure}
-use Rattle.mg_model.specs.declared.line_events.LineEvent.{LineEvent}
 use Rattle.mg_model.specs.Agent as agents
-use Rattle.mg_model.specs.Agent.{Agent, replied, noted}
-use Rattle.mg_model.specs.Board.{Board, IsSettled}
-use Rattle.mg_model.specs.Delivery.{Offer, fresh, kept, discard}
 use Rattle.mg_model.specs.Gateway as gateways
-use Rattle.mg_model.specs.Gateway.{Gateway, IsExecutedBy, offer_to, after_request, sent_notes, notes_from, with_line, with_notes, start_of}
-use Rattle.mg_model.specs.LineEvents.{Outcome}
-use Rattle.mg_model.specs.Messages.{Request, Reply, SentNote}
-use Rattle.mg_model.specs.RequestRun.{Running}
-use Rattle.mg_model.specs.Script.{Script}
-use Rattle.mg_model.specs.Tables.{line_places}
-use Rattle.mg_model.specs.World.{World, OccursTo, Occurs, AgentSteps, agent_steps, with_gateway, LineOccurs, IsFirst, Executes, Begins}
-use Rattle.mg_model.proofs.Cases.{the_some}
 use Rattle.mg_model.proofs.Offered.{kept_at}
-use Rattle.mg_safety.specs.MessageNumbers.{AreNamedByNumber}
 use Rattle.mg_model.proofs.Settled.{settled_same}
 use Rattle.mg_reports.proofs.SameRequests.{first_same, same_run}
+use Rattle.mg_alike.proofs.Events.Kept.{step_of}
 
 -- ---- replies that end alike
 
@@ -166,12 +154,8 @@ of_call_adds script w after call (to_call.OnLine line event) x = ([], ap (λ (v 
 of_call_adds script w after call (to_call.Execute number chosen) (request, is, inl x) = (x.answer ∷ [], ap (λ (v : World). v.replies) x.after_is)
 of_call_adds script w after call (to_call.Execute number chosen) (request, is, inr (inl x)) = (x.answer ∷ [], ap (λ (v : World). v.replies) x.after_is)
 of_call_adds script w after call (to_call.Execute number chosen) (request, is, inr (inr x)) = ([], ap (λ (v : World). v.replies) x.1)
-of_call_adds script w after call (to_call.Reply number) (answer, is, x) = step_adds w after call (λ a. replied script a answer) x
-of_call_adds script w after call to_call.Pass x = step_adds w after call (agents.passed script) x
-of_call_adds script w after call (to_call.Note number) (sent, is, x) = step_adds w after call (λ a. noted script a (line_places script) sent) x
-of_call_adds script w after call to_call.Timer x = step_adds w after call (agents.timed script) x
 of_call_adds script w after call (to_call.Begin old) x = ([], ap (λ (v : World). v.replies) x.after_is)
-of_call_adds script w after call (to_call.Hear association) x = step_adds w after call (λ a. agents.heard script a association.0) x.1
+of_call_adds script w after call happens occurs = let s = step_of script w after call happens tt occurs in step_adds w after call s.0 s.1
 
 pub event_adds : (script : Script) (w after : World) (event : Event) → Occurs script w event after → (more : List Reply) × (after.replies ≡ more ++ w.replies)
 event_adds script w after (OfCall call happens) x = of_call_adds script w after call.0 happens x

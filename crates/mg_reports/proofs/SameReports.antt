@@ -1,47 +1,24 @@
 -- Two runs of a call alone by the same steps, with the same replies, end alike.
-use Rattle.std.proofs.Common.{◌≡◌, ◌∙◌, ◌++◌, ◌+◌, ◌⊎◌, ℕ, List, [], ◌∷◌, refl, sym, ap, subst, inl, inr}
-use Rattle.std.proofs.lemmas.List.{append_assoc}
-use Rattle.mg_model.specs.declared.events.Event.{Event}
-use Rattle.mg_model.specs.Agent.{Agent}
-use Rattle.mg_model.specs.Messages.{Reply}
-use Rattle.mg_model.specs.declared.plans.PlanStep.{PlanStep}
-use Rattle.mg_model.specs.declared.plans.PlanStep.TheVariants.{GoesOff, GoesOn, Flashes, Dials, Pauses, Ends, Executes, TakesReply, Passes, TakesNote, TimesOut, Hears, Begins, Restarts}
-use Rattle.mg_model.specs.Plans.{number_begun}
-use Rattle.mg_model.specs.Reports.{Means, Progress, StepHappens, StepIsIdle, StepsRun, after_event}
-use Rattle.mg_model.specs.Script.{Script}
-use Rattle.mg_model.specs.World.{World, Occurs}
-use Rattle.mg_model.proofs.Cases.{the_some}
+use Rattle.std.proofs.Common.{◌≡◌, ◌∙◌, ◌++◌, ◌+◌, ℕ, List, [], ◌∷◌, refl, sym, ap, subst, inl, inr}
+use Rattle.mg_merge.proofs.Words.{Agent, Event, GoesOff, Means, Occurs, PlanStep, Progress, Reply, Script, StepHappens, StepsRun, World, after_event}
+use Rattle.mg_merge.proofs.Words.{append_assoc, number_begun, the_some}
+use Rattle.mg_alike.proofs.Words.{AreNamedByNumber}
 use Rattle.mg_safety.proofs.Messages.NamedMessages.{event_numbered, opening_numbered}
 use Rattle.mg_safety.proofs.Messages.NumberedWorlds.{IsNumbered}
-use Rattle.mg_safety.specs.MessageNumbers.{AreNamedByNumber}
 use Rattle.mg_reports.proofs.Placings.{one_event}
 use Rattle.mg_reports.proofs.SameEvents.{EndAlike, same_event, event_adds}
 use Rattle.mg_reports.specs.Laws.{RepliesDetermineRuns}
+use Rattle.mg_reports.proofs.Along.{Goes}
 
 named : (w : World) → IsNumbered w → AreNamedByNumber w
 named w numbered = record { requests = numbered.requests.once; replies = numbered.replies.once; notes = numbered.notes.once }
-
-abbrev Goes : Script → ℕ → Progress → PlanStep → Progress → Type 0
-Goes script first p step after = StepHappens script first p step after ⊎ StepIsIdle script first p step after
 
 -- ---- a step
 
 -- the world after an event, whatever is counted
 world_after : (script : Script) (first : ℕ) (a : Agent) (p : Progress) (step : PlanStep) (w : World) → (after_event script first a p step w).world ≡ w
 world_after script first a p (GoesOff l) w = refl
-world_after script first a p (GoesOn l) w = refl
-world_after script first a p (Flashes l) w = refl
-world_after script first a p (Dials l s) w = refl
-world_after script first a p (Pauses l) w = refl
-world_after script first a p (Ends l s) w = refl
-world_after script first a p (Executes which place) w = refl
-world_after script first a p (TakesReply which) w = refl
-world_after script first a p Passes w = refl
-world_after script first a p (TakesNote which) w = refl
-world_after script first a p TimesOut w = refl
-world_after script first a p Hears w = refl
-world_after script first a p Begins w = refl
-world_after script first a p Restarts w = refl
+world_after script first a p _ w = refl
 
 numbered_after : (script : Script) (first : ℕ) (p : Progress) (step : PlanStep) (after : Progress) → IsNumbered p.world → Goes script first p step after
     → IsNumbered after.world

@@ -1,24 +1,12 @@
 -- A request runs in one way with the same results: they tell what the gateway chose.
-use Rattle.std.proofs.Common.{◌≡◌, ◌∙◌, ◌+◌, ◌<◌, ◌++◌, ◌==◌, ℕ, Bool, true, false, List, [], ◌∷◌, Option, Some, option_map, refl, sym, ap, subst, arith, inl, inr, zero, suc, true≢false}
-use Rattle.std.proofs.lemmas.List.{append_cancel_left, append_assoc, append-nil as append_nil}
-use Rattle.mg_names.specs.declared.codes.Code.{Code}
-use Rattle.mg_names.specs.declared.codes.Code.TheVariants.{UnknownContext, UnknownTermination, AlreadyInContext, NotInContext, InternalFailure, InsufficientResources}
-use Rattle.mg_model.specs.declared.failures.ChosenRefusal.{ChosenRefusal}
-use Rattle.mg_model.specs.declared.failures.Failure.{Failure}
-use Rattle.mg_model.specs.declared.failures.Refusal.{Refusal}
-use Rattle.mg_names.specs.declared.identifiers.ContextId.{ContextId}
-use Rattle.mg_model.specs.declared.items.Added.{Added}
+use Rattle.std.proofs.Common.{◌≡◌, ◌∙◌, ◌+◌, ◌++◌, ◌==◌, ℕ, Bool, true, false, List, [], ◌∷◌, Option, Some, option_map, refl, sym, ap, subst, inl, inr}
+use Rattle.std.proofs.Common.{true≢false}
+use Rattle.std.proofs.lemmas.List.{append-nil as append_nil}
+use Rattle.mg_merge.proofs.Words.{Add, Added, Board, Chosen, ChosenRefusal, Code, ContextId, Done, Fails, Failure, IsExecuted, Item, RequestCommand, Running}
+use Rattle.mg_merge.proofs.Words.{RunsFrom, Settings, Succeeds, after_command, append_assoc, append_cancel_left, choose, chosen_at, code_of, creates_context}
+use Rattle.mg_merge.proofs.Words.{creates_ephemeral, effect, item_at, none_is_some, only_if, the_some}
 use Rattle.mg_model.specs.declared.items.Added.TheVariants as added
-use Rattle.mg_model.specs.declared.items.Settings.{Settings}
-use Rattle.mg_model.specs.declared.items.Item.{Item}
-use Rattle.mg_model.specs.declared.items.Item.TheVariants.{Add, Modify, Move, Subtract, SubtractAll, SetTopology}
-use Rattle.mg_model.specs.Board.{Board}
-use Rattle.mg_model.specs.Failures.{code_of}
-use Rattle.mg_model.specs.Items.{Chosen, Done, IsExecuted, creates_context, creates_ephemeral, effect, rank, only_if}
-use Rattle.mg_model.specs.Messages.{RequestCommand}
-use Rattle.mg_model.specs.Numbers.{choose}
-use Rattle.mg_model.specs.RequestRun.{Running, RunsFrom, Succeeds, Fails, IsRefusedWith, after_command, item_at, chosen_at}
-use Rattle.mg_model.proofs.Cases.{none_is_some, the_some}
+use Rattle.mg_alike.proofs.Requests.OneCommand.{one_code}
 
 -- ---- lists
 
@@ -46,11 +34,7 @@ same_effect b (Add context (added.Line l) settings) c d contexts ephemerals =
 same_effect b (Add context added.NewEphemeral settings) c d contexts ephemerals =
     same_context b context added.NewEphemeral settings c.context d.context c.ephemeral (context.0 == choose) refl contexts
     ∙ ap (λ k. effect b (Add context added.NewEphemeral settings) (record { context = d.context; ephemeral = k })) (ephemerals refl)
-same_effect b (Modify context t settings) c d contexts ephemerals = refl
-same_effect b (Move context t settings) c d contexts ephemerals = refl
-same_effect b (Subtract context t) c d contexts ephemerals = refl
-same_effect b (SubtractAll context) c d contexts ephemerals = refl
-same_effect b (SetTopology context t u topology) c d contexts ephemerals = refl
+same_effect b _ c d contexts ephemerals = refl
 
 -- what the result names was chosen
 named : (test : Bool) (x y : ℕ) → only_if test x ≡ only_if test y → test ≡ true → x ≡ y
@@ -73,36 +57,6 @@ not_both r command place number chosen next code s fails = elim fails.may [
   | inl applies ↦ s.executed.legal code applies
   | inr is_chosen ↦ none_is_some code (ap (option_map code_of) (sym s.not_chosen) ∙ is_chosen)
 ]
-
--- the codes are in one order
-abbrev number_to_code : ℕ → Code
-number_to_code zero = UnknownContext
-number_to_code (suc zero) = UnknownTermination
-number_to_code (suc (suc zero)) = AlreadyInContext
-number_to_code (suc (suc (suc zero))) = NotInContext
-number_to_code (suc (suc (suc (suc zero)))) = InternalFailure
-number_to_code (suc (suc (suc (suc (suc n))))) = InsufficientResources
-
-of_rank : (code : Code) → number_to_code (rank code) ≡ code
-of_rank UnknownContext = refl
-of_rank UnknownTermination = refl
-of_rank AlreadyInContext = refl
-of_rank NotInContext = refl
-of_rank InternalFailure = refl
-of_rank InsufficientResources = refl
-
-one_code : (b : Board) (item : Item) (refusal : Option Refusal) (code other : Code) → IsRefusedWith b item refusal code → IsRefusedWith b item refusal other
-    → code ≡ other
-one_code b item refusal code other x y = sym (of_rank code) ∙ ap number_to_code same ∙ of_rank other
-  where
-    same : rank code ≡ rank other
-    same = omega (arith, not_below, not_above)
-      where
-        not_below : rank code < rank other → ⊥
-        not_below below = y.first code below x.may
-
-        not_above : rank other < rank code → ⊥
-        not_above above = x.first other above y.may
 
 -- ---- the commands one after the other
 
@@ -146,5 +100,6 @@ same_run number chosen r place (command ∷ rest) end other failure also (inl (n
 same_run number chosen r place (command ∷ rest) end other failure also (inr (code, fails, is, tells)) (inl (next, s, runs)) same =
     absurd (not_both r command place number chosen next code s fails)
 same_run number chosen r place (command ∷ rest) end other failure also (inr (code, fails, is, tells)) (inr (its, refused, at, told)) same =
-    let one = one_code r.board (item_at r.results command) (chosen_at chosen place) code its fails refused in
+    let one = one_code r.board r.board (item_at r.results command) (item_at r.results command) (chosen_at chosen place) (λ c may. may) (λ c may. may) code its
+    fails refused in
     (is ∙ sym at, tells ∙ ap (λ (c : Code). Some (record { place = place; code = c })) one ∙ sym told)

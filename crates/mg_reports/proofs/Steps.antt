@@ -1,27 +1,14 @@
 -- Worlds of two runs from two openings, in which a call is beside itself: an event that happens in both leaves it so, and what a step means happens in both or in
 -- neither.
-use Rattle.std.proofs.Common.{◌≡◌, ◌∙◌, ◌<◌, ◌++◌, ℕ, Bool, List, [], ◌∷◌, Option, Some, None, refl, sym, ap, subst, inl, inr}
-use Rattle.std.specs.Prelude.{IsTrue}
-use Rattle.std.specs.List.{All}
-use Rattle.mg_model.specs.declared.events.CallEvent.{CallEvent}
-use Rattle.mg_model.specs.declared.events.Event.{Event}
-use Rattle.mg_model.specs.declared.events.Event.TheVariants.{OfCall, Restart}
-use Rattle.mg_model.specs.declared.plans.PlanStep.{PlanStep}
-use Rattle.mg_model.specs.Accepted.{IsScript, IsEntryOf}
-use Rattle.mg_model.specs.Agent.{Agent}
-use Rattle.mg_model.specs.Entries.{Entry}
-use Rattle.mg_model.specs.Gateway.{restarted}
-use Rattle.mg_model.specs.Numbers.{last_association, the_call}
-use Rattle.mg_model.specs.Obligations.{NoneBroken}
-use Rattle.mg_model.specs.Reports.{Means}
-use Rattle.mg_model.specs.Script.{Script}
-use Rattle.mg_model.specs.Shards.{HasIdentifiersLeft}
-use Rattle.mg_model.specs.World.{World, Opened, Begins as IsBegun, IsOpening, Occurs, OccursTo, begin, with_gateway}
-use Rattle.mg_model.proofs.Cases.{none_is_some, the_some}
+use Rattle.std.proofs.Common.{◌≡◌, ◌∙◌, ◌<◌, ◌++◌, ℕ, Bool, List, [], ◌∷◌, Option, Some, None, refl, sym, ap, subst, inl, inr, IsTrue}
+use Rattle.mg_merge.proofs.Words.{Agent, All, CallEvent, Entry, Event, HasIdentifiersLeft, IsEntryOf, IsOpening, IsScript, Means, NoneBroken, Occurs, OccursTo}
+use Rattle.mg_merge.proofs.Words.{OfCall, Opened, PlanStep, Restart, Script, World, begin, last_association, none_is_some, restarted, the_call, the_some}
+use Rattle.mg_merge.proofs.Words.{with_gateway}
+use Rattle.mg_alike.proofs.Words.{AreReached, IsBeginning}
+use Rattle.mg_model.specs.World.{Begins as IsBegun}
 use Rattle.mg_safety.proofs.Messages.NamedMessages.{opening_numbered, runs_numbered}
 use Rattle.mg_safety.proofs.Messages.NumberedWorlds.{IsNumbered}
-use Rattle.mg_alike.specs.Laws.{AreReached, IsBeginning}
-use Rattle.mg_alike.proofs.Events.Alone.{runs_on}
+use Rattle.mg_alike.proofs.Events.Alone.{runs_on, reached_both}
 use Rattle.mg_alike.proofs.Events.Begun.{beginnings_alike, beginnings_happen}
 use Rattle.mg_alike.proofs.Events.Every.{events_alike, restarts_alike}
 use Rattle.mg_alike.proofs.Events.Happening.{events_happen}
@@ -34,22 +21,8 @@ use Rattle.mg_reports.proofs.Only.{only_begun, only_own, only_same}
 module _ (script : Script) (entries : List Entry) (is_script : IsScript script) (listed : All (IsEntryOf script) entries) (none_broken : NoneBroken script entries)
     (calls others : List Opened) (keep : ℕ → Bool) (start first : World) (opens : IsOpening script calls start) (also_opens : IsOpening script others first) where
   pub both_reached : (call : ℕ) (w v : World) → AreBeside script keep start first call w v → AreReached script w v
-  both_reached call w v both = record {
-    entries = entries;
-    is_script = is_script;
-    listed = listed;
-    none_broken = none_broken;
-    calls = calls;
-    others = others;
-    events = both.past;
-    history = both.history;
-    start = start;
-    first = first;
-    opens = opens;
-    also_opens = also_opens;
-    runs = both.runs;
-    also_runs = both.also_runs;
-  }
+  both_reached call w v both =
+      reached_both script entries is_script listed none_broken calls others start first opens also_opens both.past both.history w v both.runs both.also_runs
 
   numbered_one : (call : ℕ) (w v : World) → AreBeside script keep start first call w v → IsNumbered w
   numbered_one call w v both = runs_numbered script both.past start w (opening_numbered script calls start opens) both.runs

@@ -1,9 +1,6 @@
 -- A call that stands at the end of its turns was never ended by an event beside them.
 use Rattle.std.proofs.Common.{◌≡◌, ℕ, true, List, [], ◌∷◌, Some, subst, inl, inr}
-use Rattle.mg_model.specs.Agent.{Agent}
-use Rattle.mg_model.specs.Reports.{Progress}
-use Rattle.mg_model.specs.Script.{Script}
-use Rattle.mg_model.proofs.Cases.{not_both}
+use Rattle.mg_merge.proofs.Words.{Agent, Progress, Script, not_both}
 use Rattle.mg_safety.proofs.Messages.NamedMessages.{event_numbered}
 use Rattle.mg_safety.proofs.Messages.NumberedWorlds.{IsNumbered}
 use Rattle.mg_alike.proofs.Events.Alone.{event_retired}

@@ -1,8 +1,6 @@
 -- For each call of an opening there is an opening of it alone, on a gateway that may give every number.
-use Rattle.std.proofs.Common.{ℕ, true, List, [], ◌∷◌, refl}
-use Rattle.std.specs.Prelude.{IsTrue, Contains}
-use Rattle.mg_model.specs.Script.{Script}
-use Rattle.mg_model.specs.World.{World, Opened, IsOpening}
+use Rattle.std.proofs.Common.{ℕ, true, List, [], ◌∷◌, refl, IsTrue, Contains}
+use Rattle.mg_merge.proofs.Words.{IsOpening, Opened, Script, World}
 use Rattle.mg_alike.proofs.Alone.Opening.{calls_open_alone}
 
 abbrev with_every : World → World

@@ -1,9 +1,6 @@
 -- The steps of a call with the restarts beside them, each where it stands.
 use Rattle.std.proofs.Common.{List, [], ◌∷◌, refl, inl, inr}
-use Rattle.mg_model.specs.declared.events.Event.TheVariants.{OfCall, Restart}
-use Rattle.mg_model.specs.declared.plans.PlanStep.{PlanStep}
-use Rattle.mg_model.specs.declared.plans.PlanStep.TheVariants.{Restarts}
-use Rattle.mg_model.specs.Reports.{IsPlacing}
+use Rattle.mg_merge.proofs.Words.{IsPlacing, OfCall, PlanStep, Restart, Restarts}
 use Rattle.mg_reports.specs.Among.{Turn, own, beside, own_steps, restarts_beside}
 
 abbrev pub placed_in : List Turn → List PlanStep

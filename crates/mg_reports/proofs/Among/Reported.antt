@@ -1,14 +1,6 @@
 -- What a call tells among others it tells alone.
-use Rattle.std.proofs.Common.{◌≡◌, ◌∙◌, ◌++◌, ℕ, Bool, [], ◌∷◌, Some, sym, ap, subst}
-use Rattle.std.specs.Prelude.{◌%◌}
-use Rattle.std.proofs.lemmas.Bool.{eqb-true}
-use Rattle.mg_model.specs.Agent.{Agent}
-use Rattle.mg_model.specs.Numbers.{plan_calls}
-use Rattle.mg_model.specs.Reports.{Progress, ReportLine, start_as}
-use Rattle.mg_model.specs.Script.{Script}
-use Rattle.mg_model.specs.World.{World, Opened}
-use Rattle.mg_model.proofs.Cases.{the_some}
-use Rattle.mg_model.proofs.Single.{only_here, only_one}
+use Rattle.std.proofs.Common.{◌≡◌, ◌∙◌, ◌++◌, ℕ, Bool, [], ◌∷◌, Some, sym, ap, subst, ◌%◌}
+use Rattle.mg_merge.proofs.Words.{Agent, Opened, Progress, ReportLine, Script, World, eqb-true, only_here, only_one, plan_calls, start_as, the_some}
 use Rattle.mg_reports.specs.Among.{ReportsAmongOthers}
 use Rattle.mg_reports.proofs.Along.{AreAlong}
 use Rattle.mg_reports.proofs.Among.EveryNumber.{opens_alone_with_every}

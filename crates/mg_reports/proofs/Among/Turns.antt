@@ -1,28 +1,12 @@
 -- A call that goes among others by some turns goes alone by its own steps with the restarts beside them: what is an event there is the same event alone, what is
 -- idle there is idle alone, and what else happens there leaves it beside itself.
-use Rattle.std.proofs.Common.{◌≡◌, ◌∙◌, ◌<◌, ◌+◌, ℕ, Bool, true, false, List, [], ◌∷◌, Some, refl, sym, ap, subst, inl, inr}
-use Rattle.std.specs.Prelude.{◌%◌, IsTrue}
-use Rattle.std.specs.List.{All}
-use Rattle.std.proofs.lemmas.Bool.{eqb-true}
-use Rattle.mg_model.specs.declared.events.CallEvent.{CallEvent}
-use Rattle.mg_model.specs.declared.events.Event.TheVariants.{OfCall, Restart}
-use Rattle.mg_model.specs.declared.plans.PlanStep.{PlanStep}
-use Rattle.mg_model.specs.Accepted.{IsScript, IsEntryOf}
-use Rattle.mg_model.specs.Agent.{Agent}
-use Rattle.mg_model.specs.Entries.{Entry}
-use Rattle.mg_model.specs.Gateway.{restarted}
-use Rattle.mg_model.specs.Numbers.{last_association, plan_calls}
-use Rattle.mg_model.specs.Obligations.{NoneBroken}
-use Rattle.mg_model.specs.Plans.{number_begun}
-use Rattle.mg_model.specs.Reports.{Progress, StepHappens, StepIsIdle, StepsRun, after_event}
-use Rattle.mg_model.specs.Script.{Script}
-use Rattle.mg_model.specs.Shards.{HasIdentifiersLeft}
-use Rattle.mg_model.specs.World.{World, Opened, Begins, IsOpening, Occurs, OccursTo, with_gateway}
-use Rattle.mg_model.proofs.Cases.{at_one}
-use Rattle.mg_merge.specs.Identifiers.{HasFewCommands}
+use Rattle.std.proofs.Common.{◌≡◌, ◌∙◌, ◌<◌, ◌+◌, ℕ, Bool, true, false, List, [], ◌∷◌, Some, refl, sym, ap, subst, inl, inr, ◌%◌, IsTrue}
+use Rattle.mg_merge.proofs.Words.{Agent, All, Begins, CallEvent, Entry, HasIdentifiersLeft, IsEntryOf, IsOpening, IsScript, NoneBroken, Occurs, OccursTo}
+use Rattle.mg_merge.proofs.Words.{OfCall, Opened, PlanStep, Progress, Restart, Script, StepHappens, StepIsIdle, StepsRun, World, after_event, at_one, eqb-true}
+use Rattle.mg_merge.proofs.Words.{last_association, number_begun, plan_calls, restarted, with_gateway}
+use Rattle.mg_alike.proofs.Words.{HasFewCommands, begins_on}
 use Rattle.mg_safety.proofs.Messages.NamedMessages.{event_numbered, opening_numbered, runs_numbered}
 use Rattle.mg_safety.proofs.Messages.NumberedWorlds.{IsNumbered}
-use Rattle.mg_alike.specs.Alone.{begins_on}
 use Rattle.mg_alike.proofs.Alone.Heirs.{begun_on, stays_open}
 use Rattle.mg_reports.specs.Among.{Turn, own, beside, GoesAmong}
 use Rattle.mg_reports.proofs.Along.{AreAlong, Goes, along, next_step}

@@ -1,31 +1,15 @@
 -- An event of a call that is none of some calls leaves one of them beside itself: of these no message is sent, and none is retired but by one that begins on its
 -- lines.
-use Rattle.std.proofs.Common.{◌≡◌, ◌∙◌, ◌++◌, ℕ, Bool, true, List, [], ◌∷◌, Option, refl, sym, ap, subst, inl, inr}
-use Rattle.std.specs.Prelude.{◌==◌, IsTrue, Contains}
-use Rattle.std.specs.List.{All}
-use Rattle.std.proofs.lemmas.Bool.{eqb-true, false_from_ne_true}
-use Rattle.mg_names.specs.declared.identifiers.CallNo.{CallNo}
-use Rattle.mg_model.specs.declared.events.CallEvent.{CallEvent}
+use Rattle.std.proofs.Common.{◌≡◌, ◌∙◌, ◌++◌, ℕ, Bool, true, List, [], ◌∷◌, Option, refl, sym, ap, subst, inl, inr, ◌==◌, IsTrue, Contains}
+use Rattle.mg_merge.proofs.Words.{Agent, AgentSteps, All, Begins, CallEvent, CallNo, ChosenRefusal, Entry, Executes, Gateway, IsEntryOf, IsOpening, IsScript}
+use Rattle.mg_merge.proofs.Words.{NoneBroken, OccursTo, OfCall, Opened, Reply, Request, Script, World, eqb-true, false_from_ne_true, first_in, heard, later_in}
+use Rattle.mg_merge.proofs.Words.{line_places, noted, only_one, passed, replied, sent_in, timed, where_false}
+use Rattle.mg_alike.proofs.Words.{IsRetiredBy, Pairwise}
 use Rattle.mg_model.specs.declared.events.CallEvent.TheVariants as to_call
-use Rattle.mg_model.specs.declared.events.Event.TheVariants.{OfCall}
-use Rattle.mg_model.specs.declared.failures.ChosenRefusal.{ChosenRefusal}
-use Rattle.mg_model.specs.Accepted.{IsScript, IsEntryOf}
-use Rattle.mg_model.specs.Agent.{Agent, replied, passed, noted, timed, heard}
-use Rattle.mg_model.specs.Entries.{Entry}
-use Rattle.mg_model.specs.Gateway.{Gateway}
-use Rattle.mg_model.specs.Messages.{Request, Reply}
-use Rattle.mg_model.specs.Obligations.{NoneBroken}
-use Rattle.mg_model.specs.Script.{Script}
-use Rattle.mg_model.specs.Tables.{line_places}
-use Rattle.mg_model.specs.World.{World, Opened, AgentSteps, Begins, Executes, IsOpening, OccursTo, sent_in}
-use Rattle.mg_model.proofs.Cases.{where_false}
 use Rattle.mg_model.proofs.Offered.{kept_at}
-use Rattle.mg_model.proofs.Single.{first_in, later_in, only_one}
-use Rattle.mg_safety.specs.Laws.{IsRetiredBy}
 use Rattle.mg_safety.proofs.Messages.NamedMessages.{opening_numbered, runs_numbered}
 use Rattle.mg_safety.proofs.Messages.NumberedWorlds.{IsNumbered}
 use Rattle.mg_safety.proofs.SmallLaws.AgentLaws.{IsOwn, GivesOwn, replied_own, passed_own, noted_own, timed_own, heard_own}
-use Rattle.mg_alike.specs.Renaming.{Pairwise}
 use Rattle.mg_alike.proofs.Events.Alone.{execute_retired, runs_on, steps_retired}
 use Rattle.mg_alike.proofs.Events.Others.{others_alike}
 use Rattle.mg_reports.proofs.Beside.{AreBeside}

@@ -1,10 +1,7 @@
 -- The numbers of the calls that begin within a call of a plan.
-use Rattle.std.proofs.Common.{◌≡◌, ◌∙◌, ◌<◌, ℕ, Bool, sym}
+use Rattle.std.proofs.Common.{◌≡◌, ◌∙◌, ◌<◌, ℕ, Bool, sym, ◌==◌, ◌%◌, IsTrue}
 use Rattle.std.proofs.Math.Nat.{mod-eq_of_lt, mul-add-mod_self_left}
-use Rattle.std.specs.Prelude.{◌==◌, ◌%◌, IsTrue}
-use Rattle.std.proofs.lemmas.Bool.{eq-eqb}
-use Rattle.mg_model.specs.Numbers.{plan_calls}
-use Rattle.mg_model.specs.Plans.{number_begun}
+use Rattle.mg_merge.proofs.Words.{eq-eqb, number_begun, plan_calls}
 use Rattle.mg_reports.specs.Among.{IsWithin}
 
 abbrev pub is_within : (first number : ℕ) → Bool
