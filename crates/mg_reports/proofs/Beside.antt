@@ -1,11 +1,11 @@
 -- Two runs from two openings in which a call goes by the same events, with those that begin on its lines: their worlds treat the one that stands alike. Of some
 -- calls, of which only this one is open, they have the same requests and replies but for identifiers, in one order, and have retired the same. Each event that
 -- happens in both leaves them so.
-use Rattle.std.proofs.Common.{◌≡◌, ◌∙◌, ◌++◌, ℕ, Bool, true, List, [], ◌∷◌, Option, Some, sym, ap, subst, inl, inr, ◌==◌, IsTrue, if◌then◌else◌}
+use Rattle.std.proofs.Common.{◌≡◌, ◌∙◌, ℕ, Bool, true, List, [], ◌∷◌, Option, Some, sym, ap, subst, inl, inr, ◌==◌, IsTrue, if◌then◌else◌}
 use Rattle.mg_merge.proofs.Words.{Agent, AgentSteps, Begins, CallEvent, ChosenRefusal, Event, Executes, Gateway, IsRequestOf, Occurs, OccursTo, Offer, Phase}
 use Rattle.mg_merge.proofs.Words.{Reply, Request, Restart, Runs, Script, World, at_one, awaits_pass, awaits_reply, discard, fresh, kept, offer_to, resting}
 use Rattle.mg_merge.proofs.Words.{sent_in, the_some}
-use Rattle.mg_alike.proofs.Words.{AreOnce, CallAlike, IsBeginning, KeptAlike, Pairwise, PhasesAlike, Renaming, RepliesAlike, TreatAlike}
+use Rattle.mg_alike.proofs.Words.{AreOnce, CallAlike, IsBeginning, Pairwise, PhasesAlike, Renaming, RepliesAlike, TreatAlike}
 use Rattle.mg_model.specs.declared.events.CallEvent.TheVariants as to_call
 use Rattle.mg_alike.proofs.Events.Alone.{execute_retired, steps_retired}
 use Rattle.mg_alike.proofs.Events.Offers.{OffersAlike, offers_alike}
@@ -61,10 +61,9 @@ sent_same r _ _ same = absurd same
 steps_requests : (keep : ℕ → Bool) (w v after next : World) (call : ℕ) (step other : Agent → Option Agent) → AgentSteps w call step after
     → AgentSteps v call other next → TreatAlike after next call → RequestsInStep keep w.requests v.requests → RequestsInStep keep after.requests next.requests
 steps_requests keep w v after next call step other s t treat before =
-    subst (λ (l : List Request). RequestsInStep keep l next.requests) (sym (ap (λ (x : World). x.requests) s.after_is))
-    (subst (λ (l : List Request). RequestsInStep keep (sent_in s.agent.phase ++ w.requests) l) (sym (ap (λ (x : World). x.requests) t.after_is))
+    rw (ap (λ (x : World). x.requests) s.after_is, ap (λ (x : World). x.requests) t.after_is)
     (joined (λ (r : Request). r.call) (λ (r : Request). r.number) keep (sent_in s.agent.phase) (sent_in t.agent.phase) w.requests v.requests
-    (sent_same treat.renaming s.agent.phase t.agent.phase phases) before))
+    (sent_same treat.renaming s.agent.phase t.agent.phase phases) before)
   where
     one_is : treat.one ≡ s.agent
     one_is = the_some treat.one s.agent
@@ -105,8 +104,7 @@ module _ (keep : ℕ → Bool) (w v : World) (call number : ℕ) (chosen : Optio
   offers = offers_alike r w.gateway v.gateway q p
       (ap v.gateway.retired its.1 ∙ retired ∙ ap w.gateway.retired (sym of.1))
       same_association alike.association
-      (subst (λ (n : ℕ). KeptAlike r (w.gateway.link n).last (v.gateway.link p.call).last) (sym of.1)
-      (subst (λ (n : ℕ). KeptAlike r (w.gateway.link call).last (v.gateway.link n).last) (sym its.1) alike.kept)) same_number
+      (rw (of.1, its.1) alike.kept) same_number
 
   clash : (o s : Offer Reply) → offer_to w.gateway q ≡ o → offer_to v.gateway p ≡ s → OffersAlike r o s
   clash o s first second =
@@ -116,9 +114,8 @@ module _ (keep : ℕ → Bool) (w v : World) (call number : ℕ) (chosen : Optio
   one_more : (after next : World) (one other : Reply) → after.replies ≡ one ∷ w.replies → next.replies ≡ other ∷ v.replies → other.call ≡ one.call
       → other.number ≡ one.number → RepliesInStep keep after.replies next.replies
   one_more after next one other first second calls numbers =
-      subst (λ (l : List Reply). RepliesInStep keep l next.replies) (sym first)
-      (subst (λ (l : List Reply). RepliesInStep keep (one ∷ w.replies) l) (sym second)
-      (joined (λ (x : Reply). x.call) (λ (x : Reply). x.number) keep (one ∷ []) (other ∷ []) w.replies v.replies ((calls, numbers), tt) before))
+      rw (first, second)
+      (joined (λ (x : Reply). x.call) (λ (x : Reply). x.number) keep (one ∷ []) (other ∷ []) w.replies v.replies ((calls, numbers), tt) before)
 
   execute_replies : (after next : World) → Executes w q chosen after → Executes v p chosen next → RepliesInStep keep after.replies next.replies
   execute_replies after next (inl f) (inl g) =

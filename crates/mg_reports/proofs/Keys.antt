@@ -1,6 +1,6 @@
 -- Two lists of messages of which those of some calls have, one after the other, the same calls and the same numbers: what is found in the one by these is found
 -- in the other.
-use Rattle.std.proofs.Common.{◌≡◌, ◌∙◌, ◌++◌, ℕ, Bool, true, false, List, [], ◌∷◌, Option, Some, refl, sym, ap, subst, if◌then◌else◌}
+use Rattle.std.proofs.Common.{◌≡◌, ◌∙◌, ◌++◌, ℕ, Bool, true, false, List, [], ◌∷◌, Option, Some, refl, sym, ap, if◌then◌else◌}
 use Rattle.mg_merge.proofs.Words.{Reply, Request, false_not_true, filter, find, none_is_some, the_some}
 use Rattle.mg_alike.proofs.Words.{Pairwise}
 
@@ -32,10 +32,7 @@ pub joined : {A : Type 0} (of number : A → ℕ) (keep : ℕ → Bool) (new oth
     → AreInOrder of number keep xs ys → AreInOrder of number keep (new ++ xs) (other ++ ys)
 joined of number keep [] [] xs ys first second = second
 joined of number keep (x ∷ new) (y ∷ other) xs ys first second =
-    subst (λ (test : Bool). Pairwise (SameKey of number) (those_of of keep (x ∷ new ++ xs))
-    (if test then y ∷ those_of of keep (other ++ ys) else those_of of keep (other ++ ys)))
-    (sym (ap keep first.0.0))
-    (first_of_both (SameKey of number) (keep (of x)) x y (those_of of keep (new ++ xs)) (those_of of keep (other ++ ys)) first.0
+    rw (ap keep first.0.0) (first_of_both (SameKey of number) (keep (of x)) x y (those_of of keep (new ++ xs)) (those_of of keep (other ++ ys)) first.0
     (joined of number keep new other xs ys first.1 second))
 joined of number keep _ _ xs ys first second = absurd first
 
@@ -61,8 +58,7 @@ found_in_pairs : {A : Type 0} (of number : A → ℕ) (test : ℕ → ℕ → Bo
     → IsFound of number test xs x → (y : A) × IsFound of number test ys y × (number y ≡ number x)
 found_in_pairs of number test [] [] same x found = absurd (none_is_some x found)
 found_in_pairs of number test (z ∷ xs) (w ∷ ys) same x found =
-    subst (λ (passes : Bool). FoundAt of number test passes w ys (number x)) (sym same_test)
-    (go (test (of z) (number z)) found (found_in_pairs of number test xs ys same.1 x))
+    rw same_test (go (test (of z) (number z)) found (found_in_pairs of number test xs ys same.1 x))
   where
     same_test : test (of w) (number w) ≡ test (of z) (number z)
     same_test = ap (λ n. test n (number w)) same.0.0 ∙ ap (λ n. test (of z) n) same.0.1

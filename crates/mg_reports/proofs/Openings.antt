@@ -1,9 +1,8 @@
 -- A call of two openings is beside itself in them, where of some calls it is the only one of each.
-use Rattle.std.proofs.Common.{◌≡◌, ◌∙◌, ℕ, Bool, List, [], refl, sym, ap, subst, IsTrue, Contains}
-use Rattle.mg_merge.proofs.Words.{IsOpening, Opened, Reply, Request, Runs, Script, World}
+use Rattle.std.proofs.Common.{◌≡◌, ◌∙◌, ℕ, Bool, List, [], refl, sym, ap, IsTrue, Contains}
+use Rattle.mg_merge.proofs.Words.{IsOpening, Opened, Runs, Script, World}
 use Rattle.mg_alike.proofs.Events.Others.{openings_alike}
 use Rattle.mg_reports.proofs.Beside.{AreBeside}
-use Rattle.mg_reports.proofs.Keys.{RequestsInStep, RepliesInStep}
 use Rattle.mg_reports.proofs.Only.{IsOnly}
 
 -- of these calls one alone is of an opening
@@ -29,10 +28,8 @@ at_start script keep calls others one start first opens also_opens among also_am
   only = only_opened script keep calls one start opens only;
   also_only = only_opened script keep others one first also_opens also_only;
   in_step = record {
-    requests = subst (λ (l : List Request). RequestsInStep keep l first.requests) (sym opens.messages.no_request)
-        (subst (λ (l : List Request). RequestsInStep keep [] l) (sym also_opens.messages.no_request) tt);
-    replies = subst (λ (l : List Reply). RepliesInStep keep l first.replies) (sym opens.messages.no_answer)
-        (subst (λ (l : List Reply). RepliesInStep keep [] l) (sym also_opens.messages.no_answer) tt);
+    requests = rw (opens.messages.no_request, also_opens.messages.no_request) tt;
+    replies = rw (opens.messages.no_answer, also_opens.messages.no_answer) tt;
     retired = λ c its. ap (λ (f : ℕ → Bool). f c) also_opens.gateway.none_retired ∙ sym (ap (λ (f : ℕ → Bool). f c) opens.gateway.none_retired);
   };
 }

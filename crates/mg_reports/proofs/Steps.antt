@@ -109,8 +109,7 @@ module _ (script : Script) (entries : List Entry) (is_script : IsScript script) 
   happens_too call w v both left also_left a of next kept step event after (inr (inr restarts)) occurs =
       let o : Occurs script w Restart after = subst (λ (e : Event). Occurs script w e after) restarts.1 occurs in (
         with_gateway v (restarted v.gateway),
-        subst (λ (e : Event). Occurs script v e (with_gateway v (restarted v.gateway))) (sym restarts.1)
-            (subst (λ (n : ℕ). n < last_association) (sym both.treat.alike.association) o.0, refl),
+        rw restarts.1 (subst (λ (n : ℕ). n < last_association) (sym both.treat.alike.association) o.0, refl),
       )
 
   pub means_both : (call : ℕ) (w v : World) (both : AreBeside script keep start first call w v) (next : ℕ) (step : PlanStep) (event : Event)

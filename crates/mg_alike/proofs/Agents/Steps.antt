@@ -180,11 +180,8 @@ module _ (script : Script) (r : Renaming) where
         both_where r (may_accept script a sent) (may_accept script b sent) (accepts_same sent)
         (entered_or_stays script (record a { accepted = with_at a.accepted sent.number true }) (target_of script a (line_in a sent.line places) sent.note))
         (entered_or_stays script (record b { accepted = with_at b.accepted sent.number true }) (target_of script b (line_in b sent.line places) sent.note))
-        (subst (λ (o : Option ℕ). StepsAlike r
-        (entered_or_stays script (record a { accepted = with_at a.accepted sent.number true }) (target_of script a (line_in a sent.line places) sent.note))
-        (entered_or_stays script (record b { accepted = with_at b.accepted sent.number true }) o))
-        (sym (ap (λ (o : Option ℕ). target_of script b o sent.note) (line_in_same sent.line places) ∙ target_same (line_in a sent.line places) sent.note))
-        (stays_alike (record a { accepted = with_at a.accepted sent.number true }) (record b { accepted = with_at b.accepted sent.number true }) taken
+        (rw (ap (λ (o : Option ℕ). target_of script b o sent.note) (line_in_same sent.line places) ∙ target_same (line_in a sent.line places) sent.note)
+            (stays_alike (record a { accepted = with_at a.accepted sent.number true }) (record b { accepted = with_at b.accepted sent.number true }) taken
         (target_of script a (line_in a sent.line places) sent.note)))
       where
         taken : AgentsAlike r (record a { accepted = with_at a.accepted sent.number true }) (record b { accepted = with_at b.accepted sent.number true })

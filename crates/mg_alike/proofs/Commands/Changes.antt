@@ -88,8 +88,7 @@ accounted_on b item chosen accounted named = record {
     | inr (inr its) ↦ (named (Eph x) its).ephemeral x refl
   ];
   contexts = λ t real. elim (who_changes b item chosen t) [
-    | inl same ↦ subst (λ (c : ℕ). (effect b item chosen).used_context c ≡ true) (sym (ap place_in same))
-        (used_on b item chosen (place_of b t) (accounted.contexts t (λ e. real (ap place_in same ∙ e))))
+    | inl same ↦ rw (ap place_in same) (used_on b item chosen (place_of b t) (accounted.contexts t (λ e. real (ap place_in same ∙ e))))
     | inr (inl left) ↦ absurd (real (ap place_in left ∙ left_nowhere t))
     | inr (inr its) ↦ (named t its).context real
   ];

@@ -82,8 +82,7 @@ module _ (r : Renaming) (held : ℕ → Bool) (renaming : IsRenaming r) (b m : B
         (Some (row_at q z (mode_of m x) (remote_of m x))) (b.row t) (m.row u)
         (λ e. row_alike wide t p q s z (mode_of b v) (mode_of m x) (remote_of b v) (remote_of m x) place settings.mode
         (settings_more r wide wider s.remote z.remote settings.remote) (rows_mode r v (b.row v) (m.row x) (alike.rows v x named))
-        (subst (λ (k : TermId). RemotesAlike wide k (remote_of b v) (remote_of m x)) (sym (same_term_is t v e))
-        (remotes_more r wide wider v (remote_of b v) (remote_of m x) (rows_remote r v (b.row v) (m.row x) (alike.rows v x named)))))
+        (rw (same_term_is t v e) (remotes_more r wide wider v (remote_of b v) (remote_of m x) (rows_remote r v (b.row v) (m.row x) (alike.rows v x named)))))
         (λ other. old_row t u it)
 
     -- terminations leave

@@ -40,15 +40,10 @@ module _ (r : Renaming) (held : ℕ → Bool) (renaming : IsRenaming r) where
       → with_pair (c == choose) x y r.contexts (if c == choose then x else c) (if d == choose then y else d) ≡ true
   target_renamed c d x y (inl (first, second)) =
       let its = eq-eqb c choose first in
-      subst (λ (p : ℕ). with_pair (c == choose) x y r.contexts p (if d == choose then y else d) ≡ true) (sym (where_true (c == choose) x c its))
-      (subst (λ (q : ℕ). with_pair (c == choose) x y r.contexts x q ≡ true) (sym (where_true (d == choose) y d (eq-eqb d choose second)))
-      (pair_new (c == choose) x y r.contexts its))
+      rw (where_true (c == choose) x c its, where_true (d == choose) y d (eq-eqb d choose second)) (pair_new (c == choose) x y r.contexts its)
   target_renamed c d x y (inr is) =
-      subst (λ (p : ℕ). with_pair (c == choose) x y r.contexts p (if d == choose then y else d) ≡ true)
-      (sym (where_false (c == choose) x c (different c choose (first_not_choose r held renaming c d is))))
-      (subst (λ (q : ℕ). with_pair (c == choose) x y r.contexts c q ≡ true)
-      (sym (where_false (d == choose) y d (different d choose (second_not_choose r held renaming c d is))))
-      (pair_more (c == choose) x y r.contexts c d is))
+      rw (where_false (c == choose) x c (different c choose (first_not_choose r held renaming c d is)))
+      (rw (where_false (d == choose) y d (different d choose (second_not_choose r held renaming c d is))) (pair_more (c == choose) x y r.contexts c d is))
 
   module _ (b m : Board) (ready : InUse r held b m) (twin : Twin) (is : IsTwin r held twin) (one other : Chosen) (fresh : IsFresh b (one_of twin) one)
       (also : IsFresh m (other_of twin) other) where

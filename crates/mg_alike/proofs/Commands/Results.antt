@@ -92,9 +92,7 @@ module _ (r : Renaming) (held : ℕ → Bool) (renaming : IsRenaming r) (b m : B
   told_if : (pairs : ℕ → ℕ → Bool) (creates also : Bool) (x y : ℕ) → also ≡ creates → (creates ≡ true → pairs x y ≡ true) → (o p : Option ℕ) → o ≡ only_if creates x
       → p ≡ only_if also y → OptionsAlike pairs o p
   told_if pairs creates also x y same new o p first second =
-      subst (λ (i : Option ℕ). OptionsAlike pairs i p) (sym first)
-      (subst (λ (i : Option ℕ). OptionsAlike pairs (only_if creates x) i) (sym second)
-      (subst (λ (test : Bool). OptionsAlike pairs (only_if creates x) (only_if test y)) (sym same) (go creates new)))
+      rw (first, second, same) (go creates new)
     where
       go : (test : Bool) → (test ≡ true → pairs x y ≡ true) → OptionsAlike pairs (only_if test x) (only_if test y)
       go true new = new refl

@@ -4,8 +4,7 @@ use Rattle.std.proofs.Common.{if◌then◌else◌}
 use Rattle.mg_merge.proofs.Words.{Agent, Begins, CallLink, Entry, Eph, Gateway, HasEnded, Inactive, Line, LineNo, LineRow, MayBegin, Mode, Phase, Reply}
 use Rattle.mg_merge.proofs.Words.{Request, Row, Script, SentNote, TermId, World, at_another, at_one, eq-eqb, handed_over, none_is_some, not_both, null}
 use Rattle.mg_merge.proofs.Words.{null_row, remote_in, resting, state_of, the_context, the_line, the_some}
-use Rattle.mg_alike.proofs.Words.{AreSentInBoth, BeginningsAlike, BeginningsHappenAlike, CallAlike, KeptAlike, OptionalRowsAlike, OwnAlike, PhasesAlike}
-use Rattle.mg_alike.proofs.Words.{Renaming}
+use Rattle.mg_alike.proofs.Words.{AreSentInBoth, BeginningsAlike, BeginningsHappenAlike, CallAlike, OptionalRowsAlike, OwnAlike, PhasesAlike, Renaming}
 use Rattle.mg_model.specs.Agent as agents
 use Rattle.mg_model.specs.Gateway as gateway
 use Rattle.mg_safety.proofs.Agents.AgentSound.{rest_quiet}
@@ -79,8 +78,7 @@ module _ (script : Script) (entries : List Entry) (w v : World) (sound : IsSound
     open_other = at_one call (Some (agents.begun script call b)) (if call == old then None else v.agent call);
     agents = (agents_step script r a b alike.renaming alike.agents).begun call;
     association = alike.association;
-    kept = subst (λ (link : CallLink). KeptAlike r link.last ((gateway.begun v.gateway old call).link call).last) (sym (new_link w.gateway old call differ))
-        (subst (λ (link : CallLink). KeptAlike r None link.last) (sym (new_link v.gateway old call differ)) tt);
+    kept = rw (new_link w.gateway old call differ, new_link v.gateway old call differ) tt;
     count = ap (λ (link : CallLink). link.notes) (new_link v.gateway old call differ) ∙ sym (ap (λ (link : CallLink). link.notes) (new_link w.gateway old call differ));
     held = λ l. (
       λ e. handed_own old call (v.gateway.holder l) ((alike.held l).0 (was_held script entries w sound call unused not_retired old l e)),
@@ -107,13 +105,10 @@ beginnings_alike script w v at call old treat after next b d = record {
   renaming = treat.renaming;
   one = agents.begun script call treat.one;
   other = agents.begun script call treat.other;
-  alike = subst (λ (x : World). CallAlike treat.renaming x next call (agents.begun script call treat.one) (agents.begun script call treat.other))
-      (sym (begun_is script w after call old treat.one treat.alike.open_one b))
-      (subst (λ (x : World). CallAlike treat.renaming (world_begun script w call old treat.one) x call (agents.begun script call treat.one) (agents.begun script call treat.other))
-      (sym (begun_is script v next call old treat.other treat.alike.open_other d))
+  alike = rw (begun_is script w after call old treat.one treat.alike.open_one b, begun_is script v next call old treat.other treat.alike.open_other d)
       (begun_alike script at.entries w v (reached script at.entries at.is_script at.listed at.none_broken at.calls at.events at.start w at.opens at.runs)
       (reached script at.entries at.is_script at.listed at.none_broken at.others at.history at.first v at.also_opens at.also_runs) call old treat.renaming treat.one treat.other
-      treat.alike b.unused b.not_retired d.unused d.not_retired));
+      treat.alike b.unused b.not_retired d.unused d.not_retired);
 }
 
 -- ---- it can begin in the other world too

@@ -1,8 +1,7 @@
 -- Each event of a call that is open leaves two worlds that treat it alike alike.
 use Rattle.std.proofs.Common.{◌≡◌, ◌∙◌, ℕ, Bool, true, false, Option, Some, None, refl, sym, ap, subst, if◌then◌else◌}
 use Rattle.mg_merge.proofs.Words.{Agent, AgentSteps, CallEvent, HasIdentifiersLeft, IsNoteOf, IsReplyOf, OccursTo, Phase, Reply, Script, SentNote, World}
-use Rattle.mg_merge.proofs.Words.{answers, awaits_reply, heard, line_places, none_is_some, noted, passed, replied, replied_to, restarted, the_some, timed}
-use Rattle.mg_merge.proofs.Words.{with_gateway}
+use Rattle.mg_merge.proofs.Words.{answers, awaits_reply, heard, line_places, none_is_some, noted, passed, replied, replied_to, the_some, timed}
 use Rattle.mg_alike.proofs.Words.{AreNamedByNumber, AreReached, CallAlike, EventsAlike, IsBeginning, Renaming, RepliesAlike, RestartsAlike, StepAlike}
 use Rattle.mg_alike.proofs.Words.{StepsAlike, TreatAlike, is_awaited}
 use Rattle.mg_model.specs.declared.events.CallEvent.TheVariants as to_call
@@ -81,7 +80,5 @@ restarts_alike script w v call treat after next o p = record {
   renaming = treat.renaming;
   one = treat.one;
   other = treat.other;
-  alike = subst (λ (x : World). CallAlike treat.renaming x next call treat.one treat.other) (sym o.1)
-      (subst (λ (x : World). CallAlike treat.renaming (with_gateway w (restarted w.gateway)) x call treat.one treat.other) (sym p.1)
-      (restarted_alike w v call treat.renaming treat.one treat.other treat.alike));
+  alike = rw (o.1, p.1) (restarted_alike w v call treat.renaming treat.one treat.other treat.alike);
 }

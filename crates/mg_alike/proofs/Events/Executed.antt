@@ -1,10 +1,10 @@
 -- The worlds after a request that both gateways executed: they treat its call alike, by the renaming that the two runs leave.
 use Rattle.std.proofs.Common.{◌≡◌, ◌∙◌, ◌+◌, ◌++◌, ℕ, Bool, true, List, ◌∷◌, length, Option, Some, refl, sym, ap, subst, inl, inr, Contains}
 use Rattle.mg_merge.proofs.Words.{Agent, Board, CallLink, Contains-append_cases, Contains-append_left, Contains-append_right, Eph, Failure, Gateway, IsSettled}
-use Rattle.mg_merge.proofs.Words.{Line, Phase, RaisedNote, Reply, Request, Row, Running, Script, SentNote, TermId, World, after_request, at_one, eq-eqb}
-use Rattle.mg_merge.proofs.Words.{first_in, first_or_later, later_in, reply_of, sent_notes}
-use Rattle.mg_alike.proofs.Words.{AgentsAlike, AreSentInBoth, CallAlike, KeptAlike, OptionalRowsAlike, OptionsAlike, OwnAlike, PhasesAlike, Renaming}
-use Rattle.mg_alike.proofs.Words.{RepliesAlike, SameReply, TermsAlike, anything, is_awaited}
+use Rattle.mg_merge.proofs.Words.{Line, Phase, RaisedNote, Reply, Request, Running, Script, SentNote, TermId, World, after_request, at_one, eq-eqb, first_in}
+use Rattle.mg_merge.proofs.Words.{first_or_later, later_in, reply_of, sent_notes}
+use Rattle.mg_alike.proofs.Words.{AgentsAlike, AreSentInBoth, CallAlike, KeptAlike, OptionsAlike, OwnAlike, PhasesAlike, Renaming, RepliesAlike, SameReply}
+use Rattle.mg_alike.proofs.Words.{TermsAlike, anything, is_awaited}
 use Rattle.mg_safety.proofs.Events.Executing.{link_made}
 use Rattle.mg_safety.proofs.Events.ExecutedCalls.{world_after}
 use Rattle.mg_safety.proofs.Invariant.Sound.{is_call}
@@ -101,10 +101,8 @@ module _ (script : Script) (w v : World) (call : ℕ) (r : Renaming) (a b : Agen
 
   kept : KeptAlike wide ((after_request w.gateway q end settled failure).link call).last ((after_request v.gateway p last also other).link call).last
   kept =
-      subst (λ (o : Option Reply). KeptAlike wide o ((after_request v.gateway p last also other).link call).last)
-      (sym (ap (λ (link : CallLink). link.last) (link_is w.gateway q end settled failure call of)))
-      (subst (λ (o : Option Reply). KeptAlike wide (Some (reply_of q end failure)) o)
-      (sym (ap (λ (link : CallLink). link.last) (link_is v.gateway p last also other call its))) new_reply)
+      rw (ap (λ (link : CallLink). link.last) (link_is w.gateway q end settled failure call of))
+      (rw (ap (λ (link : CallLink). link.last) (link_is v.gateway p last also other call its)) new_reply)
 
   counts : (v.gateway.link p.call).notes ≡ (w.gateway.link q.call).notes
   counts =
@@ -136,8 +134,7 @@ module _ (script : Script) (w v : World) (call : ℕ) (r : Renaming) (a b : Agen
     held = alike.held;
     lines = λ l held. running.lines l (holds l held);
     rows = λ t u own.
-        subst (λ (rows : TermId → Option Row). OptionalRowsAlike wide t (rows t) (also.row u)) (sym is_settled.row)
-        (subst (λ (rows : TermId → Option Row). OptionalRowsAlike wide t (end.board.row t) (rows u)) (sym also_settled.row) (running.boards.rows t u (terms t u own)));
+        rw (is_settled.row, also_settled.row) (running.boards.rows t u (terms t u own));
     created = created;
     created_back = created_back;
     cuts = λ t u s x first second.

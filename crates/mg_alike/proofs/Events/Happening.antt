@@ -1,9 +1,9 @@
 -- An event of a call that can happen in the one world can happen in the other that treats it alike.
-use Rattle.std.proofs.Common.{◌≡◌, ◌∙◌, ◌+◌, ◌<◌, ◌≤◌, ◌++◌, ℕ, true, List, ◌∷◌, length, Option, Some, refl, sym, ap, subst, inl, inr}
+use Rattle.std.proofs.Common.{◌≡◌, ◌∙◌, ◌<◌, ◌≤◌, ◌++◌, ℕ, true, List, ◌∷◌, length, Option, Some, refl, sym, ap, subst, inl, inr}
 use Rattle.mg_merge.proofs.Words.{Agent, Board, CallEvent, ChosenRefusal, Command, Entry, Executes, HasIdentifiersLeft, IsFirst, IsRequestOf, IsScript}
 use Rattle.mg_merge.proofs.Words.{IsSettled, OccursTo, Offer, Reply, Request, RequestCommand, Running, RunsFrom, Script, SentNote, World, after_request}
-use Rattle.mg_merge.proofs.Words.{after_results, built_by, commands_of, discard, fresh, heard, kept, last_number, line_places, none_made, noted, offer_to}
-use Rattle.mg_merge.proofs.Words.{passed, replied, reply_of, sent_notes, start_of, the_some, timed, with_gateway}
+use Rattle.mg_merge.proofs.Words.{after_results, built_by, commands_of, discard, fresh, heard, kept, line_places, none_made, noted, offer_to, passed, replied}
+use Rattle.mg_merge.proofs.Words.{reply_of, sent_notes, start_of, the_some, timed, with_gateway}
 use Rattle.mg_alike.proofs.Words.{AreNamedByNumber, AreReached, CallAlike, EventsHappenAlike, IsBeginning, Renaming, StepAlike, StepsAlike, TreatAlike}
 use Rattle.mg_model.specs.declared.events.CallEvent.TheVariants as to_call
 use Rattle.mg_safety.proofs.Agents.EffectiveAgent.{results_keep}
@@ -151,8 +151,7 @@ module _ (script : Script) (entries : List Entry) (is_script : IsScript script) 
           settled = board;
           failure = f.executed.failure;
           is_fresh = second;
-          room = subst (λ (n : ℕ). n + length p.commands ≤ last_number) (sym counts)
-              (subst (λ (n : ℕ). (w.gateway.link q.call).notes + n ≤ last_number) (sym as_long) f.executed.room);
+          room = rw (counts, as_long) f.executed.room;
           runs = runs;
           is_settled = board_is;
           after_is = refl;

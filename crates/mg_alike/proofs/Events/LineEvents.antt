@@ -81,9 +81,7 @@ module _ (w v : World) (call : ℕ) (r : Renaming) (a b : Agent) (alike : CallAl
         renaming = r;
         one = a;
         other = b;
-        alike = subst (λ (x : World). CallAlike r x next call a b) (sym one.after_is)
-            (subst (λ (x : World). CallAlike r (occurred_world w l call one.outcome) x call a b)
-            (sym (other.after_is ∙ ap (λ (outcome : Outcome). occurred_world v l call outcome) same)) (happened one.outcome));
+        alike = rw (one.after_is, other.after_is ∙ ap (λ (outcome : Outcome). occurred_world v l call outcome) same) (happened one.outcome);
       }
 
   -- it can happen in the other world too

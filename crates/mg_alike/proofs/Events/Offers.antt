@@ -38,7 +38,4 @@ module _ (r : Renaming) where
       → KeptAlike r (g.link q.call).last (h.link p.call).last → p.number ≡ q.number → OffersAlike r (offer_to g q) (offer_to h p)
   offers_alike g h q p retired association current same number =
       subst (λ (test : Bool). OffersAlike r (offer_to g q) (offer_at test p.association h.association (h.link p.call).last p.number)) (sym retired)
-      (subst (λ (n : ℕ). OffersAlike r (offer_to g q) (offer_at (g.retired q.call) n h.association (h.link p.call).last p.number)) (sym association)
-      (subst (λ (n : ℕ). OffersAlike r (offer_to g q) (offer_at (g.retired q.call) q.association n (h.link p.call).last p.number)) (sym current)
-      (subst (λ (n : ℕ). OffersAlike r (offer_to g q) (offer_at (g.retired q.call) q.association g.association (h.link p.call).last n)) (sym number)
-      (at_last (g.retired q.call) q.association g.association (g.link q.call).last (h.link p.call).last q.number same))))
+      (rw (association, current, number) (at_last (g.retired q.call) q.association g.association (g.link q.call).last (h.link p.call).last q.number same))

@@ -3,8 +3,8 @@ use Rattle.std.proofs.Common.{◌≡◌, ◌∙◌, ℕ, Bool, true, false, List
 use Rattle.std.proofs.Common.{Contains, if◌then◌else◌}
 use Rattle.mg_merge.proofs.Words.{Agent, AgentSteps, CallEvent, CallLink, ChosenRefusal, Contains-append_right, Entry, Eph, Executes, Gateway, IsFirst}
 use Rattle.mg_merge.proofs.Words.{IsLineOf, IsOpening, IsRepeat, IsRequestOf, IsScript, Line, LineNo, OccursTo, Opened, Reply, Request, Row, Script, SentNote}
-use Rattle.mg_merge.proofs.Words.{TermId, World, at_another, exists, false_not_true, handed_over, later_in, none_in, none_is_some, notes_from, null_row, opened}
-use Rattle.mg_merge.proofs.Words.{sent_in, the_some}
+use Rattle.mg_merge.proofs.Words.{TermId, World, at_another, exists, false_not_true, handed_over, later_in, none_in, none_is_some, notes_from, opened, sent_in}
+use Rattle.mg_merge.proofs.Words.{the_some}
 use Rattle.mg_alike.proofs.Words.{AreSentInBoth, CallAlike, IsLeftAlone, IsOwnedBy, IsRetiredBy, IsSameFor, KeptAlike, OpeningsTreatAlike, OptionalRowsAlike}
 use Rattle.mg_alike.proofs.Words.{OthersLeaveAlike, OwnAlike, Renaming}
 use Rattle.mg_model.specs.declared.events.CallEvent.TheVariants as to_call
@@ -213,9 +213,8 @@ module _ (script : Script) (one : Opened) where
     rows_too : (t u : TermId) → OwnAlike nothing_renamed w v one.call t u → OptionalRowsAlike nothing_renamed t (w.gateway.board.row t) (v.gateway.board.row u)
     rows_too (Line l) (Line m) own =
         subst (λ (o : Option Row). OptionalRowsAlike nothing_renamed (Line l) o (v.gateway.board.row (Line m))) (sym (opens.lines.stand l.0 one.call own.1))
-        (subst (λ (o : Option Row). OptionalRowsAlike nothing_renamed (Line l) (Some null_row) o)
-        (sym (also.lines.stand m.0 one.call ((held_too m.0).0 (subst (λ (k : LineNo). w.gateway.holder k.0 ≡ Some one.call) own.0 own.1))))
-        (record { place = inl (refl, refl); mode = refl; remote = tt }))
+        (rw (also.lines.stand m.0 one.call ((held_too m.0).0 (subst (λ (k : LineNo). w.gateway.holder k.0 ≡ Some one.call) own.0 own.1)))
+            (record { place = inl (refl, refl); mode = refl; remote = tt }))
     rows_too (Eph x) (Eph y) own = absurd (false_not_true own.0)
     rows_too _ _ own = absurd own
 

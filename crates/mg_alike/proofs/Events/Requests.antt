@@ -4,8 +4,8 @@ use Rattle.mg_merge.proofs.Words.{Agent, AreLeft, ChosenRefusal, Command, Entry,
 use Rattle.mg_merge.proofs.Words.{IsLive, IsRepeat, IsRequestOf, IsScript, Offer, Phase, Reply, Request, RequestCommand, RunsFrom, Script, SentNote, TermId}
 use Rattle.mg_merge.proofs.Words.{World, after_results, and_first, and_second, answers, awaits_reply, built_by, commands_of, creator_after, discard, eq-eqb}
 use Rattle.mg_merge.proofs.Words.{eqb-true, fresh, kept, last_executed, none_made, offer_to, start_of, the_some, with_gateway}
-use Rattle.mg_alike.proofs.Words.{AgentsAlike, AreNamedByNumber, CallAlike, CommandsAlike, ExecutesAlike, KeptAlike, OptionsAlike, OwnAlike, Pairwise}
-use Rattle.mg_alike.proofs.Words.{PhasesAlike, Renaming, RequestsAlike, TreatAlike, is_awaited}
+use Rattle.mg_alike.proofs.Words.{AgentsAlike, AreNamedByNumber, CallAlike, CommandsAlike, ExecutesAlike, OptionsAlike, OwnAlike, Pairwise, PhasesAlike}
+use Rattle.mg_alike.proofs.Words.{Renaming, RequestsAlike, TreatAlike, is_awaited}
 use Rattle.mg_model.proofs.Offered.{fresh_at, number_of}
 use Rattle.mg_merge.proofs.Commands.IdentifiersLeft.{Remain}
 use Rattle.mg_safety.proofs.Events.Executing.{IsDue, due_runs, is_due}
@@ -118,8 +118,7 @@ module _ (script : Script) (entries : List Entry) (is_script : IsScript script) 
   offers = offers_alike r w.gateway v.gateway q p
       (ap v.gateway.retired its.1 ∙ also_sound.gateway.retired call b alike.open_other ∙ sym (ap w.gateway.retired of.1 ∙ sound.gateway.retired call a alike.open_one))
       associations alike.association
-      (subst (λ (n : ℕ). KeptAlike r (w.gateway.link n).last (v.gateway.link p.call).last) (sym of.1)
-      (subst (λ (n : ℕ). KeptAlike r (w.gateway.link call).last (v.gateway.link n).last) (sym its.1) alike.kept)) numbers
+      (rw (of.1, its.1) alike.kept) numbers
 
   -- what can't be said of the two at once
   clash : (o s : Offer Reply) → offer_to w.gateway q ≡ o → offer_to v.gateway p ≡ s → OffersAlike r o s

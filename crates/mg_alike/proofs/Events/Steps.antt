@@ -73,9 +73,7 @@ module _ (w v : World) (call : ℕ) (r : Renaming) (a b : Agent) (alike : CallAl
         renaming = r;
         one = s.agent;
         other = t.agent;
-        alike = subst (λ (x : World). CallAlike r x next call s.agent t.agent) (sym s.after_is)
-            (subst (λ (x : World). CallAlike r (agent_steps w call s.agent) x call s.agent t.agent) (sym t.after_is)
-            (stepped s.agent t.agent (both_some (step a) (other b) s.agent t.agent first second same) (gives s.agent first)));
+        alike = rw (s.after_is, t.after_is) (stepped s.agent t.agent (both_some (step a) (other b) s.agent t.agent first second same) (gives s.agent first));
       }
 
 module _ (w v : World) (call : ℕ) (r : Renaming) (a b : Agent) (alike : CallAlike r w v call a b) where

@@ -82,12 +82,9 @@ module _ (script : Script) (held : ℕ → Bool) (a b : Agent) (own : (i : ℕ) 
       running : RunningAlike (renamed r (one_of twin) ran.chosen also.chosen) held (after_command x (command_of script a made command) (one_of twin) end done number)
           (after_command y (command_of script b made command) (other_of twin) last told number)
       running =
-          subst (λ (e : Board). RunningAlike wide held (after_command x (command_of script a made command) (one_of twin) e done number)
-          (after_command y (command_of script b made command) (other_of twin) last told number)) (sym ran.effect_is)
-          (subst (λ (e : Board). RunningAlike wide held (after_command x (command_of script a made command) (one_of twin) (effect x.board (one_of twin) ran.chosen) done number)
-          (after_command y (command_of script b made command) (other_of twin) e told number)) (sym also.effect_is)
+          rw (ran.effect_is, also.effect_is)
           (after_alike r held x y u.running twin paired (command_of script a made command) (command_of script b made command) (descriptors_same script a b same made command)
-          describing number ran.chosen also.chosen done told ran.fresh also.fresh ran.result also.result))
+          describing number ran.chosen also.chosen done told ran.fresh also.fresh ran.result also.result)
 
       names_on : naming_at a (made_after made command place) (x.results ++ done ∷ []) ≡ built_after (naming_at a made x.results) command done
       names_on = subst (λ (p : ℕ). naming_at a (made_after made command p) (x.results ++ done ∷ []) ≡ built_after (naming_at a made x.results) command done) u.count
@@ -103,9 +100,8 @@ module _ (script : Script) (held : ℕ → Bool) (a b : Agent) (own : (i : ℕ) 
           (place + 1) more (made_after made command place)
       next_underway = record {
         running = running;
-        names = subst (λ (names : Naming). NamesAlike wide names (naming_at b (made_after made command place) (y.results ++ told ∷ []))) (sym names_on)
-            (subst (λ (names : Naming). NamesAlike wide (built_after n command done) names) (sym other_names_on)
-            (built_alike wide n m (names_more r wide (renamed_wider r (one_of twin) ran.chosen also.chosen) n m u.names) command done told told_alike));
+        names = rw (names_on, other_names_on)
+            (built_alike wide n m (names_more r wide (renamed_wider r (one_of twin) ran.chosen also.chosen) n m u.names) command done told told_alike);
         count = length-append x.results (done ∷ []) ∙ ap (λ (k : ℕ). k + 1) u.count;
         other_count = length-append y.results (told ∷ []) ∙ ap (λ (k : ℕ). k + 1) u.other_count;
         below = made_below_next made command place u.below;
@@ -128,9 +124,7 @@ module _ (script : Script) (held : ℕ → Bool) (a b : Agent) (own : (i : ℕ) 
         record {
           wide = wide;
           wider = renamed_wider r (one_of twin) ran.chosen also.chosen;
-          underway = subst (λ (v : Running). IsUnderway script held a b wide v later (place + 1) more (made_after made command place)) (sym is)
-              (subst (λ (v : Running). IsUnderway script held a b wide (after_command x (command_of script a made command) (one_of twin) s.board s.done number) v (place + 1) more
-              (made_after made command place)) (sym its) (next_underway s.board t.board s.done t.done ran also));
+          underway = rw (is, its) (next_underway s.board t.board s.done t.done ran also);
         }
 
     -- ---- one refuses it, and the other too

@@ -180,9 +180,7 @@ module _ (script : Script) (is_script : IsScript script) (w v : World) (call : �
               let its = partner r.ephemerals (remote_of w.gateway.board (Eph x)) p reads.0 reads.1 same in
               let other = partner r.ephemerals (a.ephemerals i) (b.ephemerals i) reads.0 reads.2 (alike.agents.ephemerals i) in
               let there : its.0 ≡ other.0 = alike.renaming.ephemerals.onward reads.0 its.0 other.0 its.2 other.2 in
-              subst (λ (q : Option ℕ). OptionsAlike (by_names script a b).ephemerals q p) (sym reads.1)
-              (subst (λ (q : Option ℕ). OptionsAlike (by_names script a b).ephemerals (Some reads.0) q) (sym its.1)
-              (named_ephemeral i reads.0 its.0 reads.2 (other.1 ∙ ap (λ (n : ℕ). Some n) (sym there))))
+              rw (reads.1, its.1) (named_ephemeral i reads.0 its.0 reads.2 (other.1 ∙ ap (λ (n : ℕ). Some n) (sym there)))
 
   created_one : (x : ℕ) → owned_in w.gateway call (Eph x) ≡ true → w.gateway.creator x ≡ Some call
   created_one x owned =

@@ -3,10 +3,10 @@
 use Rattle.std.proofs.Common.{◌≡◌, ◌∙◌, ◌+◌, ◌++◌, ℕ, suc, Bool, true, false, List, [], ◌∷◌, length, Option, Some, None, refl, sym, ap, subst, inl, inr, ◌==◌}
 use Rattle.std.proofs.Common.{◌||◌, not, filter, if◌then◌else◌}
 use Rattle.mg_merge.proofs.Words.{All, All-head, All-push, All-tail, Board, Chosen, ChosenRefusal, Code, Done, Fails, Failure, IsExecuted, IsFresh, IsLegal}
-use Rattle.mg_merge.proofs.Words.{IsRefusedWith, IsResult, IsUsedUp, Item, Line, LineDescriptors, LineRow, MayRefuse, RaisedNote, RequestCommand, Running}
-use Rattle.mg_merge.proofs.Words.{RunsFrom, Succeeds, after_command, chosen_at, cleared, creates_context, creates_ephemeral, described_row, descriptors_for}
-use Rattle.mg_merge.proofs.Words.{different, filter_agree, has_new_events, item_at, line_after, none_is_some, not_both, note_from, only_if, raised, standing}
-use Rattle.mg_merge.proofs.Words.{subtracts, the_some, where_false, with_descriptors}
+use Rattle.mg_merge.proofs.Words.{IsResult, IsUsedUp, Item, Line, LineDescriptors, LineRow, MayRefuse, RaisedNote, RequestCommand, Running, RunsFrom, Succeeds}
+use Rattle.mg_merge.proofs.Words.{after_command, chosen_at, cleared, creates_context, creates_ephemeral, described_row, descriptors_for, different}
+use Rattle.mg_merge.proofs.Words.{filter_agree, has_new_events, item_at, line_after, none_is_some, not_both, note_from, only_if, raised, standing, subtracts}
+use Rattle.mg_merge.proofs.Words.{the_some, where_false, with_descriptors}
 use Rattle.mg_merge.proofs.Commands.SameCodes.{leaves_same, applies_on, applies_back}
 use Rattle.mg_merge.proofs.Commands.Changes.{not_leaving, fresh_context, fresh_ephemeral}
 use Rattle.mg_merge.proofs.Commands.ExecutedAlike.{IsExecutedBeside, beside}
@@ -154,8 +154,7 @@ module _ (s : Scope) (r m : Running) (along : RunsBeside s r m) (command : Reque
           beside_it = subst (λ (after : Running). RunsBeside s after merged) (sym x.next_is) it;
           others = record { board = there.outside; line = line_stays ran.legal };
         },
-        subst (λ (after : Running). Remain after.board wanted) (sym x.next_is)
-            (subst (λ (after : Board). Remain after wanted) (sym ran.effect_is) (remain_after r.board item ran.chosen wanted left)),
+        rw (x.next_is, ran.effect_is) (remain_after r.board item ran.chosen wanted left),
       )
 
   -- ---- a command that is refused
@@ -164,10 +163,7 @@ module _ (s : Scope) (r m : Running) (along : RunsBeside s r m) (command : Reque
       → Fails r command place refusal code → Fails m command place refusal code
   unfolding item
   fails_too place wanted refusal code left fails =
-      subst (λ i. IsRefusedWith m.board i (chosen_at refusal place) code) (sym item_same) (record {
-        may = onward code fails.may;
-        first = λ earlier before may. fails.first earlier before (back earlier may);
-      })
+      rw item_same (record { may = onward code fails.may; first = λ earlier before may. fails.first earlier before (back earlier may); })
     where
       onward : (code : Code) → MayRefuse r.board item (chosen_at refusal place) code → MayRefuse m.board item (chosen_at refusal place) code
       onward code (inl applies) = inl (applies_on s r.board m.board along.within along.part along.whole item item_names

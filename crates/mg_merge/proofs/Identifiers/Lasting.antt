@@ -54,8 +54,7 @@ module _ (script : Script) (few : HasFewCommands script) (class : ℕ → Bool) 
       let settled = settled_uses_few it.end.board it.settled (most + length request.commands) ran.0 it.is_settled in
       let board : after.gateway.board ≡ it.settled = ap (λ (v : World). v.gateway.board) x.after_is ∙ ap (λ (g : Gateway). g.board) it.after_is in
       record {
-        board = subst (λ (b : Board). UsesFew b (most + most_commands)) (sym board)
-            (or_more it.settled (most + length request.commands) (most + most_commands) (omega (arith, short)) settled);
+        board = rw board (or_more it.settled (most + length request.commands) (most + most_commands) (omega (arith, short)) settled);
         class_is = λ n. ap (λ (b : Board). b.class n) board ∙ ap (λ (c : ℕ → Bool). c n) it.is_settled.class ∙ ran.1 n ∙ sparing.class_is n;
         requests = subst (λ (xs : List Request). (r : Request) → Contains xs r → IsShort r) (sym (ap (λ (v : World). v.requests) x.after_is)) sparing.requests;
       }

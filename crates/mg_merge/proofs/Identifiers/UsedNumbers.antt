@@ -166,8 +166,7 @@ commands_use_few number chosen r place (command ∷ more) end failure most few (
 )
 commands_use_few number chosen r place (command ∷ more) end failure most few (inl (next, succeeds, runs)) =
     let after : UsesFew next.board (suc most) = subst (λ (x : Running). UsesFew x.board (suc most)) (sym succeeds.next_is)
-    (subst (λ (x : Board). UsesFew x (suc most)) (sym succeeds.executed.effect_is)
-    (one_more r.board most few _ succeeds.executed.legal succeeds.executed.chosen)) in
+    (rw succeeds.executed.effect_is (one_more r.board most few _ succeeds.executed.legal succeeds.executed.chosen)) in
     let later = commands_use_few number chosen next (place + 1) more end failure (suc most) after runs in (
       or_more end.board (suc most + length more) (most + length (command ∷ more)) (omega (arith)) later.0,
       λ n. later.1 n ∙ ap (λ (x : Running). x.board.class n) succeeds.next_is ∙ ap (λ (x : Board). x.class n) succeeds.executed.effect_is
@@ -186,8 +185,7 @@ settled_uses_few b after most few is = record {
     used_contexts = λ n used.
         let stands = (is.contexts n).0 used in
         subst (Contains few.contexts) stands.1.1 (few.among.places stands.1.0 (λ null. stands.0 (sym stands.1.1 ∙ null)));
-    places = subst (λ (rows : TermId → Option Row). (t : TermId) → (place_in (rows t) ≡ null → ⊥) → Contains few.contexts (place_in (rows t)))
-        (sym is.row) few.among.places;
+    places = rw is.row few.among.places;
     used_ephemerals = λ k used. few.among.existing k (sym (is.ephemerals k) ∙ used);
     existing = subst (λ (rows : TermId → Option Row). (k : ℕ) → is_some (rows (Eph k)) ≡ true → Contains few.ephemerals k) (sym is.row) few.among.existing;
   };

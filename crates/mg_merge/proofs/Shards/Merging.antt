@@ -1,5 +1,5 @@
 -- The law: association by association, with one restart of all between two, the histories of the shards are one run of all their calls.
-use Rattle.std.proofs.Common.{◌≡◌, ◌∙◌, ◌+◌, ◌<◌, ◌++◌, ℕ, zero, suc, List, [], ◌∷◌, refl, sym, ap, subst, inl, inr, Contains}
+use Rattle.std.proofs.Common.{◌≡◌, ◌∙◌, ◌+◌, ◌<◌, ℕ, zero, suc, List, [], ◌∷◌, refl, sym, ap, subst, inl, inr, Contains}
 use Rattle.mg_merge.proofs.Words.{AgreesWith, All-contains_itself, All-weaker, AreAllApart, Event, History, IsEventOf, IsScript, IsShardRun, Restart, Runs}
 use Rattle.mg_merge.proofs.Words.{RunsWithin, Script, Shard, World, cut_at_restarts, first_in, first_or_later, histories, last_association, later_in}
 use Rattle.mg_merge.proofs.Words.{merged_from, none_in, restarted, restarts_in, with_gateway}
@@ -10,7 +10,7 @@ use Rattle.mg_merge.proofs.Shards.MergedOpening.{merged_start, start_beside, sta
 use Rattle.mg_merge.proofs.Shards.Opening.{separate, start_contained}
 use Rattle.mg_merge.proofs.Events.Restarts.{contained_restarted, beside_restarted, merge_restarted}
 use Rattle.mg_merge.proofs.Scopes.{scope_of, AreSeparate}
-use Rattle.mg_merge.proofs.Events.Worlds.{IsContained, IsBeside, IsMerge}
+use Rattle.mg_merge.proofs.Events.Worlds.{IsContained, IsMerge}
 
 -- ---- lanes after a restart
 
@@ -60,8 +60,7 @@ restarts_on script m restarts lane is stops =
       record {
         world = next;
         contained = subst (IsContained script (scope_in lane)) (sym occurs.1) (contained_restarted script (scope_in lane) stops.world stops.contained);
-        along = subst (λ (v : World). IsBeside (scope_in lane) v (with_gateway m (restarted m.gateway))) (sym occurs.1)
-            (beside_restarted (scope_in lane) stops.world m stops.along);
+        along = rw occurs.1 (beside_restarted (scope_in lane) stops.world m stops.along);
         runs = runs.1.1.1;
         own = later_own (IsEventOf lane.shard.numbers) lane.rest stops.own;
       },
@@ -121,8 +120,7 @@ all_merge script is (suc restarts) first others apart m merge are begin =
     ∙ sym (later_merged (rests (first ∷ others)) 0 restarts)) rest.runs in
     record {
       end = rest.end;
-      runs = subst (λ (events : List Event). Runs script (events ++ Restart ∷ merged_from (all_cut (rests (first ∷ others))) (0 + 1) restarts) m rest.end)
-          (sym (first_together (rests (first ∷ others))))
+      runs = rw (first_together (rests (first ∷ others)))
           (runs_after script (all_before (rests (first ∷ others))) (Restart ∷ merged_from (all_cut (rests (first ∷ others))) (0 + 1) restarts) m
           passed.merged rest.end passed.went (next, ((one.0, refl), later)));
       agrees = each_back (Agrees rest.end) (Agrees rest.end) (λ lane agrees. agrees) (first ∷ others) rest.agrees;

@@ -4,7 +4,7 @@ use Rattle.std.proofs.Common.{◌≡◌, ◌∙◌, ◌++◌, ℕ, Bool, true, L
 use Rattle.mg_merge.proofs.Words.{Agent, AgentSteps, All, Begins, CallEvent, CallNo, ChosenRefusal, Entry, Executes, Gateway, IsEntryOf, IsOpening, IsScript}
 use Rattle.mg_merge.proofs.Words.{NoneBroken, OccursTo, OfCall, Opened, Reply, Request, Script, World, eqb-true, false_from_ne_true, first_in, heard, later_in}
 use Rattle.mg_merge.proofs.Words.{line_places, noted, only_one, passed, replied, sent_in, timed, where_false}
-use Rattle.mg_alike.proofs.Words.{IsRetiredBy, Pairwise}
+use Rattle.mg_alike.proofs.Words.{IsRetiredBy}
 use Rattle.mg_model.specs.declared.events.CallEvent.TheVariants as to_call
 use Rattle.mg_model.proofs.Offered.{kept_at}
 use Rattle.mg_safety.proofs.Messages.NamedMessages.{opening_numbered, runs_numbered}
@@ -13,7 +13,7 @@ use Rattle.mg_safety.proofs.SmallLaws.AgentLaws.{IsOwn, GivesOwn, replied_own, p
 use Rattle.mg_alike.proofs.Events.Alone.{execute_retired, runs_on, steps_retired}
 use Rattle.mg_alike.proofs.Events.Others.{others_alike}
 use Rattle.mg_reports.proofs.Beside.{AreBeside}
-use Rattle.mg_reports.proofs.Keys.{SameKey, those_of}
+use Rattle.mg_reports.proofs.Keys.{those_of}
 use Rattle.mg_reports.proofs.Only.{IsOnly, only_beside}
 use Rattle.mg_reports.proofs.Steps.{both_reached}
 
@@ -113,10 +113,8 @@ module _ (script : Script) (entries : List Entry) (is_script : IsScript script) 
     only = only_beside script keep w after call both.only who.0 happens none occurs;
     also_only = both.also_only;
     in_step = record {
-      requests = subst (λ (l : List Request). Pairwise (SameKey (λ (r : Request). r.call) (λ (r : Request). r.number)) l
-          (those_of (λ (r : Request). r.call) keep v.requests)) (sym unmoved.requests) both.in_step.requests;
-      replies = subst (λ (l : List Reply). Pairwise (SameKey (λ (r : Reply). r.call) (λ (r : Reply). r.number)) l
-          (those_of (λ (r : Reply). r.call) keep v.replies)) (sym unmoved.replies) both.in_step.replies;
+      requests = rw unmoved.requests both.in_step.requests;
+      replies = rw unmoved.replies both.in_step.replies;
       retired = λ c its. both.in_step.retired c its ∙ sym (unmoved.retired c its);
     };
   }
