@@ -126,7 +126,7 @@ module _ (keep : ℕ → Bool) (w v : World) (call number : ℕ) (chosen : Optio
       let same : RepliesAlike r f.answer g.answer = clash (kept f.answer) (kept g.answer) f.kept g.kept in
       one_more after next f.answer g.answer (ap (λ (x : World). x.replies) f.after_is) (ap (λ (x : World). x.replies) g.after_is) same.call same.number
   execute_replies after next (inr (inr f)) (inr (inr g)) =
-      subst (λ (x : World). RepliesInStep keep x.replies next.replies) (sym f.1) (subst (λ (x : World). RepliesInStep keep w.replies x.replies) (sym g.1) before)
+      rw (f.1, g.1) before
   execute_replies after next (inl f) (inr (inl g)) = absurd (clash fresh (kept g.answer) f.executed.is_fresh g.kept)
   execute_replies after next (inl f) (inr (inr g)) = absurd (clash fresh discard f.executed.is_fresh g.0)
   execute_replies after next (inr (inl f)) (inl g) = absurd (clash (kept f.answer) fresh f.kept g.executed.is_fresh)
@@ -143,11 +143,11 @@ also_retired call old was = if call == old then true else was
 module _ (keep : ℕ → Bool) (w v after next : World) (before : AreInStep keep w v) where
   requests_stay : after.requests ≡ w.requests → next.requests ≡ v.requests → RequestsInStep keep after.requests next.requests
   requests_stay one other =
-      subst (λ (l : List Request). RequestsInStep keep l next.requests) (sym one) (subst (λ (l : List Request). RequestsInStep keep w.requests l) (sym other) before.requests)
+      rw (one, other) before.requests
 
   replies_stay : after.replies ≡ w.replies → next.replies ≡ v.replies → RepliesInStep keep after.replies next.replies
   replies_stay one other =
-      subst (λ (l : List Reply). RepliesInStep keep l next.replies) (sym one) (subst (λ (l : List Reply). RepliesInStep keep w.replies l) (sym other) before.replies)
+      rw (one, other) before.replies
 
   retired_stay : after.gateway.retired ≡ w.gateway.retired → next.gateway.retired ≡ v.gateway.retired → (call : ℕ) → IsTrue (keep call)
       → next.gateway.retired call ≡ after.gateway.retired call

@@ -181,7 +181,7 @@ module _ (script : Script) (r : Renaming) where
         (entered_or_stays script (record a { accepted = with_at a.accepted sent.number true }) (target_of script a (line_in a sent.line places) sent.note))
         (entered_or_stays script (record b { accepted = with_at b.accepted sent.number true }) (target_of script b (line_in b sent.line places) sent.note))
         (rw (ap (λ (o : Option ℕ). target_of script b o sent.note) (line_in_same sent.line places) ∙ target_same (line_in a sent.line places) sent.note)
-            (stays_alike (record a { accepted = with_at a.accepted sent.number true }) (record b { accepted = with_at b.accepted sent.number true }) taken
+        (stays_alike (record a { accepted = with_at a.accepted sent.number true }) (record b { accepted = with_at b.accepted sent.number true }) taken
         (target_of script a (line_in a sent.line places) sent.note)))
       where
         taken : AgentsAlike r (record a { accepted = with_at a.accepted sent.number true }) (record b { accepted = with_at b.accepted sent.number true })

@@ -73,7 +73,7 @@ module _ (script : Script) (entries : List Entry) (is_script : IsScript script) 
         ∙ still_there (exists f.executed.end.board (Eph x)) (exists w.gateway.board (Eph x)) (w.gateway.creator x) request.call (stands x e) (sound.gateway.creator_stands x call e) ∙ e;
     requests = λ q there. subst (λ (list : List Request). Contains list q) (sym (ap (λ (x : World). x.requests) f.after_is)) there;
     replies = λ q there. subst (λ (list : List Reply). Contains list q) (sym (ap (λ (x : World). x.replies) f.after_is)) (later_in f.answer w.replies q there);
-    notes = λ n there. subst (λ (list : List SentNote). Contains list n) (sym (ap (λ (x : World). x.notes) f.after_is)) (Contains-append_right f.sent w.notes n there);
+    notes = λ n there. rw (ap (λ (x : World). x.notes) f.after_is) (Contains-append_right f.sent w.notes n there);
   }
     where
       h : HasRun script entries w request f.executed.end f.executed.failure
@@ -214,7 +214,7 @@ module _ (script : Script) (one : Opened) where
     rows_too (Line l) (Line m) own =
         subst (λ (o : Option Row). OptionalRowsAlike nothing_renamed (Line l) o (v.gateway.board.row (Line m))) (sym (opens.lines.stand l.0 one.call own.1))
         (rw (also.lines.stand m.0 one.call ((held_too m.0).0 (subst (λ (k : LineNo). w.gateway.holder k.0 ≡ Some one.call) own.0 own.1)))
-            (record { place = inl (refl, refl); mode = refl; remote = tt }))
+        (record { place = inl (refl, refl); mode = refl; remote = tt }))
     rows_too (Eph x) (Eph y) own = absurd (false_not_true own.0)
     rows_too _ _ own = absurd own
 
@@ -230,7 +230,7 @@ module _ (script : Script) (one : Opened) where
       agents = assumption;
       association = also.gateway.association ∙ sym opens.gateway.association;
       kept = subst (λ (o : Option Reply). KeptAlike nothing_renamed o (v.gateway.link one.call).last) (sym (ap (λ (link : ℕ → CallLink). (link one.call).last) opens.gateway.no_reply_kept))
-          (subst (λ (o : Option Reply). KeptAlike nothing_renamed None o) (sym (ap (λ (link : ℕ → CallLink). (link one.call).last) also.gateway.no_reply_kept)) tt);
+          (rw (ap (λ (link : ℕ → CallLink). (link one.call).last) also.gateway.no_reply_kept) tt);
       count = ap (λ (link : ℕ → CallLink). (link one.call).notes) also.gateway.no_reply_kept ∙ sym (ap (λ (link : ℕ → CallLink). (link one.call).notes) opens.gateway.no_reply_kept);
       held = held_too;
       lines = λ l e. also.lines.armed l one.call ((held_too l).0 e) ∙ sym (opens.lines.armed l one.call e);

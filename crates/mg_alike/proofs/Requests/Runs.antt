@@ -110,7 +110,7 @@ module _ (script : Script) (held : ℕ → Bool) (a b : Agent) (own : (i : ℕ) 
             u.known.1;
         declared = All-tail (IsCommandOf script) command more u.declared;
         remain = subst (λ (e : Board). Remain e (length more)) (sym ran.effect_is) (remain_after x.board (one_of twin) ran.chosen (length more) u.remain);
-        other_remain = subst (λ (e : Board). Remain e (length more)) (sym also.effect_is) (remain_after y.board (other_of twin) also.chosen (length more) u.other_remain);
+        other_remain = rw also.effect_is (remain_after y.board (other_of twin) also.chosen (length more) u.other_remain);
       }
 
     both_succeed : (next later : Running) → Succeeds x (command_of script a made command) place refusal number next

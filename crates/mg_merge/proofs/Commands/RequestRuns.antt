@@ -163,7 +163,7 @@ module _ (s : Scope) (r m : Running) (along : RunsBeside s r m) (command : Reque
       → Fails r command place refusal code → Fails m command place refusal code
   unfolding item
   fails_too place wanted refusal code left fails =
-      rw item_same (record { may = onward code fails.may; first = λ earlier before may. fails.first earlier before (back earlier may); })
+      rw item_same (record { may = onward code fails.may; first = λ earlier before may. fails.first earlier before (back earlier may) })
     where
       onward : (code : Code) → MayRefuse r.board item (chosen_at refusal place) code → MayRefuse m.board item (chosen_at refusal place) code
       onward code (inl applies) = inl (applies_on s r.board m.board along.within along.part along.whole item item_names

@@ -52,13 +52,7 @@ module _ (s : Scope) (was m b end settled : Board) (before : IsWithin s was) (be
       go false e = (λ used. stands c e ((contexts c).0 used), λ there. (contexts c).1 (stood c e there))
 
   pub merge_settled : IsSettled end (settled_by s settled m end)
-  merge_settled = record {
-    row = refl;
-    cut = refl;
-    class = refl;
-    contexts = settled_contexts;
-    ephemerals = λ k. refl;
-  }
+  merge_settled = assumption settled_contexts
 
   pub settled_part : IsPart s settled (settled_by s settled m end)
   settled_part = record {

@@ -1,7 +1,7 @@
 -- How long requests are: a request has at most as many commands as the state that it is built of, so where each state has few, each step of an
 -- agent sends few.
 use Rattle.std.proofs.Common.{◌≡◌, ◌+◌, ◌≤◌, ℕ, Bool, true, false, List, [], ◌∷◌, length, Option, Some, None, refl, sym, subst, arith, inl, inr, ◌==◌}
-use Rattle.std.proofs.Common.{if◌then◌else◌, nat_lt, nat_le, unwrap_or, Contains}
+use Rattle.std.proofs.Common.{if◌then◌else◌, nat_lt, nat_le, Contains}
 use Rattle.mg_merge.proofs.Words.{Agent, Command, Failure, Made, Phase, Reply, Request, Script, SentNote, State, after_results, and_first, and_second, answers}
 use Rattle.mg_merge.proofs.Words.{arrival, awaits_pass, awaits_reply, bound_by, built_by, cases_lt, commands_of, entered, entered_if, entered_or_rests}
 use Rattle.mg_merge.proofs.Words.{entered_or_stays, entered_with, false_not_true, forgotten, heard, inbox_of, is_empty, is_new, is_resting, last_number}
@@ -16,7 +16,7 @@ use Rattle.mg_merge.specs.Identifiers.{HasFewCommands, most_commands}
 few_in_state : (script : Script) → HasFewCommands script → (state : ℕ) → length (state_of script state).commands ≤ most_commands
 few_in_state script few state = elim (cases_lt state (length script.states)) [
   | inl below ↦ subst (λ (s : State). length s.commands ≤ most_commands) (sym (unwrap_or-slice_get script.states state no_state)) (few state no_state below)
-  | inr past ↦ subst (λ (found : Option State). length (unwrap_or found no_state).commands ≤ most_commands) (sym (slice_get_past script.states state past)) (omega (arith))
+  | inr past ↦ rw (slice_get_past script.states state past) (omega (arith))
 ]
 
 pub sent_as_many : (script : Script) (a : Agent) (made : Made) (place : ℕ) (commands : List Command)

@@ -159,7 +159,7 @@ pub commands_use_few : (number : ℕ) (chosen : Option ChosenRefusal) (r : Runni
     → UsesFew end.board (most + length commands) × ((n : ℕ) → end.board.class n ≡ r.board.class n)
 unfolding RunsFrom
 commands_use_few number chosen r place [] end failure most few (ends, none) =
-    (or_more end.board most (most + 0) (omega (arith)) (subst (λ (x : Running). UsesFew x.board most) (sym ends) few), λ n. ap (λ (x : Running). x.board.class n) ends)
+    (or_more end.board most (most + 0) (omega (arith)) (rw ends few), λ n. ap (λ (x : Running). x.board.class n) ends)
 commands_use_few number chosen r place (command ∷ more) end failure most few (inr (code, fails, ends, failed)) = (
   or_more end.board most (most + length (command ∷ more)) (omega (arith)) (subst (λ (x : Running). UsesFew x.board most) (sym ends) few),
   λ n. ap (λ (x : Running). x.board.class n) ends,

@@ -1,6 +1,6 @@
 -- The shards side by side, each with what is left of its history: one association of all of them in the merge, shard after shard.
 use Rattle.std.proofs.Common.{List, [], ◌∷◌, refl}
-use Rattle.mg_merge.proofs.Words.{All, All-head, All-tail, Event, IsEventOf, IsScript, OfCall, Restart, Runs, RunsWithin, Script, Shard, World}
+use Rattle.mg_merge.proofs.Words.{All, All-head, All-tail, Event, IsEventOf, IsScript, OfCall, Runs, RunsWithin, Script, Shard, World}
 use Rattle.mg_merge.proofs.Events.CallEvents.{call_follows}
 use Rattle.mg_merge.proofs.Shards.Histories.{before_restart, from_restart, all_before, runs_after}
 use Rattle.mg_merge.proofs.Shards.Opening.{turned}
@@ -60,26 +60,6 @@ pub record HasPassed (script : Script) (s : Scope) (rest : List Event) (end m : 
 pub passes : (script : Script) → IsScript script → (s : Scope) (end : World) (rest : List Event) (w m : World) → All (IsEventOf s.numbers) rest
     → IsContained script s w → IsBeside s w m → IsMerge m → RunsWithin script rest w end → HasPassed script s rest end m
 unfolding Runs RunsWithin
-passes script is s end [] w m own contained along merge runs = record {
-  merged = m;
-  world = w;
-  went = refl;
-  contained = contained;
-  along = along;
-  merge = merge;
-  others = λ u v apart beside. beside;
-  runs = runs;
-}
-passes script is s end (Restart ∷ more) w m own contained along merge runs = record {
-  merged = m;
-  world = w;
-  went = refl;
-  contained = contained;
-  along = along;
-  merge = merge;
-  others = λ u v apart beside. beside;
-  runs = runs;
-}
 passes script is s end (OfCall call happens ∷ more) w m own contained along merge (left, (next, (occurs, later))) =
     let it = call_follows script is s w m contained along merge left call.0 (All-head (IsEventOf s.numbers) (OfCall call happens) more own) next happens occurs in
     let on = passes script is s end more next it.merged (All-tail (IsEventOf s.numbers) (OfCall call happens) more own) it.contained it.along it.merge later in
@@ -94,6 +74,16 @@ passes script is s end (OfCall call happens ∷ more) w m own contained along me
           (others_beside s u apart script next v m it.merged it.contained it.along it.others beside);
       runs = on.runs;
     }
+passes script is s end rest w m own contained along merge runs = record {
+  merged = m;
+  world = w;
+  went = refl;
+  contained = contained;
+  along = along;
+  merge = merge;
+  others = λ u v apart beside. beside;
+  runs = runs;
+}
 
 -- ---- one association of all
 

@@ -8,22 +8,7 @@ with_every w = record w { gateway = record w.gateway { board = record w.gateway.
 
 -- whatever numbers its gateway gives, it is an opening
 opens_with_every : (script : Script) (calls : List Opened) (w : World) → IsOpening script calls w → IsOpening script calls (with_every w)
-opens_with_every script calls w opens = record {
-  distinct = opens.distinct;
-  lines = record { held = opens.lines.held; stand = opens.lines.stand; armed = opens.lines.armed; others_null = opens.lines.others_null };
-  gateway = record {
-    association = opens.gateway.association;
-    no_ephemeral = opens.gateway.no_ephemeral;
-    nothing_cut = opens.gateway.nothing_cut;
-    no_context_given = opens.gateway.no_context_given;
-    no_ephemeral_given = opens.gateway.no_ephemeral_given;
-    no_creator = opens.gateway.no_creator;
-    no_reply_kept = opens.gateway.no_reply_kept;
-    none_retired = opens.gateway.none_retired;
-  };
-  agents = record { opened = opens.agents.opened; no_other = opens.agents.no_other };
-  messages = record { no_request = opens.messages.no_request; no_answer = opens.messages.no_answer; no_note = opens.messages.no_note };
-}
+opens_with_every script calls w opens = assumption
 
 pub opens_alone_with_every : (script : Script) (calls : List Opened) (one : Opened) (start : World) → Contains calls one → IsOpening script calls start
     → (lone : World) × (IsOpening script (one ∷ []) lone × ((n : ℕ) → IsTrue (lone.gateway.board.class n)))
