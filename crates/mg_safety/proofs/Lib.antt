@@ -10,3 +10,4 @@ pub mod Agents
 pub mod GoodWorlds
 pub mod Messages
 pub mod SmallLaws
+pub mod GoingOn

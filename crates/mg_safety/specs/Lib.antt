@@ -3,3 +3,4 @@ pub mod Headline
 pub mod Beginnings
 pub mod MessageNumbers
 pub mod Others
+pub mod GoingOn
