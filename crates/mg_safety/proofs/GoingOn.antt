@@ -1,3 +1,8 @@
 -- A call that waits can be led on.
 pub mod SentCommands
 pub mod InOrder
+pub mod Searching
+pub mod Taking
+pub mod OneCommand
+pub mod Running
+pub mod Settling
