@@ -6,3 +6,4 @@ pub mod Taking
 pub mod OneCommand
 pub mod Running
 pub mod Settling
+pub mod LedOn

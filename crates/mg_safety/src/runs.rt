@@ -1,5 +1,6 @@
 //! The promise over runs. `mg_examples` has runs and certificates that show that it isn't hollow.
 ghost use Rattle.mg_safety.specs.Beginnings.{EndedCallsMayBegin, LostCallsMayNotBegin};
+ghost use Rattle.mg_safety.specs.GoingOn.{CallsCanGoOn};
 ghost use Rattle.mg_safety.specs.Headline.{EveryRunIsGood, EveryRunOfOneCallIsGood};
 ghost use Rattle.mg_safety.specs.Others.{OthersAreKept, OthersAreLeftAlone};
 
@@ -36,4 +37,10 @@ pub fn others_are_left_alone()
 /// retires.
 pub fn others_are_kept()
     ensures { OthersAreKept }
+{}
+
+/// Where no obligation is broken, and each state that has commands says where a failure leads, a call of the gateway's association that waits can be led on
+/// in every world of every run, as long as numbers are left: the gateway executes its request, choosing no refusal, and a reply to it comes, or it passes.
+pub fn calls_can_go_on()
+    ensures { CallsCanGoOn }
 {}

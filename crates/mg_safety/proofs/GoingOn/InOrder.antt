@@ -1,6 +1,6 @@
 -- What holds between two events of a run: the numbers that can't be given are those of what stands, the request that an agent waits for was sent, and each
 -- request that was sent has a command.
-use Rattle.std.proofs.Common.{◌≡◌, ◌∙◌, ◌++◌, ◌==◌, ◌⊎◌, ℕ, Bool, true, false, List, [], ◌∷◌, Option, Some, None, if◌then◌else◌, is_some, refl, sym, ap, subst, inl, inr}
+use Rattle.std.proofs.Common.{◌≡◌, ◌∙◌, ◌++◌, ◌==◌, ℕ, Bool, true, false, List, [], ◌∷◌, Option, Some, None, if◌then◌else◌, is_some, refl, sym, ap, subst, inl, inr}
 use Rattle.std.specs.Prelude.{Contains}
 use Rattle.std.proofs.lemmas.List.Elements.{Contains-append_cases, Contains-append_right, Contains-append_left}
 use Rattle.mg_names.specs.declared.identifiers.TermId.{TermId}
@@ -13,13 +13,13 @@ use Rattle.mg_model.specs.declared.failures.ChosenRefusal.{ChosenRefusal}
 use Rattle.mg_model.specs.declared.rows.Row.{Row}
 use Rattle.mg_model.specs.Agent.{Agent, Phase, awaits_reply, awaits_pass, resting, opened, replied, passed, noted, timed, heard}
 use Rattle.mg_model.specs.Board.{Board, IsSettled, place_in}
-use Rattle.mg_model.specs.Gateway.{Gateway, board_restarted, row_restarted}
+use Rattle.mg_model.specs.Gateway.{Gateway, board_restarted}
 use Rattle.mg_model.specs.Messages.{Request}
 use Rattle.mg_model.specs.Numbers.{null}
 use Rattle.mg_model.specs.Script.{Script}
 use Rattle.mg_model.specs.Tables.{is_empty, line_places}
-use Rattle.mg_model.specs.World.{World, Opened, AgentSteps, Begins, Executes, IsOpening, Occurs, OccursTo, Runs, agent_steps, sent_in}
-use Rattle.mg_model.proofs.Cases.{by_test, false_not_true, the_some}
+use Rattle.mg_model.specs.World.{World, Opened, AgentSteps, Begins, Executes, IsOpening, Occurs, OccursTo, Runs, sent_in}
+use Rattle.mg_model.proofs.Cases.{false_not_true, the_some}
 use Rattle.mg_model.proofs.Settled.{restarted_gone, restarted_in_null}
 use Rattle.mg_model.proofs.Single.{first_in, none_in, only_one}
 use Rattle.mg_safety.proofs.Agents.Entering.{not_resting}

@@ -1,7 +1,7 @@
 -- A command of a request is executed, or a code refuses it: which of both is told by what the call's configuration shows of the board, and where identifiers are
 -- left no command is refused for want of one.
-use Rattle.std.proofs.Common.{◌≡◌, ◌∙◌, ◌+◌, ◌<◌, ◌≤◌, ◌⊎◌, ℕ, zero, suc, Bool, true, false, List, Option, Some, None, is_some, refl, sym, ap, subst, arith, inl, inr}
-use Rattle.std.specs.Prelude.{◌==◌, ◌&&◌, ◌||◌, IsTrue, unwrap_or}
+use Rattle.std.proofs.Common.{◌≡◌, ◌∙◌, ◌+◌, ◌<◌, ◌⊎◌, ℕ, zero, suc, Bool, true, false, Option, Some, None, is_some, refl, sym, ap, subst, arith, inl, inr}
+use Rattle.std.specs.Prelude.{◌&&◌, ◌||◌, unwrap_or}
 use Rattle.std.proofs.lemmas.Bool.{cases_lt, eqb-true}
 use Rattle.mg_names.specs.declared.codes.Code.{Code}
 use Rattle.mg_names.specs.declared.codes.Code.TheVariants.{UnknownContext, UnknownTermination, AlreadyInContext, NotInContext, InternalFailure, InsufficientResources}
@@ -21,7 +21,7 @@ use Rattle.mg_model.specs.Numbers.{all, choose, null, the_line}
 use Rattle.mg_model.specs.Request.{place_known, uses_known}
 use Rattle.mg_model.specs.RequestRun.{IsRefusedWith}
 use Rattle.mg_model.specs.Script.{Script}
-use Rattle.mg_model.proofs.Cases.{and_first, false_not_true, none_is_some, not_both, some_of}
+use Rattle.mg_model.proofs.Cases.{and_first, none_is_some, not_both, some_of}
 use Rattle.mg_model.proofs.Terminations.{is_in_is, same_term_is}
 use Rattle.mg_safety.proofs.Commands.InForce.{context_in_force, owned_in_context, someone_in}
 use Rattle.mg_safety.proofs.GoingOn.Searching.{bound_of_slots, listed_below, search_slots}
@@ -81,13 +81,16 @@ module _ (b : Board) (item : Item) where
   Outcome = IsLegal b item ⊎ ((code : Code) × IsRefusedWith b item None code)
 
   refused : (code : Code) → NoneBefore (rank code) → Applies b item code → Outcome
-  refused code before applies = inr (code, record {
-    may = inl applies;
-    first = λ earlier below may. elim may [
-      | inl also ↦ before earlier below also
-      | inr chosen ↦ none_is_some earlier chosen
-    ];
-  })
+  refused code before applies = inr (
+    code,
+    record {
+      may = inl applies;
+      first = λ earlier below may. elim may [
+        | inl also ↦ before earlier below also
+        | inr chosen ↦ none_is_some earlier chosen
+      ];
+    },
+  )
 
   outcome : Decided (LacksContext b item) → (IsUsedUp b item → ⊥) → Outcome
   outcome lacks enough = by_context lacks
@@ -129,8 +132,7 @@ module _ (b : Board) (item : Item) where
       let lines = listed_below (λ n. subtracts b item (Line (the_line n)) && exists b (Line (the_line n))) bounded.most
       (λ n is. bounded.lines n (and_first (subtracts b item (Line (the_line n))) (exists b (Line (the_line n))) is)) in
       let ephemerals = listed_below (λ n. subtracts b item (Eph n) && exists b (Eph n)) bounded.most
-      (λ n is. bounded.ephemerals n (and_first (subtracts b item (Eph n)) (exists b (Eph n)) is)) in
-      (
+      (λ n is. bounded.ephemerals n (and_first (subtracts b item (Eph n)) (exists b (Eph n)) is)) in (
         record {
           context = only_if (creates_context item) chosen.context;
           ephemeral = only_if (creates_ephemeral item) chosen.ephemeral;

@@ -2,7 +2,7 @@
 use Rattle.std.proofs.Common.{◌≡◌, ◌∙◌, ◌+◌, ℕ, Bool, true, List, [], ◌∷◌, ◌++◌, length, length-append, Option, Some, None, is_some, refl, sym, ap, subst, true≢false, inl, inr}
 use Rattle.std.specs.Prelude.{◌⊎◌, Contains, if◌then◌else◌}
 use Rattle.std.specs.List.{All, list_all}
-use Rattle.std.proofs.lemmas.List.Elements.{All-head, All-tail, Contains-append_left, Contains-append_right}
+use Rattle.std.proofs.lemmas.List.Elements.{All-head, All-tail, Contains-append_left}
 use Rattle.mg_names.specs.declared.codes.Code.{Code}
 use Rattle.mg_names.specs.declared.phases.LinkPhase.TheVariants.{Sent, Failed}
 use Rattle.mg_model.specs.declared.commands.Command.{Command}
@@ -11,12 +11,11 @@ use Rattle.mg_model.specs.declared.items.Item.{Item}
 use Rattle.mg_model.specs.declared.steps.StepName.TheVariants.{Refuse}
 use Rattle.mg_model.specs.Accepted.{IsScript, IsCommandOf, create_once}
 use Rattle.mg_model.specs.Agent.{Agent, Made, bound_by, built_by, command_of, commands_of, made_after, none_made}
-use Rattle.mg_model.specs.Board.{Board}
 use Rattle.mg_model.specs.Configuration.{Configuration, IsWellFormed}
 use Rattle.mg_model.specs.Effects.{is_legal, effect}
 use Rattle.mg_model.specs.Entries.{Entry}
 use Rattle.mg_model.specs.Gateway.{Gateway, start_of}
-use Rattle.mg_model.specs.Items.{Done, IsExecuted}
+use Rattle.mg_model.specs.Items.{IsExecuted}
 use Rattle.mg_model.specs.Messages.{RequestCommand}
 use Rattle.mg_model.specs.Request.{Names, built}
 use Rattle.mg_model.specs.RequestRun.{IsRefusedWith, Running, RunsFrom, Succeeds, after_command, item_at}
@@ -145,12 +144,25 @@ module _ (script : Script) (is_script : IsScript script) (own : Owner) (a : Agen
           (commands_of script a (made_after made command place) (place + 1) more))
           → SomeRun r place (commands_of script a made place (command ∷ more))
       by_outcome (inl d) on =
-          let rest = on d in
-          (rest.0, rest.1, inl (next r place command more made n c u d (item_at r.results (command_of script a made command)),
-          succeeds r place command more made n c u d, rest.2))
-      by_outcome (inr (code, fails)) on =
-          (r, Some (record { place = place; code = code }), inr (code,
-          subst (λ (item : Item). IsRefusedWith r.board item None code) (sym (item_is script a made r.results command)) fails, refl, refl))
+          let rest = on d in (
+            rest.0,
+            rest.1,
+            inl (
+              next r place command more made n c u d (item_at r.results (command_of script a made command)),
+              succeeds r place command more made n c u d,
+              rest.2,
+            ),
+          )
+      by_outcome (inr (code, fails)) on = (
+        r,
+        Some (record { place = place; code = code }),
+        inr (
+          code,
+          subst (λ (item : Item). IsRefusedWith r.board item None code) (sym (item_is script a made r.results command)) fails,
+          refl,
+          refl,
+        ),
+      )
 
 -- ---- the start
 
@@ -160,7 +172,7 @@ formed_from script [] c place each = tt
 formed_from script (command ∷ more) c place each = (
   formed_with_link c Failed (each (Refuse place, with_link c Failed) (first_in _ _)),
   λ legal. formed_from script more (effect script c command) (place + 1) (λ step among. each step (later_in _ _ step
-  (subst (λ (test : Bool). Contains (if test then refusals script (effect script c command) (place + 1) more else []) step) (sym legal) among))),
+      (subst (λ (test : Bool). Contains (if test then refusals script (effect script c command) (place + 1) more else []) step) (sym legal) among))),
 )
 
 -- the request of an agent whose configuration has it as sent, and that some numbers are left for

@@ -1,6 +1,6 @@
 -- Among the terminations that a script declares one is found that passes a test, or there is none; and there is a number above all that they stand for.
-use Rattle.std.proofs.Common.{◌≡◌, ◌∙◌, ◌+◌, ◌<◌, ◌≤◌, ◌⊎◌, ℕ, zero, suc, Bool, true, false, List, [], ◌∷◌, length, if◌then◌else◌, refl, sym, ap, subst, arith, inl, inr}
-use Rattle.std.specs.Prelude.{Contains, IsTrue, ◌↔◌}
+use Rattle.std.proofs.Common.{◌≡◌, ◌+◌, ◌<◌, ◌≤◌, ◌⊎◌, ℕ, zero, suc, Bool, true, false, List, [], ◌∷◌, length, refl, sym, ap, subst, arith, inl, inr}
+use Rattle.std.specs.Prelude.{Contains}
 use Rattle.std.proofs.lemmas.Bool.{cases_lt}
 use Rattle.mg_model.specs.declared.commands.Termination.{Termination}
 use Rattle.mg_model.specs.declared.commands.Termination.TheVariants.{Line, Ephemeral}
@@ -33,11 +33,14 @@ bound_below f zero = (0, λ i within. absurd (let below : i < 0 = within in omeg
 bound_below f (suc k) = at (bound_below f k)
   where
     at : (m : ℕ) × ((i : ℕ) → i < k → f i < m) → (m : ℕ) × ((i : ℕ) → i < suc k → f i < m)
-    at (m, each) = (m + f k + 1, λ i within. elim (cases_lt i k) [
-      | inl below ↦ (let small : f i < m = each i below in omega (arith, small))
-      | inr above ↦ (let less : i < suc k = within in
-          let last : i ≡ k = omega (arith, less, above) in let same : f i ≡ f k = ap f last in omega (arith, same))
-    ])
+    at (m, each) = (
+      m + f k + 1,
+      λ i within. elim (cases_lt i k) [
+        | inl below ↦ (let small : f i < m = each i below in omega (arith, small))
+        | inr above ↦ (let less : i < suc k = within in
+            let last : i ≡ k = omega (arith, less, above) in let same : f i ≡ f k = ap f last in omega (arith, same))
+      ],
+    )
 
 -- ---- terminations that a script declares
 
