@@ -25,7 +25,8 @@ pub record NumbersAreLeft (w : World) (call : ℕ) (a : Agent) : Type 0 where
   -- one transaction, for the request of the state that is entered then
   pub next : a.next ≤ last_number
 
--- what a call waits for: its request reaches the gateway, which chooses no refusal, and a reply to it comes; or the call passes. A call at rest waits for nothing
+-- what a call waits for: its request reaches the gateway, which chooses no refusal, and a reply to it comes; or the call passes. At rest it waits for
+-- nothing
 abbrev pub events_due : ℕ → Phase → List Event
 events_due call (awaits_reply request) = execute call request.number None ∷ reply call request.number ∷ []
 events_due call awaits_pass = pass call ∷ []

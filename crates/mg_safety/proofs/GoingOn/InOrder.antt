@@ -116,7 +116,8 @@ sent_has (awaits_reply sent) has request among = subst (λ (r : Request). is_emp
 sent_has awaits_pass has request among = absurd (none_in request among)
 sent_has resting has request among = absurd (none_in request among)
 
-steps_in_order : (w after : World) (call : ℕ) (step : Agent → Option Agent) → ((a : Agent) → GivesCommand (step a)) → IsInOrder w → AgentSteps w call step after → IsInOrder after
+steps_in_order : (w after : World) (call : ℕ) (step : Agent → Option Agent) → ((a : Agent) → GivesCommand (step a)) → IsInOrder w
+    → AgentSteps w call step after → IsInOrder after
 steps_in_order w after call step gives was s = subst IsInOrder (sym s.after_is) (record {
   settled = was.settled;
   outstanding = λ c a request is waits. by_call c a request waits (c == call) is;
@@ -156,7 +157,8 @@ begin_in_order script w after new old was x = subst IsInOrder (sym x.after_is) (
 
 occurs_in_order : (script : Script) (w after : World) (call : ℕ) (happens : CallEvent) → IsInOrder w → OccursTo script w call happens after → IsInOrder after
 occurs_in_order script w after call (to_call.OnLine line event) was (held, o) =
-    still w after was (subst BoardIsSettled (sym (ap (λ (x : World). x.gateway.board) o.after_is ∙ ap (λ (g : Gateway). g.board) o.happens.after_is)) was.settled)
+    still w after was
+    (subst BoardIsSettled (sym (ap (λ (x : World). x.gateway.board) o.after_is ∙ ap (λ (g : Gateway). g.board) o.happens.after_is)) was.settled)
     (ap (λ (x : World). x.agent) o.after_is) (ap (λ (x : World). x.requests) o.after_is)
 occurs_in_order script w after call (to_call.Execute number chosen) was (request, of, executes) = execute_in_order w after request chosen was executes
 occurs_in_order script w after call (to_call.Reply number) was (answer, of, s) =

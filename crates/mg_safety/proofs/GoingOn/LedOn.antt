@@ -76,8 +76,11 @@ module _ (script : Script) (a : Agent) (room : a.next ≤ last_number) where
   reply_leads request answer is fits fault =
       let bound = after_results a (built_by script a a.state) answer.results answer.number in
       let next : bound.next ≡ a.next = (results_keep a (built_by script a a.state) answer.results answer.number).next in
-      let b = answer_leads script bound (omega (arith, next, room)) a answer.failure fault in
-      (b.0, ap (λ (phase : Phase). replied_to script a phase answer) is ∙ ap (λ (test : Bool). if test then leads_on script a bound answer.failure else None) fits ∙ b.1)
+      let b = answer_leads script bound (omega (arith, next, room)) a answer.failure fault in (
+        b.0,
+        ap (λ (phase : Phase). replied_to script a phase answer) is
+            ∙ ap (λ (test : Bool). if test then leads_on script a bound answer.failure else None) fits ∙ b.1,
+      )
 
 -- ---- a request with a command
 
@@ -85,14 +88,16 @@ some_command : (names : Names) (commands : List Command) → is_empty (built nam
 some_command names [] e = e
 some_command names (command ∷ more) e = refl
 
-as_many : (script : Script) (a : Agent) (made : Made) (place : ℕ) (commands : List Command) → length (commands_of script a made place commands) ≡ length commands
+as_many : (script : Script) (a : Agent) (made : Made) (place : ℕ) (commands : List Command)
+    → length (commands_of script a made place commands) ≡ length commands
 as_many script a made place [] = refl
 as_many script a made place (command ∷ more) = let rest = as_many script a (made_after made command place) (place + 1) more in omega (arith, rest)
 
 it_answers : (answer : Reply) (request : Request) → answer.call ≡ request.call → answer.association ≡ request.association → answer.number ≡ request.number
     → answers answer request ≡ true
 it_answers answer request call association number =
-    and_from (answer.call == request.call) ((answer.association == request.association) && answer.number == request.number) (eq-eqb answer.call request.call call)
+    and_from (answer.call == request.call) ((answer.association == request.association) && answer.number == request.number)
+    (eq-eqb answer.call request.call call)
     (and_from (answer.association == request.association) (answer.number == request.number) (eq-eqb answer.association request.association association)
     (eq-eqb answer.number request.number number))
 
@@ -105,13 +110,15 @@ is_kept_at g request answer open_call present last number =
     ap (λ (retired : Bool). if retired then discard else offer (link_in g request.call) request.association request.number) open_call
     ∙ ap (λ (same : Bool). if same then offer_by (link_in g request.call).last request.number else discard) (eq-eqb request.association g.association present)
     ∙ ap (λ (o : Option Reply). offer_by (numbered o) request.number) last
-    ∙ ap (λ (above : Bool). if above then fresh else if request.number == answer.number then kept answer else discard) (not_less answer.number request.number number)
+    ∙ ap (λ (above : Bool). if above then fresh else if request.number == answer.number then kept answer else discard)
+    (not_less answer.number request.number number)
     ∙ ap (λ (same : Bool). if same then kept answer else discard) (eq-eqb request.number answer.number (sym number))
 
 -- ---- a call
 
-module _ (script : Script) (entries : List Entry) (is_script : IsScript script) (closes : IsClosed script entries) (w : World) (sound : IsSound script entries w)
-    (order : IsInOrder w) (call : ℕ) (a : Agent) (there : w.agent call ≡ Some a) (faults : HasFaults script) (left : NumbersAreLeft w call a) where
+module _ (script : Script) (entries : List Entry) (is_script : IsScript script) (closes : IsClosed script entries) (w : World)
+    (sound : IsSound script entries w) (order : IsInOrder w)
+    (call : ℕ) (a : Agent) (there : w.agent call ≡ Some a) (faults : HasFaults script) (left : NumbersAreLeft w call a) where
   of_call : a.call ≡ call
   of_call = (sound.calls call a there).numbered
 
@@ -134,7 +141,8 @@ module _ (script : Script) (entries : List Entry) (is_script : IsScript script) 
 
     -- the agent takes a reply that was sent
     then_replies : (after : World) (answer : Reply) → OccursTo script w call (to_call.Execute request.number None) after → after.agent call ≡ Some a
-        → Contains after.replies answer → answer.call ≡ request.call → answer.association ≡ request.association → answer.number ≡ request.number → CanGoOn script w call a
+        → Contains after.replies answer → answer.call ≡ request.call → answer.association ≡ request.association → answer.number ≡ request.number
+        → CanGoOn script w call a
     unfolding Runs
     then_replies after answer occurs still sent its_own association number =
         let fits = it_answers answer request its_own association number in
@@ -204,7 +212,8 @@ module _ (script : Script) (entries : List Entry) (is_script : IsScript script) 
 
     run : IsRunOf script entries w.gateway a s.request.number found.0 found.1
     run = requests_run commands_carry script entries is_script closes w.gateway a k.c k.stands s.link_is k.state seen
-        (subst (λ (x : Agent). LinesShown script x w.gateway.line k.c) s.effective k.lines_shown) sound.gateway.accounted s.request.number None found.0 found.1 found.2
+        (subst (λ (x : Agent). LinesShown script x w.gateway.line k.c) s.effective k.lines_shown) sound.gateway.accounted s.request.number None
+        found.0 found.1 found.2
 
     held_of : (l : ℕ) → is_call (w.gateway.holder l) a.call ≡ true → (i : ℕ) × (i < length script.lines) × (a.lines i ≡ l)
     held_of l held =
@@ -212,8 +221,12 @@ module _ (script : Script) (entries : List Entry) (is_script : IsScript script) 
         (it.1, it.3, ap (λ (x : Agent). x.lines it.1) (the_some a it.0 (sym (ap w.agent of_call ∙ there) ∙ it.2)) ∙ it.4)
 
     settled : (board : Board) × IsSettled found.0.board board
-    settled = can_settle script w.gateway a.call (naming a) (naming (after_results a (built_by script a a.state) found.0.results s.request.number)) k.c run.c found.0.board
-        seen run.shown run.changes sound.gateway.accounted held_of (results_keep a (built_by script a a.state) found.0.results s.request.number).lines order.settled
+    settled =
+        let bound = after_results a (built_by script a a.state) found.0.results s.request.number in
+        let keeps = results_keep a (built_by script a a.state) found.0.results s.request.number in
+        can_settle script w.gateway a.call (naming a) (naming bound) k.c run.c found.0.board seen
+        run.shown run.changes sound.gateway.accounted held_of keeps.lines
+        order.settled
 
     sent_leads : CanGoOn script w call a
     sent_leads =
@@ -235,7 +248,8 @@ module _ (script : Script) (entries : List Entry) (is_script : IsScript script) 
                   (subst (λ (c : ℕ). last_executed w.gateway c < s.request.number) (sym s.outstanding.call) s.above);
               room = subst (λ (c : ℕ). (w.gateway.link c).notes + length s.request.commands ≤ last_number) (sym (its_call k s.request s.outstanding))
                   (left.notes s.request s.outstanding.phase);
-              runs = subst (λ (commands : List RequestCommand). RunsFrom s.request.number None (start_of w.gateway) 0 commands found.0 found.1) (sym s.outstanding.commands) found.2;
+              runs = subst (λ (commands : List RequestCommand). RunsFrom s.request.number None (start_of w.gateway) 0 commands found.0 found.1)
+                  (sym s.outstanding.commands) found.2;
               is_settled = settled.1;
               after_is = refl;
               reply_is = refl;
@@ -283,9 +297,10 @@ module _ (script : Script) (entries : List Entry) (is_script : IsScript script) 
 
 pub calls_go_on : CallsCanGoOn
 calls_go_on script entries is_script listed none_broken calls events opening end opens runs call a there faults now left =
+    let closes = closed script entries is_script listed none_broken in
     let sound = reached script entries is_script listed none_broken calls events opening end opens runs in
     let order = runs_in_order script events opening end (opening_in_order script calls opening opens) runs in
     elim (sound.calls call a there).part [
-      | inl current ↦ current_leads script entries is_script (closed script entries is_script listed none_broken) end sound order call a there faults left current
+      | inl current ↦ current_leads script entries is_script closes end sound order call a there faults left current
       | inr lost ↦ (let older = lost.association in absurd (omega (arith, older, now)))
     ]

@@ -1,5 +1,5 @@
--- A command of a request is executed, or a code refuses it: which of both is told by what the call's configuration shows of the board, and where identifiers are
--- left no command is refused for want of one.
+-- A command of a request is executed, or a code refuses it: which of both is told by what the call's configuration shows of the board, and where
+-- identifiers are left no command is refused for want of one.
 use Rattle.std.proofs.Common.{◌≡◌, ◌∙◌, ◌+◌, ◌<◌, ◌⊎◌, ℕ, zero, suc, Bool, true, false, Option, Some, None, is_some, refl, sym, ap, subst, arith, inl, inr}
 use Rattle.std.specs.Prelude.{◌&&◌, ◌||◌, unwrap_or}
 use Rattle.std.proofs.lemmas.Bool.{cases_lt, eqb-true}
@@ -159,7 +159,8 @@ pub record IsDone (b : Board) (item : Item) (wanted : ℕ) : Type 0 where
   pub ran : IsExecuted b item board done
   pub left : Remain board wanted
 
-module _ (script : Script) (owned : TermId → Bool) (n m : Naming) (b : Board) (c : Configuration) (shown : Shown script owned n b c) (built : AreBuilt n m b) where
+module _ (script : Script) (owned : TermId → Bool) (n m : Naming) (b : Board) (c : Configuration) (shown : Shown script owned n b c)
+    (built : AreBuilt n m b) where
   -- whether a context that has a name exists
   named_exists : (j x : ℕ) → m.contexts j ≡ Some x → Decided (ContextExists b x)
   named_exists j x bound = by_name (n.contexts j) refl

@@ -80,7 +80,8 @@ module _ (script : Script) (is_script : IsScript script) (own : Owner) (a : Agen
       carried = commands_carry command script is_script own n (naming_at a made r.results) r.board c d.board d.done ready d.ran
 
       names_on : naming_at a (made_after made command place) (r.results ++ d.done ∷ []) ≡ built_after (naming_at a made r.results) command d.done
-      names_on = subst (λ (p : ℕ). naming_at a (made_after made command p) (r.results ++ d.done ∷ []) ≡ built_after (naming_at a made r.results) command d.done) u.count
+      names_on = subst (λ (p : ℕ). naming_at a (made_after made command p) (r.results ++ d.done ∷ []) ≡ built_after (naming_at a made r.results) command d.done)
+          u.count
           (built_on r.results d.done a made (subst (IsMadeBelow made) (sym u.count) u.made_below) command)
 
       next : Item → Running
@@ -97,7 +98,8 @@ module _ (script : Script) (is_script : IsScript script) (own : Owner) (a : Agen
         earlier = λ x e. carried.changes.used_ephemeral x (u.earlier x e);
         built = subst (λ (names : Naming). AreBuilt (named_after n command d.done) names d.board) (sym names_on) carried.built;
         known = subst (λ (names : Names). AreKnown names more)
-            (known_on (naming_at a made r.results) command d.done (binds (naming_at a made r.results) r.board d.board command d.done d.ran) ∙ ap known_by (sym names_on))
+            (known_on (naming_at a made r.results) command d.done (binds (naming_at a made r.results) r.board d.board command d.done d.ran)
+            ∙ ap known_by (sym names_on))
             u.known.1;
         declared = All-tail (IsCommandOf script) command more u.declared;
         once = and_second _ _ u.once;
@@ -111,8 +113,8 @@ module _ (script : Script) (is_script : IsScript script) (own : Owner) (a : Agen
 
       on_its_way : IsOnItsWay (next (item_at r.results (command_of script a made command))) (place + 1) more (made_after made command place)
           (named_after n command d.done) (effect script c command)
-      on_its_way = subst (λ (item : Item). IsOnItsWay (next item) (place + 1) more (made_after made command place) (named_after n command d.done) (effect script c command))
-          (sym same) next_on_its_way
+      on_its_way = subst (λ (item : Item). IsOnItsWay (next item) (place + 1) more (made_after made command place) (named_after n command d.done)
+          (effect script c command)) (sym same) next_on_its_way
 
       succeeds : Succeeds r (command_of script a made command) place None number (next (item_at r.results (command_of script a made command)))
       unfolding next
@@ -134,8 +136,8 @@ module _ (script : Script) (is_script : IsScript script) (own : Owner) (a : Agen
   some_run [] r place made n c u = (r, None, (refl, refl))
   some_run (command ∷ more) r place made n c u =
       by_outcome (goes r place command more made n c u)
-      (λ d. some_run more (next r place command more made n c u d (item_at r.results (command_of script a made command))) (place + 1) (made_after made command place)
-      (named_after n command d.done) (effect script c command) (on_its_way r place command more made n c u d))
+      (λ d. some_run more (next r place command more made n c u d (item_at r.results (command_of script a made command))) (place + 1)
+      (made_after made command place) (named_after n command d.done) (effect script c command) (on_its_way r place command more made n c u d))
     where
       by_outcome : IsDone r.board (item_for (naming_at a made r.results) command) (length more)
           ⊎ ((code : Code) × IsRefusedWith r.board (item_for (naming_at a made r.results) command) None code)
@@ -175,54 +177,56 @@ formed_from script (command ∷ more) c place each = (
       (subst (λ (test : Bool). Contains (if test then refusals script (effect script c command) (place + 1) more else []) step) (sym legal) among))),
 )
 
--- the request of an agent whose configuration has it as sent, and that some numbers are left for
-pub request_runs : (script : Script) → IsScript script → (entries : List Entry) → IsClosed script entries → (g : Gateway) (a : Agent) (c : Configuration)
-    → Stands script entries c → c.link ≡ Sent → c.state ≡ a.state → Seen script (owned_in g a.call) (naming a) g.board c → IsAccounted g.board
-    → Remain g.board (length (built_by script a a.state)) → (number : ℕ)
-    → (end : Running) × (failure : Option Failure) × RunsFrom number None (start_of g) 0 (commands_of script a none_made 0 (built_by script a a.state)) end failure
-request_runs script is entries closed g a c stands sent state seen accounted remain number =
-    some_run script is (owner_of g a.call) a number (built_by script a a.state) (start_of g) 0 none_made (naming a) c (record {
-      count = refl;
-      made_below = none_below;
-      shown = shown;
-      accounted = accounted;
-      earlier = λ x e. e;
-      built = record {
-        lines = refl;
-        context = λ j x e. e;
-        context_lost = λ j x e none. absurd (true≢false (ap is_some (sym e ∙ none)));
-        context_real = shown.context_real;
-        ephemeral = λ k x e. e;
-        ephemeral_lost = λ k x e none. absurd (true≢false (ap is_some (sym e ∙ none)));
-        ephemeral_given = λ k x e. accounted.ephemerals x (shown.ephemeral_stands k x e);
-      };
-      known = built_known (bound_by a) (state_of script a.state).commands;
-      declared = built_all (IsCommandOf script) (bound_by a) (state_of script a.state).commands (state_is script is a.state).0;
-      once = built_once (bound_by a) (state_of script a.state).commands (state_is script is a.state).1;
-      unbound = built_pass (creates_unbound c) (bound_by a) (state_of script a.state).commands
-          (ap (λ i. list_all (creates_unbound c) (state_of script i).commands) (sym state) ∙ unbound);
-      formed = formed_from script (built_by script a a.state) c 0 formed;
-      remain = remain;
-    })
-  where
-    unbound : names_unbound script c ≡ true
-    unbound = closed.unbound c stands sent
+module _ (script : Script) (is : IsScript script) (entries : List Entry) (closed : IsClosed script entries) where
+  -- the request of an agent whose configuration has it as sent, and that some numbers are left for
+  pub request_runs : (g : Gateway) (a : Agent) (c : Configuration) → Stands script entries c → c.link ≡ Sent → c.state ≡ a.state
+      → Seen script (owned_in g a.call) (naming a) g.board c → IsAccounted g.board → Remain g.board (length (built_by script a a.state)) → (number : ℕ)
+      → (end : Running) × (failure : Option Failure)
+      × RunsFrom number None (start_of g) 0 (commands_of script a none_made 0 (built_by script a a.state)) end failure
+  request_runs g a c stands sent state seen accounted remain number =
+      some_run script is (owner_of g a.call) a number (built_by script a a.state) (start_of g) 0 none_made (naming a) c (record {
+        count = refl;
+        made_below = none_below;
+        shown = shown;
+        accounted = accounted;
+        earlier = λ x e. e;
+        built = record {
+          lines = refl;
+          context = λ j x e. e;
+          context_lost = λ j x e none. absurd (true≢false (ap is_some (sym e ∙ none)));
+          context_real = shown.context_real;
+          ephemeral = λ k x e. e;
+          ephemeral_lost = λ k x e none. absurd (true≢false (ap is_some (sym e ∙ none)));
+          ephemeral_given = λ k x e. accounted.ephemerals x (shown.ephemeral_stands k x e);
+        };
+        known = built_known (bound_by a) (state_of script a.state).commands;
+        declared = built_all (IsCommandOf script) (bound_by a) (state_of script a.state).commands (state_is script is a.state).0;
+        once = built_once (bound_by a) (state_of script a.state).commands (state_is script is a.state).1;
+        unbound = built_pass (creates_unbound c) (bound_by a) (state_of script a.state).commands
+            (ap (λ i. list_all (creates_unbound c) (state_of script i).commands) (sym state) ∙ unbound);
+        formed = formed_from script (built_by script a a.state) c 0 formed;
+        remain = remain;
+      })
+    where
+      unbound : names_unbound script c ≡ true
+      unbound = closed.unbound c stands sent
 
-    shown : Shown script (owned_in g a.call) (naming a) g.board c
-    shown = shown_at_start script (owned_in g a.call) (naming a) g.board c seen stands.covered.1.1.1 stands.of_script accounted (closed.live c stands (inl sent))
+      shown : Shown script (owned_in g a.call) (naming a) g.board c
+      shown = shown_at_start script (owned_in g a.call) (naming a) g.board c seen stands.covered.1.1.1 stands.of_script accounted
+          (closed.live c stands (inl sent))
 
-    same : built_by script a a.state ≡ built (bound_names c) (state_of script c.state).commands
-    same = ap (λ known. built known (state_of script a.state).commands) (bound_agree script (owned_in g a.call) a g.board c seen stands.of_script)
-        ∙ ap (λ i. built (bound_names c) (state_of script i).commands) (sym state)
+      same : built_by script a a.state ≡ built (bound_names c) (state_of script c.state).commands
+      same = ap (λ known. built known (state_of script a.state).commands) (bound_agree script (owned_in g a.call) a g.board c seen stands.of_script)
+          ∙ ap (λ i. built (bound_names c) (state_of script i).commands) (sym state)
 
-    -- the refusals of the request are steps of the configuration
-    among_steps : (step : Step) → Contains (refusals script c 0 (built_by script a a.state)) step → Contains (steps_of script c) step
-    among_steps step among =
-        let request = built (bound_names c) (state_of script c.state).commands in
-        subst (λ l. Contains (steps_by_link script c l) step) (sym sent)
-        (subst (λ (test : Bool). Contains (if test then refusals script c 0 request ++ execution (executed script c request) else []) step) (sym unbound)
-        (Contains-append_left (refusals script c 0 request) (execution (executed script c request)) step
-        (subst (λ (left : List Command). Contains (refusals script c 0 left) step) same among)))
+      -- the refusals of the request are steps of the configuration
+      among_steps : (step : Step) → Contains (refusals script c 0 (built_by script a a.state)) step → Contains (steps_of script c) step
+      among_steps step among =
+          let request = built (bound_names c) (state_of script c.state).commands in
+          subst (λ l. Contains (steps_by_link script c l) step) (sym sent)
+          (subst (λ (test : Bool). Contains (if test then refusals script c 0 request ++ execution (executed script c request) else []) step) (sym unbound)
+          (Contains-append_left (refusals script c 0 request) (execution (executed script c request)) step
+          (subst (λ (left : List Command). Contains (refusals script c 0 left) step) same among)))
 
-    formed : (step : Step) → Contains (refusals script c 0 (built_by script a a.state)) step → IsWellFormed step.1
-    formed step among = (closed.steps c step stands (among_steps step among)).covered.1.1.1
+      formed : (step : Step) → Contains (refusals script c 0 (built_by script a a.state)) step → IsWellFormed step.1
+      formed step among = (closed.steps c step stands (among_steps step among)).covered.1.1.1

@@ -1,4 +1,5 @@
--- Where a request has run the board can be settled: of each context it is decided whether someone stands in it, by the names of the call and by what was used before.
+-- Where a request has run the board can be settled: of each context it is decided whether someone stands in it, by the names of the call and by what was
+-- used before.
 use Rattle.std.proofs.Common.{◌≡◌, ◌∙◌, ◌<◌, ◌⊎◌, ℕ, Bool, true, false, not, length, Option, Some, None, is_some, refl, sym, ap, inl, inr}
 use Rattle.std.specs.Prelude.{◌==◌, ◌||◌, ◌&&◌, unwrap_or}
 use Rattle.std.proofs.lemmas.Bool.{eqb-true, eq-eqb, or_left}
@@ -67,12 +68,14 @@ module _ (script : Script) (g : Gateway) (call : ℕ) (n e : Naming) (c d : Conf
       (sym (created_only (is_call (g.creator x) call) (g.board.used_ephemeral x)) ∙ own)
 
   -- what it owns in the end and stood before had a name before
-  slot_before : (u : TermId) (x : ℕ) → (x ≡ 0 → ⊥) → place_of g.board u ≡ x → owned_at (owner_of g call) last u ≡ true → (t : Termination) × IsSlot script t × (term_of n t ≡ Some u)
+  slot_before : (u : TermId) (x : ℕ) → (x ≡ 0 → ⊥) → place_of g.board u ≡ x → owned_at (owner_of g call) last u ≡ true
+      → (t : Termination) × IsSlot script t × (term_of n t ≡ Some u)
   slot_before (Line l) x real at own =
       let i = held_of l.0 own in (termination.Line i.0, i.1, ap (λ (k : ℕ). Some (Line (the_line k))) i.2)
   slot_before (Eph y) x real at own =
       let there : exists g.board (Eph y) ≡ true = stands_exists (g.board.row (Eph y)) x real at in
-      let k = seen.ephemeral_named y (was (is_call (g.creator y) call) (last.used_ephemeral y) (g.board.used_ephemeral y) own (accounted.ephemerals y there)) there in
+      let k = seen.ephemeral_named y
+      (was (is_call (g.creator y) call) (last.used_ephemeral y) (g.board.used_ephemeral y) own (accounted.ephemerals y there)) there in
       (termination.Ephemeral k.0, seen.ephemeral_slot k.0 y k.1, ap eph_of k.1)
     where
       was : (created now before : Bool) → (created || (now && not before)) ≡ true → before ≡ true → (created || (before && not before)) ≡ true
@@ -82,7 +85,8 @@ module _ (script : Script) (g : Gateway) (call : ℕ) (n e : Naming) (c d : Conf
       was false now false e given = absurd (false_not_true given)
 
   -- what it owns in the end and stands has a name then
-  slot_after : (u : TermId) (x : ℕ) → (x ≡ 0 → ⊥) → place_of last u ≡ x → owned_at (owner_of g call) last u ≡ true → (t : Termination) × IsSlot script t × (term_of e t ≡ Some u)
+  slot_after : (u : TermId) (x : ℕ) → (x ≡ 0 → ⊥) → place_of last u ≡ x → owned_at (owner_of g call) last u ≡ true
+      → (t : Termination) × IsSlot script t × (term_of e t ≡ Some u)
   slot_after (Line l) x real at own =
       let i = held_of l.0 own in
       (termination.Line i.0, i.1, ap (λ (k : ℕ). Some (Line (the_line k))) (ap (λ (of : ℕ → ℕ). of i.0) lines ∙ i.2))
@@ -91,7 +95,8 @@ module _ (script : Script) (g : Gateway) (call : ℕ) (n e : Naming) (c d : Conf
       (termination.Ephemeral k.0, also.ephemeral_slot k.0 y k.1, ap eph_of k.1)
 
   -- beside one of the call's stand only the call's
-  beside : (x : ℕ) → (x ≡ 0 → ⊥) → (t : Termination) → IsSlot script t → place_by g.board n t ≡ x → (u : TermId) → place_of g.board u ≡ x → owned_in g call u ≡ true
+  beside : (x : ℕ) → (x ≡ 0 → ⊥) → (t : Termination) → IsSlot script t → place_by g.board n t ≡ x → (u : TermId) → place_of g.board u ≡ x
+      → owned_in g call u ≡ true
   beside x real t slot stood u at = go (c.spot t) refl
     where
       place : (spot : Spot) → c.spot t ≡ spot → x ≡ number_at n spot
