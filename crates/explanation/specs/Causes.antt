@@ -1,5 +1,5 @@
 -- What brought about that a configuration breaks an obligation. A reader should check that what a breach is about depends on no state and no link, and that
--- behind the command it is so in all that follows on the way. This profile's own.
+-- behind the command it is so in all that follows on the way; that no command did says that none can be named so. This profile's own.
 use Rattle.std.specs.Prelude.{◌≡◌, ℕ, ◌<◌, true, false, List, [], ◌∷◌, length, take, map, Some, slice_get}
 use Rattle.mg_names.specs.declared.context_values.ContextValue.TheVariants.{Stale}
 use Rattle.mg_model.specs.declared.commands.Command.{Command}
@@ -68,3 +68,18 @@ pub record IsCause (script : Script) (from : Configuration) (way : List (Move ×
   pub executed : cause.commands.items ≡ executes script before by
   pub within : cause.command_place < length cause.commands.items
   pub command : IsLastWithout script (through script before (executes script before by)) breach cause.command_place
+
+-- no command brought it about
+abbrev pub HasNoCause : Script → Configuration → List (Move × Configuration) → Breach → Type 0
+HasNoCause script from way breach = (cause : Cause) → IsCause script from way breach cause → ⊥
+
+-- ---- no public clause speaks of the words below
+
+-- each of some configurations shows it
+abbrev pub ShowEach : Script → List Configuration → Breach → Type 0
+ShowEach script configurations breach = (n : ℕ) (c : Configuration) → slice_get configurations n ≡ Some c → Shows script c breach
+
+-- of the commands that a move executes none is the last before which it isn't so
+abbrev pub NoneWithin : Script → Configuration → Move → Breach → Type 0
+NoneWithin script before by breach = (place : ℕ) → place < length (executes script before by)
+    → IsLastWithout script (through script before (executes script before by)) breach place → ⊥

@@ -1,9 +1,9 @@
 //! The command that brought it about that a configuration breaks an obligation.
-ghost use Rattle.std.specs.Prelude.{◌≡◌, ◌<◌, IfOk, IfSome, length};
+ghost use Rattle.std.specs.Prelude.{◌≡◌, ◌<◌, IfNone, IfOk, IfSome, length};
 ghost use Rattle.mg_model.specs.Steps.{opening};
 ghost use Rattle.configuration.specs.Config.{configuration_of};
 ghost use Rattle.call_ways.specs.Ways.{shown};
-ghost use Rattle.explanation.specs.Causes.{IsCause, IsLastWithout, along, executes, through};
+ghost use Rattle.explanation.specs.Causes.{HasNoCause, IsCause, IsLastWithout, NoneWithin, along, executes, through};
 ghost use Rattle.explanation.specs.Shown.{values_of};
 
 use crate::breach::Breach;
@@ -28,7 +28,8 @@ pub struct Cause {
     pub command_place: usize,
 }
 
-/// The last command that a move from a configuration executes before which a breach isn't shown, with the place of the move.
+/// The last command that a move from a configuration executes before which a breach isn't shown, with the place of the move. `None` only where
+/// there is none.
 fn cause_within(
     alloc: Global,
     script: &Script,
@@ -43,6 +44,7 @@ fn cause_within(
     ensures within { IfOk result (λ found. IfSome found (λ cause. cause.command_place < length cause.commands.items)) }
     ensures command { IfOk result (λ found. IfSome found (λ cause. IsLastWithout script.now
         (through script.now (configuration_of config.now) (executes script.now (configuration_of config.now) by)) breach.now cause.command_place)) }
+    ensures none { IfOk result (λ found. IfNone found (NoneWithin script.now (configuration_of config.now) by breach.now)) }
 {
     let commands = executed(alloc, script, config, by)?;
     let configs = through(alloc, script, config, commands.as_slice())?;
@@ -69,7 +71,8 @@ fn cause_along(
     breach: &Breach,
 ) -> Result<Option<Cause>, AllocError>
     requires { values_of configs.now ≡ along (opening script.now) (shown way.now) }
-    ensures { IfOk result (λ found. IfSome found (IsCause script.now (opening script.now) (shown way.now) breach.now)) }
+    ensures cause { IfOk result (λ found. IfSome found (IsCause script.now (opening script.now) (shown way.now) breach.now)) }
+    ensures none { IfOk result (λ found. IfNone found (HasNoCause script.now (opening script.now) (shown way.now) breach.now)) }
 {
     let Some(place) = last_without(script, configs, breach) else {
         return Ok(None);
@@ -84,14 +87,16 @@ fn cause_along(
 }
 
 /// The command of a way from the opening that brought about what a breach is about: behind it that is so to the end of the way, and right before it
-/// isn't. `None` where the call opens so, where a restart left it so, and where it isn't so at the end. The only error is running out of memory.
+/// isn't. `None` only where no command did: where the call opens so, where a restart left it so, or another move that executes nothing, and where it
+/// isn't so at the end. The only error is running out of memory.
 pub fn find_cause(
     alloc: Global,
     script: &Script,
     way: &[WayStep],
     breach: &Breach,
 ) -> Result<Option<Cause>, AllocError>
-    ensures { IfOk result (λ found. IfSome found (IsCause script.now (opening script.now) (shown way.now) breach.now)) }
+    ensures cause { IfOk result (λ found. IfSome found (IsCause script.now (opening script.now) (shown way.now) breach.now)) }
+    ensures none { IfOk result (λ found. IfNone found (HasNoCause script.now (opening script.now) (shown way.now) breach.now)) }
 {
     let configs = along(alloc, script, way)?;
     cause_along(alloc, script, way, configs.as_slice(), breach)

@@ -7,9 +7,12 @@ use Rattle.std.proofs.lemmas.Option.{slice_get-map, slice_get_read}
 use Rattle.mg_model.specs.Configuration.{Configuration}
 use Rattle.configuration.specs.Config.{configuration_of}
 use Rattle.explanation.specs.Shown.{values_of}
-use Rattle.explanation.proofs.LastSoFar.{IsSoFar, at_end, found_here, shown_too}
+use Rattle.explanation.proofs.LastSoFar.{IsSoFar, found_here, last_at_end, none_at_end, none_yet, shown_too}
 use Rattle.explanation.proofs.last.last_without.Goals as goal
 use Rattle.explanation.proofs.last.last_without.Goals.{then-not-shows, else-not-shows}
+
+pub loop-place-init : goal.loop-place-init
+loop-place-init c = none_yet c.args.script.now (values_of c.args.configs.now) c.args.breach.now
 
 pub loop-place-preserved : goal.loop-place-preserved
 loop-place-preserved c =
@@ -32,8 +35,14 @@ loop-place-preserved c =
           (shown_too script all breach place here at (c.shows.ensures.0 w.if-not-shows.false) c.loop-place.found c.loop-place.invariant))
     ]
 
-pub returns : goal.returns
-returns c =
+pub returns-clause-last : goal.returns-clause-last
+returns-clause-last c =
     let configs = c.args.configs.now in
-    at_end c.args.script.now (values_of configs) c.args.breach.now c.loop-place.place c.loop-place.found
+    last_at_end c.args.script.now (values_of configs) c.args.breach.now c.loop-place.place c.loop-place.found
+    (subst (λ (n : ℕ). n ≤ c.loop-place.place) (sym (length-map configs configuration_of)) c.loop-place-test.false) c.loop-place.invariant
+
+pub returns-clause-none : goal.returns-clause-none
+returns-clause-none c =
+    let configs = c.args.configs.now in
+    none_at_end c.args.script.now (values_of configs) c.args.breach.now c.loop-place.place c.loop-place.found
     (subst (λ (n : ℕ). n ≤ c.loop-place.place) (sym (length-map configs configuration_of)) c.loop-place-test.false) c.loop-place.invariant
