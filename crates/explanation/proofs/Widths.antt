@@ -105,3 +105,16 @@ module _ (c : Configuration) where
   some_points [] all = omega arith
   some_points (component ∷ more) all =
       mul-pos (some_values component (All-head (Allows c) component more all)) (some_points more (All-tail (Allows c) component more all))
+
+  -- components of which none lacks the configuration's value have as many points with it
+  pub as_many : (components : List Component) (size : ℕ) → All (Allows c) components → AreWidened c components size → size ≡ size_of components
+  as_many [] size all is = is
+  as_many (component ∷ more) size all is =
+      let count : ℕ = is.0 in
+      let rest : ℕ = is.1.0 in
+      let here : count ≡ count_of component = elim is.1.1.0 [
+        | inl allowed ↦ allowed.1
+        | inr lacks ↦ absurd (lacks.0 (All-head (Allows c) component more all))
+      ] in
+      let left : rest ≡ size_of more = as_many more rest (All-tail (Allows c) component more all) is.1.1.1.0 in
+      is.1.1.1.1 ∙ ap (λ (n : ℕ). n * rest) here ∙ ap (λ (n : ℕ). count_of component * n) left

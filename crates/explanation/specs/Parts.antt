@@ -1,6 +1,6 @@
 -- The part of an entry that calls come to: it has each configuration of the entry that a call comes to. A reader should check that nothing is said
--- of what else it has, and that a part that isn't known promises nothing. This profile's own.
-use Rattle.std.specs.Prelude.{◌≡◌, ⊤, ℕ, List, Some, slice_get}
+-- of what else it has, and that a part that isn't known promises nothing: where that may be answered stands at each call. This profile's own.
+use Rattle.std.specs.Prelude.{◌≡◌, ⊤, ℕ, List, Option, Some, None, IfSome, slice_get}
 use Rattle.mg_model.specs.Script.{Script}
 use Rattle.mg_model.specs.Configuration.{Configuration}
 use Rattle.mg_model.specs.Entries.{Entry, Includes}
@@ -22,13 +22,16 @@ IsPartOf script entries entry found = (c : Configuration) → ComesTo script ent
 
 -- ---- no public clause speaks of the words below
 
--- the part is of the entry's state
-abbrev pub IsOfState : Entry → Part → Type 0
-IsOfState entry part.Nothing = ⊤
-IsOfState entry (part.Within narrow) = narrow.state ≡ entry.state
-IsOfState entry part.Unknown = ⊤
+-- the entry that was found, if one was, has the configuration
+abbrev pub IsHeld : Option Entry → Configuration → Type 0
+IsHeld None c = ⊥
+IsHeld (Some found) c = Includes found c
 
--- of the entry's configurations it has each of these
-abbrev pub HoldsEach : Entry → List Words → Part → Type 0
+-- the entry that was found is of the other one's state
+abbrev pub IsOfState : Entry → Option Entry → Type 0
+IsOfState entry found = IfSome found (λ narrow. narrow.state ≡ entry.state)
+
+-- of the entry's configurations the one that was found has each of these
+abbrev pub HoldsEach : Entry → List Words → Option Entry → Type 0
 HoldsEach entry configs found =
-    (place : ℕ) (w : Words) → slice_get configs place ≡ Some w → Includes entry (configuration_of w) → Holds found (configuration_of w)
+    (place : ℕ) (w : Words) → slice_get configs place ≡ Some w → Includes entry (configuration_of w) → IsHeld found (configuration_of w)

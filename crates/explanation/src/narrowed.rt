@@ -3,71 +3,70 @@ ghost use Rattle.std.specs.Prelude.{◌≡◌, IfOk};
 ghost use Rattle.mg_model.specs.Configuration.{Configuration};
 ghost use Rattle.mg_model.specs.Entries.{Includes};
 ghost use Rattle.configuration.specs.Config.{configuration_of};
-ghost use Rattle.explanation.specs.Parts.{HoldsEach, Holds, IsOfState};
+ghost use Rattle.explanation.specs.Parts.{HoldsEach, IsHeld, IsOfState};
 
 use crate::mended::alone;
-use crate::part::Part;
-use crate::widened::widen;
+use crate::widened::{whole, widen};
 use configuration::config::Config;
 use entry_table::Entry;
 use script_table::Script;
 use std::alloc::{AllocError, Global};
 
-/// A part that has one configuration of the entry more.
+/// An entry of what was found of another one and of a configuration of that more. Where the two make none that fits it is the whole other one.
 fn grown(
     alloc: Global,
     script: &Script,
     entry: &Entry,
-    part: Part,
+    found: Option<Entry>,
     config: &Config,
-) -> Result<Part, AllocError>
+) -> Result<Entry, AllocError>
     requires included { Includes entry.now (configuration_of config.now) }
-    requires state { IsOfState entry.now part }
-    ensures has { IfOk result (λ more. Holds more (configuration_of config.now)) }
-    ensures keeps { IfOk result (λ more. (c : Configuration) → Holds part c → Holds more c) }
-    ensures state { IfOk result (IsOfState entry.now) }
+    requires state { IsOfState entry.now found }
+    ensures has { IfOk result (λ more. Includes more (configuration_of config.now)) }
+    ensures keeps { IfOk result (λ more. (c : Configuration) → Includes entry.now c → IsHeld found c → Includes more c) }
+    ensures state { IfOk result (λ more. more.state ≡ entry.now.state) }
 {
-    match part {
-        Part::Nothing => Ok(Part::Within(alone(alloc, script, config)?)),
-        Part::Within(narrow) => match widen(alloc, script, &narrow, config)? {
-            Some(wide) => Ok(Part::Within(wide)),
-            None => Ok(Part::Unknown),
-        },
-        Part::Unknown => Ok(Part::Unknown),
+    let Some(narrow) = found else {
+        return alone(alloc, script, config);
+    };
+    match widen(alloc, script, &narrow, config)? {
+        Some(wide) => Ok(wide),
+        None => whole(alloc, script, entry, config),
     }
 }
 
-/// A part that has a configuration more, if the entry has it.
+/// What was found of an entry, with a configuration more if that has it.
 fn with_one(
     alloc: Global,
     script: &Script,
     entry: &Entry,
-    part: Part,
+    found: Option<Entry>,
     config: &Config,
-) -> Result<Part, AllocError>
-    requires state { IsOfState entry.now part }
-    ensures has { IfOk result (λ more. Includes entry.now (configuration_of config.now) → Holds more (configuration_of config.now)) }
-    ensures keeps { IfOk result (λ more. (c : Configuration) → Holds part c → Holds more c) }
+) -> Result<Option<Entry>, AllocError>
+    requires state { IsOfState entry.now found }
+    ensures has { IfOk result (λ more. Includes entry.now (configuration_of config.now) → IsHeld more (configuration_of config.now)) }
+    ensures keeps { IfOk result (λ more. (c : Configuration) → Includes entry.now c → IsHeld found c → IsHeld more c) }
     ensures state { IfOk result (IsOfState entry.now) }
 {
     if !entry.contains(config) {
-        return Ok(part);
+        return Ok(found);
     }
-    grown(alloc, script, entry, part, config)
+    let more = grown(alloc, script, entry, found, config)?;
+    Ok(Some(more))
 }
 
-/// The part of an entry that has those of its configurations that are among some.
+/// An entry that has those configurations of another one that are among some; nothing where it has none of them.
 pub(crate) fn narrowed(
     alloc: Global,
     script: &Script,
     entry: &Entry,
     configs: &[Config],
-) -> Result<Part, AllocError>
+) -> Result<Option<Entry>, AllocError>
     ensures { IfOk result (HoldsEach entry.now configs.now) }
 {
-    let mut part = Part::Nothing;
+    let mut found = None;
     for config in configs {
-        part = with_one(alloc, script, entry, part, config)?;
+        found = with_one(alloc, script, entry, found, config)?;
     }
-    Ok(part)
+    Ok(found)
 }

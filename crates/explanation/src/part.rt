@@ -2,7 +2,8 @@
 ghost use Rattle.std.specs.Prelude.{◌≡◌, IfOk, Some, slice_get};
 ghost use Rattle.mg_model.specs.Entries.{Entry as Listed};
 ghost use Rattle.explanation.specs.Parts.{IsPartOf};
-ghost use Rattle.call_ways.specs.Ways.{AreAll};
+ghost use Rattle.explanation.specs.declared.part.Part.TheVariants as Part;
+ghost use Rattle.call_ways.specs.Ways.{AreAll, ComeToMany};
 
 use crate::narrowed::narrowed;
 use call_ways::find::find_all;
@@ -16,14 +17,15 @@ use std::alloc::{AllocError, Global};
 pub enum Part {
     /// None of its configurations.
     Nothing,
-    /// The configurations of this entry; it may have more that no call comes to, since an entry is a product.
+    /// The configurations of this entry; it may have more that no call comes to, since an entry is a product. It is the whole entry where what calls
+    /// come to makes no other one that fits.
     Within(Entry),
-    /// Isn't known: calls come to more configurations than are sought, or what they come to makes no entry that fits.
+    /// Isn't known: calls come to as many configurations as are sought from.
     Unknown,
 }
 
 /// The part of the entry at a place that calls come to from the opening, through configurations that some entry has: of those that they come to.
-/// The only error is running out of memory.
+/// It is always known. The only error is running out of memory.
 pub fn part_of(
     alloc: Global,
     script: &Script,
@@ -32,23 +34,28 @@ pub fn part_of(
     place: usize,
 ) -> Result<Part, AllocError>
     requires all { AreAll script.now cert.now reached.now }
-    ensures { IfOk result (λ part. (entry : Listed) → slice_get cert.now place ≡ Some entry → IsPartOf script.now cert.now entry part) }
+    ensures part { IfOk result (λ found. (entry : Listed) → slice_get cert.now place ≡ Some entry → IsPartOf script.now cert.now entry found) }
+    ensures known { IfOk result (λ found. found ≡ Part.Unknown → ⊥) }
 {
     let Some(entry) = cert.entries().get(place) else {
         return Ok(Part::Nothing);
     };
-    narrowed(alloc, script, entry, reached.configs())
+    match narrowed(alloc, script, entry, reached.configs())? {
+        Some(narrow) => Ok(Part::Within(narrow)),
+        None => Ok(Part::Nothing),
+    }
 }
 
-/// The part of the entry at a place that calls come to from the opening, through configurations that some entry has. The only error is running
-/// out of memory.
+/// The part of the entry at a place that calls come to from the opening, through configurations that some entry has. `Unknown` only where calls
+/// come to a million configurations. The only error is running out of memory.
 pub fn find_part(
     alloc: Global,
     script: &Script,
     cert: &Cert,
     place: usize,
 ) -> Result<Part, AllocError>
-    ensures { IfOk result (λ part. (entry : Listed) → slice_get cert.now place ≡ Some entry → IsPartOf script.now cert.now entry part) }
+    ensures part { IfOk result (λ found. (entry : Listed) → slice_get cert.now place ≡ Some entry → IsPartOf script.now cert.now entry found) }
+    ensures unknown { IfOk result (λ found. found ≡ Part.Unknown → ComeToMany script.now cert.now) }
 {
     let Some(reached) = find_all(alloc, script, cert)? else {
         return Ok(Part::Unknown);

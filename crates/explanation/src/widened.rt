@@ -140,3 +140,20 @@ pub fn widen(
     let wide = Entry::new(alloc, config.state(), script.lines(), components)?;
     Ok(Some(wide))
 }
+
+/// An entry once more, by a configuration that it has: that lacks in none of its components. The only error is running out of memory.
+pub(crate) fn whole(
+    alloc: Global,
+    script: &Script,
+    entry: &Entry,
+    config: &Config,
+) -> Result<Entry, AllocError>
+    requires { Includes entry.now (configuration_of config.now) }
+    ensures keeps { IfOk result (λ copy. HasAllOf copy entry.now) }
+    ensures state { IfOk result (λ copy. copy.state ≡ entry.now.state) }
+{
+    let components = widened_components(alloc, entry.components(), config)?;
+    // There are as many points as before, and 32 bits count these.
+    let _size = entry.size();
+    Entry::new(alloc, entry.state(), script.lines(), components)
+}
