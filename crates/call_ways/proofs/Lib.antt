@@ -17,3 +17,4 @@ pub mod Seeking
 pub mod Shown
 pub mod Steps
 pub mod Tracing
+pub mod Followed

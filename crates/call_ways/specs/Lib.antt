@@ -7,3 +7,4 @@ pub mod Key
 pub mod Ways
 pub mod Search
 pub mod Reached
+pub mod Followed

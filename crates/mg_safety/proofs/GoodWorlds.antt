@@ -4,3 +4,4 @@ pub mod Good
 pub mod EveryRun
 pub mod Beginning
 pub mod LeftAlone
+pub mod Following

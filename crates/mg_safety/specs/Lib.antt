@@ -4,3 +4,4 @@ pub mod Beginnings
 pub mod MessageNumbers
 pub mod Others
 pub mod GoingOn
+pub mod Followed

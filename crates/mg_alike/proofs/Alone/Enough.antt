@@ -7,6 +7,7 @@ use Rattle.mg_merge.proofs.Words.{IsEphemeralLeft, IsScript, IsSettled, Line, Ro
 use Rattle.mg_merge.proofs.Words.{false_from_ne_true, first_in, first_or_later, is_context_number, is_ephemeral_number, later_in, none_in, place_in, place_of}
 use Rattle.mg_merge.proofs.Words.{the_line, the_some}
 use Rattle.mg_alike.proofs.Words.{CallsAloneNeverRunOut, ClassesGiveEnough, HasEnoughNumbers, most_commands, most_in_use, most_shards}
+use Rattle.mg_model.specs.Entries.{IsCovered}
 use Rattle.mg_model.specs.declared.commands.Termination.TheVariants as termination
 use Rattle.mg_merge.proofs.Commands.IdentifiersLeft.{one_taken, passed_on}
 use Rattle.mg_merge.proofs.Identifiers.Candidates.{class_has_more}
@@ -77,7 +78,7 @@ record AreInUse (b : Board) : Type 0 where
   each_context : (c : ℕ) → b.used_context c ≡ true → Contains contexts c
   each_ephemeral : (k : ℕ) → b.used_ephemeral k ≡ true → Contains ephemerals k
 
-module _ (script : Script) (entries : List Entry) (is_script : IsScript script) (class : ℕ → Bool) (w : World) (sound : IsSound script entries w)
+module _ (script : Script) (entries : List Entry) (is_script : IsScript script) (class : ℕ → Bool) (w : World) (sound : IsSound script (IsCovered entries) w)
     (settled : IsSettled w.gateway.board w.gateway.board) (lone : IsLone class w) where
   its_own : (l call : ℕ) → w.gateway.holder l ≡ Some call → call ≡ lone.call
   its_own l call held = let it = sound.gateway.held l call held in lone.only call it.0 it.2
@@ -106,7 +107,7 @@ module _ (script : Script) (entries : List Entry) (is_script : IsScript script) 
 
   -- ---- of a call of the present association
 
-  module _ (k : IsCurrent script entries w.gateway lone.agent) (numbered : lone.agent.call ≡ lone.call) where
+  module _ (k : IsCurrent script (IsCovered entries) w.gateway lone.agent) (numbered : lone.agent.call ≡ lone.call) where
     place_at : Termination → ℕ
     place_at t = place_in (row_on w.gateway.board (term_of (naming k.e) t))
 
@@ -191,7 +192,7 @@ module _ (script : Script) (entries : List Entry) (is_script : IsScript script) 
   in_use : AreInUse w.gateway.board
   in_use = by_part (sound.calls lone.call lone.agent lone.open_call).part
     where
-      by_part : IsCurrent script entries w.gateway lone.agent ⊎ IsLost script w.gateway lone.agent → AreInUse w.gateway.board
+      by_part : IsCurrent script (IsCovered entries) w.gateway lone.agent ⊎ IsLost script w.gateway lone.agent → AreInUse w.gateway.board
       by_part (inl k) = in_use_now k (sound.calls lone.call lone.agent lone.open_call).numbered
       by_part (inr lost) = nothing_in_use lost (sound.calls lone.call lone.agent lone.open_call).numbered
 

@@ -5,6 +5,7 @@ use Rattle.mg_merge.proofs.Words.{Agent, Begins, CallLink, Entry, Eph, Gateway, 
 use Rattle.mg_merge.proofs.Words.{Request, Row, Script, SentNote, TermId, World, at_another, at_one, eq-eqb, handed_over, none_is_some, not_both, null}
 use Rattle.mg_merge.proofs.Words.{null_row, remote_in, resting, state_of, the_context, the_line, the_some}
 use Rattle.mg_alike.proofs.Words.{AreSentInBoth, BeginningsAlike, BeginningsHappenAlike, CallAlike, OptionalRowsAlike, OwnAlike, PhasesAlike, Renaming}
+use Rattle.mg_model.specs.Entries.{IsCovered}
 use Rattle.mg_model.specs.Agent as agents
 use Rattle.mg_model.specs.Gateway as gateway
 use Rattle.mg_safety.proofs.Agents.AgentSound.{rest_quiet}
@@ -28,7 +29,7 @@ begun_is script w after call old a there b =
     b.after_is ∙ ap (λ (x : Agent). world_begun script w call old x) (the_some b.before a (sym b.open_call ∙ there))
 
 -- a call whose number is new has nothing
-module _ (script : Script) (entries : List Entry) (w : World) (sound : IsSound script entries w) (call : ℕ) (unused : w.agent call ≡ None)
+module _ (script : Script) (entries : List Entry) (w : World) (sound : IsSound script (IsCovered entries) w) (call : ℕ) (unused : w.agent call ≡ None)
     (not_retired : w.gateway.retired call ≡ false) where
   not_known : (c : ℕ) → c ≡ call → IsKnown w c → ⊥
   not_known c is (inl there) = none_is_some there.0 (sym unused ∙ ap w.agent (sym is) ∙ there.1)
@@ -60,7 +61,7 @@ new_link g old new differ =
     at_another old new (record { last = None; notes = 0 }) (if new == new then record { last = None; notes = 0 } else g.link new) differ
     ∙ at_one new (record { last = None; notes = 0 }) (g.link new)
 
-module _ (script : Script) (entries : List Entry) (w v : World) (sound : IsSound script entries w) (also_sound : IsSound script entries v) (call old : ℕ) (r : Renaming) (a b : Agent)
+module _ (script : Script) (entries : List Entry) (w v : World) (sound : IsSound script (IsCovered entries) w) (also_sound : IsSound script (IsCovered entries) v) (call old : ℕ) (r : Renaming) (a b : Agent)
     (alike : CallAlike r w v old a b) (unused : w.agent call ≡ None) (not_retired : w.gateway.retired call ≡ false) (also_unused : v.agent call ≡ None)
     (also_not : v.gateway.retired call ≡ false) where
   differ : call ≡ old → ⊥
@@ -139,7 +140,7 @@ row_too r held l o p same real is plain = go p (subst (λ (x : Option Row). Opti
     ]) same.mode plain)
 
 -- a call at rest has what it will have
-at_rest : (script : Script) (entries : List Entry) (g : Gateway) (a : Agent) (k : IsCurrent script entries g a) → a.phase ≡ resting → k.e ≡ a
+at_rest : (script : Script) (entries : List Entry) (g : Gateway) (a : Agent) (k : IsCurrent script (IsCovered entries) g a) → a.phase ≡ resting → k.e ≡ a
 at_rest script entries g a k rests = by_at k.at
   where
     by_at : IsAt script g a k.e k.c.link → k.e ≡ a
@@ -148,7 +149,7 @@ at_rest script entries g a k rests = by_at k.at
     by_at (inr (inr (inl s))) = s.effective
     by_at (inr (inr (inr s))) = s.effective
 
-module _ (script : Script) (entries : List Entry) (w v : World) (sound : IsSound script entries w) (also_sound : IsSound script entries v) (plain : IsPlain v.gateway.board)
+module _ (script : Script) (entries : List Entry) (w v : World) (sound : IsSound script (IsCovered entries) w) (also_sound : IsSound script (IsCovered entries) v) (plain : IsPlain v.gateway.board)
     (old : ℕ) (r : Renaming) (a b : Agent) (alike : CallAlike r w v old a b) (ended : HasEnded script w a) (may : MayBegin w.gateway old) where
   ended_too : HasEnded script v b
   ended_too = record {
@@ -157,17 +158,17 @@ module _ (script : Script) (entries : List Entry) (w v : World) (sound : IsSound
     current = alike.agents.association ∙ ended.current ∙ sym alike.association;
   }
 
-  current_one : IsCurrent script entries w.gateway a
+  current_one : IsCurrent script (IsCovered entries) w.gateway a
   current_one = by_part (sound.calls old a alike.open_one).part
     where
-      by_part : IsCurrent script entries w.gateway a ⊎ IsLost script w.gateway a → IsCurrent script entries w.gateway a
+      by_part : IsCurrent script (IsCovered entries) w.gateway a ⊎ IsLost script w.gateway a → IsCurrent script (IsCovered entries) w.gateway a
       by_part (inl k) = k
       by_part (inr lost) = let older = lost.association in let now = ended.current in absurd (omega (arith, older, now))
 
-  current_other : IsCurrent script entries v.gateway b
+  current_other : IsCurrent script (IsCovered entries) v.gateway b
   current_other = by_part (also_sound.calls old b alike.open_other).part
     where
-      by_part : IsCurrent script entries v.gateway b ⊎ IsLost script v.gateway b → IsCurrent script entries v.gateway b
+      by_part : IsCurrent script (IsCovered entries) v.gateway b ⊎ IsLost script v.gateway b → IsCurrent script (IsCovered entries) v.gateway b
       by_part (inl k) = k
       by_part (inr lost) = let older = lost.association in let now = ended_too.current in absurd (omega (arith, older, now))
 

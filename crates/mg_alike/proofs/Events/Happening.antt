@@ -5,6 +5,7 @@ use Rattle.mg_merge.proofs.Words.{IsSettled, OccursTo, Offer, Reply, Request, Re
 use Rattle.mg_merge.proofs.Words.{after_results, built_by, commands_of, discard, fresh, heard, kept, line_places, none_made, noted, offer_to, passed, replied}
 use Rattle.mg_merge.proofs.Words.{reply_of, sent_notes, start_of, the_some, timed, with_gateway}
 use Rattle.mg_alike.proofs.Words.{AreNamedByNumber, AreReached, CallAlike, EventsHappenAlike, IsBeginning, Renaming, StepAlike, StepsAlike, TreatAlike}
+use Rattle.mg_model.specs.Entries.{IsCovered}
 use Rattle.mg_model.specs.declared.events.CallEvent.TheVariants as to_call
 use Rattle.mg_safety.proofs.Agents.EffectiveAgent.{results_keep}
 use Rattle.mg_safety.proofs.Certificate.Closed.{closed}
@@ -56,8 +57,8 @@ module _ (r : Renaming) where
 
 -- ---- a request
 
-module _ (script : Script) (entries : List Entry) (is_script : IsScript script) (closes : IsClosed script entries) (w v : World) (sound : IsSound script entries w)
-    (also_sound : IsSound script entries v) (once : AreNamedByNumber v) (left : HasIdentifiersLeft w) (also_left : HasIdentifiersLeft v)
+module _ (script : Script) (entries : List Entry) (is_script : IsScript script) (closes : IsClosed script (IsCovered entries)) (w v : World) (sound : IsSound script (IsCovered entries) w)
+    (also_sound : IsSound script (IsCovered entries) v) (once : AreNamedByNumber v) (left : HasIdentifiersLeft w) (also_left : HasIdentifiersLeft v)
     (settled : IsSettled v.gateway.board v.gateway.board) (call number : ℕ) (chosen : Option ChosenRefusal) (r : Renaming) (a b : Agent) (alike : CallAlike r w v call a b)
     (q p : Request) (of : IsRequestOf w call number q) (its : IsRequestOf v call number p) where
   both : OffersAlike r (offer_to w.gateway q) (offer_to v.gateway p)
@@ -97,8 +98,8 @@ module _ (script : Script) (entries : List Entry) (is_script : IsScript script) 
         subst (λ (n : ℕ). RunsFrom n chosen (start_of v.gateway) 0 p.commands found.0 f.executed.failure) (sym same_number)
         (subst (λ (list : List RequestCommand). RunsFrom q.number chosen (start_of v.gateway) 0 list found.0 f.executed.failure) (sym commands) found.1)
 
-    run : IsRunOf script entries v.gateway b p.number found.0 f.executed.failure
-    run = due_runs (requests_run commands_carry) script entries is_script closes v.gateway b p chosen found.0 f.executed.failure also.due also_sound.gateway.accounted runs
+    run : IsRunOf script (IsCovered entries) v.gateway b p.number found.0 f.executed.failure
+    run = due_runs (requests_run commands_carry) script (IsCovered entries) is_script closes v.gateway b p chosen found.0 f.executed.failure also.due also_sound.gateway.accounted runs
 
     numbered : b.call ≡ call
     numbered = (also_sound.calls call b alike.open_other).numbered

@@ -7,6 +7,7 @@ use Rattle.mg_merge.proofs.Words.{TermId, World, at_another, exists, false_not_t
 use Rattle.mg_merge.proofs.Words.{the_some}
 use Rattle.mg_alike.proofs.Words.{AreSentInBoth, CallAlike, IsLeftAlone, IsOwnedBy, IsRetiredBy, IsSameFor, KeptAlike, OpeningsTreatAlike, OptionalRowsAlike}
 use Rattle.mg_alike.proofs.Words.{OthersLeaveAlike, OwnAlike, Renaming}
+use Rattle.mg_model.specs.Entries.{IsCovered}
 use Rattle.mg_model.specs.declared.events.CallEvent.TheVariants as to_call
 use Rattle.mg_safety.proofs.Certificate.Closed.{closed}
 use Rattle.mg_safety.proofs.Events.Executing.{HasRun, not_call_of}
@@ -58,7 +59,7 @@ not_its true now before e given = absurd (false_not_true (sym e))
 not_its false true false e given = absurd (false_not_true given)
 not_its _ _ _ e given = refl
 
-module _ (script : Script) (entries : List Entry) (is_script : IsScript script) (closes : IsClosed script entries) (w after : World) (sound : IsSound script entries w)
+module _ (script : Script) (entries : List Entry) (is_script : IsScript script) (closes : IsClosed script (IsCovered entries)) (w after : World) (sound : IsSound script (IsCovered entries) w)
     (call other : ℕ) (differ : other ≡ call → ⊥) where
   first_left : (request : Request) (number : ℕ) (chosen : Option ChosenRefusal) → IsRequestOf w other number request → IsFirst w request chosen after → IsLeft w after call
   first_left request number chosen of f = record {
@@ -76,8 +77,8 @@ module _ (script : Script) (entries : List Entry) (is_script : IsScript script) 
     notes = λ n there. rw (ap (λ (x : World). x.notes) f.after_is) (Contains-append_right f.sent w.notes n there);
   }
     where
-      h : HasRun script entries w request f.executed.end f.executed.failure
-      h = has_run (requests_run commands_carry) script entries is_script closes w request chosen f.gateway f.answer f.sent sound of.0 f.executed
+      h : HasRun script (IsCovered entries) w request f.executed.end f.executed.failure
+      h = has_run (requests_run commands_carry) script (IsCovered entries) is_script closes w request chosen f.gateway f.answer f.sent sound of.0 f.executed
 
       stands : (x : ℕ) → w.gateway.creator x ≡ Some call → exists f.executed.end.board (Eph x) ≡ true
       stands x e =

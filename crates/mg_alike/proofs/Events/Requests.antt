@@ -6,6 +6,7 @@ use Rattle.mg_merge.proofs.Words.{World, after_results, and_first, and_second, a
 use Rattle.mg_merge.proofs.Words.{eqb-true, fresh, kept, last_executed, none_made, offer_to, start_of, the_some, with_gateway}
 use Rattle.mg_alike.proofs.Words.{AgentsAlike, AreNamedByNumber, CallAlike, CommandsAlike, ExecutesAlike, OptionsAlike, OwnAlike, Pairwise, PhasesAlike}
 use Rattle.mg_alike.proofs.Words.{Renaming, RequestsAlike, TreatAlike, is_awaited}
+use Rattle.mg_model.specs.Entries.{IsCovered}
 use Rattle.mg_model.proofs.Offered.{fresh_at, number_of}
 use Rattle.mg_merge.proofs.Commands.IdentifiersLeft.{Remain}
 use Rattle.mg_safety.proofs.Events.Executing.{IsDue, due_runs, is_due}
@@ -45,21 +46,21 @@ first_is w q chosen after f = f.after_is ∙ same_world w f.gateway _ f.answer _
 
 -- what one world has of a call of which it executes a request
 pub record IsStarted (script : Script) (entries : List Entry) (w : World) (call : ℕ) (a : Agent) (q : Request) : Type 0 where
-  pub due : IsDue script entries w.gateway a q
+  pub due : IsDue script (IsCovered entries) w.gateway a q
   pub shown : Shown script (owned_in w.gateway call) (naming a) w.gateway.board due.k.c
   pub live : IsLive due.k.c
   pub remain : Remain w.gateway.board (length (built_by script a a.state))
 
-module _ (script : Script) (entries : List Entry) (closes : IsClosed script entries) (w : World) (sound : IsSound script entries w) (left : HasIdentifiersLeft w)
+module _ (script : Script) (entries : List Entry) (closes : IsClosed script (IsCovered entries)) (w : World) (sound : IsSound script (IsCovered entries) w) (left : HasIdentifiersLeft w)
     (call : ℕ) (a : Agent) (open_call : w.agent call ≡ Some a) (q : Request) (there : Contains w.requests q) (of : q.call ≡ call) (is_fresh : offer_to w.gateway q ≡ fresh) where
-  own : CallIsSound script entries w call a
+  own : CallIsSound script (IsCovered entries) w call a
   own = sound.calls call a open_call
 
   offered : (q.association ≡ w.gateway.association) × (last_executed w.gateway q.call < q.number)
   offered = fresh_at w.gateway q is_fresh
 
-  due_now : IsDue script entries w.gateway a q
-  due_now = is_due script entries w q a (subst (λ (n : ℕ). CallIsSound script entries w n a) (sym of) own) (own.requests q there of) offered.0 offered.1
+  due_now : IsDue script (IsCovered entries) w.gateway a q
+  due_now = is_due script (IsCovered entries) w q a (subst (λ (n : ℕ). CallIsSound script (IsCovered entries) w n a) (sym of) own) (own.requests q there of) offered.0 offered.1
 
   seen_now : Seen script (owned_in w.gateway call) (naming a) w.gateway.board due_now.k.c
   seen_now =
@@ -99,8 +100,8 @@ module _ (script : Script) (entries : List Entry) (closes : IsClosed script entr
         | inr older ↦ omega (arith, older, number, newer)
       ]
 
-module _ (script : Script) (entries : List Entry) (is_script : IsScript script) (closes : IsClosed script entries) (w v : World) (sound : IsSound script entries w)
-    (also_sound : IsSound script entries v) (once : AreNamedByNumber v) (left : HasIdentifiersLeft w) (also_left : HasIdentifiersLeft v) (call number : ℕ) (chosen : Option ChosenRefusal)
+module _ (script : Script) (entries : List Entry) (is_script : IsScript script) (closes : IsClosed script (IsCovered entries)) (w v : World) (sound : IsSound script (IsCovered entries) w)
+    (also_sound : IsSound script (IsCovered entries) v) (once : AreNamedByNumber v) (left : HasIdentifiersLeft w) (also_left : HasIdentifiersLeft v) (call number : ℕ) (chosen : Option ChosenRefusal)
     (r : Renaming) (a b : Agent) (alike : CallAlike r w v call a b) (q p : Request) (of : IsRequestOf w call number q) (its : IsRequestOf v call number p) where
   its_call : p.call ≡ call
   its_call = its.1
@@ -185,11 +186,11 @@ module _ (script : Script) (entries : List Entry) (is_script : IsScript script) 
           (subst (λ (phase : Phase). PhasesAlike ended.wide (awaits_reply q) phase) (sym other.due.outstanding.phase) outstanding_wide)
 
       -- the agents as they will be once they have taken their replies
-      run_one : IsRunOf script entries w.gateway a q.number f.executed.end f.executed.failure
-      run_one = due_runs (requests_run commands_carry) script entries is_script closes w.gateway a q chosen f.executed.end f.executed.failure one.due sound.gateway.accounted f.executed.runs
+      run_one : IsRunOf script (IsCovered entries) w.gateway a q.number f.executed.end f.executed.failure
+      run_one = due_runs (requests_run commands_carry) script (IsCovered entries) is_script closes w.gateway a q chosen f.executed.end f.executed.failure one.due sound.gateway.accounted f.executed.runs
 
-      run_other : IsRunOf script entries v.gateway b p.number g.executed.end g.executed.failure
-      run_other = due_runs (requests_run commands_carry) script entries is_script closes v.gateway b p chosen g.executed.end g.executed.failure other.due also_sound.gateway.accounted
+      run_other : IsRunOf script (IsCovered entries) v.gateway b p.number g.executed.end g.executed.failure
+      run_other = due_runs (requests_run commands_carry) script (IsCovered entries) is_script closes v.gateway b p chosen g.executed.end g.executed.failure other.due also_sound.gateway.accounted
           g.executed.runs
 
       agents_wide : AgentsAlike ended.wide a b

@@ -1,4 +1,5 @@
 -- Parts of the steps of an agent: the configuration that it is shown by where a target is entered, and what stays of a lost call.
+use Rattle.mg_safety.proofs.Invariant.Sound.{Listed}
 use Rattle.mg_safety.proofs.Words.{◌≡◌, ◌∙◌, ◌<◌, ◌≤◌, ℕ, List, Option, Some, None, sym, subst, arith, inl, inr, Contains, ◌⊎◌, Failure, Resting, StepName}
 use Rattle.mg_safety.proofs.Words.{Agent, awaits_reply, resting, entered_or_rests, entered_if, leads_on, Configuration, Entry, Gateway, last_executed, Request}
 use Rattle.mg_safety.proofs.Words.{Script, Step, entering, reply_step, steps_by_link, state_of, only_here, none_is_some, the_some, subst₂}
@@ -12,27 +13,27 @@ use Rattle.mg_safety.proofs.Agents.AgentSteps.{Goes}
 -- ---- the configuration after a step
 
 -- the link of a configuration says which steps it has
-pub step_of : (script : Script) (entries : List Entry) → IsClosed script entries → (c : Configuration) (link : phases.LinkPhase) (step : Step)
-    → Stands script entries c → c.link ≡ link → Contains (steps_by_link script c link) step → Stands script entries step.1
-step_of script entries closed c link step stands is among =
+pub step_of : (script : Script) (Among : Listed) → IsClosed script Among → (c : Configuration) (link : phases.LinkPhase) (step : Step)
+    → Stands script Among c → c.link ≡ link → Contains (steps_by_link script c link) step → Stands script Among step.1
+step_of script Among closed c link step stands is among =
     closed.steps c step stands (subst (λ (l : phases.LinkPhase). Contains (steps_by_link script c l) step) (sym is) among)
 
 -- a target is entered, where the checker enters it
-pub target_entered : (script : Script) (entries : List Entry) (g : Gateway) (e : Agent) (c : Configuration) (name : StepName) (target : Option ℕ) (b : Agent)
-    → IsBetween script g e c → ((step : Step) → Contains (entering script c name target) step → Stands script entries step.1)
-    → entered_if script e target ≡ Some b → IsCurrent script entries g b
-target_entered script entries g e c name None b between stands is = absurd (none_is_some b is)
-target_entered script entries g e c name (Some state) b between stands is =
-    enters_current script entries g e c state b between (stands (name, steps.with_state script c state) (only_here (name, steps.with_state script c state))) is
+pub target_entered : (script : Script) (Among : Listed) (g : Gateway) (e : Agent) (c : Configuration) (name : StepName) (target : Option ℕ) (b : Agent)
+    → IsBetween script g e c → ((step : Step) → Contains (entering script c name target) step → Stands script Among step.1)
+    → entered_if script e target ≡ Some b → IsCurrent script Among g b
+target_entered script Among g e c name None b between stands is = absurd (none_is_some b is)
+target_entered script Among g e c name (Some state) b between stands is =
+    enters_current script Among g e c state b between (stands (name, steps.with_state script c state) (only_here (name, steps.with_state script c state))) is
 
 -- after a reply without a failure the target is entered, or the call rests
-pub answer_led : (script : Script) (entries : List Entry) (g : Gateway) (e : Agent) (c : Configuration) (target : Option ℕ) (b : Agent)
-    → IsBetween script g e c → c.state ≡ e.state → ((step : Step) → Contains (reply_step script c target) step → Stands script entries step.1)
-    → entered_or_rests script e target ≡ Some b → IsCurrent script entries g b
-answer_led script entries g e c None b between state stands is = subst (IsCurrent script entries g) (the_some (record e { phase = resting }) b is)
-    (rests_current script entries g e c between state (stands (names.Reply, steps.with_link c Resting) (only_here (names.Reply, steps.with_link c Resting))))
-answer_led script entries g e c (Some target) b between state stands is =
-    enters_current script entries g e c target b between
+pub answer_led : (script : Script) (Among : Listed) (g : Gateway) (e : Agent) (c : Configuration) (target : Option ℕ) (b : Agent)
+    → IsBetween script g e c → c.state ≡ e.state → ((step : Step) → Contains (reply_step script c target) step → Stands script Among step.1)
+    → entered_or_rests script e target ≡ Some b → IsCurrent script Among g b
+answer_led script Among g e c None b between state stands is = subst (IsCurrent script Among g) (the_some (record e { phase = resting }) b is)
+    (rests_current script Among g e c between state (stands (names.Reply, steps.with_link c Resting) (only_here (names.Reply, steps.with_link c Resting))))
+answer_led script Among g e c (Some target) b between state stands is =
+    enters_current script Among g e c target b between
     (stands (names.Reply, steps.with_state script c target) (only_here (names.Reply, steps.with_state script c target))) is
 
 -- ---- the agent after it
@@ -81,11 +82,11 @@ quiet g a none request sent present = elim (sent.outstanding present) [
 -- ---- how the agent goes on
 
 -- what an agent is after it took what led it on: its number, lines and next request are those of before
-pub goes_on : (script : Script) (entries : List Entry) (g : Gateway) (a e b : Agent) → e.call ≡ a.call → e.lines ≡ a.lines
+pub goes_on : (script : Script) (Among : Listed) (g : Gateway) (a e b : Agent) → e.call ≡ a.call → e.lines ≡ a.lines
     → a.association ≤ e.association → e.next ≡ a.next → Follows e b
     → ((request : Request) → IsSentBy g a request → request.association ≡ g.association → request.number ≤ last_executed g a.call)
-    → IsCurrent script entries g b ⊎ IsLost script g b → Goes script entries g a b
-goes_on script entries g a e b call lines association next follows settled part = record {
+    → IsCurrent script Among g b ⊎ IsLost script g b → Goes script Among g a b
+goes_on script Among g a e b call lines association next follows settled part = record {
   call = follows.call ∙ call;
   lines = follows.lines ∙ lines;
   association = let same = follows.association in omega (arith, association, same);
@@ -99,10 +100,10 @@ goes_on script entries g a e b call lines association next follows settled part 
 }
 
 -- a lost call goes on as a lost one
-pub lost_goes : (script : Script) (entries : List Entry) (g : Gateway) (a e b : Agent) → IsLost script g a → e.call ≡ a.call → e.lines ≡ a.lines
-    → e.association ≡ a.association → e.next ≡ a.next → Follows e b → Goes script entries g a b
-lost_goes script entries g a e b lost call lines association next follows =
+pub lost_goes : (script : Script) (Among : Listed) (g : Gateway) (a e b : Agent) → IsLost script g a → e.call ≡ a.call → e.lines ≡ a.lines
+    → e.association ≡ a.association → e.next ≡ a.next → Follows e b → Goes script Among g a b
+lost_goes script Among g a e b lost call lines association next follows =
     let same = follows.association in
     let older = lost.association in
-    goes_on script entries g a e b call lines (omega (arith, association)) next follows (none_settles script g a lost)
+    goes_on script Among g a e b call lines (omega (arith, association)) next follows (none_settles script g a lost)
     (inr (lost_still script g a b lost (follows.call ∙ call) (omega (arith, association, same, older)) (follows.lines ∙ lines)))

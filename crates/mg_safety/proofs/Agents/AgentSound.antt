@@ -1,4 +1,5 @@
 -- What an agent does of itself keeps the world sound: an empty request passes, and its timer ends.
+use Rattle.mg_safety.proofs.Invariant.Sound.{Listed}
 use Rattle.mg_safety.proofs.Words.{◌≡◌, ◌∙◌, ◌<◌, ℕ, List, Some, None, refl, sym, subst, arith, inl, inr, Contains-append_right, Contains, ◌⊎◌, Answered}
 use Rattle.mg_safety.proofs.Words.{Resting, Agent, Phase, awaits_reply, awaits_pass, resting, entered_or_rests, entered_if, passed_in, passed, is_resting}
 use Rattle.mg_safety.proofs.Words.{timed, Entry, Gateway, last_executed, Request, Script, entering, observations, flat_map, state_of, line_places, World}
@@ -15,9 +16,9 @@ use Rattle.mg_safety.proofs.Agents.AgentParts.{step_of, target_entered, answer_l
 -- ---- a current call between two steps
 
 -- the agent e has all of the present one that a configuration is shown by
-pub between_of : (script : Script) (entries : List Entry) (g : Gateway) (a e : Agent) (k : IsCurrent script entries g a)
+pub between_of : (script : Script) (Among : Listed) (g : Gateway) (a e : Agent) (k : IsCurrent script Among g a)
     → k.e ≡ e → e.call ≡ a.call → e.association ≡ a.association → e.next ≡ a.next → last_executed g a.call < a.next → IsBetween script g e k.c
-between_of script entries g a e k effective call association next above = record {
+between_of script Among g a e k effective call association next above = record {
   association = association ∙ k.association;
   next = subst (λ n. last_executed g n < e.next) (sym call) (omega (arith, next, above));
   of_script = k.stands.of_script;
@@ -53,28 +54,28 @@ at_rest script g a e link is (inr (inl answered)) = absurd (rest_quiet a.phase i
 at_rest script g a e link is (inr (inr (inl passing))) = let apart : awaits_pass ≡ resting = sym passing.phase ∙ is in absurd (cc)
 at_rest script g a e link is (inr (inr (inr rests))) = rests
 
-pass_goes : (script : Script) (entries : List Entry) → IsClosed script entries → (w : World) (call : ℕ) (a b : Agent) → CallIsSound script entries w call a
-    → passed script a ≡ Some b → Goes script entries w.gateway a b
-pass_goes script entries closed w call a b sound is = by_part sound.part
+pass_goes : (script : Script) (Among : Listed) → IsClosed script Among → (w : World) (call : ℕ) (a b : Agent) → CallIsSound script Among w call a
+    → passed script a ≡ Some b → Goes script Among w.gateway a b
+pass_goes script Among closed w call a b sound is = by_part sound.part
   where
-    by_part : IsCurrent script entries w.gateway a ⊎ IsLost script w.gateway a → Goes script entries w.gateway a b
+    by_part : IsCurrent script Among w.gateway a ⊎ IsLost script w.gateway a → Goes script Among w.gateway a b
     by_part (inl k) =
         let taken = passes script a b a.phase is in
         let passing = at_pass script w.gateway a k.e k.c.link taken.0 k.at in
         let above : last_executed w.gateway a.call < a.next = subst (λ n. last_executed w.gateway n < a.next) (sym sound.numbered) sound.next in
-        goes_on script entries w.gateway a a b refl refl (omega arith) refl (rests_follows script a (state_of script a.state).ok b taken.1)
+        goes_on script Among w.gateway a a b refl refl (omega arith) refl (rests_follows script a (state_of script a.state).ok b taken.1)
         (quiet w.gateway a (pass_quiet a.phase taken.0))
-        (inl (answer_led script entries w.gateway a k.c (state_of script a.state).ok b
-        (between_of script entries w.gateway a a k passing.effective refl refl refl above) k.state
-        (λ step among. step_of script entries closed k.c Answered step k.stands passing.link_is
+        (inl (answer_led script Among w.gateway a k.c (state_of script a.state).ok b
+        (between_of script Among w.gateway a a k passing.effective refl refl refl above) k.state
+        (λ step among. step_of script Among closed k.c Answered step k.stands passing.link_is
         (subst (λ n. Contains (steps.reply_step script k.c (state_of script n).ok) step) (sym k.state) among)) taken.1))
     by_part (inr lost) =
         let taken = passes script a b a.phase is in
-        lost_goes script entries w.gateway a a b lost refl refl refl refl (rests_follows script a (state_of script a.state).ok b taken.1)
+        lost_goes script Among w.gateway a a b lost refl refl refl refl (rests_follows script a (state_of script a.state).ok b taken.1)
 
 pub pass_sound : (call : ℕ) → KeepsSound (λ script w after. AgentSteps w call (passed script) after)
-pass_sound call script entries is_script closed w after sound s = agent_goes script entries w after call (passed script) sound s
-    (pass_goes script entries closed w call s.before s.agent (sound.calls call s.before s.open_call) s.steps)
+pass_sound call script Among is_script closed w after sound s = agent_goes script Among w after call (passed script) sound s
+    (pass_goes script Among closed w call s.before s.agent (sound.calls call s.before s.open_call) s.steps)
 
 -- ---- the timer ends
 
@@ -84,27 +85,27 @@ times script a b =
     by_test (λ (o : Option Agent). o ≡ Some b → (a.phase ≡ resting) × (led ≡ Some b)) led None (is_resting a.phase)
     (λ e is. (is_resting_is a.phase e, is)) (λ e is. absurd (none_is_some b is))
 
-timer_goes : (script : Script) (entries : List Entry) → IsClosed script entries → (w : World) (call : ℕ) (a b : Agent) → CallIsSound script entries w call a
-    → timed script a ≡ Some b → Goes script entries w.gateway a b
-timer_goes script entries closed w call a b sound is = by_part sound.part
+timer_goes : (script : Script) (Among : Listed) → IsClosed script Among → (w : World) (call : ℕ) (a b : Agent) → CallIsSound script Among w call a
+    → timed script a ≡ Some b → Goes script Among w.gateway a b
+timer_goes script Among closed w call a b sound is = by_part sound.part
   where
-    by_part : IsCurrent script entries w.gateway a ⊎ IsLost script w.gateway a → Goes script entries w.gateway a b
+    by_part : IsCurrent script Among w.gateway a ⊎ IsLost script w.gateway a → Goes script Among w.gateway a b
     by_part (inl k) =
         let taken = times script a b is in
         let rest = at_rest script w.gateway a k.e k.c.link taken.0 k.at in
         let above : last_executed w.gateway a.call < a.next = subst (λ n. last_executed w.gateway n < a.next) (sym sound.numbered) sound.next in
-        goes_on script entries w.gateway a a b refl refl (omega arith) refl (if_follows script a (state_of script a.state).timer b taken.1)
+        goes_on script Among w.gateway a a b refl refl (omega arith) refl (if_follows script a (state_of script a.state).timer b taken.1)
         (quiet w.gateway a (rest_quiet a.phase taken.0))
-        (inl (target_entered script entries w.gateway a k.c names.Timer (state_of script a.state).timer b
-        (between_of script entries w.gateway a a k rest.effective refl refl refl above)
-        (λ step among. step_of script entries closed k.c Resting step k.stands rest.link_is
+        (inl (target_entered script Among w.gateway a k.c names.Timer (state_of script a.state).timer b
+        (between_of script Among w.gateway a a k rest.effective refl refl refl above)
+        (λ step among. step_of script Among closed k.c Resting step k.stands rest.link_is
         (Contains-append_right (flat_map (observations script k.c) (line_places script))
         (entering script k.c names.Timer (state_of script k.c.state).timer) step
         (subst (λ n. Contains (entering script k.c names.Timer (state_of script n).timer) step) (sym k.state) among))) taken.1))
     by_part (inr lost) =
         let taken = times script a b is in
-        lost_goes script entries w.gateway a a b lost refl refl refl refl (if_follows script a (state_of script a.state).timer b taken.1)
+        lost_goes script Among w.gateway a a b lost refl refl refl refl (if_follows script a (state_of script a.state).timer b taken.1)
 
 pub timer_sound : (call : ℕ) → KeepsSound (λ script w after. AgentSteps w call (timed script) after)
-timer_sound call script entries is_script closed w after sound s = agent_goes script entries w after call (timed script) sound s
-    (timer_goes script entries closed w call s.before s.agent (sound.calls call s.before s.open_call) s.steps)
+timer_sound call script Among is_script closed w after sound s = agent_goes script Among w after call (timed script) sound s
+    (timer_goes script Among closed w call s.before s.agent (sound.calls call s.before s.open_call) s.steps)

@@ -1,11 +1,12 @@
 -- A step of one agent keeps the world sound, where the agent after it goes on from the one before.
+use Rattle.mg_safety.proofs.Invariant.Sound.{Listed}
 use Rattle.mg_safety.proofs.Words.{◌≡◌, ◌∙◌, ◌<◌, ◌≤◌, ℕ, false, List, Option, Some, refl, sym, ap, subst, arith, inl, inr, eqb-true, Contains-append_cases}
 use Rattle.mg_safety.proofs.Words.{◌==◌, Contains, ◌⊎◌, Agent, Phase, awaits_reply, Entry, Gateway, last_executed, Request, Script, World, AgentSteps}
 use Rattle.mg_safety.proofs.Words.{agent_steps, sent_in, none_in, only_one, the_some, cases_eq, by_test, at_one, at_another}
 use Rattle.mg_safety.proofs.InvariantWords.{IsSentBy, IsCurrent, IsLost, CallIsSound, IsKnown, IsOpen, IsAboveFloor, GatewayIsSound, IsSound}
 
 -- the agent b goes on from a: what it sends is new and its own, what was sent before is settled, and it is current or lost
-pub record Goes (script : Script) (entries : List Entry) (g : Gateway) (a b : Agent) : Type 0 where
+pub record Goes (script : Script) (Among : Listed) (g : Gateway) (a b : Agent) : Type 0 where
   pub call : b.call ≡ a.call
   pub lines : b.lines ≡ a.lines
   pub association : a.association ≤ b.association
@@ -14,7 +15,7 @@ pub record Goes (script : Script) (entries : List Entry) (g : Gateway) (a b : Ag
       → (request.call ≡ a.call) × (request.association ≡ b.association) × (request.number < b.next)
   pub above : (request : Request) → b.phase ≡ awaits_reply request → a.next ≤ request.number
   pub settled : (request : Request) → IsSentBy g a request → request.association ≡ g.association → request.number ≤ last_executed g a.call
-  pub part : IsCurrent script entries g b ⊎ IsLost script g b
+  pub part : IsCurrent script Among g b ⊎ IsLost script g b
 
 -- a request that a phase sends is outstanding in it
 outstanding_in : (phase : Phase) (request : Request) → Contains (sent_in phase) request → phase ≡ awaits_reply request
@@ -29,8 +30,8 @@ stepped_agent w call b other one there = elim (cases_eq other call) [
   | inr apart ↦ inr (apart, sym (at_another call other (Some b) (w.agent other) apart) ∙ there)
 ]
 
-module _ (script : Script) (entries : List Entry) (w : World) (call : ℕ) (a b : Agent) (sound : IsSound script entries w)
-    (here : w.agent call ≡ Some a) (goes : Goes script entries w.gateway a b) where
+module _ (script : Script) (Among : Listed) (w : World) (call : ℕ) (a b : Agent) (sound : IsSound script Among w)
+    (here : w.agent call ≡ Some a) (goes : Goes script Among w.gateway a b) where
   numbered : a.call ≡ call
   numbered = (sound.calls call a here).numbered
 
@@ -60,7 +61,7 @@ module _ (script : Script) (entries : List Entry) (w : World) (call : ℕ) (a b 
       let present : request.association ≡ b.association = own.1 in
       record { association = omega (arith, present); number = own.2; outstanding = λ e. inl is }
 
-  own_call : CallIsSound script entries (agent_steps w call b) call b
+  own_call : CallIsSound script Among (agent_steps w call b) call b
   own_call = let old = sound.calls call a here in record {
     numbered = goes.call ∙ numbered;
     first = let before = old.first in let step = goes.next in omega (arith, before, step);
@@ -76,7 +77,7 @@ module _ (script : Script) (entries : List Entry) (w : World) (call : ℕ) (a b 
     part = goes.part;
   }
 
-  other_call : (other : ℕ) (one : Agent) → (other ≡ call → ⊥) → w.agent other ≡ Some one → CallIsSound script entries (agent_steps w call b) other one
+  other_call : (other : ℕ) (one : Agent) → (other ≡ call → ⊥) → w.agent other ≡ Some one → CallIsSound script Among (agent_steps w call b) other one
   other_call other one apart there = let old = sound.calls other one there in record {
     numbered = old.numbered;
     first = old.first;
@@ -91,10 +92,10 @@ module _ (script : Script) (entries : List Entry) (w : World) (call : ℕ) (a b 
     part = old.part;
   }
 
-  each_call : (other : ℕ) (one : Agent) → (agent_steps w call b).agent other ≡ Some one → CallIsSound script entries (agent_steps w call b) other one
+  each_call : (other : ℕ) (one : Agent) → (agent_steps w call b).agent other ≡ Some one → CallIsSound script Among (agent_steps w call b) other one
   each_call other one there = elim (stepped_agent w call b other one there) [
-    | inl own ↦ subst (λ n. CallIsSound script entries (agent_steps w call b) n one) (sym own.0)
-        (subst (CallIsSound script entries (agent_steps w call b) call) own.1 own_call)
+    | inl own ↦ subst (λ n. CallIsSound script Among (agent_steps w call b) n one) (sym own.0)
+        (subst (CallIsSound script Among (agent_steps w call b) call) own.1 own_call)
     | inr was ↦ other_call other one was.0 was.1
   ]
 
@@ -155,11 +156,11 @@ module _ (script : Script) (entries : List Entry) (w : World) (call : ℕ) (a b 
     notes = λ sent among. let was = old.notes sent among in (known_after sent.call was.0, λ is_open. was.1 (open_before sent.call is_open));
   }
 
-pub agent_goes : (script : Script) (entries : List Entry) (w after : World) (call : ℕ) (step : Agent → Option Agent) → IsSound script entries w
-    → (s : AgentSteps w call step after) → Goes script entries w.gateway s.before s.agent → IsSound script entries after
-agent_goes script entries w after call step sound s goes = subst (IsSound script entries) (sym s.after_is) (record {
+pub agent_goes : (script : Script) (Among : Listed) (w after : World) (call : ℕ) (step : Agent → Option Agent) → IsSound script Among w
+    → (s : AgentSteps w call step after) → Goes script Among w.gateway s.before s.agent → IsSound script Among after
+agent_goes script Among w after call step sound s goes = subst (IsSound script Among) (sym s.after_is) (record {
   floor = sound.floor;
-  floors = floor_after script entries w call s.before s.agent sound s.open_call goes;
-  gateway = gateway_after script entries w call s.before s.agent sound s.open_call goes;
-  calls = each_call script entries w call s.before s.agent sound s.open_call goes;
+  floors = floor_after script Among w call s.before s.agent sound s.open_call goes;
+  gateway = gateway_after script Among w call s.before s.agent sound s.open_call goes;
+  calls = each_call script Among w call s.before s.agent sound s.open_call goes;
 })

@@ -1,4 +1,5 @@
 -- An agent that enters a state: what it keeps of itself, what it sends, and that the configuration which the checker enters is shown then.
+use Rattle.mg_safety.proofs.Invariant.Sound.{Listed}
 use Rattle.mg_safety.proofs.Words.{◌≡◌, ◌∙◌, ◌+◌, ◌<◌, ◌≤◌, ℕ, Bool, true, false, List, [], ◌∷◌, Some, None, refl, sym, ap, subst, arith, inl, inr}
 use Rattle.mg_safety.proofs.Words.{if◌then◌else◌, nat_le, Sent, Answered, Resting, Command, SubtractAll, Agent, Made, Phase, awaits_reply, awaits_pass, resting}
 use Rattle.mg_safety.proofs.Words.{entered_with, entered, built_by, command_of, commands_of, made_after, none_made, request_of, Configuration, Entry}
@@ -130,15 +131,15 @@ pub lines_still : (script : Script) (e : Agent) (line : ℕ → LineRow) (c : Co
 lines_still script e line c phase state next accepted link s = record { events = s.events; silent = s.silent; expected = s.expected }
 
 -- the agent enters a state where the configuration that the checker enters stands
-module _ (script : Script) (entries : List Entry) (g : Gateway) (e : Agent) (c : Configuration) (state : ℕ) (between : IsBetween script g e c)
-    (stands : Stands script entries (steps.with_state script c state)) where
+module _ (script : Script) (Among : Listed) (g : Gateway) (e : Agent) (c : Configuration) (state : ℕ) (between : IsBetween script g e c)
+    (stands : Stands script Among (steps.with_state script c state)) where
   abbrev next : Configuration
   next = steps.with_state script c state
 
   link_as : (empty : Bool) → is_empty (built_by script e state) ≡ empty → next.link ≡ (if empty then Answered else Sent)
   link_as empty is = ap (λ (p : Bool). if p then Answered else Sent) (sym (ap is_empty (built_same script g e c state between)) ∙ is)
 
-  passes_on : is_empty (built_by script e state) ≡ true → IsCurrent script entries g (passing e state)
+  passes_on : is_empty (built_by script e state) ≡ true → IsCurrent script Among g (passing e state)
   passes_on empty = record {
     association = between.association;
     c = next;
@@ -150,7 +151,7 @@ module _ (script : Script) (entries : List Entry) (g : Gateway) (e : Agent) (c :
     lines_shown = lines_still script e g.line c awaits_pass state e.next e.accepted next.link between.lines_shown;
   }
 
-  asks_on : is_empty (built_by script e state) ≡ false → IsCurrent script entries g (asking script e state)
+  asks_on : is_empty (built_by script e state) ≡ false → IsCurrent script Among g (asking script e state)
   asks_on not_empty = record {
     association = between.association;
     c = next;
@@ -173,18 +174,18 @@ module _ (script : Script) (entries : List Entry) (g : Gateway) (e : Agent) (c :
     lines_shown = lines_still script e g.line c (awaits_reply (request_of script e state)) state (e.next + 1) e.accepted next.link between.lines_shown;
   }
 
-pub enters_current : (script : Script) (entries : List Entry) (g : Gateway) (e : Agent) (c : Configuration) (state : ℕ) (b : Agent)
-    → IsBetween script g e c → Stands script entries (steps.with_state script c state) → entered script e state ≡ Some b → IsCurrent script entries g b
-enters_current script entries g e c state b between stands is = elim (enters script e state b is) [
-  | inl passes ↦ subst (IsCurrent script entries g) passes.1 (passes_on script entries g e c state between stands passes.0)
-  | inr asks ↦ subst (IsCurrent script entries g) asks.1 (asks_on script entries g e c state between stands asks.0)
+pub enters_current : (script : Script) (Among : Listed) (g : Gateway) (e : Agent) (c : Configuration) (state : ℕ) (b : Agent)
+    → IsBetween script g e c → Stands script Among (steps.with_state script c state) → entered script e state ≡ Some b → IsCurrent script Among g b
+enters_current script Among g e c state b between stands is = elim (enters script e state b is) [
+  | inl passes ↦ subst (IsCurrent script Among g) passes.1 (passes_on script Among g e c state between stands passes.0)
+  | inr asks ↦ subst (IsCurrent script Among g) asks.1 (asks_on script Among g e c state between stands asks.0)
 ]
 
 -- the agent rests
-pub rests_current : (script : Script) (entries : List Entry) (g : Gateway) (e : Agent) (c : Configuration)
-    → IsBetween script g e c → c.state ≡ e.state → Stands script entries (record c { link = Resting })
-    → IsCurrent script entries g (record e { phase = resting })
-rests_current script entries g e c between state stands = record {
+pub rests_current : (script : Script) (Among : Listed) (g : Gateway) (e : Agent) (c : Configuration)
+    → IsBetween script g e c → c.state ≡ e.state → Stands script Among (record c { link = Resting })
+    → IsCurrent script Among g (record e { phase = resting })
+rests_current script Among g e c between state stands = record {
   association = between.association;
   c = record c { link = Resting };
   e = record e { phase = resting };

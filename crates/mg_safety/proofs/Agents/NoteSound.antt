@@ -1,5 +1,6 @@
 -- An agent that accepts a note keeps the world sound: the note that leads on is raised by the list that stands, so where it leads is an
 -- observation of the configuration.
+use Rattle.mg_safety.proofs.Invariant.Sound.{Listed}
 use Rattle.mg_safety.proofs.Words.{◌≡◌, ◌∙◌, ◌<◌, ℕ, true, List, Option, Some, None, refl, sym, ap, subst, arith, inl, inr, Contains, eqb-true, ◌==◌, not}
 use Rattle.mg_safety.proofs.Words.{if◌then◌else◌, ◌⊎◌, Resting, Inbox, arrival, is_new, arrives_new, was_seen, is_old, Agent, inbox_of, resting}
 use Rattle.mg_safety.proofs.Words.{entered_or_stays, is_resting, line_in, may_accept, noted, target_of, list_of, with_at, Configuration, Entry, Gateway}
@@ -67,9 +68,9 @@ accepting_between script g a number c between = record {
       record { events = between.lines_shown.events; silent = between.lines_shown.silent; expected = between.lines_shown.expected };
 }
 
-stays_current : (script : Script) (entries : List Entry) (g : Gateway) (a : Agent) (number : ℕ) (k : IsCurrent script entries g a) → a.phase ≡ resting
-    → k.c.link ≡ Resting → IsBetween script g a k.c → IsCurrent script entries g (accepting a number)
-stays_current script entries g a number k phase link between = record {
+stays_current : (script : Script) (Among : Listed) (g : Gateway) (a : Agent) (number : ℕ) (k : IsCurrent script Among g a) → a.phase ≡ resting
+    → k.c.link ≡ Resting → IsBetween script g a k.c → IsCurrent script Among g (accepting a number)
+stays_current script Among g a number k phase link between = record {
   association = k.association;
   c = k.c;
   e = accepting a number;
@@ -81,10 +82,10 @@ stays_current script entries g a number k phase link between = record {
 }
 
 -- where the note leads, the checker's configuration stands
-note_leads : (script : Script) (entries : List Entry) → IsClosed script entries → (floor : ℕ → ℕ) (g : Gateway) (a : Agent) (sent : SentNote) (state : ℕ)
-    (k : IsCurrent script entries g a) → k.c.link ≡ Resting → IsBetween script g a k.c → IsNoteStanding floor g sent
-    → LeadsOn script a sent.line sent.note state → Stands script entries (steps.with_state script k.c state)
-note_leads script entries closed floor g a sent state k link between standing where_to =
+note_leads : (script : Script) (Among : Listed) → IsClosed script Among → (floor : ℕ → ℕ) (g : Gateway) (a : Agent) (sent : SentNote) (state : ℕ)
+    (k : IsCurrent script Among g a) → k.c.link ≡ Resting → IsBetween script g a k.c → IsNoteStanding floor g sent
+    → LeadsOn script a sent.line sent.note state → Stands script Among (steps.with_state script k.c state)
+note_leads script Among closed floor g a sent state k link between standing where_to =
     let i = where_to.i in
     let request : (g.line sent.line).request ≡ Some sent.note.request =
     subst (λ l. (g.line l).request ≡ Some sent.note.request) where_to.line_is
@@ -95,40 +96,40 @@ note_leads script entries closed floor g a sent state k link between standing wh
     list_says script (k.c.events i) (g.line sent.line).list sent.note.kind list (standing.raised request) in
     let target : target_in (state_of script k.c.state).on i sent.note.kind ≡ Some state =
     ap (λ n. target_in (state_of script n).on i sent.note.kind) k.state ∙ where_to.target in
-    step_of script entries closed k.c Resting (names.Observe i sent.note.kind, steps.with_state script k.c state) k.stands link
+    step_of script Among closed k.c Resting (names.Observe i sent.note.kind, steps.with_state script k.c state) k.stands link
     (observed script k.c i sent.note.kind state where_to.place raised target)
 
-note_current : (script : Script) (entries : List Entry) → IsClosed script entries → (floor : ℕ → ℕ) (g : Gateway) (a b : Agent) (sent : SentNote)
-    (k : IsCurrent script entries g a) → a.phase ≡ resting → k.c.link ≡ Resting → IsBetween script g a k.c → IsNoteStanding floor g sent → (target : Option ℕ)
+note_current : (script : Script) (Among : Listed) → IsClosed script Among → (floor : ℕ → ℕ) (g : Gateway) (a b : Agent) (sent : SentNote)
+    (k : IsCurrent script Among g a) → a.phase ≡ resting → k.c.link ≡ Resting → IsBetween script g a k.c → IsNoteStanding floor g sent → (target : Option ℕ)
     → target_of script a (line_in a sent.line (line_places script)) sent.note ≡ target
-    → entered_or_stays script (accepting a sent.number) target ≡ Some b → IsCurrent script entries g b
-note_current script entries closed floor g a b sent k phase link between standing None where_to is =
-    subst (IsCurrent script entries g) (the_some (accepting a sent.number) b is) (stays_current script entries g a sent.number k phase link between)
-note_current script entries closed floor g a b sent k phase link between standing (Some state) where_to is =
-    enters_current script entries g (accepting a sent.number) k.c state b (accepting_between script g a sent.number k.c between)
-    (note_leads script entries closed floor g a sent state k link between standing (leads_where script a sent.line sent.note state where_to)) is
+    → entered_or_stays script (accepting a sent.number) target ≡ Some b → IsCurrent script Among g b
+note_current script Among closed floor g a b sent k phase link between standing None where_to is =
+    subst (IsCurrent script Among g) (the_some (accepting a sent.number) b is) (stays_current script Among g a sent.number k phase link between)
+note_current script Among closed floor g a b sent k phase link between standing (Some state) where_to is =
+    enters_current script Among g (accepting a sent.number) k.c state b (accepting_between script g a sent.number k.c between)
+    (note_leads script Among closed floor g a sent state k link between standing (leads_where script a sent.line sent.note state where_to)) is
 
-note_goes : (script : Script) (entries : List Entry) → IsClosed script entries → (floor : ℕ → ℕ) (w : World) (sent : SentNote) (a b : Agent)
-    → IsNoteSound floor w.gateway sent → CallIsSound script entries w sent.call a → IsAccepted script a b sent → Goes script entries w.gateway a b
-note_goes script entries closed floor w sent a b known sound t = by_part sound.part
+note_goes : (script : Script) (Among : Listed) → IsClosed script Among → (floor : ℕ → ℕ) (w : World) (sent : SentNote) (a b : Agent)
+    → IsNoteSound floor w.gateway sent → CallIsSound script Among w sent.call a → IsAccepted script a b sent → Goes script Among w.gateway a b
+note_goes script Among closed floor w sent a b known sound t = by_part sound.part
   where
-    by_part : IsCurrent script entries w.gateway a ⊎ IsLost script w.gateway a → Goes script entries w.gateway a b
+    by_part : IsCurrent script Among w.gateway a ⊎ IsLost script w.gateway a → Goes script Among w.gateway a b
     by_part (inl k) =
         let rest = at_rest script w.gateway a k.e k.c.link t.phase k.at in
         let above : last_executed w.gateway a.call < a.next = subst (λ n. last_executed w.gateway n < a.next) (sym sound.numbered) sound.next in
-        let between = between_of script entries w.gateway a a k rest.effective refl refl refl above in
-        goes_on script entries w.gateway a (accepting a sent.number) b refl refl (omega arith) refl
+        let between = between_of script Among w.gateway a a k rest.effective refl refl refl above in
+        goes_on script Among w.gateway a (accepting a sent.number) b refl refl (omega arith) refl
         (stay_follows script (accepting a sent.number) b (target_of script a (line_in a sent.line (line_places script)) sent.note) t.phase t.leads)
         (quiet w.gateway a (rest_quiet a.phase t.phase))
-        (inl (note_current script entries closed floor w.gateway a b sent k t.phase rest.link_is between (known.standing (t.association ∙ k.association))
+        (inl (note_current script Among closed floor w.gateway a b sent k t.phase rest.link_is between (known.standing (t.association ∙ k.association))
         (target_of script a (line_in a sent.line (line_places script)) sent.note) refl t.leads))
-    by_part (inr lost) = lost_goes script entries w.gateway a (accepting a sent.number) b lost refl refl refl refl
+    by_part (inr lost) = lost_goes script Among w.gateway a (accepting a sent.number) b lost refl refl refl refl
         (stay_follows script (accepting a sent.number) b (target_of script a (line_in a sent.line (line_places script)) sent.note) t.phase t.leads)
 
 pub note_sound : (sent : SentNote) → KeepsSound (λ script w after.
     Contains w.notes sent × AgentSteps w sent.call (λ a. noted script a (line_places script) sent) after)
-note_sound sent script entries is_script closed w after sound occurs =
+note_sound sent script Among is_script closed w after sound occurs =
     let s = occurs.1 in
-    agent_goes script entries w after sent.call (λ a. noted script a (line_places script) sent) sound s
-    (note_goes script entries closed sound.floor w sent s.before s.agent ((sound.gateway.notes sent occurs.0).1 (s.before, s.open_call))
+    agent_goes script Among w after sent.call (λ a. noted script a (line_places script) sent) sound s
+    (note_goes script Among closed sound.floor w sent s.before s.agent ((sound.gateway.notes sent occurs.0).1 (s.before, s.open_call))
     (sound.calls sent.call s.before s.open_call) (accepts script s.before s.agent sent s.steps))

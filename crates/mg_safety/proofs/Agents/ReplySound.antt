@@ -1,5 +1,6 @@
 -- An agent that takes a reply keeps the world sound: it is the reply that the gateway keeps, so the agent's names are then those by which the
 -- board shows the configuration.
+use Rattle.mg_safety.proofs.Invariant.Sound.{Listed}
 use Rattle.mg_safety.proofs.Words.{◌≡◌, ◌∙◌, ◌<◌, ◌≤◌, Bool, true, false, List, Option, Some, None, refl, sym, ap, subst, arith, inl, inr, Contains, and_parts}
 use Rattle.mg_safety.proofs.Words.{eqb-true, ◌==◌, ◌&&◌, if◌then◌else◌, ◌⊎◌, Failure, Answered, Failed, answers, Agent, Phase, awaits_reply, built_by}
 use Rattle.mg_safety.proofs.Words.{after_results, leads_on, replied_to, replied, Configuration, Entry, Gateway, last_executed, number_of, Request, Reply}
@@ -67,23 +68,23 @@ is_kept g answer kept sound present last same = elim (sound.kept present) [
 
 -- ---- the agent goes on
 
-led_current : (script : Script) (entries : List Entry) → IsClosed script entries → (g : Gateway) (a e : Agent) (c : Configuration) (failure : Option Failure)
-    (b : Agent) → IsBetween script g e c → Stands script entries c → c.link ≡ link_of failure → c.state ≡ a.state → e.state ≡ a.state
-    → leads_on script a e failure ≡ Some b → IsCurrent script entries g b
-led_current script entries closed g a e c None b between stands link state same is =
-    answer_led script entries g e c (state_of script a.state).ok b between (state ∙ sym same)
-    (λ step among. step_of script entries closed c Answered step stands link
+led_current : (script : Script) (Among : Listed) → IsClosed script Among → (g : Gateway) (a e : Agent) (c : Configuration) (failure : Option Failure)
+    (b : Agent) → IsBetween script g e c → Stands script Among c → c.link ≡ link_of failure → c.state ≡ a.state → e.state ≡ a.state
+    → leads_on script a e failure ≡ Some b → IsCurrent script Among g b
+led_current script Among closed g a e c None b between stands link state same is =
+    answer_led script Among g e c (state_of script a.state).ok b between (state ∙ sym same)
+    (λ step among. step_of script Among closed c Answered step stands link
     (subst (λ n. Contains (steps.reply_step script c (state_of script n).ok) step) (sym state) among)) is
-led_current script entries closed g a e c (Some failure) b between stands link state same is =
-    target_entered script entries g e c names.Reply (state_of script a.state).fault b between
-    (λ step among. step_of script entries closed c Failed step stands link
+led_current script Among closed g a e c (Some failure) b between stands link state same is =
+    target_entered script Among g e c names.Reply (state_of script a.state).fault b between
+    (λ step among. step_of script Among closed c Failed step stands link
     (subst (λ n. Contains (steps.entering script c names.Reply (state_of script n).fault) step) (sym state) among)) is
 
 -- the outstanding request was executed, and the reply is the kept one
-answered_goes : (script : Script) (entries : List Entry) → IsClosed script entries → (w : World) (answer : Reply) (a b : Agent)
-    → IsReplySound w.gateway answer → CallIsSound script entries w answer.call a → IsTaken script a b answer
-    → (k : IsCurrent script entries w.gateway a) → IsAnswered script w.gateway a k.e k.c.link → Goes script entries w.gateway a b
-answered_goes script entries closed w answer a b known sound t k s =
+answered_goes : (script : Script) (Among : Listed) → IsClosed script Among → (w : World) (answer : Reply) (a b : Agent)
+    → IsReplySound w.gateway answer → CallIsSound script Among w answer.call a → IsTaken script a b answer
+    → (k : IsCurrent script Among w.gateway a) → IsAnswered script w.gateway a k.e k.c.link → Goes script Among w.gateway a b
+answered_goes script Among closed w answer a b known sound t k s =
     let keep = results_keep a (built_by script a a.state) answer.results answer.number in
     let same : s.request ≡ t.request = same_request s.request t.request (sym s.outstanding.phase ∙ t.phase) in
     let present : answer.association ≡ w.gateway.association =
@@ -96,7 +97,7 @@ answered_goes script entries closed w answer a b known sound t k s =
     let executed : last_executed w.gateway a.call ≡ s.answer.number = ap number_of s.kept in
     let above : last_executed w.gateway a.call < a.next = subst (λ n. last_executed w.gateway n < a.next) (sym sound.numbered) sound.next in
     let answered : s.answer.number ≡ s.request.number = s.number in
-    goes_on script entries w.gateway a (bound script a answer) b keep.call keep.lines (let is = keep.association in omega (arith, is)) keep.next
+    goes_on script Among w.gateway a (bound script a answer) b keep.call keep.lines (let is = keep.association in omega (arith, is)) keep.next
     (leads_follows script a (bound script a answer) answer.failure b t.leads)
     (λ request sent here. elim (sent.outstanding here) [
       | inl is ↦ (let one : s.request.number ≡ request.number =
@@ -104,15 +105,15 @@ answered_goes script entries closed w answer a b known sound t k s =
           omega (arith, one, executed, answered))
       | inr settled ↦ settled
     ])
-    (inl (led_current script entries closed w.gateway a (bound script a answer) k.c answer.failure b
-    (between_of script entries w.gateway a (bound script a answer) k effective keep.call keep.association keep.next above)
+    (inl (led_current script Among closed w.gateway a (bound script a answer) k.c answer.failure b
+    (between_of script Among w.gateway a (bound script a answer) k effective keep.call keep.association keep.next above)
     k.stands link k.state keep.state t.leads))
 
-reply_goes : (script : Script) (entries : List Entry) → IsClosed script entries → (w : World) (answer : Reply) (a b : Agent)
-    → IsReplySound w.gateway answer → CallIsSound script entries w answer.call a → IsTaken script a b answer → Goes script entries w.gateway a b
-reply_goes script entries closed w answer a b known sound t = by_part sound.part
+reply_goes : (script : Script) (Among : Listed) → IsClosed script Among → (w : World) (answer : Reply) (a b : Agent)
+    → IsReplySound w.gateway answer → CallIsSound script Among w answer.call a → IsTaken script a b answer → Goes script Among w.gateway a b
+reply_goes script Among closed w answer a b known sound t = by_part sound.part
   where
-    by_at : (k : IsCurrent script entries w.gateway a) → IsAt script w.gateway a k.e k.c.link → Goes script entries w.gateway a b
+    by_at : (k : IsCurrent script Among w.gateway a) → IsAt script w.gateway a k.e k.c.link → Goes script Among w.gateway a b
     -- no reply to a request that wasn't executed has its number
     by_at k (inl s) =
         let same : s.request ≡ t.request = same_request s.request t.request (sym s.outstanding.phase ∙ t.phase) in
@@ -123,20 +124,20 @@ reply_goes script entries closed w answer a b known sound t = by_part sound.part
         subst (λ n. last_executed w.gateway n < s.request.number) sound.numbered s.above in
         let number : answer.number ≡ s.request.number = t.number ∙ ap (λ (r : Request). r.number) (sym same) in
         absurd (omega (arith, executed, above, number))
-    by_at k (inr (inl s)) = answered_goes script entries closed w answer a b known sound t k s
+    by_at k (inr (inl s)) = answered_goes script Among closed w answer a b known sound t k s
     by_at k (inr (inr (inl s))) = absurd (pass_quiet a.phase s.phase t.request t.phase)
     by_at k (inr (inr (inr s))) = absurd (rest_quiet a.phase s.phase t.request t.phase)
 
-    by_part : IsCurrent script entries w.gateway a ⊎ IsLost script w.gateway a → Goes script entries w.gateway a b
+    by_part : IsCurrent script Among w.gateway a ⊎ IsLost script w.gateway a → Goes script Among w.gateway a b
     by_part (inl k) = by_at k k.at
     by_part (inr lost) =
         let keep = results_keep a (built_by script a a.state) answer.results answer.number in
-        lost_goes script entries w.gateway a (bound script a answer) b lost keep.call keep.lines keep.association keep.next
+        lost_goes script Among w.gateway a (bound script a answer) b lost keep.call keep.lines keep.association keep.next
         (leads_follows script a (bound script a answer) answer.failure b t.leads)
 
 pub reply_sound : (answer : Reply) → KeepsSound (λ script w after. Contains w.replies answer × AgentSteps w answer.call (λ a. replied script a answer) after)
-reply_sound answer script entries is_script closed w after sound occurs =
+reply_sound answer script Among is_script closed w after sound occurs =
     let s = occurs.1 in
-    agent_goes script entries w after answer.call (λ a. replied script a answer) sound s
-    (reply_goes script entries closed w answer s.before s.agent ((sound.gateway.replies answer occurs.0).1 (s.before, s.open_call))
+    agent_goes script Among w after answer.call (λ a. replied script a answer) sound s
+    (reply_goes script Among closed w answer s.before s.agent ((sound.gateway.replies answer occurs.0).1 (s.before, s.open_call))
     (sound.calls answer.call s.before s.open_call) (takes script s.before s.agent answer s.steps))

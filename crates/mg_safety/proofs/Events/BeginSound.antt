@@ -1,4 +1,5 @@
 -- A call that begins on the lines of one that has ended keeps the world sound.
+use Rattle.mg_safety.proofs.Invariant.Sound.{Listed}
 use Rattle.mg_safety.proofs.Words.{◌≡◌, ◌∙◌, ℕ, true, false, List, Some, None, length, sym, ap, subst, arith, inl, inr, ◌<◌, ◌≤◌, Agent, begun, Entry, Gateway}
 use Rattle.mg_safety.proofs.Words.{CallLink, last_executed, Reply, SentNote, Script, World, Begins, HasEnded, MayBegin, the_some, at_another}
 use Rattle.mg_model.specs.Gateway as gateway
@@ -9,7 +10,7 @@ use Rattle.mg_safety.proofs.Events.Handover.{agent_from, below_next, at_most, fl
 use Rattle.mg_safety.proofs.Events.Handover.{still_known}
 use Rattle.mg_safety.proofs.Events.BegunCalls.{new_sound, other_sound}
 
-module _ (script : Script) (entries : List Entry) (closed : IsClosed script entries) (w : World) (sound : IsSound script entries w) (new old : ℕ) (a : Agent)
+module _ (script : Script) (Among : Listed) (closed : IsClosed script Among) (w : World) (sound : IsSound script Among w) (new old : ℕ) (a : Agent)
     (open_call : w.agent old ≡ Some a) (ended : HasEnded script w a) (may : MayBegin w.gateway old)
     (unused : w.agent new ≡ None) (not_retired : w.gateway.retired new ≡ false) where
   abbrev g : Gateway
@@ -149,16 +150,16 @@ module _ (script : Script) (entries : List Entry) (closed : IsClosed script entr
         })
   ]
 
-  calls : (call : ℕ) (one : Agent) → after.agent call ≡ Some one → CallIsSound script entries after call one
+  calls : (call : ℕ) (one : Agent) → after.agent call ≡ Some one → CallIsSound script Among after call one
   calls call one there = elim (agent_from script w new old call a one there) [
-    | inl is ↦ subst (λ n. CallIsSound script entries after n one) (sym is.0) (subst (CallIsSound script entries after new) is.1
-        (new_sound script entries closed w sound new old a open_call ended may unused not_retired))
-    | inr is ↦ other_sound script entries closed w sound new old a open_call ended may unused not_retired call one is.2 is.1 is.0
+    | inl is ↦ subst (λ n. CallIsSound script Among after n one) (sym is.0) (subst (CallIsSound script Among after new) is.1
+        (new_sound script Among closed w sound new old a open_call ended may unused not_retired))
+    | inr is ↦ other_sound script Among closed w sound new old a open_call ended may unused not_retired call one is.2 is.1 is.0
   ]
 
-  pub begun_sound : IsSound script entries after
+  pub begun_sound : IsSound script Among after
   begun_sound = record { floor = floor; gateway = gateway_sound; floors = floors; calls = calls }
 
 pub begin_sound : (new old : ℕ) → KeepsSound (λ script w after. Begins script w new old after)
-begin_sound new old script entries is_script closed w next sound x = subst (IsSound script entries) (sym x.after_is)
-    (begun_sound script entries closed w sound new old x.before x.open_call x.ended x.may x.unused x.not_retired)
+begin_sound new old script Among is_script closed w next sound x = subst (IsSound script Among) (sym x.after_is)
+    (begun_sound script Among closed w sound new old x.before x.open_call x.ended x.may x.unused x.not_retired)

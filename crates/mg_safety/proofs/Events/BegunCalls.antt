@@ -1,4 +1,5 @@
 -- Where a call begins on the lines of one that has ended, the new call is shown the opening configuration, and each other call what it was shown.
+use Rattle.mg_safety.proofs.Invariant.Sound.{Listed}
 use Rattle.mg_safety.proofs.Words.{◌≡◌, ◌∙◌, ℕ, false, List, Option, Some, None, length, refl, sym, ap, subst, arith, inl, inr, true≢false, ◌<◌, ◌⊎◌, IsTrue}
 use Rattle.mg_safety.proofs.Words.{false_from_ne_true, TermId, Line, Spot, Null, Agent, begun, is_in, Entry, Gateway, CallLink, MayBegin, list_of, Script}
 use Rattle.mg_safety.proofs.Words.{opening, state_of, World, HasEnded, the_some, same_itself}
@@ -17,7 +18,7 @@ use Rattle.mg_safety.proofs.Shared.ShownParts.{seen_with}
 not_in : (spot : Spot) (j : ℕ) → spot ≡ Null → IsTrue (is_in spot j) → ⊥
 not_in spot j null there = true≢false (sym there ∙ ap (λ (s : Spot). is_in s j) null)
 
-module _ (script : Script) (entries : List Entry) (closed : IsClosed script entries) (w : World) (sound : IsSound script entries w) (new old : ℕ) (a : Agent)
+module _ (script : Script) (Among : Listed) (closed : IsClosed script Among) (w : World) (sound : IsSound script Among w) (new old : ℕ) (a : Agent)
     (open_call : w.agent old ≡ Some a) (ended : HasEnded script w a) (may : MayBegin w.gateway old)
     (unused : w.agent new ≡ None) (not_retired : w.gateway.retired new ≡ false) where
   abbrev g : Gateway
@@ -29,10 +30,10 @@ module _ (script : Script) (entries : List Entry) (closed : IsClosed script entr
   abbrev after : World
   after = world_begun script w new old a
 
-  was : CallIsSound script entries w old a
+  was : CallIsSound script Among w old a
   was = sound.calls old a open_call
 
-  current : IsCurrent script entries g a
+  current : IsCurrent script Among g a
   current = elim was.part [
     | inl k ↦ k
     | inr lost ↦ (let older = lost.association in let present = ended.current in absurd (omega (arith, older, present)))
@@ -49,7 +50,7 @@ module _ (script : Script) (entries : List Entry) (closed : IsClosed script entr
       let names : (naming k.e).lines ≡ a.lines = ap (λ (e : Agent). e.lines) rest.effective in
       let cleared = closed.cleared k.c k.stands rest.link_is (subst (λ n. IsTrue (state_of script n).is_end) (sym k.state) ended.is_end) in
       let none : k.c.cut (termination.Line i) (termination.Line j) ≡ false = false_from_ne_true (k.c.cut (termination.Line i) (termination.Line j))
-      (λ is_cut. let within = k.stands.covered.1.1.1.cut_within (termination.Line i) (termination.Line j) is_cut in
+      (λ is_cut. let within = k.stands.formed.cut_within (termination.Line i) (termination.Line j) is_cut in
       not_in (k.c.spot (termination.Line i)) within.0 (cleared.in_null i first) within.1.0) in
       subst (λ (lines : ℕ → ℕ). g.board.cut (Line (record { 0 = lines i })) (Line (record { 0 = lines j })) ≡ false) names
       (sym (k.shown.cut (termination.Line i) (termination.Line j) first second) ∙ none)
@@ -77,7 +78,7 @@ module _ (script : Script) (entries : List Entry) (closed : IsClosed script entr
         (k.lines_shown.expected i q within (ap (λ (e : Agent). e.expected i) rest.effective ∙ expects));
   }
 
-  pub new_sound : CallIsSound script entries after new (begun script new a)
+  pub new_sound : CallIsSound script Among after new (begun script new a)
   new_sound =
       let none = none_executed g old new (other_number w new old a open_call unused) in
       let above = was.first in
@@ -104,7 +105,7 @@ module _ (script : Script) (entries : List Entry) (closed : IsClosed script entr
   -- ---- another call
 
   module _ (other : ℕ) (one : Agent) (there : w.agent other ≡ Some one) (not_old : other ≡ old → ⊥) (not_new : other ≡ new → ⊥) where
-    its : CallIsSound script entries w other one
+    its : CallIsSound script Among w other one
     its = sound.calls other one there
 
     last : (later.link one.call).last ≡ (g.link one.call).last
@@ -114,8 +115,8 @@ module _ (script : Script) (entries : List Entry) (closed : IsClosed script entr
     owns : (t : TermId) → owned_in later one.call t ≡ owned_in g one.call t
     owns = subst (λ n. (t : TermId) → owned_in later n t ≡ owned_in g n t) (sym its.numbered) (still_owns g old new other not_old not_new)
 
-    part_still : IsCurrent script entries g one ⊎ IsLost script g one → IsCurrent script entries later one ⊎ IsLost script later one
-    part_still (inl k) = inl (current_still script entries w after one refl last k
+    part_still : IsCurrent script Among g one ⊎ IsLost script g one → IsCurrent script Among later one ⊎ IsLost script later one
+    part_still (inl k) = inl (current_still script Among w after one refl last k
         (seen_with script (owned_in g one.call) (owned_in later one.call) (naming k.e) g.board k.c owns g.board.cut k.c.state k.c.link k.c.context k.c.cut
         (λ j. refl) k.shown.cut k.shown) k.lines_shown)
     part_still (inr lost) = inr (record {
@@ -129,6 +130,6 @@ module _ (script : Script) (entries : List Entry) (closed : IsClosed script entr
       no_cut = lost.no_cut;
     })
 
-    pub other_sound : CallIsSound script entries after other one
-    other_sound = call_still script entries w after one refl last other its
+    pub other_sound : CallIsSound script Among after other one
+    other_sound = call_still script Among w after one refl last other its
         (λ i within. handed_other old new other (g.holder (one.lines i)) (its.held i within) not_old) (λ request among. among) (part_still its.part)

@@ -1,4 +1,5 @@
 -- The calls after a request was executed: the request's own call is answered, and each other call is as it was.
+use Rattle.mg_safety.proofs.Invariant.Sound.{Listed}
 use Rattle.mg_safety.proofs.Words.{◌≡◌, ◌∙◌, ◌<◌, ◌++◌, ℕ, false, List, ◌∷◌, length, Option, Some, refl, sym, ap, subst, arith, inl, inr, Failure, Agent}
 use Rattle.mg_safety.proofs.Words.{after_results, built_by, Board, IsSettled, Entry, Gateway, CallLink, last_executed, reply_of, after_request, sent_notes}
 use Rattle.mg_safety.proofs.Words.{LineRow, Request, Running, Script, World, with_gateway, cases_eq, the_some}
@@ -23,8 +24,8 @@ world_after w request end settled failure = record (with_gateway w (after_reques
   notes = sent_notes request.call request.association (w.gateway.link request.call).notes end.notes ++ w.notes;
 }
 
-module _ (script : Script) (entries : List Entry) (w : World) (request : Request) (end : Running) (settled : Board) (failure : Option Failure)
-    (sound : IsSound script entries w) (h : HasRun script entries w request end failure) (is_settled : IsSettled end.board settled) where
+module _ (script : Script) (Among : Listed) (w : World) (request : Request) (end : Running) (settled : Board) (failure : Option Failure)
+    (sound : IsSound script Among w) (h : HasRun script Among w request end failure) (is_settled : IsSettled end.board settled) where
   abbrev after : World
   after = world_after w request end settled failure
 
@@ -32,11 +33,11 @@ module _ (script : Script) (entries : List Entry) (w : World) (request : Request
   later = after.gateway
 
   changes : IsOwnChange w.gateway end.board later request.call
-  changes = run_changes script entries w request end settled failure sound.floor sound.gateway h is_settled
+  changes = run_changes script Among w request end settled failure sound.floor sound.gateway h is_settled
 
   -- ---- the call itself
 
-  own_current : OwnersAgree → IsCurrent script entries later h.agent
+  own_current : OwnersAgree → IsCurrent script Among later h.agent
   own_current agree =
       let run = h.run in
       record {
@@ -73,7 +74,7 @@ module _ (script : Script) (entries : List Entry) (w : World) (request : Request
     ];
   }
 
-  own_sound : OwnersAgree → CallIsSound script entries after request.call h.agent
+  own_sound : OwnersAgree → CallIsSound script Among after request.call h.agent
   own_sound agree = let old = sound.calls request.call h.agent h.open_call in record {
     numbered = h.call;
     first = old.first;
@@ -100,12 +101,12 @@ module _ (script : Script) (entries : List Entry) (w : World) (request : Request
     last : (later.link b.call).last ≡ (w.gateway.link b.call).last
     last = ap (λ (x : CallLink). x.last) (link_other w.gateway request end settled failure b.call unlike)
 
-    other_current : OthersStayShown → IsCurrent script entries w.gateway b → IsCurrent script entries later b
+    other_current : OthersStayShown → IsCurrent script Among w.gateway b → IsCurrent script Among later b
     other_current stay k =
         let held : (i : ℕ) → i < length script.lines → w.gateway.holder (k.e.lines i) ≡ Some b.call = λ i within.
         ap (λ (lines : ℕ → ℕ). w.gateway.holder (lines i)) (same_lines script w.gateway b k.e k.c.link k.at)
         ∙ (sound.calls other b there).held i within ∙ ap Some (sym numbered) in
-        current_still script entries w after b refl last k
+        current_still script Among w after b refl last k
         (stay script w.gateway end.board later request.call b.call (naming k.e) k.c changes (λ e. unlike (sym e)) k.shown) (record {
           events = λ i within. ap (λ (row : LineRow). row.list) (line_kept (k.e.lines i) (held i within)) ∙ k.lines_shown.events i within;
           silent = λ i within quiet. ap (λ (row : LineRow). row.playing) (line_kept (k.e.lines i) (held i within)) ∙ k.lines_shown.silent i within quiet;
@@ -118,15 +119,15 @@ module _ (script : Script) (entries : List Entry) (w : World) (request : Request
         (λ l apart. h.run.other_lines l (ap (is_call (w.gateway.holder l)) h.call ∙ apart))
         (link_other w.gateway request end settled failure b.call unlike)
 
-    other_sound : OthersStayShown → OtherLost → CallIsSound script entries after other b
-    other_sound shown lost = let old = sound.calls other b there in call_still script entries w after b refl last other old old.held (λ one among. among)
+    other_sound : OthersStayShown → OtherLost → CallIsSound script Among after other b
+    other_sound shown lost = let old = sound.calls other b there in call_still script Among w after b refl last other old old.held (λ one among. among)
         (elim old.part [ inl k ↦ inl (other_current shown k) | inr gone ↦ inr (other_lost lost gone) ])
 
   pub calls_after : OthersStayShown → OwnersAgree → OtherLost → (call : ℕ) (a : Agent) → w.agent call ≡ Some a
-      → CallIsSound script entries (world_after w request end settled failure) call a
+      → CallIsSound script Among (world_after w request end settled failure) call a
   calls_after shown agree lost call a there = elim (cases_eq request.call call) [
     | inl one ↦ (let same : h.agent ≡ a = the_some h.agent a (sym h.open_call ∙ ap w.agent one ∙ there) in
-        subst (λ n. CallIsSound script entries after n a) one
-        (subst (CallIsSound script entries after request.call) same (own_sound agree)))
+        subst (λ n. CallIsSound script Among after n a) one
+        (subst (CallIsSound script Among after request.call) same (own_sound agree)))
     | inr apart ↦ other_sound call a there apart shown lost
   ]

@@ -1,5 +1,6 @@
 -- The gateway after a request was executed, and the messages that were sent: what was created is the call's, what its lines expect is bounded by
 -- the request's number, and its reply is the kept one.
+use Rattle.mg_safety.proofs.Invariant.Sound.{Listed}
 use Rattle.mg_safety.proofs.Words.{◌≡◌, ◌∙◌, ◌+◌, ◌<◌, ◌≤◌, ℕ, Bool, true, false, List, [], ◌∷◌, Option, Some, None, is_some, refl, sym, ap, subst, arith, inl}
 use Rattle.mg_safety.proofs.Words.{inr, Contains-append_cases, if◌then◌else◌, Contains, Failure, TermId, Line, Eph, Row, Agent, after_results, built_by, Board}
 use Rattle.mg_safety.proofs.Words.{exists, place_of, place_in, remote_of, remote_in, IsSettled, Entry, CallLink, last_executed, reply_of, after_request}
@@ -60,14 +61,14 @@ bounded row after number q (inl armed) is within =
 bounded row after number q (inr (inl emptied)) is within = absurd (none_is_some q (sym emptied ∙ is))
 bounded row after number q (inr (inr stays)) is within = let old : q < number = within (sym stays.1 ∙ is) in omega (arith, old)
 
-module _ (script : Script) (entries : List Entry) (w : World) (request : Request) (end : Running) (settled : Board) (failure : Option Failure)
-    (sound : IsSound script entries w) (h : HasRun script entries w request end failure) (there : Contains w.requests request)
+module _ (script : Script) (Among : Listed) (w : World) (request : Request) (end : Running) (settled : Board) (failure : Option Failure)
+    (sound : IsSound script Among w) (h : HasRun script Among w request end failure) (there : Contains w.requests request)
     (is_settled : IsSettled end.board settled) where
   abbrev later : Gateway
   later = after_request w.gateway request end settled failure
 
   changes : IsOwnChange w.gateway end.board later request.call
-  changes = run_changes script entries w request end settled failure sound.floor sound.gateway h is_settled
+  changes = run_changes script Among w request end settled failure sound.floor sound.gateway h is_settled
 
   executed_now : (call : ℕ) → call ≡ request.call → last_executed later call ≡ request.number
   executed_now call one = ap (last_executed later) one ∙ executed_own w.gateway request end settled failure

@@ -1,4 +1,5 @@
 -- A request that is executed: it is the outstanding one of a current call, and what the gateway is after it, link by link and owner by owner.
+use Rattle.mg_safety.proofs.Invariant.Sound.{Listed}
 use Rattle.mg_safety.proofs.Words.{◌≡◌, ◌∙◌, ◌<◌, ◌≤◌, ℕ, Bool, true, false, List, Option, Some, None, refl, sym, ap, subst, arith, inl, inr, true≢false, ◌+◌}
 use Rattle.mg_safety.proofs.Words.{if◌then◌else◌, length, ◌⊎◌, Eph, ChosenRefusal, Failure, Sent, Agent, awaits_reply, Board, IsSettled, exists, Entry, Gateway}
 use Rattle.mg_safety.proofs.Words.{CallLink, last_executed, start_of, reply_of, after_request, number_of, Request, RequestCommand, Running, Script, World}
@@ -17,19 +18,19 @@ not_call_of o one call is apart = ap (λ (x : Option ℕ). is_call x call) is �
 -- ---- the request is the outstanding one
 
 -- the call's configuration while its request is sent, and the request
-pub record IsDue (script : Script) (entries : List Entry) (g : Gateway) (a : Agent) (request : Request) : Type 0 where
-  pub k : IsCurrent script entries g a
+pub record IsDue (script : Script) (Among : Listed) (g : Gateway) (a : Agent) (request : Request) : Type 0 where
+  pub k : IsCurrent script Among g a
   pub outstanding : IsOutstanding script a request
   pub effective : k.e ≡ a
   pub link : k.c.link ≡ Sent
 
-pub is_due : (script : Script) (entries : List Entry) (w : World) (request : Request) (a : Agent) → CallIsSound script entries w request.call a
+pub is_due : (script : Script) (Among : Listed) (w : World) (request : Request) (a : Agent) → CallIsSound script Among w request.call a
     → IsSentBy w.gateway a request → request.association ≡ w.gateway.association → last_executed w.gateway request.call < request.number
-    → IsDue script entries w.gateway a request
-is_due script entries w request a sound sent present newer = by_phase (sent.outstanding present)
+    → IsDue script Among w.gateway a request
+is_due script Among w request a sound sent present newer = by_phase (sent.outstanding present)
   where
-    by_at : (k : IsCurrent script entries w.gateway a) → a.phase ≡ awaits_reply request → IsAt script w.gateway a k.e k.c.link
-        → IsDue script entries w.gateway a request
+    by_at : (k : IsCurrent script Among w.gateway a) → a.phase ≡ awaits_reply request → IsAt script w.gateway a k.e k.c.link
+        → IsDue script Among w.gateway a request
     by_at k phase (inl s) = record {
       k = k;
       outstanding = subst (IsOutstanding script a) (same_request s.request request (sym s.outstanding.phase ∙ phase)) s.outstanding;
@@ -47,12 +48,12 @@ is_due script entries w request a sound sent present newer = by_phase (sent.outs
     by_at k phase (inr (inr (inl s))) = absurd (pass_quiet a.phase s.phase request phase)
     by_at k phase (inr (inr (inr s))) = absurd (rest_quiet a.phase s.phase request phase)
 
-    by_part : a.phase ≡ awaits_reply request → IsCurrent script entries w.gateway a ⊎ IsLost script w.gateway a
-        → IsDue script entries w.gateway a request
+    by_part : a.phase ≡ awaits_reply request → IsCurrent script Among w.gateway a ⊎ IsLost script w.gateway a
+        → IsDue script Among w.gateway a request
     by_part phase (inl k) = by_at k phase k.at
     by_part phase (inr lost) = let older = lost.association in let at_most = sent.association in absurd (omega (arith, older, at_most, present))
 
-    by_phase : (a.phase ≡ awaits_reply request) ⊎ (request.number ≤ last_executed w.gateway a.call) → IsDue script entries w.gateway a request
+    by_phase : (a.phase ≡ awaits_reply request) ⊎ (request.number ≤ last_executed w.gateway a.call) → IsDue script Among w.gateway a request
     by_phase (inl phase) = by_part phase sound.part
     by_phase (inr settled) =
         let more : last_executed w.gateway a.call < request.number =
@@ -60,12 +61,12 @@ is_due script entries w request a sound sent present newer = by_phase (sent.outs
         absurd (omega (arith, settled, more))
 
 -- so its run is a run of the configuration
-pub due_runs : RequestsRun → (script : Script) (entries : List Entry) → IsScript script → IsClosed script entries → (g : Gateway) (a : Agent)
-    (request : Request) (refusal : Option ChosenRefusal) (end : Running) (failure : Option Failure) → IsDue script entries g a request → IsAccounted g.board
-    → RunsFrom request.number refusal (start_of g) 0 request.commands end failure → IsRunOf script entries g a request.number end failure
-due_runs run script entries is_script closed g a request refusal end failure due accounted runs =
+pub due_runs : RequestsRun → (script : Script) (Among : Listed) → IsScript script → IsClosed script Among → (g : Gateway) (a : Agent)
+    (request : Request) (refusal : Option ChosenRefusal) (end : Running) (failure : Option Failure) → IsDue script Among g a request → IsAccounted g.board
+    → RunsFrom request.number refusal (start_of g) 0 request.commands end failure → IsRunOf script Among g a request.number end failure
+due_runs run script Among is_script closed g a request refusal end failure due accounted runs =
     let k = due.k in
-    run script entries is_script closed g a k.c k.stands due.link k.state
+    run script Among is_script closed g a k.c k.stands due.link k.state
     (subst (λ (x : Agent). Seen script (owned_in g a.call) (naming x) g.board k.c) due.effective k.shown)
     (subst (λ (x : Agent). LinesShown script x g.line k.c) due.effective k.lines_shown)
     accounted request.number refusal end failure
@@ -74,7 +75,7 @@ due_runs run script entries is_script closed g a request refusal end failure due
 -- ---- the gateway after it
 
 -- a request that ran: its call was current with the request outstanding, and shows a configuration after it
-pub record HasRun (script : Script) (entries : List Entry) (w : World) (request : Request) (end : Running) (failure : Option Failure) : Type 0 where
+pub record HasRun (script : Script) (Among : Listed) (w : World) (request : Request) (end : Running) (failure : Option Failure) : Type 0 where
   pub agent : Agent
   pub open_call : w.agent request.call ≡ Some agent
   pub call : agent.call ≡ request.call
@@ -82,7 +83,7 @@ pub record HasRun (script : Script) (entries : List Entry) (w : World) (request 
   pub newer : last_executed w.gateway request.call < request.number
   pub below : request.number < agent.next
   pub outstanding : IsOutstanding script agent request
-  pub run : IsRunOf script entries w.gateway agent request.number end failure
+  pub run : IsRunOf script Among w.gateway agent request.number end failure
 
 abbrev pub link_made : Gateway → Request → Running → Option Failure → CallLink
 link_made g request end failure =
@@ -128,10 +129,10 @@ creator_same true false true was call given either = elim (either refl) [
 creator_same true false false was call given either = refl
 
 -- only what the call owns was changed
-pub run_changes : (script : Script) (entries : List Entry) (w : World) (request : Request) (end : Running) (settled : Board) (failure : Option Failure)
-    → (floor : ℕ → ℕ) → GatewayIsSound script floor w → HasRun script entries w request end failure → IsSettled end.board settled
+pub run_changes : (script : Script) (Among : Listed) (w : World) (request : Request) (end : Running) (settled : Board) (failure : Option Failure)
+    → (floor : ℕ → ℕ) → GatewayIsSound script floor w → HasRun script Among w request end failure → IsSettled end.board settled
     → IsOwnChange w.gateway end.board (after_request w.gateway request end settled failure) request.call
-run_changes script entries w request end settled failure floor sound h is_settled = record {
+run_changes script Among w request end settled failure floor sound h is_settled = record {
   changes = subst (λ n. ChangesOwned (owner_of w.gateway n) w.gateway.board end.board) h.call h.run.changes;
   settled = is_settled;
   holder = refl;

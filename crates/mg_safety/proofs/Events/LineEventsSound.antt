@@ -1,5 +1,6 @@
 -- An event of a line keeps the world sound: the board, the holders and the kept replies stay, each line's descriptor stays, and the note that
 -- is raised is one of the descriptor that stands.
+use Rattle.mg_safety.proofs.Invariant.Sound.{Listed}
 use Rattle.mg_safety.proofs.Words.{◌≡◌, ◌∙◌, ◌+◌, ◌++◌, ℕ, List, length, Option, Some, None, refl, sym, ap, subst, arith, ◌<◌, ◌≤◌, ◌⊎◌, inl, inr, ◌==◌}
 use Rattle.mg_safety.proofs.Words.{Contains, eqb-true, Contains-append_cases, Agent, Configuration, Entry, LineEvent, Gateway, last_executed, with_line}
 use Rattle.mg_safety.proofs.Words.{with_notes, notes_from, number_of, LineRow, Note, Outcome, silent, Reply, SentNote, Script, World, LineOccurs, with_gateway}
@@ -34,7 +35,7 @@ world_after w l call count outcome = record (with_gateway w (with_notes (with_li
   notes = notes_from w.gateway call l outcome.note ++ w.notes;
 }
 
-module _ (script : Script) (entries : List Entry) (w : World) (sound : IsSound script entries w) (l call count : ℕ) (outcome : Outcome)
+module _ (script : Script) (Among : Listed) (w : World) (sound : IsSound script Among w) (l call count : ℕ) (outcome : Outcome)
     (held : w.gateway.holder l ≡ Some call) (is_after : IsRowAfter (w.gateway.line l) outcome) where
   abbrev g : Gateway
   g = w.gateway
@@ -140,8 +141,8 @@ module _ (script : Script) (entries : List Entry) (w : World) (sound : IsSound s
     expected = λ i q within expects. (line_kept (e.lines i)).request ∙ shown.expected i q within expects;
   }
 
-  part_kept : (a : Agent) → IsCurrent script entries g a ⊎ IsLost script g a → IsCurrent script entries later a ⊎ IsLost script later a
-  part_kept a (inl k) = inl (current_still script entries w after a refl (last_kept a.call) k k.shown (lines_kept k.e k.c k.lines_shown))
+  part_kept : (a : Agent) → IsCurrent script Among g a ⊎ IsLost script g a → IsCurrent script Among later a ⊎ IsLost script later a
+  part_kept a (inl k) = inl (current_still script Among w after a refl (last_kept a.call) k k.shown (lines_kept k.e k.c k.lines_shown))
   part_kept a (inr lost) = inr (record {
     association = lost.association;
     rows = lost.rows;
@@ -153,11 +154,11 @@ module _ (script : Script) (entries : List Entry) (w : World) (sound : IsSound s
     no_cut = lost.no_cut;
   })
 
-  call_sound : (one : ℕ) (a : Agent) → w.agent one ≡ Some a → CallIsSound script entries after one a
+  call_sound : (one : ℕ) (a : Agent) → w.agent one ≡ Some a → CallIsSound script Among after one a
   call_sound one a there = let was = sound.calls one a there in
-      call_still script entries w after a refl (last_kept a.call) one was was.held (λ request among. among) (part_kept a was.part)
+      call_still script Among w after a refl (last_kept a.call) one was was.held (λ request among. among) (part_kept a was.part)
 
-  after_sound : IsSound script entries after
+  after_sound : IsSound script Among after
   after_sound = record {
     floor = sound.floor;
     gateway = gateway_sound;
@@ -166,12 +167,12 @@ module _ (script : Script) (entries : List Entry) (w : World) (sound : IsSound s
   }
 
 pub line_sound : (l : ℕ) (event : LineEvent) → KeepsSound (λ script w after. LineOccurs w l event after)
-line_sound l event script entries is_script closed w after sound occurs =
+line_sound l event script Among is_script closed w after sound occurs =
     let h = occurs.happens in
     let is : after ≡ world_after w l h.call (length occurs.sent) h.outcome =
     occurs.after_is ∙ ap (λ (g : Gateway). record (with_gateway w g) { notes = occurs.sent ++ w.notes }) h.after_is
     ∙ ap (λ (sent : List SentNote). record (with_gateway w (with_notes (with_line w.gateway l h.outcome.row) h.call (length occurs.sent))) {
       notes = sent ++ w.notes;
     }) h.notes_are in
-    subst (IsSound script entries) (sym is)
-    (after_sound script entries w sound l h.call (length occurs.sent) h.outcome h.held (row_after (w.gateway.line l) event h.outcome h.happens))
+    subst (IsSound script Among) (sym is)
+    (after_sound script Among w sound l h.call (length occurs.sent) h.outcome h.held (row_after (w.gateway.line l) event h.outcome h.happens))

@@ -1,4 +1,5 @@
 -- Openings are sound: every call stands in the opening configuration, which the certificate has, and nothing was sent.
+use Rattle.mg_safety.proofs.Invariant.Sound.{Listed}
 use Rattle.mg_safety.proofs.Words.{◌≡◌, ◌∙◌, ℕ, Bool, true, false, List, length, Option, Some, None, is_some, refl, sym, ap, subst, arith, true≢false, ◌<◌, inl}
 use Rattle.mg_safety.proofs.Words.{inr, Contains, if◌then◌else◌, nat_lt, unwrap_or, eq-eqb, TermId, Line, Row, Agent, opened, list_of, Entry, CallLink}
 use Rattle.mg_safety.proofs.Words.{last_executed, number_of, LineRow, Reply, Script, opening, World, Opened, IsOpening, armed_line, none_is_some, line_armed}
@@ -8,7 +9,7 @@ use Rattle.mg_safety.proofs.Agents.Entering.{not_resting}
 use Rattle.mg_safety.proofs.SmallLaws.OpeningLaws.{all_in_null}
 use Rattle.mg_safety.proofs.Invariant.OpeningShown.{AreCleared, events_armed, opening_shown}
 
-module _ (script : Script) (entries : List Entry) (closed : IsClosed script entries) (calls : List Opened) (w : World) (o : IsOpening script calls w) where
+module _ (script : Script) (Among : Listed) (closed : IsClosed script Among) (calls : List Opened) (w : World) (o : IsOpening script calls w) where
   -- ---- one call
 
   module _ (one : Opened) (there : Contains calls one) where
@@ -40,7 +41,7 @@ module _ (script : Script) (entries : List Entry) (closed : IsClosed script entr
     none_executed : (call : ℕ) → last_executed w.gateway call ≡ 0
     none_executed call = ap (λ (link : ℕ → CallLink). number_of (link call).last) o.gateway.no_reply_kept
 
-    current : IsCurrent script entries w.gateway (opened script one.call one.lines)
+    current : IsCurrent script Among w.gateway (opened script one.call one.lines)
     current = record {
       association = sym o.gateway.association;
       c = opening script;
@@ -52,7 +53,7 @@ module _ (script : Script) (entries : List Entry) (closed : IsClosed script entr
       lines_shown = lines_shown;
     }
 
-    one_sound : CallIsSound script entries w one.call (opened script one.call one.lines)
+    one_sound : CallIsSound script Among w one.call (opened script one.call one.lines)
     one_sound =
         let none = none_executed one.call in
         record {
@@ -105,21 +106,21 @@ module _ (script : Script) (entries : List Entry) (closed : IsClosed script entr
     notes = λ sent among. absurd (nothing_in sent w.notes o.messages.no_note among);
   }
 
-  call_sound : (call : ℕ) (a : Agent) → w.agent call ≡ Some a → CallIsSound script entries w call a
+  call_sound : (call : ℕ) (a : Agent) → w.agent call ≡ Some a → CallIsSound script Among w call a
   call_sound call a there =
       let one = o.agents.no_other call a there in
       let known : w.agent call ≡ Some (opened script one.0.call one.0.lines) = ap w.agent (sym one.2) ∙ o.agents.opened one.0 one.1 in
       let same : opened script one.0.call one.0.lines ≡ a = ap (λ (x : Option Agent). unwrap_or x a) (sym known ∙ there) in
-      subst (λ (x : Agent). CallIsSound script entries w call x) same
-      (subst (λ (n : ℕ). CallIsSound script entries w n (opened script one.0.call one.0.lines)) one.2 (one_sound one.0 one.1))
+      subst (λ (x : Agent). CallIsSound script Among w call x) same
+      (subst (λ (n : ℕ). CallIsSound script Among w n (opened script one.0.call one.0.lines)) one.2 (one_sound one.0 one.1))
 
 pub openings_sound : OpeningsAreSound
-openings_sound script entries is_script closed calls w o = record {
+openings_sound script Among is_script closed calls w o = record {
   floor = λ one. 0;
-  gateway = gateway_sound script entries closed calls w o;
+  gateway = gateway_sound script Among closed calls w o;
   floors = λ call a there. record {
-    next = (call_sound script entries closed calls w o call a there).first;
+    next = (call_sound script Among closed calls w o call a there).first;
     requests = λ request among of. absurd (nothing_in request w.requests o.messages.no_request among);
   };
-  calls = call_sound script entries closed calls w o;
+  calls = call_sound script Among closed calls w o;
 }

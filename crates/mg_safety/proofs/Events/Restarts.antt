@@ -1,4 +1,5 @@
 -- A restart keeps the world sound: every call is lost, and nothing of the association before counts any more.
+use Rattle.mg_safety.proofs.Invariant.Sound.{Listed}
 use Rattle.mg_safety.proofs.Words.{◌≡◌, ◌∙◌, ◌+◌, ℕ, true, List, length, Option, Some, None, is_some, refl, sym, ap, subst, arith, true≢false, ◌<◌, ◌≤◌}
 use Rattle.mg_safety.proofs.Words.{◌⊎◌, inl, inr, Contains, Line, Eph, Row, Agent, exists, place_in, Entry, restarted, row_restarted, board_restarted, Request}
 use Rattle.mg_safety.proofs.Words.{Reply, SentNote, Script, Restart, World, with_gateway, Occurs, null_row, none_is_some}
@@ -18,7 +19,7 @@ null_place t before row e = ap place_in (sym e) ∙ restarted_in_null (Line (rec
 
 -- ---- the gateway
 
-module _ (script : Script) (entries : List Entry) (w : World) (sound : IsSound script entries w) where
+module _ (script : Script) (Among : Listed) (w : World) (sound : IsSound script Among w) where
   accounted : IsAccounted (board_restarted w.gateway.board)
   accounted = record {
     ephemerals = λ x there. absurd (true≢false (sym there ∙ restarted_gone x (w.gateway.board.row (Eph x))));
@@ -73,7 +74,7 @@ module _ (script : Script) (entries : List Entry) (w : World) (sound : IsSound s
     no_cut = λ i j first second. refl;
   }
 
-  lost : (a : Agent) → IsCurrent script entries w.gateway a ⊎ IsLost script w.gateway a → IsLost script (restarted w.gateway) a
+  lost : (a : Agent) → IsCurrent script Among w.gateway a ⊎ IsLost script w.gateway a → IsLost script (restarted w.gateway) a
   lost a (inl current) =
       let now : a.association ≡ w.gateway.association = current.association in
       older_is_lost a (omega (arith, now))
@@ -83,7 +84,7 @@ module _ (script : Script) (entries : List Entry) (w : World) (sound : IsSound s
       let before : a.association < w.gateway.association = gone.association in
       older_is_lost a (omega (arith, before)) (λ i within. ap is_some (gone.rows i within))
 
-  is_older : (a : Agent) → IsCurrent script entries w.gateway a ⊎ IsLost script w.gateway a → a.association ≤ w.gateway.association
+  is_older : (a : Agent) → IsCurrent script Among w.gateway a ⊎ IsLost script w.gateway a → a.association ≤ w.gateway.association
   is_older a (inl current) = let now : a.association ≡ w.gateway.association = current.association in omega (arith, now)
   is_older a (inr gone) = let before : a.association < w.gateway.association = gone.association in omega (arith, before)
 
@@ -96,7 +97,7 @@ module _ (script : Script) (entries : List Entry) (w : World) (sound : IsSound s
         outstanding = λ (now : request.association ≡ w.gateway.association + 1). absurd (omega (arith, older, of_agent, now));
       }
 
-  call_sound : (call : ℕ) (a : Agent) → w.agent call ≡ Some a → CallIsSound script entries (with_gateway w (restarted w.gateway)) call a
+  call_sound : (call : ℕ) (a : Agent) → w.agent call ≡ Some a → CallIsSound script Among (with_gateway w (restarted w.gateway)) call a
   call_sound call a there =
       let one = sound.calls call a there in
       record {
@@ -111,10 +112,10 @@ module _ (script : Script) (entries : List Entry) (w : World) (sound : IsSound s
       }
 
 pub restart_sound : KeepsSound (λ script w after. Occurs script w Restart after)
-restart_sound script entries is_script closed w after sound occurs =
-    subst (IsSound script entries) (sym occurs.1) (record {
+restart_sound script Among is_script closed w after sound occurs =
+    subst (IsSound script Among) (sym occurs.1) (record {
       floor = sound.floor;
-      gateway = gateway_sound script entries w sound;
+      gateway = gateway_sound script Among w sound;
       floors = λ call a here. let old = sound.floors call a here in record { next = old.next; requests = old.requests };
-      calls = call_sound script entries w sound;
+      calls = call_sound script Among w sound;
     })

@@ -1,10 +1,11 @@
 -- A call of which neither the agent nor the kept reply changes: what is known of it stays so, where the gateway still shows what it shows.
+use Rattle.mg_safety.proofs.Invariant.Sound.{Listed}
 use Rattle.mg_safety.proofs.Words.{◌≡◌, Script, Gateway, Agent, last_executed, ap, number_of, ◌∙◌, sym, subst, inl, inr, ◌<◌, ◌≤◌, List, Entry, Request, World}
 use Rattle.mg_safety.proofs.Words.{length, Contains, ℕ, Some, ◌⊎◌}
 use Rattle.mg_names.specs.declared.phases.LinkPhase as phases
 use Rattle.mg_safety.proofs.InvariantWords.{IsAt, IsCurrent, Seen, owned_in, naming, LinesShown, IsSentBy, CallIsSound, IsLost}
 
-module _ (script : Script) (entries : List Entry) (w after : World) (a : Agent) (association : after.gateway.association ≡ w.gateway.association)
+module _ (script : Script) (Among : Listed) (w after : World) (a : Agent) (association : after.gateway.association ≡ w.gateway.association)
     (last : (after.gateway.link a.call).last ≡ (w.gateway.link a.call).last) where
   abbrev g : Gateway
   g = w.gateway
@@ -34,8 +35,8 @@ module _ (script : Script) (entries : List Entry) (w after : World) (a : Agent) 
   }))
   at_still e link (inr (inr rests)) = inr (inr rests)
 
-  pub current_still : (k : IsCurrent script entries g a) → Seen script (owned_in later a.call) (naming k.e) later.board k.c
-      → LinesShown script k.e later.line k.c → IsCurrent script entries later a
+  pub current_still : (k : IsCurrent script Among g a) → Seen script (owned_in later a.call) (naming k.e) later.board k.c
+      → LinesShown script k.e later.line k.c → IsCurrent script Among later a
   current_still k shown lines_shown = record {
     association = k.association ∙ sym association;
     c = k.c;
@@ -58,9 +59,9 @@ module _ (script : Script) (entries : List Entry) (w after : World) (a : Agent) 
   }
 
   -- where its lines are held by it, and no request is new
-  pub call_still : (call : ℕ) → CallIsSound script entries w call a → ((i : ℕ) → i < length script.lines → later.holder (a.lines i) ≡ Some call)
+  pub call_still : (call : ℕ) → CallIsSound script Among w call a → ((i : ℕ) → i < length script.lines → later.holder (a.lines i) ≡ Some call)
       → ((request : Request) → Contains after.requests request → Contains w.requests request)
-      → IsCurrent script entries later a ⊎ IsLost script later a → CallIsSound script entries after call a
+      → IsCurrent script Among later a ⊎ IsLost script later a → CallIsSound script Among after call a
   call_still call was held requests part = record {
     numbered = was.numbered;
     first = was.first;

@@ -8,9 +8,9 @@ use Rattle.mg_model.specs.declared.events.CallEvent.TheVariants as to_call
 use Rattle.mg_model.specs.declared.failures.Failure.{Failure}
 use Rattle.mg_model.specs.Accepted.{IsScript}
 use Rattle.mg_model.specs.Agent.{Agent, Made, Phase, answers, awaits_reply, awaits_pass, resting, after_results, built_by, commands_of, entered_if, entered_or_rests, entered_with, leads_on, made_after, none_made, passed, passed_in, replied, replied_to, request_of}
+use Rattle.mg_model.specs.Entries.{IsCovered}
 use Rattle.mg_model.specs.Board.{Board, IsSettled}
 use Rattle.mg_model.specs.Delivery.{fresh, kept, discard, offer, offer_by}
-use Rattle.mg_model.specs.Entries.{Entry}
 use Rattle.mg_model.specs.Gateway.{Gateway, after_request, last_executed, link_in, numbered, offer_to, reply_of, sent_notes, start_of}
 use Rattle.mg_model.specs.Messages.{Request, RequestCommand, Reply}
 use Rattle.mg_model.specs.Numbers.{last_number}
@@ -35,7 +35,7 @@ use Rattle.mg_safety.proofs.GoingOn.Taking.{Remain}
 use Rattle.mg_safety.proofs.GoodWorlds.Beginning.{reached}
 use Rattle.mg_safety.proofs.GoodWorlds.EveryRun.{commands_carry}
 use Rattle.mg_safety.proofs.Invariant.Shown.{LinesShown, Seen, naming}
-use Rattle.mg_safety.proofs.Invariant.Sound.{IsCurrent, IsOutstanding, IsSent, IsSound, is_call, owned_in}
+use Rattle.mg_safety.proofs.Invariant.Sound.{Listed, IsCurrent, IsOutstanding, IsSent, IsSound, is_call, owned_in}
 use Rattle.mg_safety.proofs.Invariant.Statements.{IsClosed, IsRunOf}
 use Rattle.mg_safety.proofs.Requests.Run.{requests_run}
 
@@ -116,13 +116,13 @@ is_kept_at g request answer open_call present last number =
 
 -- ---- a call
 
-module _ (script : Script) (entries : List Entry) (is_script : IsScript script) (closes : IsClosed script entries) (w : World)
-    (sound : IsSound script entries w) (order : IsInOrder w)
+module _ (script : Script) (Among : Listed) (is_script : IsScript script) (closes : IsClosed script Among) (w : World)
+    (sound : IsSound script Among w) (order : IsInOrder w)
     (call : ℕ) (a : Agent) (there : w.agent call ≡ Some a) (faults : HasFaults script) (left : NumbersAreLeft w call a) where
   of_call : a.call ≡ call
   of_call = (sound.calls call a there).numbered
 
-  module _ (k : IsCurrent script entries w.gateway a) (request : Request) (o : IsOutstanding script a request) where
+  module _ (k : IsCurrent script Among w.gateway a) (request : Request) (o : IsOutstanding script a request) where
     its_call : request.call ≡ call
     its_call = o.call ∙ of_call
 
@@ -193,7 +193,7 @@ module _ (script : Script) (entries : List Entry) (is_script : IsScript script) 
         there (first_in answer w.replies) (its.0 ∙ sym o.call) (its.1 ∙ sym present) number
 
   -- the request is executed
-  module _ (k : IsCurrent script entries w.gateway a) (s : IsSent script w.gateway a k.e k.c.link) where
+  module _ (k : IsCurrent script Among w.gateway a) (s : IsSent script w.gateway a k.e k.c.link) where
     length_is : length s.request.commands ≡ length (built_by script a a.state)
     length_is = ap (λ (commands : List RequestCommand). length commands) s.outstanding.commands ∙ as_many script a none_made 0 (built_by script a a.state)
 
@@ -208,10 +208,10 @@ module _ (script : Script) (entries : List Entry) (is_script : IsScript script) 
 
     found : (end : Running) × (failure : Option Failure)
         × RunsFrom s.request.number None (start_of w.gateway) 0 (commands_of script a none_made 0 (built_by script a a.state)) end failure
-    found = request_runs script is_script entries closes w.gateway a k.c k.stands s.link_is k.state seen sound.gateway.accounted remain s.request.number
+    found = request_runs script is_script Among closes w.gateway a k.c k.stands s.link_is k.state seen sound.gateway.accounted remain s.request.number
 
-    run : IsRunOf script entries w.gateway a s.request.number found.0 found.1
-    run = requests_run commands_carry script entries is_script closes w.gateway a k.c k.stands s.link_is k.state seen
+    run : IsRunOf script Among w.gateway a s.request.number found.0 found.1
+    run = requests_run commands_carry script Among is_script closes w.gateway a k.c k.stands s.link_is k.state seen
         (subst (λ (x : Agent). LinesShown script x w.gateway.line k.c) s.effective k.lines_shown) sound.gateway.accounted s.request.number None
         found.0 found.1 found.2
 
@@ -283,7 +283,7 @@ module _ (script : Script) (entries : List Entry) (is_script : IsScript script) 
     led_on = subst (λ (phase : Phase). IsLedOn script a phase a) (sym is) refl;
   }
 
-  current_leads : IsCurrent script entries w.gateway a → CanGoOn script w call a
+  current_leads : IsCurrent script Among w.gateway a → CanGoOn script w call a
   current_leads k = elim k.at [
     | inl s ↦ sent_leads k s
     | inr more ↦ elim more [
@@ -301,6 +301,6 @@ calls_go_on script entries is_script listed none_broken calls events opening end
     let sound = reached script entries is_script listed none_broken calls events opening end opens runs in
     let order = runs_in_order script events opening end (opening_in_order script calls opening opens) runs in
     elim (sound.calls call a there).part [
-      | inl current ↦ current_leads script entries is_script closes end sound order call a there faults left current
+      | inl current ↦ current_leads script (IsCovered entries) is_script closes end sound order call a there faults left current
       | inr lost ↦ (let older = lost.association in absurd (omega (arith, older, now)))
     ]

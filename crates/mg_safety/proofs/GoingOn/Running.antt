@@ -13,7 +13,6 @@ use Rattle.mg_model.specs.Accepted.{IsScript, IsCommandOf, create_once}
 use Rattle.mg_model.specs.Agent.{Agent, Made, bound_by, built_by, command_of, commands_of, made_after, none_made}
 use Rattle.mg_model.specs.Configuration.{Configuration, IsWellFormed}
 use Rattle.mg_model.specs.Effects.{is_legal, effect}
-use Rattle.mg_model.specs.Entries.{Entry}
 use Rattle.mg_model.specs.Gateway.{Gateway, start_of}
 use Rattle.mg_model.specs.Items.{IsExecuted}
 use Rattle.mg_model.specs.Messages.{RequestCommand}
@@ -29,7 +28,7 @@ use Rattle.mg_safety.proofs.GoingOn.Taking.{Remain}
 use Rattle.mg_safety.proofs.GoodWorlds.EveryRun.{commands_carry}
 use Rattle.mg_safety.proofs.Invariant.CarriedOver.{IsCarried, IsReady}
 use Rattle.mg_safety.proofs.Invariant.Shown.{AreBuilt, IsAccounted, Naming, Owner, Seen, Shown, built_after, item_for, known_by, named_after, naming, naming_at, owned_at}
-use Rattle.mg_safety.proofs.Invariant.Sound.{Stands, owned_in, owner_of}
+use Rattle.mg_safety.proofs.Invariant.Sound.{Listed, Stands, owned_in, owner_of}
 use Rattle.mg_safety.proofs.Invariant.Statements.{IsClosed}
 use Rattle.mg_safety.proofs.Requests.RunKnown.{AreKnown, binds, bound_agree, built_all, built_known, built_once, built_pass, known_on, state_is}
 use Rattle.mg_safety.proofs.Requests.RunNames.{IsMadeBelow, built_on, item_is, made_below_next, none_below}
@@ -177,9 +176,9 @@ formed_from script (command ∷ more) c place each = (
       (subst (λ (test : Bool). Contains (if test then refusals script (effect script c command) (place + 1) more else []) step) (sym legal) among))),
 )
 
-module _ (script : Script) (is : IsScript script) (entries : List Entry) (closed : IsClosed script entries) where
+module _ (script : Script) (is : IsScript script) (Among : Listed) (closed : IsClosed script Among) where
   -- the request of an agent whose configuration has it as sent, and that some numbers are left for
-  pub request_runs : (g : Gateway) (a : Agent) (c : Configuration) → Stands script entries c → c.link ≡ Sent → c.state ≡ a.state
+  pub request_runs : (g : Gateway) (a : Agent) (c : Configuration) → Stands script Among c → c.link ≡ Sent → c.state ≡ a.state
       → Seen script (owned_in g a.call) (naming a) g.board c → IsAccounted g.board → Remain g.board (length (built_by script a a.state)) → (number : ℕ)
       → (end : Running) × (failure : Option Failure)
       × RunsFrom number None (start_of g) 0 (commands_of script a none_made 0 (built_by script a a.state)) end failure
@@ -212,7 +211,7 @@ module _ (script : Script) (is : IsScript script) (entries : List Entry) (closed
       unbound = closed.unbound c stands sent
 
       shown : Shown script (owned_in g a.call) (naming a) g.board c
-      shown = shown_at_start script (owned_in g a.call) (naming a) g.board c seen stands.covered.1.1.1 stands.of_script accounted
+      shown = shown_at_start script (owned_in g a.call) (naming a) g.board c seen stands.formed stands.of_script accounted
           (closed.live c stands (inl sent))
 
       same : built_by script a a.state ≡ built (bound_names c) (state_of script c.state).commands
@@ -229,4 +228,4 @@ module _ (script : Script) (is : IsScript script) (entries : List Entry) (closed
           (subst (λ (left : List Command). Contains (refusals script c 0 left) step) same among)))
 
       formed : (step : Step) → Contains (refusals script c 0 (built_by script a a.state)) step → IsWellFormed step.1
-      formed step among = (closed.steps c step stands (among_steps step among)).covered.1.1.1
+      formed step among = (closed.steps c step stands (among_steps step among)).formed

@@ -1,9 +1,10 @@
 -- A call that has ended is released, so another may begin on its lines where nothing is set on them; the lines of a lost call report nothing, so
 -- none may begin there.
-use Rattle.mg_safety.proofs.Words.{◌≡◌, ◌∙◌, ◌<◌, ◌⊎◌, ℕ, List, [], ◌∷◌, length, Some, sym, ap, subst, arith, inl, inr, true≢false, All, Line, Exact, Event}
+use Rattle.mg_safety.proofs.Words.{◌≡◌, ◌∙◌, ◌<◌, ◌⊎◌, ℕ, List, [], ◌∷◌, length, Some, sym, ap, subst, arith, inl, inr, true≢false, All, Line, Exact, Event, IsCovered}
 use Rattle.mg_safety.proofs.Words.{OffHook, IsScript, IsEntryOf, Agent, null_row, Entry, MayBegin, ListItem, silent, NoneBroken, Script, is_empty, World}
 use Rattle.mg_safety.proofs.Words.{Opened, IsOpening, IsReleased, not_both, the_some}
 use Rattle.mg_model.specs.World.{Runs}
+use Rattle.mg_safety.proofs.Invariant.Sound.{Listed}
 use Rattle.mg_safety.proofs.InvariantWords.{IsCurrent, IsLost, IsSound}
 use Rattle.mg_safety.specs.Beginnings.{EndedCallsMayBegin, LostCallsMayNotBegin, LinesAreIdle}
 use Rattle.mg_safety.proofs.Certificate.Closed.{closed}
@@ -13,12 +14,12 @@ use Rattle.mg_safety.proofs.GoodWorlds.Good.{sound_good}
 
 pub reached : (script : Script) (entries : List Entry) → IsScript script → All (IsEntryOf script) entries → NoneBroken script entries
     → (calls : List Opened) (events : List Event) (opening end : World) → IsOpening script calls opening → Runs script events opening end
-    → IsSound script entries end
+    → IsSound script (IsCovered entries) end
 reached script entries is_script listed none_broken calls events opening end opens runs =
     let closes = closed script entries is_script listed none_broken in
-    runs_sound script entries is_script closes events opening end (openings_sound script entries is_script closes calls opening opens) runs
+    runs_sound script (IsCovered entries) is_script closes events opening end (openings_sound script (IsCovered entries) is_script closes calls opening opens) runs
 
-module _ (script : Script) (entries : List Entry) (w : World) (sound : IsSound script entries w) (call : ℕ) (a : Agent) (there : w.agent call ≡ Some a) where
+module _ (script : Script) (Among : Listed) (w : World) (sound : IsSound script Among w) (call : ℕ) (a : Agent) (there : w.agent call ≡ Some a) where
   -- a line that the call holds is one of its own
   own_line : (l : ℕ) → w.gateway.holder l ≡ Some call → (i : ℕ) × (i < length script.lines) × (a.lines i ≡ l)
   own_line l held =
@@ -37,7 +38,7 @@ module _ (script : Script) (entries : List Entry) (w : World) (sound : IsSound s
   may_not : a.association < w.gateway.association → 0 < length script.lines → MayBegin w.gateway call → ⊥
   may_not older within may = by_part (sound.calls call a there).part
     where
-      by_part : IsCurrent script entries w.gateway a ⊎ IsLost script w.gateway a → ⊥
+      by_part : IsCurrent script Among w.gateway a ⊎ IsLost script w.gateway a → ⊥
       by_part (inl current) = let now = current.association in omega (arith, older, now)
       by_part (inr lost) =
           let armed : (w.gateway.line (a.lines 0)).list ≡ OffHook Exact ∷ [] = may.list (a.lines 0) ((sound.calls call a there).held 0 within) in
@@ -46,9 +47,9 @@ module _ (script : Script) (entries : List Entry) (w : World) (sound : IsSound s
 pub ended_may_begin : EndedCallsMayBegin
 ended_may_begin script entries is_script listed none_broken calls events opening end opens runs call a there ended idle =
     let sound = reached script entries is_script listed none_broken calls events opening end opens runs in
-    let good = sound_good script entries is_script (closed script entries is_script listed none_broken) end sound in
-    may_begin script entries end sound call a there (good.ended call a there ended) idle
+    let good = sound_good script (IsCovered entries) is_script (closed script entries is_script listed none_broken) end sound in
+    may_begin script (IsCovered entries) end sound call a there (good.ended call a there ended) idle
 
 pub lost_may_not_begin : LostCallsMayNotBegin
 lost_may_not_begin script entries is_script listed none_broken calls events opening end opens runs call a there older within may =
-    may_not script entries end (reached script entries is_script listed none_broken calls events opening end opens runs) call a there older within may
+    may_not script (IsCovered entries) end (reached script entries is_script listed none_broken calls events opening end opens runs) call a there older within may

@@ -1,5 +1,6 @@
 -- Sound worlds are good: a path between two lines is one of a configuration of the certificate, which marks joined lines, and what a
 -- configuration of an ended call says is read back on the gateway.
+use Rattle.mg_safety.proofs.Invariant.Sound.{Listed}
 use Rattle.mg_safety.proofs.Words.{◌≡◌, ◌∙◌, ℕ, true, false, List, [], ◌∷◌, length, Option, Some, None, is_some, refl, sym, ap, subst, arith, true≢false, ◌<◌}
 use Rattle.mg_safety.proofs.Words.{◌⊎◌, inl, inr, map, not, ◌&&◌, ◌||◌, IsTrue, eq-eqb, false_from_ne_true, TermId, Line, Eph, Exact, Termination, Row}
 use Rattle.mg_safety.proofs.Words.{EventItem, Agent, list_item, exists, place_in, Configuration, is_present, Entry, OffHook, silent, Script, state_of, items_of}
@@ -49,7 +50,7 @@ armed_is : (script : Script) (items : List (EventItem ℕ)) → IsTrue (is_armed
 armed_is script (item.OffHook Exact ∷ []) e = refl
 armed_is script items e = absurd (false_not_true e)
 
-module _ (script : Script) (entries : List Entry) (closed : IsClosed script entries) (w : World) (sound : IsSound script entries w) where
+module _ (script : Script) (Among : Listed) (closed : IsClosed script Among) (w : World) (sound : IsSound script Among w) where
   -- ---- joined lines
 
   -- a path between two lines is one between lines of a call, in a configuration that stands
@@ -62,7 +63,7 @@ module _ (script : Script) (entries : List Entry) (closed : IsClosed script entr
     there : w.agent call ≡ Some agent
     first : (i < length script.lines) × (agent.lines i ≡ l)
     second : (j < length script.lines) × (agent.lines j ≡ m)
-    stands : Stands script entries c
+    stands : Stands script Among c
     state : c.state ≡ agent.state
     now : agent.association ≡ w.gateway.association
     path : paths.HasPath c i j
@@ -80,6 +81,41 @@ module _ (script : Script) (entries : List Entry) (closed : IsClosed script entr
       created_only (is_call (w.gateway.creator i) call) (w.gateway.board.used_ephemeral i) ∙ ap (λ (o : Option ℕ). is_call o call) other.2
       ∙ eq-eqb other.0 call (sym same))) out back
 
+  -- a path from a line of a call leads to another line of it, and is one in the configuration that shows the call
+  record IsPathTo (a : Agent) (c : Configuration) (i m : ℕ) : Type 0 where
+    j : ℕ
+    within : j < length script.lines
+    line_is : a.lines j ≡ m
+    path : paths.HasPath c i j
+
+  path_to : (a : Agent) (current : IsCurrent script Among w.gateway a) (i m : ℕ) → i < length script.lines → media.HasPath w.gateway.board (a.lines i) m
+      → IsPathTo a current.c i m
+  path_to a current i m within path =
+      let same = same_lines script w.gateway a current.e current.c.link current.at in
+      let start : IsNamed script (naming current.e) (termination.Line i) (Line (record { 0 = a.lines i })) =
+      record { slot = within; is = ap (λ (lines : ℕ → ℕ). Some (Line (record { 0 = lines i }))) same } in
+      let found = path_shown script (owned_in w.gateway a.call) (naming current.e) w.gateway.board current.c current.shown (no_stranger a.call) (termination.Line i)
+      (Line (record { 0 = a.lines i })) (Line (record { 0 = m })) path.crossings start path.goes in
+      let last = line_of script (naming current.e) found.to m found.named in
+      let own : a.lines last.i ≡ m = ap (λ (lines : ℕ → ℕ). lines last.i) (sym same) ∙ last.line_is in
+      record {
+        j = last.i;
+        within = last.within;
+        line_is = own;
+        path = record {
+          another = λ e. path.another (ap a.lines e ∙ own);
+          crossings = found.crossings;
+          goes = subst (λ v. IsTrue (paths.goes_over current.c (termination.Line i) found.crossings v)) last.slot_is found.path;
+        };
+      }
+
+  -- between two lines of it
+  pub path_between : (call : ℕ) (a : Agent) → w.agent call ≡ Some a → (current : IsCurrent script Among w.gateway a) (i j : ℕ) → i < length script.lines
+      → j < length script.lines → media.HasPath w.gateway.board (a.lines i) (a.lines j) → paths.HasPath current.c i j
+  path_between call a there current i j first second path =
+      let found = path_to a current i (a.lines j) first path in
+      subst (λ (k : ℕ). paths.HasPath current.c i k) ((sound.calls call a there).once found.j j found.within second found.line_is) found.path
+
   path_of : (l m : ℕ) → media.HasPath w.gateway.board l m → IsPathOf l m
   path_of l m path = held_by (w.gateway.holder l) refl
     where
@@ -87,31 +123,22 @@ module _ (script : Script) (entries : List Entry) (closed : IsClosed script entr
       outside = path_starts_outside w.gateway.board (Line (record { 0 = l })) (Line (record { 0 = m })) path.crossings path.goes
 
       by_part : (call : ℕ) (a : Agent) (i : ℕ) → w.agent call ≡ Some a → i < length script.lines → a.lines i ≡ l
-          → IsCurrent script entries w.gateway a ⊎ IsLost script w.gateway a → IsPathOf l m
+          → IsCurrent script Among w.gateway a ⊎ IsLost script w.gateway a → IsPathOf l m
       by_part call a i there within is (inl current) =
-          let same = same_lines script w.gateway a current.e current.c.link current.at in
-          let start : IsNamed script (naming current.e) (termination.Line i) (Line (record { 0 = l })) =
-          record { slot = within; is = ap (λ (n : ℕ). Some (Line (record { 0 = n }))) (ap (λ (lines : ℕ → ℕ). lines i) same ∙ is) } in
-          let found = path_shown script (owned_in w.gateway a.call) (naming current.e) w.gateway.board current.c current.shown (no_stranger a.call)
-          (termination.Line i) (Line (record { 0 = l })) (Line (record { 0 = m })) path.crossings start path.goes in
-          let last = line_of script (naming current.e) found.to m found.named in
+          let found = path_to a current i m within (subst (λ (n : ℕ). media.HasPath w.gateway.board n m) (sym is) path) in
           record {
             call = call;
             agent = a;
             i = i;
-            j = last.i;
+            j = found.j;
             c = current.c;
             there = there;
             first = (within, is);
-            second = (last.within, ap (λ (lines : ℕ → ℕ). lines last.i) (sym same) ∙ last.line_is);
+            second = (found.within, found.line_is);
             stands = current.stands;
             state = current.state;
             now = current.association;
-            path = record {
-              another = λ e. path.another (sym is ∙ ap a.lines e ∙ ap (λ (lines : ℕ → ℕ). lines last.i) (sym same) ∙ last.line_is);
-              crossings = found.crossings;
-              goes = subst (λ v. IsTrue (paths.goes_over current.c (termination.Line i) found.crossings v)) last.slot_is found.path;
-            };
+            path = found.path;
           }
       by_part call a i there within is (inr lost) = absurd (outside (ap (λ n. place_in (row_at n)) (sym is) ∙ ap place_in (lost.rows i within)))
 
@@ -153,7 +180,7 @@ module _ (script : Script) (entries : List Entry) (closed : IsClosed script entr
 
   -- ---- calls that have ended
 
-  module _ (call : ℕ) (a : Agent) (numbered : a.call ≡ call) (current : IsCurrent script entries w.gateway a)
+  module _ (call : ℕ) (a : Agent) (numbered : a.call ≡ call) (current : IsCurrent script Among w.gateway a)
       (cleared : obligations.IsCleared script current.c) where
     abbrev names : Naming
     names = naming current.e
@@ -198,7 +225,7 @@ module _ (script : Script) (entries : List Entry) (closed : IsClosed script entr
   ended : (call : ℕ) (a : Agent) → w.agent call ≡ Some a → HasEnded script w a → IsReleased script w call a
   ended call a there has_ended = by_part (sound.calls call a there).part
     where
-      by_part : IsCurrent script entries w.gateway a ⊎ IsLost script w.gateway a → IsReleased script w call a
+      by_part : IsCurrent script Among w.gateway a ⊎ IsLost script w.gateway a → IsReleased script w call a
       by_part (inl current) =
           let rests = at_rest script w.gateway a current.e current.c.link has_ended.at_rest current.at in
           call_released call a (sound.calls call a there).numbered current
@@ -209,4 +236,4 @@ module _ (script : Script) (entries : List Entry) (closed : IsClosed script entr
           absurd (omega (arith, before, now))
 
 pub sound_good : SoundIsGood
-sound_good script entries is_script closed w sound = record { joined = joined script entries closed w sound; ended = ended script entries closed w sound }
+sound_good script Among is_script closed w sound = record { joined = joined script Among closed w sound; ended = ended script Among closed w sound }

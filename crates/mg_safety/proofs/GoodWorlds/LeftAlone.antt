@@ -1,8 +1,9 @@
 -- What an event of one call leaves alone: it changes rows and cuts by a request alone, and that changes what its call owns.
-use Rattle.mg_safety.proofs.Words.{◌≡◌, ◌∙◌, ℕ, Bool, true, false, List, Option, inl, inr, refl, sym, ap, eq-eqb, TermId, Line, Eph, CallEvent, ChosenRefusal}
+use Rattle.mg_safety.proofs.Words.{◌≡◌, ◌∙◌, ℕ, Bool, true, false, List, Option, inl, inr, refl, sym, ap, eq-eqb, TermId, Line, Eph, CallEvent, ChosenRefusal, IsCovered}
 use Rattle.mg_safety.proofs.Words.{Row, IsScript, Agent, Board, Entry, Gateway, after_request, Request, Script, World, AgentSteps, Executes, IsFirst}
 use Rattle.mg_safety.proofs.Words.{IsRequestOf, OccursTo}
 use Rattle.mg_model.specs.declared.events.CallEvent.TheVariants as to_call
+use Rattle.mg_safety.proofs.Invariant.Sound.{Listed}
 use Rattle.mg_safety.proofs.InvariantWords.{owned_at, IsSound, is_call, owned_in, owner_of, IsClosed, IsOwnChange}
 use Rattle.mg_safety.specs.Others.{IsLeftAlone, IsOwnedBy, OthersAreKept, OthersAreLeftAlone}
 use Rattle.mg_safety.proofs.Certificate.Closed.{closed}
@@ -29,8 +30,8 @@ untouched w after call same = record { row = λ t its. ap (λ (b : Board). b.row
 steps_alone : (w after : World) (call other : ℕ) (step : Agent → Option Agent) → AgentSteps w call step after → IsLeftAlone w after other
 steps_alone w after call other step s = untouched w after other (ap (λ (v : World). v.gateway.board) s.after_is)
 
-module _ (script : Script) (entries : List Entry) (is_script : IsScript script) (closes : IsClosed script entries) (w after : World)
-    (sound : IsSound script entries w) where
+module _ (script : Script) (Among : Listed) (is_script : IsScript script) (closes : IsClosed script Among) (w after : World)
+    (sound : IsSound script Among w) where
   executed_alone : (call other : ℕ) (number : ℕ) (request : Request) (chosen : Option ChosenRefusal) → IsRequestOf w call number request
       → IsFirst w request chosen after → (call ≡ other → ⊥) → IsLeftAlone w after other
   executed_alone call other number request chosen of_call f differ = record {
@@ -39,8 +40,8 @@ module _ (script : Script) (entries : List Entry) (is_script : IsScript script) 
   }
     where
       own : IsOwnChange w.gateway f.executed.end.board (after_request w.gateway request f.executed.end f.executed.settled f.executed.failure) request.call
-      own = run_changes script entries w request f.executed.end f.executed.settled f.executed.failure sound.floor sound.gateway
-          (has_run (requests_run commands_carry) script entries is_script closes w request chosen f.gateway f.answer f.sent sound of_call.0 f.executed)
+      own = run_changes script Among w request f.executed.end f.executed.settled f.executed.failure sound.floor sound.gateway
+          (has_run (requests_run commands_carry) script Among is_script closes w request chosen f.gateway f.answer f.sent sound of_call.0 f.executed)
           f.executed.is_settled
 
       rows : (t : TermId) → after.gateway.board.row t ≡ (after_request w.gateway request f.executed.end f.executed.settled f.executed.failure).board.row t
@@ -71,7 +72,7 @@ module _ (script : Script) (entries : List Entry) (is_script : IsScript script) 
 
 pub left_alone : OthersAreLeftAlone
 left_alone script entries is_script listed none_broken calls events opening end after opens runs call other happens occurs differ =
-    event_alone script entries is_script (closed script entries is_script listed none_broken) end after
+    event_alone script (IsCovered entries) is_script (closed script entries is_script listed none_broken) end after
     (reached script entries is_script listed none_broken calls events opening end opens runs) call other happens occurs differ
 
 pub others_kept : OthersAreKept

@@ -1,6 +1,6 @@
 -- What holds of every world of a run whose script and certificate have no broken obligation: each call is shown by a configuration of the
 -- certificate, or it is lost; and what a call owns is named by it alone.
-use Rattle.mg_safety.proofs.Words.{◌≡◌, ℕ, ◌<◌, ◌≤◌, ◌==◌, Bool, true, false, List, [], length, Contains, Option, Some, None, ◌⊎◌, Failure, TermId, Line, Eph}
+use Rattle.mg_safety.proofs.Words.{◌≡◌, ℕ, ◌<◌, ◌≤◌, ◌==◌, Bool, true, false, List, [], length, Contains, Option, Some, None, ◌⊎◌, Failure, TermId, Line, Eph, IsWellFormed}
 use Rattle.mg_safety.proofs.Words.{Sent, Answered, Failed, Resting, Row, Agent, awaits_reply, awaits_pass, resting, after_results, built_by, commands_of}
 use Rattle.mg_safety.proofs.Words.{none_made, exists, remote_of, Configuration, Entry, IsCovered, Gateway, last_executed, silent, Request, Reply, SentNote}
 use Rattle.mg_safety.proofs.Words.{Script, World, null_row, IsSlot, Termination, Empty, Unset, Absent, Free, Inactive, is_same}
@@ -19,9 +19,14 @@ pub record IsOfScript (script : Script) (c : Configuration) : Type 0 where
   pub remote : (k : ℕ) → length script.ephemerals ≤ k → c.remote k ≡ Unset
   pub cut : (t u : Termination) → (IsSlot script t × IsSlot script u × (is_same t u ≡ false) → ⊥) → c.cut t u ≡ false
 
-pub record Stands (script : Script) (entries : List Entry) (c : Configuration) : Type 0 where
+-- whatever is said of configurations: that an entry has them, or that calls come to them
+abbrev pub Listed : Type 1
+Listed = Configuration → Type 0
+
+pub record Stands (script : Script) (Among : Listed) (c : Configuration) : Type 0 where
   pub of_script : IsOfScript script c
-  pub covered : IsCovered entries c
+  pub formed : IsWellFormed c
+  pub covered : Among c
 
 -- ---- one call
 
@@ -83,11 +88,11 @@ abbrev pub IsAt : Script → Gateway → Agent → Agent → phases.LinkPhase �
 IsAt script g a e link = IsSent script g a e link ⊎ (IsAnswered script g a e link ⊎ (IsPassing a e link ⊎ IsResting a e link))
 
 -- the call is of the gateway's association, and the gateway shows a configuration of the certificate
-pub record IsCurrent (script : Script) (entries : List Entry) (g : Gateway) (a : Agent) : Type 0 where
+pub record IsCurrent (script : Script) (Among : Listed) (g : Gateway) (a : Agent) : Type 0 where
   pub association : a.association ≡ g.association
   pub c : Configuration
   pub e : Agent
-  pub stands : Stands script entries c
+  pub stands : Stands script Among c
   pub state : c.state ≡ a.state
   pub at : IsAt script g a e c.link
   pub shown : Seen script (owned_in g a.call) (naming e) g.board c
@@ -112,7 +117,7 @@ pub record IsSentBy (g : Gateway) (a : Agent) (request : Request) : Type 0 where
   pub number : request.number < a.next
   pub outstanding : request.association ≡ g.association → (a.phase ≡ awaits_reply request) ⊎ (request.number ≤ last_executed g a.call)
 
-pub record CallIsSound (script : Script) (entries : List Entry) (w : World) (call : ℕ) (a : Agent) : Type 0 where
+pub record CallIsSound (script : Script) (Among : Listed) (w : World) (call : ℕ) (a : Agent) : Type 0 where
   pub numbered : a.call ≡ call
   pub first : 0 < a.next
   pub next : last_executed w.gateway call < a.next
@@ -120,7 +125,7 @@ pub record CallIsSound (script : Script) (entries : List Entry) (w : World) (cal
   pub once : (i j : ℕ) → i < length script.lines → j < length script.lines → a.lines i ≡ a.lines j → i ≡ j
   pub requests : (request : Request) → Contains w.requests request → request.call ≡ call → IsSentBy w.gateway a request
   pub outstanding : (request : Request) → a.phase ≡ awaits_reply request → request.number < a.next
-  pub part : IsCurrent script entries w.gateway a ⊎ IsLost script w.gateway a
+  pub part : IsCurrent script Among w.gateway a ⊎ IsLost script w.gateway a
 
 -- ---- the gateway and the messages
 
@@ -175,8 +180,8 @@ pub record IsAboveFloor (floor : ℕ) (w : World) (call : ℕ) (a : Agent) : Typ
   pub next : floor < a.next
   pub requests : (request : Request) → Contains w.requests request → request.call ≡ call → floor < request.number
 
-pub record IsSound (script : Script) (entries : List Entry) (w : World) : Type 0 where
+pub record IsSound (script : Script) (Among : Listed) (w : World) : Type 0 where
   pub floor : ℕ → ℕ
   pub gateway : GatewayIsSound script floor w
   pub floors : (call : ℕ) (a : Agent) → w.agent call ≡ Some a → IsAboveFloor (floor call) w call a
-  pub calls : (call : ℕ) (a : Agent) → w.agent call ≡ Some a → CallIsSound script entries w call a
+  pub calls : (call : ℕ) (a : Agent) → w.agent call ≡ Some a → CallIsSound script Among w call a

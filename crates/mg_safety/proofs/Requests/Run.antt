@@ -1,5 +1,6 @@
 -- A request runs: by induction over its commands the present configuration is shown and stands in the certificate with the link Failed, and
 -- at the end with the link Answered.
+use Rattle.mg_safety.proofs.Invariant.Sound.{Listed}
 use Rattle.mg_safety.proofs.Words.{◌≡◌, ◌∙◌, ◌+◌, ℕ, Bool, true, false, List, [], ◌∷◌, ◌++◌, length, Option, is_some, refl, sym, ap, subst, true≢false, inl}
 use Rattle.mg_safety.proofs.Words.{inr, length-append, append_assoc, Contains-append_right, All-head, All-tail, Contains, if◌then◌else◌, All, list_all}
 use Rattle.mg_safety.proofs.Words.{ChosenRefusal, Failure, Line, Sent, Answered, Failed, Command, Refuse, Execute, Agent, Made, after_result, after_results}
@@ -29,7 +30,7 @@ abbrev steps_left : Script → Configuration → ℕ → List Command → List S
 steps_left script c place left = refusals script c place left ++ execution (executed script c left)
 
 -- a request of an agent is at a place: what was done, and the commands that are left
-record IsUnderway (script : Script) (entries : List Entry) (g : Gateway) (a : Agent) (number : ℕ) (r : Running)
+record IsUnderway (script : Script) (Among : Listed) (g : Gateway) (a : Agent) (number : ℕ) (r : Running)
     (place : ℕ) (left : List Command) (made : Made) (e : Agent) (c : Configuration) : Type 0 where
   -- the results so far, and the agent as it will be once it has taken them
   count : length r.results ≡ place
@@ -47,18 +48,18 @@ record IsUnderway (script : Script) (entries : List Entry) (g : Gateway) (a : Ag
   unbound : list_all (creates_unbound c) left ≡ true
   -- the certificate
   state : c.state ≡ a.state
-  steps : (step : Step) → Contains (steps_left script c place left) step → Stands script entries step.1
+  steps : (step : Step) → Contains (steps_left script c place left) step → Stands script Among step.1
   -- what changed since the start
   changes : ChangesOwned (owner_of g a.call) g.board r.board
   other_lines : (l : ℕ) → (owner_of g a.call).held l ≡ false → r.line l ≡ g.line l
   own_lines : (l : ℕ) → LineGoes number (g.line l) (r.line l)
   notes : AreNotes (owner_of g a.call).held number r.line r.notes
 
-module _ (script : Script) (is_script : IsScript script) (entries : List Entry) (g : Gateway) (a : Agent) (number : ℕ) where
+module _ (script : Script) (is_script : IsScript script) (Among : Listed) (g : Gateway) (a : Agent) (number : ℕ) where
   -- the request ends at this place
   ended : (r : Running) (place : ℕ) (left : List Command) (made : Made) (e : Agent) (c : Configuration) (link : phases.LinkPhase) (failure : Option Failure)
-      → IsUnderway script entries g a number r place left made e c → Stands script entries (with_link c link) → link ≡ link_of failure
-      → IsRunOf script entries g a number r failure
+      → IsUnderway script Among g a number r place left made e c → Stands script Among (with_link c link) → link ≡ link_of failure
+      → IsRunOf script Among g a number r failure
   ended r place left made e c link failure u stands is =
       let taken : e ≡ after_results a (built_by script a a.state) r.results number =
       sym (ap (λ results. after_results a (built_by script a a.state) results number) (sym (append-nil r.results)) ∙ u.follows [] ∙ no_results e left number) in
@@ -79,11 +80,11 @@ module _ (script : Script) (is_script : IsScript script) (entries : List Entry) 
 
   -- what a command that is next asks
   ready : (r : Running) (place : ℕ) (command : Command) (more : List Command) (made : Made) (e : Agent) (c : Configuration)
-      → IsUnderway script entries g a number r place (command ∷ more) made e c
+      → IsUnderway script Among g a number r place (command ∷ more) made e c
       → IsReady script (owner_of g a.call) (naming e) (naming_at a made r.results) r.board c command
   ready r place command more made e c u = record {
     shown = u.shown;
-    well_formed = formed_with_link c Failed (u.steps (Refuse place, with_link c Failed) (first_in _ _)).covered.1.1.1;
+    well_formed = formed_with_link c Failed (u.steps (Refuse place, with_link c Failed) (first_in _ _)).formed;
     accounted = u.accounted;
     earlier = u.changes.used_ephemeral;
     built = u.built;
@@ -98,7 +99,7 @@ module _ (script : Script) (is_script : IsScript script) (entries : List Entry) 
   steps_on c place command more legal = rw legal refl
 
   module _ (r : Running) (place : ℕ) (command : Command) (more : List Command) (made : Made) (e : Agent) (c : Configuration)
-      (u : IsUnderway script entries g a number r place (command ∷ more) made e c) (board : Board) (done : Done)
+      (u : IsUnderway script Among g a number r place (command ∷ more) made e c) (board : Board) (done : Done)
       (ran : IsExecuted r.board (item_for (naming_at a made r.results) command) board done)
       (carried : IsCarried script (owner_of g a.call) (naming e) (naming_at a made r.results) r.board c command board done) where
     declared_next : IsCommandOf script command
@@ -117,7 +118,7 @@ module _ (script : Script) (is_script : IsScript script) (entries : List Entry) 
         ∙ u.follows (done ∷ later)
 
     -- the request after a command
-    next_underway : IsUnderway script entries g a number
+    next_underway : IsUnderway script Among g a number
         (after_command r (command_of script a made command) (item_for (naming_at a made r.results) command) board done number)
         (place + 1) more (made_after made command place) (after_result e command done number) (effect script c command)
     next_underway = record {
@@ -154,32 +155,32 @@ module _ (script : Script) (is_script : IsScript script) (entries : List Entry) 
   -- a command that was executed
   went : CommandsCarry → (r next : Running) (place : ℕ) (refusal : Option ChosenRefusal) (command : Command) (more : List Command) (made : Made)
       (e : Agent) (c : Configuration)
-      → IsUnderway script entries g a number r place (command ∷ more) made e c → (x : Succeeds r (command_of script a made command) place refusal number next)
-      → IsUnderway script entries g a number next (place + 1) more (made_after made command place) (after_result e command x.done number)
+      → IsUnderway script Among g a number r place (command ∷ more) made e c → (x : Succeeds r (command_of script a made command) place refusal number next)
+      → IsUnderway script Among g a number next (place + 1) more (made_after made command place) (after_result e command x.done number)
       (effect script c command)
   went carry r next place refusal command more made e c u x =
       let m = naming_at a made r.results in
       let same = item_is script a made r.results command in
       let ran : IsExecuted r.board (item_for m command) x.board x.done = subst (λ item. IsExecuted r.board item x.board x.done) same x.executed in
       let carried = carry command script is_script (owner_of g a.call) (naming e) m r.board c x.board x.done (ready r place command more made e c u) ran in
-      subst (λ (then_running : Running). IsUnderway script entries g a number then_running (place + 1) more (made_after made command place)
+      subst (λ (then_running : Running). IsUnderway script Among g a number then_running (place + 1) more (made_after made command place)
       (after_result e command x.done number) (effect script c command))
       (ap (λ item. after_command r (command_of script a made command) item x.board x.done number) (sym same) ∙ sym x.next_is)
       (next_underway r place command more made e c u x.board x.done ran carried)
 
   -- the commands that are left run
   runs_on : CommandsCarry → (refusal : Option ChosenRefusal) (end : Running) (failure : Option Failure) (left : List Command) (r : Running) (place : ℕ)
-      (made : Made) (e : Agent) (c : Configuration) → IsUnderway script entries g a number r place left made e c
-      → RunsFrom number refusal r place (commands_of script a made place left) end failure → IsRunOf script entries g a number end failure
+      (made : Made) (e : Agent) (c : Configuration) → IsUnderway script Among g a number r place left made e c
+      → RunsFrom number refusal r place (commands_of script a made place left) end failure → IsRunOf script Among g a number end failure
   unfolding RunsFrom
   runs_on carry refusal end failure [] r place made e c u runs =
-      subst (λ (last : Running). IsRunOf script entries g a number last failure) (sym runs.0)
+      subst (λ (last : Running). IsRunOf script Among g a number last failure) (sym runs.0)
       (ended r place [] made e c Answered failure u (u.steps (Execute, with_link c Answered) (first_in _ [])) (ap link_of (sym runs.1)))
   runs_on carry refusal end failure (command ∷ more) r place made e c u (inl (next, executes, rest)) =
       runs_on carry refusal end failure more next (place + 1) (made_after made command place) (after_result e command executes.done number)
       (effect script c command) (went carry r next place refusal command more made e c u executes) rest
   runs_on carry refusal end failure (command ∷ more) r place made e c u (inr (code, fails, last, is)) =
-      subst (λ (last : Running). IsRunOf script entries g a number last failure) (sym last)
+      subst (λ (last : Running). IsRunOf script Among g a number last failure) (sym last)
       (ended r place (command ∷ more) made e c Failed failure u (u.steps (Refuse place, with_link c Failed) (first_in _ _)) (ap link_of (sym is)))
 
 -- ---- the start
@@ -194,12 +195,12 @@ steps_sent script c link commands sent unbound is =
         ≡ steps_left script c 0 (built (bound_names c) (state_of script c.state).commands)
     chosen test e = rw e refl
 
-underway_at_start : (script : Script) → IsScript script → (entries : List Entry) → IsClosed script entries → (g : Gateway) (a : Agent) (c : Configuration)
-    → Stands script entries c → c.link ≡ Sent → c.state ≡ a.state → Seen script (owned_in g a.call) (naming a) g.board c
+underway_at_start : (script : Script) → IsScript script → (Among : Listed) → IsClosed script Among → (g : Gateway) (a : Agent) (c : Configuration)
+    → Stands script Among c → c.link ≡ Sent → c.state ≡ a.state → Seen script (owned_in g a.call) (naming a) g.board c
     → LinesShown script a g.line c → IsAccounted g.board → (number : ℕ)
-    → IsUnderway script entries g a number (start_of g) 0 (built_by script a a.state) none_made a c
-underway_at_start script is entries closed g a c stands sent state seen lines_shown accounted number =
-    let shown = shown_at_start script (owned_in g a.call) (naming a) g.board c seen stands.covered.1.1.1 stands.of_script accounted
+    → IsUnderway script Among g a number (start_of g) 0 (built_by script a a.state) none_made a c
+underway_at_start script is Among closed g a c stands sent state seen lines_shown accounted number =
+    let shown = shown_at_start script (owned_in g a.call) (naming a) g.board c seen stands.formed stands.of_script accounted
     (closed.live c stands (inl sent)) in
     let names = bound_agree script (owned_in g a.call) a g.board c seen stands.of_script in
     let commands = (state_of script a.state).commands in
@@ -238,6 +239,6 @@ underway_at_start script is entries closed g a c stands sent state seen lines_sh
 
 -- a request that was built runs
 pub requests_run : CommandsCarry → RequestsRun
-requests_run carry script entries is closed g a c stands sent state seen lines_shown accounted number refusal end failure runs =
-    runs_on script is entries g a number carry refusal end failure (built_by script a a.state) (start_of g) 0 none_made a c
-    (underway_at_start script is entries closed g a c stands sent state seen lines_shown accounted number) runs
+requests_run carry script Among is closed g a c stands sent state seen lines_shown accounted number refusal end failure runs =
+    runs_on script is Among g a number carry refusal end failure (built_by script a a.state) (start_of g) 0 none_made a c
+    (underway_at_start script is Among closed g a c stands sent state seen lines_shown accounted number) runs
