@@ -54,6 +54,18 @@ there [] i x is = absurd (none-some x is)
 there (y ∷ xs) zero x is = subst (Contains (y ∷ xs)) (same_Some y x is) (first_in y xs)
 there (y ∷ xs) (suc i) x is = later_in y xs x (there xs i x is)
 
+-- one more that ended its epochs after as many restarts
+pub ends_more : (cs : List ShardCount) (c : ShardCount) (ends : List ℕ) → ((d : ShardCount) → Contains cs d → d.ends.items ≡ ends) → c.ends.items ≡ ends
+    → (d : ShardCount) → Contains (cs ++ c ∷ []) d → d.ends.items ≡ ends
+ends_more [] c ends before last d among = elim (first_or_later c [] d among) [
+  | inl same ↦ subst (λ (x : ShardCount). x.ends.items ≡ ends) same last
+  | inr later ↦ absurd (none_in d later)
+]
+ends_more (one ∷ cs) c ends before last d among = elim (first_or_later one (cs ++ c ∷ []) d among) [
+  | inl same ↦ subst (λ (x : ShardCount). x.ends.items ≡ ends) same (before one (first_in one cs))
+  | inr later ↦ ends_more cs c ends (λ x there_too. before x (later_in one cs x there_too)) last d later
+]
+
 -- each has as many counts as the plan has calls, and they are as many as the shards
 pub all_places : (script : Script) (calls : List PlanCall) (count from : ℕ) (vs : List ShardValue) (cs : List ShardCount) → AreCounted script calls count from vs cs
     → All (λ (c : ShardCount). length c.places.items ≡ length calls) cs

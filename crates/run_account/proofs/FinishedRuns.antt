@@ -24,13 +24,17 @@ use Rattle.run_shards.specs.RunShards.{AreOfRun, IsOfRun}
 use Rattle.run_account.specs.FinalState.{HaveLines, IsLeftAmong}
 use Rattle.run_shards.specs.Parts.{ArePartsFrom, IsPart, numbers_in, opened_calls}
 use Rattle.run_shards.specs.ReportLines.{IsReportOf}
+use Rattle.run_account.specs.TakenAll.{EndTogether, HaveTakenAll, ends_of_first}
 use Rattle.run_account.specs.Runs.{IsOutcome, IsRunOf, OutcomeValue, is_within, within}
 use Rattle.run_shards.specs.Line.{Line}
+use Rattle.run_shards.specs.Counting.{AreCounted}
+use Rattle.run_shards.specs.declared.shard_count.ShardCount.{ShardCount}
 use Rattle.run_account.proofs.AgreedTrails.{trails_agree}
 use Rattle.run_account.proofs.ApartParts.{part_numbered, shards_apart}
 use Rattle.run_account.proofs.FinishedShards.{all_histories, all_shards, shard_of, shards_from}
 use Rattle.run_account.proofs.FinalRuns.{line_left}
 use Rattle.run_account.proofs.Passed.{not_past, passed_among}
+use Rattle.run_account.proofs.PlayedShards.{all_played, by_logs, restarts_planned}
 use Rattle.run_shards.proofs.PartCalls.{all_in_parts, parts_in_all}
 
 -- ---- one more shard
@@ -151,13 +155,14 @@ module _ (script : Script) (plan : Plan) (restarts : ℕ) (few : length plan.cal
       (passed_among (is_within number) v.history event among (eq-eqb number number refl)) in
       told number (omega (arith, not_past v.trails number event here, calls)) call happens here
 
-  pub is_run : MergesAreRuns → (vs : List ShardValue) (v : OutcomeValue) → IsPlanFor script plan → length vs ≡ plan.shards
-      → AreOfRun script plan.calls plan.shards 0 vs → (all : AreFinished restarts vs) → Agree plan.shards (map (λ w. w.history) vs) v.trails
+  pub is_run : MergesAreRuns → (vs : List ShardValue) (cs : List ShardCount) (v : OutcomeValue) → IsPlanFor script plan → length vs ≡ plan.shards
+      → AreOfRun script plan.calls plan.shards 0 vs → AreFinished restarts vs → AreCounted script plan.calls plan.shards 0 vs cs → HaveTakenAll plan 0 cs → EndTogether cs → Agree plan.shards (map (λ w. w.history) vs) v.trails
       → v.history ≡ merged (map cut_at_restarts (map (λ w. w.history) vs)) restarts → length v.trails ≡ length plan.calls
       → IsOutcome v.history v.trails → IsReportOf script plan v.lines
       → ((l : Line) → Contains v.lines l → IsLeftAmong script plan.shards vs v.trails l)
       → ((number : ℕ) → number < length plan.calls → HaveLines (slice_index_or v.trails number []) v.lines) → IsRunOf script plan v
-  is_run law vs v is sized kept all agree merges calls outcome report left told =
+  is_run law vs cs v is sized kept finished counting taken together agree merges calls outcome report left told =
+      let all : AreFinished restarts vs = by_logs script plan restarts few 0 vs cs finished kept counting taken in
       let shards = shards_from plan.shards restarts 0 vs all in
       let counted : length shards ≡ plan.shards = all_shards plan.shards restarts 0 vs all ∙ sized in
       let some : 0 < plan.shards = omega (arith, is.some_shard) in
@@ -176,7 +181,10 @@ module _ (script : Script) (plan : Plan) (restarts : ℕ) (few : length plan.cal
         all_shards = counted;
         parts = parts;
         restarts = restarts;
+        planned = restarts_planned script plan restarts few vs cs (omega (arith, some, sized)) finished kept counting taken;
         each = went;
+        ends = ends_of_first cs;
+        played = all_played script plan restarts few 0 vs cs finished kept counting taken (ends_of_first cs) together;
         merges = whole;
         start = run.start;
         end = run.end;

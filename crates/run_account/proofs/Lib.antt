@@ -15,5 +15,6 @@ pub mod MergedParts
 pub mod MergedPlaces
 pub mod OtherLine
 pub mod Passed
+pub mod PlayedShards
 pub mod SameEvents
 pub mod StandingWords

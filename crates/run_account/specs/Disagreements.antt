@@ -15,7 +15,7 @@ use Rattle.run_account.specs.CallReport.{AreCountedLines, number_standing}
 use Rattle.run_account.specs.Comparing.{Differ, trails_of}
 use Rattle.run_account.specs.Finishing.{HasUnfinished}
 use Rattle.run_account.specs.OtherLines.{AreLeftOtherwise}
-use Rattle.run_account.specs.TakenAll.{HasOneLeft}
+use Rattle.run_account.specs.TakenAll.{HasOneLeft, HasOtherEnds}
 
 -- ---- a call
 
@@ -67,6 +67,8 @@ pub data Disagreement (script : Script) (plan : Plan) (shards : List ShardValue)
   restarts_uncounted : last_count < restarts_of_all plan.calls → Disagreement script plan shards counts planned_calls
   -- the steps that are counted in one aren't all of the plan's
   one_left : HasOneLeft plan counts → Disagreement script plan shards counts planned_calls
+  -- an epoch ended in one shard after more or fewer restarts than in the first
+  other_ends : HasOtherEnds counts → Disagreement script plan shards counts planned_calls
   -- the histories aren't what the calls went through
   differ : Differ plan.shards (map (λ (v : ShardValue). v.history) shards) (trails_of planned_calls) → Disagreement script plan shards counts planned_calls
   not_told : (number : ℕ) → number < length plan.calls → IsNotTold script plan shards counts planned_calls number

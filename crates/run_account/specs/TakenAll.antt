@@ -1,6 +1,6 @@
 -- Whether the steps that are counted in a shard are all of the plan's. A reader should check that none of them is left: no call of the shard has one left in this
 -- epoch, no epoch comes after it, and each restart that some call asks for is counted. This profile's own.
-use Rattle.std.specs.Prelude.{◌≡◌, ℕ, ◌+◌, max, true, false, List, [], ◌∷◌, Some, slice_get}
+use Rattle.std.specs.Prelude.{◌≡◌, ℕ, ◌+◌, max, true, false, List, [], ◌∷◌, Contains, Some, slice_get}
 use Rattle.mg_model.specs.Plans.{Plan, epochs_of, restarts_of_all}
 use Rattle.run_shards.specs.Counting.{AreAtEnd, HasStepsLeft}
 use Rattle.run_shards.specs.declared.shard_count.ShardCount.{ShardCount}
@@ -17,6 +17,21 @@ pub record HasTakenAll (plan : Plan) (number : ℕ) (c : ShardCount) : Type 0 wh
 abbrev pub HaveTakenAll : Plan → (number : ℕ) → List ShardCount → Type 0
 HaveTakenAll plan number [] = Unit {0}
 HaveTakenAll plan number (c ∷ more) = HasTakenAll plan number c × HaveTakenAll plan (number + 1) more
+
+-- ---- the ends of epochs
+
+-- how many restarts calls had asked for at the end of each epoch, in the first shard
+abbrev pub ends_of_first : List ShardCount → List ℕ
+ends_of_first [] = []
+ends_of_first (c ∷ more) = c.ends.items
+
+-- as many in each: so epochs end at the same restart in all shards
+abbrev pub EndTogether : List ShardCount → Type 0
+EndTogether cs = (c : ShardCount) → Contains cs c → c.ends.items ≡ ends_of_first cs
+
+-- one had asked for more or fewer
+abbrev pub HasOtherEnds : List ShardCount → Type 0
+HasOtherEnds cs = (c : ShardCount) × Contains cs c × (c.ends.items ≡ ends_of_first cs → ⊥)
 
 -- ---- where some are left
 

@@ -15,7 +15,7 @@ use crate::compare::{self, agree};
 use crate::merge::merge;
 use crate::outcome::Outcome;
 use crate::report::{Source, report};
-use crate::taken_all::have_taken_all;
+use crate::taken_all::{end_together, have_taken_all};
 use composition::Checked;
 use mg_merge::laws;
 use mg_model::events::Event;
@@ -93,7 +93,8 @@ pub struct CountedShards<'a, 's> {
 }
 
 /// What a run of a plan on so many workers came to: `Disagree` where the shards weren't restarted equally often, where the steps that are counted in one aren't all
-/// of the plan's, or where they have another history than the calls went through, and `NoMemory` where memory ran out.
+/// of the plan's, where an epoch ended in one after other restarts, or where they have another history than the calls went through, and `NoMemory` where memory
+/// ran out.
 pub fn finish<'a, 's, R: Threads + Sync>(
     rt: &R,
     alloc: Global,
@@ -124,6 +125,9 @@ pub fn finish<'a, 's, R: Threads + Sync>(
         return Err(RunFault::Disagree);
     };
     if !have_taken_all(counts, &totals) {
+        return Err(RunFault::Disagree);
+    }
+    if !end_together(counts) {
         return Err(RunFault::Disagree);
     }
     let count = u32::from(plan.shards());

@@ -1,9 +1,10 @@
-//! Whether the steps that are counted in the shards are all of the plan's: none of a call is left, in no epoch, and each restart is counted.
+//! Whether the steps that are counted in the shards are all of the plan's: none of a call is left, in no epoch, and each restart is counted. And whether all shards
+//! ended each epoch after as many restarts.
 ghost use Rattle.std.specs.Prelude.{◌≡◌, ◌+◌, ◌<◌, ◌≤◌, false, IsTrue, length, max};
 ghost use Rattle.std.specs.List.{All};
 ghost use Rattle.mg_model.specs.Numbers.{plan_calls};
 ghost use Rattle.mg_model.specs.Plans.{epochs_of};
-ghost use Rattle.run_account.specs.TakenAll.{HasNotTakenAll, HasOneLeft, HasTakenAll, HaveTakenAll};
+ghost use Rattle.run_account.specs.TakenAll.{EndTogether, HasNotTakenAll, HasOneLeft, HasOtherEnds, HasTakenAll, HaveTakenAll, ends_of_first};
 
 use run_shards::{PlanTotals, ShardCount};
 
@@ -51,6 +52,38 @@ pub(crate) fn have_taken_all(counts: &[ShardCount], totals: &PlanTotals<'_>) -> 
             return false;
         }
         number += 1;
+    }
+    true
+}
+
+/// How many restarts calls had asked for at the end of each epoch, in the first shard.
+fn first_ends(counts: &[ShardCount]) -> &[usize]
+    ensures { result.now ≡ ends_of_first counts.now }
+{
+    match counts.first() {
+        Some(count) => count.ends.as_slice(),
+        None => &[],
+    }
+}
+
+/// Whether in a shard they had asked for as many.
+fn ends_as(count: &ShardCount, ends: &[usize]) -> bool
+    ensures yes { IsTrue result → count.now.ends.items ≡ ends.now }
+    ensures no { result ≡ false → count.now.ends.items ≡ ends.now → ⊥ }
+{
+    count.ends.as_slice() == ends
+}
+
+/// Whether in each shard every epoch ended after as many restarts as in the first.
+pub(crate) fn end_together(counts: &[ShardCount]) -> bool
+    ensures yes { IsTrue result → EndTogether counts.now }
+    ensures no { result ≡ false → HasOtherEnds counts.now }
+{
+    let ends = first_ends(counts);
+    for count in counts {
+        if !ends_as(count, ends) {
+            return false;
+        }
     }
     true
 }

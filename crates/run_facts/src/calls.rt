@@ -132,7 +132,7 @@ fn write_untold(
     out.push_str("}")
 }
 
-/// The lines of the report of a run whose steps aren't what its marks and its history have, which no right run meets. The only error is running out of
+/// The lines of the report of a run whose steps aren't what its marks and its history have, which no test has met. The only error is running out of
 /// memory.
 pub(crate) fn lines_alone(alloc: Global, ran: &Ran<'_, '_>) -> Result<String, AllocError> {
     let mut out = String::new(alloc);

@@ -1,8 +1,9 @@
 -- What is counted of a shard is what a log counts: of one in which nothing happened, and after a step, a restart or the end of an epoch.
-use Rattle.std.proofs.Common.{◌≡◌, ◌∙◌, ◌+◌, ◌≤◌, ◌++◌, ◌⊎◌, inl, inr, ℕ, suc, Bool, true, false, List, [], ◌∷◌, length, map, Option, Some, None, refl, sym, ap, subst, arith}
+use Rattle.std.proofs.Common.{◌≡◌, ◌∙◌, ◌+◌, ◌≤◌, ◌++◌, ◌⊎◌, inl, inr, ℕ, zero, suc, Bool, true, false, List, [], ◌∷◌, length, map, Option, Some, None, refl, sym, ap, subst, arith}
 use Rattle.std.specs.Prelude.{◌%◌, ◌==◌, if◌then◌else◌, slice_get, slice_index_or}
 use Rattle.std.proofs.lemmas.Bool.{eqb-true, eqb-false, eq-eqb}
 use Rattle.std.proofs.lemmas.List.{append-nil}
+use Rattle.identifiers.specs.Class.{is_of_class}
 use Rattle.mg_model.specs.declared.events.Event.{Event}
 use Rattle.mg_model.specs.declared.events.Event.TheVariants.{Restart}
 use Rattle.mg_model.specs.declared.plans.PlanStep.{PlanStep}
@@ -22,9 +23,10 @@ use Rattle.planned_calls.specs.Taking.{happened}
 use Rattle.planned_calls.specs.declared.call_count.CallCount.{CallCount}
 use Rattle.planned_calls.specs.declared.planned_call.TakenStep.{TakenStep}
 use Rattle.run_shards.proofs.CountedPlaces.{all_at}
-use Rattle.run_shards.proofs.LogLemmas.{counted_more, epochs_more, restarts_more, runs_more, steps_more}
-use Rattle.run_shards.proofs.StepLemmas.{steps_advance, steps_ended}
-use Rattle.run_shards.specs.Counting.{AreNoneCounted, AsksForRestart, IsAskedOf, IsCounted, IsLogged, IsNextCount, RaisesOne, TakesEnd, TakesRestart, TakesStep, all_restarts_logged, epochs_logged, place_of, steps_so_far}
+use Rattle.run_shards.proofs.EpochSteps.{call_advances, end_taken, entry_taken}
+use Rattle.run_shards.proofs.LogLemmas.{counted_more, ends_more, epochs_more, events_more, restarts_more, runs_more, steps_more}
+use Rattle.run_shards.proofs.StepLemmas.{at_call, steps_advance, steps_ended}
+use Rattle.run_shards.specs.Counting.{AreNoneCounted, AsksForRestart, IsAskedOf, IsCounted, IsLogged, IsNextCount, RaisesOne, TakesEnd, TakesRestart, TakesStep, all_restarts_logged, ends_logged, epochs_logged, events_logged, place_of, steps_so_far, steps_taken, taken_so_far}
 use Rattle.run_shards.specs.PlanSteps.{step_at}
 use Rattle.run_shards.specs.declared.shard_count.ShardCount.{ShardCount}
 
@@ -53,51 +55,60 @@ still_of_run script calls count number v w same is = record {
 }
 
 -- where nothing happened the run is where it started
-not_begun : (script : Script) (history : List Event) (start end : World) → history ≡ [] → Runs script history start end → end ≡ start
-unfolding Runs
-not_begun script history start end none runs = subst (λ (events : List Event). Runs script events start end) none runs
+nothing_logged : (script other : Script) (history : List Event) (start end : World) → history ≡ [] → Runs other history start end → LogRuns script [] start end
+unfolding LogRuns Runs
+nothing_logged script other history start end none runs = subst (λ (events : List Event). Runs other events start end) none runs
 
-nothing_logged : (script : Script) (w : World) → LogRuns script [] w w
-unfolding LogRuns
-nothing_logged script w = refl
+nothing_taken : (epochs : List (List PlanStep)) (place epoch at : ℕ) → place ≡ 0 → epoch ≡ 0 → [] ≡ taken_so_far epoch place epochs at
+unfolding taken_so_far
+nothing_taken epochs place epoch at no_place no_epoch =
+    at_first at ∙ sym (ap (λ (n : ℕ). taken_so_far n place epochs at) no_epoch ∙ ap (λ (n : ℕ). taken_so_far 0 n epochs at) no_place)
+  where
+    at_first : (k : ℕ) → [] ≡ taken_so_far 0 0 epochs k
+    at_first zero = refl
+    at_first (suc k) = refl
 
 no_steps : (epochs : List (List PlanStep)) (place epoch : ℕ) → place ≡ 0 → epoch ≡ 0 → [] ≡ steps_so_far epoch place epochs
 unfolding steps_so_far
 no_steps epochs place epoch no_place no_epoch =
     sym (ap (λ (n : ℕ). steps_so_far n place epochs) no_epoch ∙ ap (λ (n : ℕ). steps_so_far 0 n epochs) no_place)
 
-opens_now : (script : Script) (calls : List PlanCall) (count number : ℕ) (v : ShardValue) (is : IsShard v) → v.history ≡ [] → IsOfRun script calls count number v
-    → IsOpening script (opened_in count number 0 calls) is.world
-opens_now script calls count number v is none of_run =
-    subst (λ (w : World). IsOpening script (opened_in count number 0 calls) w) (sym (not_begun v.script v.history is.is_world.start is.world none is.is_world.runs))
-    (subst (λ (s : Script). IsOpening s (opened_in count number 0 calls) is.is_world.start) of_run.of_script
-    (subst (λ (os : List Opened). IsOpening v.script os is.is_world.start) of_run.of_calls is.is_world.opens))
-
 -- nothing is counted at first
 pub new_counted : (v : ShardValue) (c : ShardCount) → IsShard v → v.history ≡ [] → AreNoneCounted c.counts.items
-    → ((first : ℕ) → place_of c first ≡ 0) → c.epoch ≡ 0 → c.restarts ≡ 0
+    → ((first : ℕ) → place_of c first ≡ 0) → c.epoch ≡ 0 → c.restarts ≡ 0 → c.ends.items ≡ []
     → (script : Script) (calls : List PlanCall) (count number : ℕ) → length c.counts.items ≡ length calls → length c.places.items ≡ length calls
     → IsOfRun script calls count number v → IsCounted script calls count number v c
-new_counted v c is none no_counts no_places epoch restarts script calls count number all_counts all_places of_run = record {
+new_counted v c is none no_counts no_places epoch restarts ends script calls count number all_counts all_places of_run = record {
   all_counts = all_counts;
   all_places = all_places;
   logged = λ whole. record {
     log = [];
-    start = is.world;
+    start = is.is_world.start;
     end = is.world;
-    opens = opens_now script calls count number v is none of_run;
+    opens = subst (λ (s : Script). IsOpening s (opened_in count number 0 calls) is.is_world.start) of_run.of_script
+        (subst (λ (os : List Opened). IsOpening v.script os is.is_world.start) of_run.of_calls is.is_world.opens);
+    class = is.is_world.class ∙ ap (λ (n : ℕ). is_of_class n v.stride) of_run.of_number ∙ ap (λ (n : ℕ). is_of_class number n) of_run.of_count;
     shown = is.is_world;
-    runs = λ few. nothing_logged script is.world;
+    events = none;
+    runs = λ few. nothing_logged script v.script v.history is.is_world.start is.world none is.is_world.runs;
     epochs = sym epoch;
     restarts = sym restarts;
+    ends = sym ends;
     counts = λ first k at. sym (all_at (λ (j : CallCount). (s : Script) → counts_of s j ≡ none_counted) c.counts.items first k no_counts at script);
     steps = λ first call at own. no_steps call.epochs (place_of c first) c.epoch (no_places first) epoch;
+    taken = λ first call is own at. nothing_taken call.epochs (place_of c first) c.epoch at (no_places first) epoch;
   };
 }
 
 -- ---- one entry more
 
 module _ (script : Script) (calls : List PlanCall) (count number : ℕ) (v : ShardValue) (of_script : v.script ≡ script) (c : ShardCount) (w : ShardValue) (d : ShardCount) where
+  -- an entry that ends no epoch
+  no_end_on : (l : IsLogged script calls count number v c) (entry : LogEntry) → d.ends.items ≡ c.ends.items
+      → ends_logged (0 + all_restarts_logged l.log) (entry ∷ []) ≡ [] → ends_logged 0 (l.log ++ entry ∷ []) ≡ d.ends.items
+  no_end_on l entry same none =
+      ends_more 0 l.log entry ∙ ap (λ (ends : List ℕ). ends_logged 0 l.log ++ ends) none ∙ append-nil (ends_logged 0 l.log) ∙ l.ends ∙ sym same
+
   -- what was counted stays counted for another call, and goes on for this one
   module _ (l : IsLogged script calls count number v c) (entry : LogEntry) (after : World) (shown : IsWorldOf w after) where
     abbrev longer : List LogEntry
@@ -107,6 +118,11 @@ module _ (script : Script) (calls : List PlanCall) (count number : ℕ) (v : Sha
         → (executes_in v.history ≤ most_executes → LogRuns script (entry ∷ []) l.end after)
         → executes_in w.history ≤ most_executes → LogRuns script longer l.start after
     runs_on few last so_few = runs_more script l.log entry l.start l.end after (l.runs (few so_few)) (last (few so_few))
+
+    pub events_on : (events : List Event) → w.history ≡ v.history ++ events → events_logged (entry ∷ []) ≡ events → w.history ≡ events_logged longer
+    events_on events is here =
+        is ∙ ap (λ (es : List Event). es ++ events) l.events ∙ ap (λ (es : List Event). events_logged l.log ++ es) (sym here)
+        ∙ sym (events_more l.log entry)
 
   -- ---- a step
 
@@ -163,19 +179,42 @@ module _ (script : Script) (calls : List PlanCall) (count number : ℕ) (v : Sha
             append-nil so_far
             ∙ ap (λ (n : ℕ). steps_so_far c.epoch n call.epochs) (sym (x.places.others first (λ same. eqb-false x.first first e (sym same))))
 
+    taken_on : (first : ℕ) (call : PlanCall) → slice_get calls first ≡ Some call → first % count ≡ number
+        → (at : ℕ) → steps_taken first (l.log ++ entry ∷ []) at ≡ taken_so_far d.epoch (place_of d first) call.epochs at
+    taken_on first call is own at =
+        entry_taken first c.epoch (place_of c first) (place_of d first) call.epochs l.log entry l.epochs (l.taken first call is own)
+        (by_test (x.first == first) refl) at
+        ∙ ap (λ (n : ℕ). taken_so_far n (place_of d first) call.epochs at) (sym x.epoch)
+      where
+        so_far : ℕ → List PlanStep
+        so_far place = taken_so_far c.epoch place call.epochs c.epoch
+
+        by_test : (test : Bool) → (x.first == first) ≡ test → so_far (place_of d first) ≡ so_far (place_of c first) ++ (if test then step ∷ [] else [])
+        by_test true e =
+            let same : x.first ≡ first = eqb-true x.first first e in
+            ap so_far (subst (λ (n : ℕ). place_of d n ≡ place_of c n + 1) same x.places.raised)
+            ∙ call_advances calls first c.epoch (place_of c first) call step is
+            (subst (λ (n : ℕ). step_at calls n c.epoch (place_of c n) ≡ Some step) same x.next)
+        by_test false e =
+            ap so_far (x.places.others first (λ same. eqb-false x.first first e (sym same))) ∙ sym (append-nil (so_far (place_of c first)))
+
     pub step_logged : IsLogged script calls count number w d
     step_logged = record {
       log = l.log ++ entry ∷ [];
       start = l.start;
       end = led.0;
       opens = l.opens;
+      class = l.class;
       shown = led.1.1;
+      events = events_on l entry led.0 led.1.1 (happened x.told.event) x.taken.history (append-nil (happened x.told.event));
       runs = runs_on l entry led.0 led.1.1 (few_before v w (happened x.told.event) x.taken.history) last_runs;
       epochs = epochs_more l.log entry ∙ (let same : epochs_logged l.log + 0 ≡ epochs_logged l.log = omega arith in same) ∙ l.epochs ∙ sym x.epoch;
       restarts = restarts_more l.log entry ∙ (let same : all_restarts_logged l.log + 0 ≡ all_restarts_logged l.log = omega arith in same) ∙ l.restarts
           ∙ sym x.restarts;
+      ends = no_end_on l entry x.ends refl;
       counts = count_on;
       steps = steps_on;
+      taken = taken_on;
     }
 
   -- ---- restarts
@@ -229,6 +268,32 @@ module _ (script : Script) (calls : List PlanCall) (count number : ℕ) (v : Sha
         by_own false is asked false e =
             append-nil so_far ∙ ap (λ (places : List ℕ). steps_so_far c.epoch (slice_index_or places first 0) call.epochs) (sym asked)
 
+    restart_taken : (first : ℕ) (call : PlanCall) → slice_get calls first ≡ Some call → first % count ≡ number
+        → (at : ℕ) → steps_taken first (l.log ++ restart_entry ∷ []) at ≡ taken_so_far d.epoch (place_of d first) call.epochs at
+    restart_taken first call at own epoch =
+        entry_taken first c.epoch (place_of c first) (place_of d first) call.epochs l.log restart_entry l.epochs (l.taken first call at own)
+        (by_own is_own refl x.asks.asked (by == first) refl) epoch
+        ∙ ap (λ (n : ℕ). taken_so_far n (place_of d first) call.epochs epoch) (sym x.asks.epoch)
+      where
+        so_far : ℕ → List PlanStep
+        so_far place = taken_so_far c.epoch place call.epochs c.epoch
+
+        advanced : by ≡ first → step_at calls by c.epoch (place_of c by) ≡ Some Restarts → place_of d by ≡ place_of c by + 1
+            → so_far (place_of d first) ≡ so_far (place_of c first) ++ Restarts ∷ []
+        advanced same next raised =
+            ap so_far (subst (λ (n : ℕ). place_of d n ≡ place_of c n + 1) same raised)
+            ∙ call_advances calls first c.epoch (place_of c first) call Restarts at
+            (subst (λ (n : ℕ). step_at calls n c.epoch (place_of c n) ≡ Some Restarts) same next)
+
+        by_own : (test : Bool) → is_own ≡ test → IsAskedOf calls by test c d → (mine : Bool) → (by == first) ≡ mine
+            → so_far (place_of d first) ≡ so_far (place_of c first) ++ (if mine then Restarts ∷ [] else [])
+        by_own true is asked true e = advanced (eqb-true by first e) asked.0 asked.1.raised
+        by_own true is asked false e =
+            ap so_far (asked.1.others first (λ same. eqb-false by first e (sym same))) ∙ sym (append-nil (so_far (place_of c first)))
+        by_own false is asked true e = absurd (told is (ap (λ (n : ℕ). n % count) (eqb-true by first e) ∙ own))
+        by_own false is asked false e =
+            ap (λ (places : List ℕ). so_far (slice_index_or places first 0)) asked ∙ sym (append-nil (so_far (place_of c first)))
+
     pub restart_logged : IsLogged script calls count number w d
     unfolding restart_led led_on
     restart_logged = record {
@@ -236,13 +301,17 @@ module _ (script : Script) (calls : List PlanCall) (count number : ℕ) (v : Sha
       start = l.start;
       end = restart_led.0;
       opens = l.opens;
+      class = l.class;
       shown = restart_led.1.1;
+      events = events_on l restart_entry restart_led.0 restart_led.1.1 (Restart ∷ []) x.happened.history refl;
       runs = runs_on l restart_entry restart_led.0 restart_led.1.1 (few_before v w (Restart ∷ []) x.happened.history) (asked_runs x.happened x.left l by);
       epochs = epochs_more l.log restart_entry ∙ (let same : epochs_logged l.log + 0 ≡ epochs_logged l.log = omega arith in same) ∙ l.epochs ∙ sym x.asks.epoch;
       restarts = restarts_more l.log restart_entry ∙ ap (λ (n : ℕ). n + 1) l.restarts ∙ sym x.asks.restarts;
+      ends = no_end_on l restart_entry x.asks.ends refl;
       counts = λ first k at. counted_more script first l.log restart_entry none_counted
           ∙ l.counts first k (subst (λ (counts : List CallCount). slice_get counts first ≡ Some k) same at);
       steps = restart_steps;
+      taken = restart_taken;
     }
 
   module _ (x : TakesEnd calls count number v c w d) (same : d.counts.items ≡ c.counts.items) (l : IsLogged script calls count number v c) where
@@ -256,11 +325,15 @@ module _ (script : Script) (calls : List PlanCall) (count number : ℕ) (v : Sha
       start = l.start;
       end = end_led.0;
       opens = l.opens;
+      class = l.class;
       shown = end_led.1.1;
+      events = events_on l epoch_ended end_led.0 end_led.1.1 (Restart ∷ []) x.happened.history refl;
       runs = runs_on l epoch_ended end_led.0 end_led.1.1 (few_before v w (Restart ∷ []) x.happened.history) (ended_runs x.happened x.left l);
       epochs = epochs_more l.log epoch_ended ∙ ap (λ (n : ℕ). n + 1) l.epochs ∙ sym x.epoch;
       restarts = restarts_more l.log epoch_ended ∙ (let same : all_restarts_logged l.log + 0 ≡ all_restarts_logged l.log = omega arith in same) ∙ l.restarts
           ∙ sym x.restarts;
+      ends = ends_more 0 l.log epoch_ended ∙ ap (λ (n : ℕ). ends_logged 0 l.log ++ n ∷ []) (let same : 0 + all_restarts_logged l.log ≡ all_restarts_logged l.log = omega arith in same ∙ l.restarts)
+          ∙ ap (λ (ends : List ℕ). ends ++ c.restarts ∷ []) l.ends ∙ sym x.ends;
       counts = λ first k at. counted_more script first l.log epoch_ended none_counted
           ∙ l.counts first k (subst (λ (counts : List CallCount). slice_get counts first ≡ Some k) same at);
       steps = λ first call at own. steps_more first l.log epoch_ended
@@ -268,4 +341,9 @@ module _ (script : Script) (calls : List PlanCall) (count number : ℕ) (v : Sha
           ∙ sym (steps_ended calls first c.epoch (place_of c first) call at (x.ended first own))
           ∙ ap (λ (n : ℕ). steps_so_far (c.epoch + 1) n call.epochs) (sym (x.places first))
           ∙ ap (λ (n : ℕ). steps_so_far n (place_of d first) call.epochs) (sym x.epoch);
+      taken = λ first call at own epoch.
+          end_taken first c.epoch (place_of c first) call.epochs l.log l.epochs (l.taken first call at own)
+          (at_call calls first c.epoch (place_of c first) call at ∙ x.ended first own) epoch
+          ∙ ap (λ (n : ℕ). taken_so_far n 0 call.epochs epoch) (let on : suc c.epoch ≡ c.epoch + 1 = omega arith in on ∙ sym x.epoch)
+          ∙ ap (λ (n : ℕ). taken_so_far d.epoch n call.epochs epoch) (sym (x.places first));
     }

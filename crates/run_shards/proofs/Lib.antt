@@ -1,6 +1,7 @@
 pub mod CountedLists
 pub mod CountedLogs
 pub mod CountedPlaces
+pub mod EpochSteps
 pub mod LogLemmas
 pub mod StepLemmas
 pub mod TakenCounts

@@ -14,7 +14,7 @@ use Rattle.run_shards.specs.PlanSteps.{step_at, step_in_epoch, step_of_call}
 
 -- ---- one epoch
 
-take_more : (steps : List PlanStep) (place : ℕ) (step : PlanStep) → slice_get steps place ≡ Some step → take (place + 1) steps ≡ take place steps ++ step ∷ []
+pub take_more : (steps : List PlanStep) (place : ℕ) (step : PlanStep) → slice_get steps place ≡ Some step → take (place + 1) steps ≡ take place steps ++ step ∷ []
 take_more steps place step there =
     let on : place + 1 ≡ suc place = omega arith in
     ap (λ (n : ℕ). take n steps) on
@@ -26,17 +26,17 @@ nothing_left [] place none = omega arith
 nothing_left (step ∷ more) zero none = absurd (none-some step (sym none))
 nothing_left (step ∷ more) (suc place) none = let later = nothing_left more place none in omega (arith, later)
 
-take_whole : (epochs : List (List PlanStep)) (place : ℕ) → step_in_epoch (slice_get epochs 0) place ≡ None → take place (steps_first epochs) ≡ steps_first epochs
+pub take_whole : (epochs : List (List PlanStep)) (place : ℕ) → step_in_epoch (slice_get epochs 0) place ≡ None → take place (steps_first epochs) ≡ steps_first epochs
 take_whole [] place none = take_all place [] (omega arith)
 take_whole (steps ∷ more) place none = take_all place steps (nothing_left steps place none)
 
 -- ---- epoch by epoch
 
 -- what a call's epochs hold at a place
-abbrev in_epochs : (epochs : List (List PlanStep)) (epoch place : ℕ) → Option PlanStep
+abbrev pub in_epochs : (epochs : List (List PlanStep)) (epoch place : ℕ) → Option PlanStep
 in_epochs epochs epoch place = step_in_epoch (slice_get epochs epoch) place
 
-later_epochs : (epochs : List (List PlanStep)) (epoch place : ℕ) → in_epochs (steps_later epochs) epoch place ≡ in_epochs epochs (suc epoch) place
+pub later_epochs : (epochs : List (List PlanStep)) (epoch place : ℕ) → in_epochs (steps_later epochs) epoch place ≡ in_epochs epochs (suc epoch) place
 later_epochs [] epoch place = refl
 later_epochs (steps ∷ more) epoch place = refl
 
@@ -67,7 +67,7 @@ epochs_all (suc epoch) place epochs none = ap (λ (rest : List PlanStep). steps_
 
 -- ---- a call of the plan
 
-at_call : (calls : List PlanCall) (first epoch place : ℕ) (call : PlanCall) → slice_get calls first ≡ Some call
+pub at_call : (calls : List PlanCall) (first epoch place : ℕ) (call : PlanCall) → slice_get calls first ≡ Some call
     → in_epochs call.epochs epoch place ≡ step_at calls first epoch place
 at_call calls first epoch place call is = ap (λ (o : Option PlanCall). step_of_call o epoch place) (sym is)
 

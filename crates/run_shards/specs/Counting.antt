@@ -1,7 +1,9 @@
 -- What a shard of a run counts of its calls, step after step. A reader should check that the steps that were taken in it make a log, by the plan's steps in their
 -- order, and that what is counted of a call is what the log counts. This profile's own.
-use Rattle.std.specs.Prelude.{◌≡◌, ℕ, zero, suc, ◌+◌, ◌≤◌, ◌%◌, ◌==◌, Bool, true, false, List, [], ◌∷◌, ◌++◌, length, take, Option, Some, None, slice_get, slice_index_or}
+use Rattle.std.specs.Prelude.{◌≡◌, ℕ, zero, suc, ◌+◌, ◌≤◌, ◌%◌, ◌==◌, if◌then◌else◌, Bool, true, false, List, [], ◌∷◌, ◌++◌, length, take, Option, Some, None, slice_get, slice_index_or}
 use Rattle.std.specs.List.{All}
+use Rattle.identifiers.specs.Class.{is_of_class}
+use Rattle.mg_model.specs.declared.events.Event.{Event}
 use Rattle.mg_model.specs.declared.events.Event.TheVariants.{Restart}
 use Rattle.mg_model.specs.declared.plans.PlanStep.{PlanStep}
 use Rattle.mg_model.specs.declared.plans.PlanStep.TheVariants.{Restarts}
@@ -15,7 +17,7 @@ use Rattle.planned_calls.specs.Shards.{HasHappened, IsWorldOf, ShardValue}
 use Rattle.planned_calls.specs.Counts.{counts_of}
 use Rattle.planned_calls.specs.Parts.{opened_in}
 use Rattle.planned_calls.specs.RunShards.{IsOfRun}
-use Rattle.planned_calls.specs.Taking.{IsTaken}
+use Rattle.planned_calls.specs.Taking.{IsTaken, happened}
 use Rattle.planned_calls.specs.declared.call_count.CallCount.{CallCount}
 use Rattle.planned_calls.specs.declared.planned_call.TakenStep.{TakenStep}
 use Rattle.run_shards.specs.PlanSteps.{step_at}
@@ -46,23 +48,62 @@ all_restarts_logged (took first step state told ∷ more) = all_restarts_logged 
 all_restarts_logged (epoch_ended ∷ more) = all_restarts_logged more
 all_restarts_logged (restarted by ∷ more) = suc (all_restarts_logged more)
 
+-- ---- what a log says of a history and of a plan
+
+-- the events of a log, in their order: those of steps that weren't idle, and the restarts
+abbrev pub events_logged : List LogEntry → List Event
+events_logged [] = []
+events_logged (took first step state told ∷ more) = happened told ++ events_logged more
+events_logged (epoch_ended ∷ more) = Restart ∷ events_logged more
+events_logged (restarted by ∷ more) = Restart ∷ events_logged more
+
+-- how many restarts calls had asked for at each end of an epoch, where they had asked for so many before
+abbrev pub ends_logged : (asked : ℕ) → List LogEntry → List ℕ
+ends_logged asked [] = []
+ends_logged asked (took first step state told ∷ more) = ends_logged asked more
+ends_logged asked (epoch_ended ∷ more) = asked ∷ ends_logged asked more
+ends_logged asked (restarted by ∷ more) = ends_logged (suc asked) more
+
+-- the steps that a call took in an epoch of all calls, from 0, the restarts that it asked for among them
+abbrev pub steps_taken : (first : ℕ) → List LogEntry → (epoch : ℕ) → List PlanStep
+steps_taken first [] epoch = []
+steps_taken first (took other step state told ∷ more) zero = if other == first then step ∷ steps_taken first more zero else steps_taken first more zero
+steps_taken first (epoch_ended ∷ more) zero = []
+steps_taken first (restarted by ∷ more) zero = if by == first then Restarts ∷ steps_taken first more zero else steps_taken first more zero
+steps_taken first (took other step state told ∷ more) (suc epoch) = steps_taken first more (suc epoch)
+steps_taken first (epoch_ended ∷ more) (suc epoch) = steps_taken first more epoch
+steps_taken first (restarted by ∷ more) (suc epoch) = steps_taken first more (suc epoch)
+
+-- the steps of the plan's epoch at a place that a call has taken, in this epoch up to a place: all of those before it, and none of those behind it
+unfoldable pub taken_so_far : (epoch place : ℕ) → List (List PlanStep) → (at : ℕ) → List PlanStep
+taken_so_far zero place epochs zero = take place (steps_first epochs)
+taken_so_far zero place epochs (suc at) = []
+taken_so_far (suc epoch) place epochs zero = steps_first epochs
+taken_so_far (suc epoch) place epochs (suc at) = taken_so_far epoch place (steps_later epochs) at
+
 -- ---- a shard
 
--- a log of what happened in a shard, from an opening of its calls to a world that it shows, by which it counts
+-- a log of what happened in a shard, from an opening of its calls to a world that it shows, by which it counts. Its history is what the log has of events
 pub record IsLogged (script : Script) (calls : List PlanCall) (count number : ℕ) (v : ShardValue) (c : ShardCount) : Type 0 where
   pub log : List LogEntry
   pub start : World
   pub end : World
   pub opens : IsOpening script (opened_in count number 0 calls) start
+  pub class : start.gateway.board.class ≡ is_of_class number count
   pub shown : IsWorldOf v end
+  pub events : v.history ≡ events_logged log
   -- where it executed no more than a plan may, identifiers were left before each step
   pub runs : executes_in v.history ≤ most_executes → LogRuns script log start end
   pub epochs : epochs_logged log ≡ c.epoch
   pub restarts : all_restarts_logged log ≡ c.restarts
+  pub ends : ends_logged 0 log ≡ c.ends.items
   pub counts : (first : ℕ) (k : CallCount) → slice_get c.counts.items first ≡ Some k → counted script first log none_counted ≡ counts_of script k
   -- each of its calls took the plan's steps
   pub steps : (first : ℕ) (call : PlanCall) → slice_get calls first ≡ Some call → first % count ≡ number
       → steps_logged first log ≡ steps_so_far c.epoch (place_of c first) call.epochs
+  -- and each in the plan's epoch
+  pub taken : (first : ℕ) (call : PlanCall) → slice_get calls first ≡ Some call → first % count ≡ number
+      → (at : ℕ) → steps_taken first log at ≡ taken_so_far c.epoch (place_of c first) call.epochs at
 
 -- each call of the plan is counted, and where each step of the shard went well there is a log
 pub record IsCounted (script : Script) (calls : List PlanCall) (count number : ℕ) (v : ShardValue) (c : ShardCount) : Type 0 where
@@ -129,6 +170,7 @@ pub record TakesStep (calls : List PlanCall) (v : ShardValue) (c : ShardCount) (
   pub places : RaisesOne first c.places.items d.places.items
   pub epoch : d.epoch ≡ c.epoch
   pub restarts : d.restarts ≡ c.restarts
+  pub ends : d.ends.items ≡ c.ends.items
 
 -- whatever run the shard is of, one of so many with this number, it is counted still
 abbrev pub StaysCountedAs : List PlanCall → (count number : ℕ) → ShardValue → ShardCount → ShardValue → ShardCount → Type 0
@@ -145,6 +187,7 @@ IsAskedOf calls first false c d = d.places.items ≡ c.places.items
 pub record AsksForRestart (calls : List PlanCall) (first : ℕ) (is_own : Bool) (c d : ShardCount) : Type 0 where
   pub epoch : d.epoch ≡ c.epoch
   pub restarts : d.restarts ≡ c.restarts + 1
+  pub ends : d.ends.items ≡ c.ends.items
   pub asked : IsAskedOf calls first is_own c d
 
 -- the shard restarts, for a step of this call
@@ -163,6 +206,7 @@ pub record TakesEnd (calls : List PlanCall) (count number : ℕ) (v : ShardValue
   pub ended : AreAtEnd calls count number c
   pub epoch : d.epoch ≡ c.epoch + 1
   pub restarts : d.restarts ≡ c.restarts
+  pub ends : d.ends.items ≡ c.ends.items ++ c.restarts ∷ []
   pub places : (first : ℕ) → place_of d first ≡ 0
   pub left : IdentifiersAreLeft v
   pub happened : HasHappened v w Restart

@@ -1,6 +1,8 @@
 //! A shard under its lock, with what is counted of its calls: all that is known of it, once the lock is let go, is that it is one of this run, and counted.
-ghost use Rattle.std.specs.Prelude.{◌≡◌, ◌%◌, ◌<◌, [], false, length};
+ghost use Rattle.std.specs.Prelude.{◌≡◌, ◌%◌, ◌==◌, ◌<◌, [], OnOk, length};
+ghost use Rattle.mg_model.specs.declared.events.Event.TheVariants.{Restart};
 ghost use Rattle.planned_calls.specs.RunShards.{IsOfRun};
+ghost use Rattle.planned_calls.specs.Shards.{HasHappened};
 ghost use Rattle.run_shards.specs.Counting.{IsCounted};
 
 use crate::run_plan::RunPlan;
@@ -36,7 +38,7 @@ impl<'s, B: Running> Model for LockedShard<'s, B> {
 /// Whether a call of the plan is one of a shard, one of so many.
 fn is_own(by: u32, count: u32, number: u32) -> bool
     requires { 0 < count }
-    ensures { result ≡ false → by % count ≡ number → ⊥ }
+    ensures { result ≡ (by % count == number) }
 {
     by % count == number
 }
@@ -92,7 +94,9 @@ impl<'s, B: Running> LockedShard<'s, B> {
 
     /// The gateway restarts (H.248.1 v1, 7.2.8: ServiceChange of method Restart), for a step of a call of the plan, of this shard or of another one. The error is
     /// that of `Shard::restart`, and `Disagree` comes too where it isn't the next step of a call of this shard.
-    pub fn restart(&mut self, plan: &RunPlan<'_, B>, by: u32) -> Result<(), RunFault> {
+    pub fn restart(&mut self, plan: &RunPlan<'_, B>, by: u32) -> Result<(), RunFault>
+        ensures { OnOk result (HasHappened self.old self.new Restart) }
+    {
         self.shard.keeps_its_run();
         let plan = plan.plan();
         let is_own = is_own(by, u32::from(plan.shards()), self.number);
@@ -100,7 +104,9 @@ impl<'s, B: Running> LockedShard<'s, B> {
     }
 
     /// An epoch of all calls ends, and the gateway restarts. `Disagree` where a call of the shard has a step of it left.
-    pub fn end_epoch(&mut self, alloc: Global, plan: &RunPlan<'_, B>) -> Result<(), RunFault> {
+    pub fn end_epoch(&mut self, alloc: Global, plan: &RunPlan<'_, B>) -> Result<(), RunFault>
+        ensures { OnOk result (HasHappened self.old self.new Restart) }
+    {
         self.shard.keeps_its_run();
         let plan = plan.plan();
         let count = u32::from(plan.shards());

@@ -57,6 +57,7 @@ impl ShardCount {
         ensures counts { self.new.counts ≡ self.old.counts }
         ensures places { length self.new.places.items ≡ length self.old.places.items }
         ensures whole { self.new.is_whole ≡ self.old.is_whole }
+        ensures happened { OnOk result (HasHappened shard.old shard.new Restart) }
         ensures taken { OnOk result (length self.old.places.items ≡ length plan.now.calls → TakesRestart plan.now.calls first is_own shard.old self.old shard.new self.new) }
     {
         self.count_restart(plan, first, is_own)?;
@@ -72,7 +73,8 @@ impl ShardCount {
         first: u32,
         is_own: bool,
     ) -> Result<(), RunFault>
-        ensures { StaysCountedBy plan.now.calls first is_own shard.old self.old shard.new self.new }
+        ensures happened { OnOk result (HasHappened shard.old shard.new Restart) }
+        ensures counted { StaysCountedBy plan.now.calls first is_own shard.old self.old shard.new self.new }
     {
         match self.take_restart(plan, shard, first, is_own) {
             Ok(()) => Ok(()),
@@ -99,6 +101,7 @@ impl ShardCount {
         ensures counts { self.new.counts ≡ self.old.counts }
         ensures places { length self.new.places.items ≡ length self.old.places.items }
         ensures whole { self.new.is_whole ≡ self.old.is_whole }
+        ensures happened { OnOk result (HasHappened shard.old shard.new Restart) }
         ensures taken { OnOk result (TakesEnd plan.now.calls count number shard.old self.old shard.new self.new) }
     {
         if !self.is_at_end(plan, count, number) {
@@ -108,6 +111,7 @@ impl ShardCount {
             return Err(RunFault::Disagree);
         };
         let places = Vec::from_elem(alloc, 0usize, self.places.len())?;
+        self.ends.push(self.restarts)?;
         restart(shard)?;
         self.epoch = epoch;
         self.places = places;
@@ -127,7 +131,8 @@ impl ShardCount {
         requires few { length plan.now.calls ≤ plan_calls }
         requires all { length self.old.places.items ≡ length plan.now.calls }
         requires some { 0 < count }
-        ensures { StaysCountedAs plan.now.calls count number shard.old self.old shard.new self.new }
+        ensures happened { OnOk result (HasHappened shard.old shard.new Restart) }
+        ensures counted { StaysCountedAs plan.now.calls count number shard.old self.old shard.new self.new }
     {
         match self.take_end(alloc, plan, shard, count, number) {
             Ok(()) => Ok(()),

@@ -21,6 +21,8 @@ pub struct ShardCount {
     pub epoch: usize,
     /// How many of the steps were restarts.
     pub restarts: usize,
+    /// How many of them there had been as each epoch ended that is over.
+    pub ends: Vec<usize>,
     /// Whether no step met trouble.
     pub is_whole: bool,
 }
@@ -84,6 +86,7 @@ impl ShardCount {
             places: Vec::from_elem(alloc, 0usize, calls)?,
             epoch: 0,
             restarts: 0,
+            ends: Vec::new(alloc),
             is_whole: true,
         })
     }
@@ -156,6 +159,7 @@ impl ShardCount {
         ensures whole { self.new.is_whole ≡ self.old.is_whole }
         ensures epoch { self.new.epoch ≡ self.old.epoch }
         ensures restarts { self.new.restarts ≡ self.old.restarts }
+        ensures ends { self.new.ends ≡ self.old.ends }
         ensures counted { OnOk result (CountsOne step.now told.now first self.old.counts.items self.new.counts.items) }
         ensures raised { OnOk result (RaisesOne first self.old.places.items self.new.places.items) }
     {

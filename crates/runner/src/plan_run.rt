@@ -43,10 +43,11 @@ fn go<'s, G: Gate, R: Threads + Wait + Sync>(
 }
 
 /// Runs a plan of calls of a checked script, which was read with that script, on 1 to 64 workers, over as many gateways as the plan has shards. Calls pass
-/// from worker to worker, each does a few steps of one at a time, and the gate lets each step pass. `BadWorkers` for another number of workers, then `TooManyCalls` for more
-/// than 10,000 calls; `Disagree` where what the shards keep isn't what the calls went through, which no right run meets, and `NoMemory` where memory ran
-/// out. Where no call of the plan has `restart` steps of other calls, its report is the only one that the calls can have, on any number of workers and in any
-/// number of shards. This profile's own.
+/// from worker to worker, each does a few steps of one at a time, and the gate lets each step pass. What comes out is a run of the plan: in each shard each call
+/// took the plan's steps, epoch by epoch, and a step is idle where no event that it means could happen. `BadWorkers` for another number of workers, then
+/// `TooManyCalls` for more than 10,000 calls; `Disagree` where what the shards keep isn't what the calls went through, which no test has met, and `NoMemory`
+/// where memory ran out. Where no call of the plan has `restart` steps of other calls, its report is the only one that the calls can have, on any number of
+/// workers and in any number of shards. This profile's own.
 pub fn run<'s, G: Gate, R: Threads + Wait + Sync>(
     rt: &R,
     alloc: Global,

@@ -12,7 +12,7 @@ use Rattle.mg_model.specs.Script.{Script}
 use Rattle.run_shards.specs.Shards.{ShardValue}
 use Rattle.run_account.specs.Comparing.{Agree, Differ, trails_of}
 use Rattle.run_shards.specs.Taking.{trail_of}
-use Rattle.run_account.specs.Disagreements.{Disagreement, HasNotTold, differ, not_told, one_left, other_count, unfinished}
+use Rattle.run_account.specs.Disagreements.{Disagreement, HasNotTold, differ, not_told, one_left, other_count, other_ends, unfinished}
 use Rattle.run_account.specs.Finishing.{AreFinished, HasUnfinished}
 use Rattle.run_account.specs.CallReport.{HavePlayed}
 use Rattle.run_account.specs.TakenAll.{HasOneLeft, HaveTakenAll}
@@ -121,9 +121,12 @@ returns-clause-run g c =
     λ l among. subst (λ (p : Plan). IsLeftAmong table p.shards shards (trails_of planned_calls) l) totals
     (subst (λ (cs : List PlannedCall). IsLeftAmong table c.in-Some.totals.shards shards (trails_of cs) l) c.as_slice-3.ensures.value
     (c.in_ok-report.ensures.left l among)) in
-    is_run c.args.run.checked.now.table plan restarts c.requires.few c.merges_are_runs.ensures shards
-    (record { history = c.in_ok-history.history.items; trails = trails_of planned_calls; lines = c.in_ok-report.report.items }) c.requires.plan sized c.requires.kept all agree merges calls
-    outcome reported left told
+    let taken : HaveTakenAll plan 0 c.args.played.counts.now =
+    subst (λ (p : Plan). HaveTakenAll p 0 c.args.played.counts.now) totals (c.if-not-have_taken_all.ensures.yes (search rules)) in
+    is_run c.args.run.checked.now.table plan restarts c.requires.few c.merges_are_runs.ensures shards c.args.played.counts.now
+    (record { history = c.in_ok-history.history.items; trails = trails_of planned_calls; lines = c.in_ok-report.report.items }) c.requires.plan sized c.requires.kept all c.requires.counted taken
+    (c.if-not-end_together.ensures.yes (search rules))
+    agree merges calls outcome reported left told
 
 -- ---- where they disagree
 
@@ -144,6 +147,9 @@ returns-then-not-agreed-clause-disagreement g c =
 pub returns-then-not-have_taken_all-clause-disagreement : goal.returns-then-not-have_taken_all-clause-disagreement
 returns-then-not-have_taken_all-clause-disagreement g c =
     one_left (subst (λ (p : Plan). HasOneLeft p c.args.played.counts.now) c.in-Some.ensures.totals (c.if-not-have_taken_all.ensures.no (search rules)))
+
+pub returns-then-not-end_together-clause-disagreement : goal.returns-then-not-end_together-clause-disagreement
+returns-then-not-end_together-clause-disagreement g c = other_ends (c.if-not-end_together.ensures.no (search rules))
 
 pub returns-in_err-report-clause-disagreement : goal.returns-in_err-report-clause-disagreement
 returns-in_err-report-clause-disagreement g c =

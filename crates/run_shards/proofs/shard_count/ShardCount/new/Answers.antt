@@ -9,6 +9,6 @@ pub returns : goal.returns
 returns c = λ script calls count number all of_run.
     let places = c.in_ok-from_elem.ensures.items_if_clones_equal (λ y same. same) in
     new_counted c.args.shard.now _ c.keeps_its_run.ensures c.requires c.in_ok-none_counted.ensures.none
-    (λ first. ap (λ (ps : List ℕ). slice_index_or ps first 0) places ∙ none_yet c.args.calls first) refl refl script calls count number
+    (λ first. ap (λ (ps : List ℕ). slice_index_or ps first 0) places ∙ none_yet c.args.calls first) refl refl c.new.ensures.items script calls count number
     (c.in_ok-none_counted.ensures.all ∙ sym all)
     (ap (λ (ps : List ℕ). length ps) places ∙ zeros c.args.calls ∙ sym all) of_run

@@ -3,8 +3,8 @@ use Rattle.std.proofs.Common.{◌≡◌, ◌∙◌, length, ap, sym}
 use Rattle.run_shards.proofs.CountedLogs.{restart_logged, still_of_run}
 use Rattle.run_shards.proofs.shard_count.ShardCount.restart.Goals as goal
 
-pub returns-in-Ok : goal.returns-in-Ok
-returns-in-Ok c = λ count number told script of_run counted. (
+pub returns-in-Ok-clause-counted : goal.returns-in-Ok-clause-counted
+returns-in-Ok-clause-counted c = λ count number told script of_run counted. (
   still_of_run script c.args.plan.now.calls count number c.args.shard.now c.take_restart.new.shard c.take_restart.ensures.opening of_run,
   record {
     all_counts = ap (λ counts. length counts.items) c.take_restart.ensures.counts ∙ counted.all_counts;

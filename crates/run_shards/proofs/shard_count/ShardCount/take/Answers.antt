@@ -1,5 +1,5 @@
 -- The step is the plan's next one, it was taken, and is counted.
-use Rattle.std.proofs.Common.{◌≡◌, ◌∙◌, length, sym, subst}
+use Rattle.std.proofs.Common.{◌≡◌, ◌∙◌, length, sym, ap, subst}
 use Rattle.std.specs.Prelude.{IfOk}
 use Rattle.planned_calls.specs.Taking.{IsTaken, first_of}
 use Rattle.run_shards.proofs.TakenCounts.{both_ok}
@@ -22,5 +22,6 @@ returns-in-Ok-clause-taken c =
       places = places;
       epoch = c.count-counted.ensures.epoch;
       restarts = c.count-counted.ensures.restarts;
+      ends = ap (λ ends. ends.items) c.count-counted.ensures.ends;
     })
     c.count-counted.ensures.counted c.count-counted.ensures.raised
