@@ -18,8 +18,8 @@ use Rattle.check_facts.specs.declared.said.Said.{Said}
 
 -- a value that is written with a line has it
 pub of_value : (l : Line) (code : ℕ) (members : Text) (result : Result (String Global) AllocError)
-    → IfOk result (λ text. string_bytes text ≡ value_text l code members) → IfOk result (λ text. IsInValue l (string_bytes text))
-of_value l code members (Ok text) is = (code, (members, is))
+    → IfOk result (λ text. string_bytes text ≡ value_text l code members) → IfOk result (λ text. IsInValue l code (string_bytes text))
+of_value l code members (Ok text) is = (members, is)
 of_value l code members (Err error) is = search rules
 
 -- a line that is no yes
@@ -69,7 +69,7 @@ yes_code true script certificate states count points table entries said read is 
 
 pub told_yes : (strict : Bool) (script certificate : Text) (form : Form) (states count points : ℕ) (table : Script) (entries : List Entry)
     → IsYes script certificate states count points → AreRead script certificate table entries → (result : Result Said AllocError)
-    → IfOk result (λ said. Begins form (yes states count points) (string_bytes said.text)) → IfOk result (λ said. IsYesStatus strict table entries said.status)
+    → IfOk result (λ said. Begins form (yes states count points) (code_of said.status) (string_bytes said.text)) → IfOk result (λ said. IsYesStatus strict table entries said.status)
     → IfOk result (IsTold strict (Some (script, certificate)) form)
 told_yes strict script certificate form states count points table entries is read (Ok said) begins status = record {
   line = yes states count points;

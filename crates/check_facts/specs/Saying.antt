@@ -25,18 +25,18 @@ abbrev pub value_text : Line → (code : ℕ) → (members : Text) → Text
 value_text l code members =
     codes "{\"format\":2,\"line\":\"" ++ (text_of l ++ (codes "\",\"status\":" ++ (decimal code ++ (members ++ codes "}\n"))))
 
--- the text is such a value with the line
-abbrev pub IsInValue : Line → Text → Type 0
-IsInValue l text = (code : ℕ) × ((members : Text) × (text ≡ value_text l code members))
+-- the text is such a value with the line and the status
+abbrev pub IsInValue : Line → (code : ℕ) → Text → Type 0
+IsInValue l code text = (members : Text) × (text ≡ value_text l code members)
 
--- the line is told in each form
-abbrev pub Begins : Form → Line → Text → Type 0
-Begins form.Text l text = IsHead l text
-Begins form.Json l text = IsInValue l text
+-- the line is told in each form, and in a value the status
+abbrev pub Begins : Form → Line → (code : ℕ) → Text → Type 0
+Begins form.Text l code text = IsHead l text
+Begins form.Json l code text = IsInValue l code text
 
 -- under a line, with its status
 abbrev pub IsUnder : Form → Line → Said → Type 0
-IsUnder form l said = Begins form l (string_bytes said.text) × (code_of said.status ≡ line_status l)
+IsUnder form l said = Begins form l (code_of said.status) (string_bytes said.text) × (code_of said.status ≡ line_status l)
 
 -- under a line of this kind
 abbrev pub IsSaid : (Line → Type 0) → Form → Said → Type 0
@@ -66,5 +66,5 @@ IsStatus strict sections l code = code ≡ line_status l
 pub record IsTold (strict : Bool) (sections : Option (Text × Text)) (form : Form) (said : Said) : Type 0 where
   pub line : Line
   pub is : IsLineOfSections sections line
-  pub begins : Begins form line (string_bytes said.text)
+  pub begins : Begins form line (code_of said.status) (string_bytes said.text)
   pub status : IsStatus strict sections line (code_of said.status)

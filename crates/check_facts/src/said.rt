@@ -29,9 +29,9 @@ fn value_of(alloc: Global, reply: &Reply, code: u8, members: &str) -> Result<Str
     format!(in alloc; "{{\"format\":2,\"line\":\"{reply}\",\"status\":{code}{members}}}\n")
 }
 
-/// The same, as a value that has the line.
+/// The same, as a value that has the line and the status.
 fn in_value(alloc: Global, reply: &Reply, code: u8, members: &str) -> Result<String, AllocError>
-    ensures { IfOk result (λ text. IsInValue (line_of reply.now) (string_bytes text)) }
+    ensures { IfOk result (λ text. IsInValue (line_of reply.now) code (string_bytes text)) }
 {
     value_of(alloc, reply, code, members)
 }
@@ -44,7 +44,7 @@ pub(crate) fn text_of(
     status: Status,
     members: &str,
 ) -> Result<String, AllocError>
-    ensures { IfOk result (λ text. Begins form (line_of reply.now) (string_bytes text)) }
+    ensures { IfOk result (λ text. Begins form (line_of reply.now) (code_of status) (string_bytes text)) }
 {
     match form {
         Form::Text => format!(in alloc; "{reply}\n{IN_WORDS}"),

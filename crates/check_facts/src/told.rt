@@ -1,9 +1,10 @@
 //! What is told of an input without a plan: the line of its check, which is made by the same calls as `mgcall check` makes it, and as JSON what it is about.
-ghost use Rattle.std.specs.Prelude.{IfOk, Some, string_bytes};
+ghost use Rattle.std.specs.Prelude.{◌≡◌, IfOk, Some, string_bytes};
 ghost use Rattle.check_lines.specs.Output.{too_long};
 ghost use Rattle.check_lines.specs.Replies.{line_of};
 ghost use Rattle.check_lines.specs.VerdictLines.{Judges, NamesRefusal};
 ghost use Rattle.program_rim.specs.Sections.{pair_of, sections_of};
+ghost use Rattle.program_rim.specs.Statuses.{code_of};
 ghost use Rattle.check_facts.specs.Saying.{Begins, IsSaid, IsTold, IsUnder};
 ghost use Rattle.check_facts.specs.Worth.{IsYesStatus};
 
@@ -18,6 +19,7 @@ use check_lines::check::{broken, refused};
 use check_lines::reply::{InputFault, Reply};
 use composition::{CheckFault, Checked, Refuted, Verdict, check};
 use program_rim::sections::two_sections;
+use program_rim::status::Status;
 use std::alloc::{AllocError, Global};
 
 /// A fault for which something isn't read, as a member of a JSON object behind a comma.
@@ -64,6 +66,16 @@ fn worth_facts(
     }
 }
 
+/// What is told of a yes as text, where warnings don't count: nothing is sought then.
+fn bare_yes(alloc: Global, form: Form, reply: &Reply) -> Result<Said, AllocError>
+    ensures begins { IfOk result (λ said. Begins form (line_of reply.now) (code_of said.status) (string_bytes said.text)) }
+    ensures status { IfOk result (λ said. code_of said.status ≡ 0) }
+{
+    let status = Status::Yes;
+    let text = text_of(alloc, form, reply, status, "")?;
+    Ok(Said { text, status })
+}
+
 /// What is told of a yes, where warnings count or don't.
 fn yes_told(
     alloc: Global,
@@ -72,9 +84,12 @@ fn yes_told(
     reply: &Reply,
     checked: &Checked,
 ) -> Result<Said, AllocError>
-    ensures begins { IfOk result (λ said. Begins form (line_of reply.now) (string_bytes said.text)) }
+    ensures begins { IfOk result (λ said. Begins form (line_of reply.now) (code_of said.status) (string_bytes said.text)) }
     ensures status { IfOk result (λ said. IsYesStatus is_strict checked.now.table checked.now.entries said.status) }
 {
+    if let (Form::Text, false) = (form, is_strict) {
+        return bare_yes(alloc, form, reply);
+    }
     let worth = find_worth(alloc, checked.script(), checked.cert())?;
     let status = yes_status(is_strict, &worth);
     let documents = Documents {

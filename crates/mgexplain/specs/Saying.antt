@@ -1,18 +1,22 @@
 -- What is told of an input: the line of the check, with the status of that line, or that of a no where warnings count; and of one with a plan what `mgcall
 -- run` writes for it on one worker, with the status of that. A reader should check that a plan has no warnings, and that where there is none no call of it
 -- is asked for. This profile's own.
-use Rattle.std.specs.Prelude.{◌≡◌, ℕ, ◌⊎◌, Bool, true, Option, None, Some, Result, Ok, Err}
+use Rattle.std.specs.Prelude.{◌≡◌, ℕ, ◌⊎◌, Bool, true, false, Option, None, Some, Result, Ok, Err}
 use Rattle.std.specs.declared.alloc.AllocError.{AllocError}
 use Rattle.check_lines.specs.Output.{Text, too_long}
 use Rattle.program_rim.specs.Sections.{pair_of, sections_of, triple_of}
 use Rattle.program_rim.specs.declared.input.Input.{Input}
 use Rattle.program_rim.specs.declared.input.Input.TheVariants as input
+use Rattle.program_rim.specs.declared.status.Status.{Status}
+use Rattle.program_rim.specs.declared.status.Status.TheVariants as status
 use Rattle.check_facts.specs.Saying.{IsTold, IsUnder}
 use Rattle.check_facts.specs.declared.form.Form.{Form}
 use Rattle.check_facts.specs.declared.said.Said.{Said}
 use Rattle.run_facts.specs.Saying.{IsRunTold}
 use Rattle.mgexplain.specs.declared.outcome.Outcome.{Outcome}
 use Rattle.mgexplain.specs.declared.outcome.Outcome.TheVariants as outcome
+use Rattle.mgexplain.specs.declared.words.Asked.{Asked}
+use Rattle.mgexplain.specs.declared.words.Asked.TheVariants.{Saying, Strictly, Help, Version}
 
 -- of three sections as of a run, of any other number as of a check
 abbrev pub IsSaidOf : Bool → Option (Text × Text × Text) → Option (Text × Text) → Form → Said → Type 0
@@ -47,3 +51,21 @@ IsOutcome strict form only input.TooLong (outcome.Told said) = IsUnder form too_
 IsOutcome strict form only input.TooLong result = result ≡ outcome.NoMemory
 IsOutcome strict form only input.NoMemory result = result ≡ outcome.NoMemory
 IsOutcome strict form only input.Failed result = result ≡ outcome.ReadFailed
+
+-- what comes of an input, as the words ask
+abbrev pub IsAnswered : Asked → Input → Outcome → Type 0
+IsAnswered (Saying form only) input result = IsOutcome false form only input result
+IsAnswered (Strictly form) input result = IsOutcome true form None input result
+IsAnswered Help input result = Unit {0}
+IsAnswered Version input result = Unit {0}
+
+-- the status of what came of an input
+abbrev pub status_of : Outcome → Status
+status_of (outcome.Told said) = said.status
+status_of outcome.Usage = status.Usage
+status_of outcome.NoMemory = status.NoMemory
+status_of outcome.ReadFailed = status.DeviceFailed
+
+-- it is this status, or a write failed
+abbrev pub IsSent : Status → Status → Type 0
+IsSent wanted got = (got ≡ wanted) ⊎ (got ≡ status.DeviceFailed)

@@ -7,13 +7,15 @@
 //! with the input (`outcome`), in the form that the words ask for (`words`, with `call_number`), and bound to the process; `documents` reads files.
 #![tactic(auto)]
 
+ghost use Rattle.mgexplain.specs.Saying.{IsSent, status_of};
+
 mod call_number;
 mod documents;
 mod outcome;
 mod words;
 
 use crate::documents::read_documents;
-use crate::outcome::{Outcome, told_of};
+use crate::outcome::{Outcome, answered};
 use crate::words::{Asked, Request, name_json, read_words};
 use check_facts::form::Form;
 use program_rim::host::Host;
@@ -95,7 +97,9 @@ fn input_of(rt: &HostRuntime, files: &[String]) -> Input {
 }
 
 /// Writes a text that goes with a status. A write that fails has a status of its own.
-fn send(rt: &HostRuntime, text: &str, status: Status) -> Status {
+fn send(rt: &HostRuntime, text: &str, status: Status) -> Status
+    ensures { IsSent status result }
+{
     let mut sink = Host::new(rt.stdout());
     match write_all(&mut sink, text.as_bytes()) {
         Ok(()) => status,
@@ -104,7 +108,9 @@ fn send(rt: &HostRuntime, text: &str, status: Status) -> Status {
 }
 
 /// Says what came of an input.
-fn say(rt: &HostRuntime, form: Form, outcome: Outcome) -> Status {
+fn say(rt: &HostRuntime, form: Form, outcome: Outcome) -> Status
+    ensures { IsSent (status_of outcome) result }
+{
     match outcome {
         Outcome::Told(said) => send(rt, said.text.as_str(), said.status),
         Outcome::Usage => send(rt, usage(form), Status::Usage),
@@ -130,20 +136,15 @@ fn answer<R: Threads + Wait + Sync>(rt: &HostRuntime, threads: &R, words: &[Stri
         Ok(request) => request,
         Err(usage) => return send(rt, usage, Status::Usage),
     };
-    match asked {
-        Asked::Saying(form, only) => {
-            let input = input_of(rt, named(words, files));
-            let outcome = told_of(threads, rt.alloc(), (form, only), false, &input);
-            say(rt, form, outcome)
-        }
-        Asked::Strictly(form) => {
-            let input = input_of(rt, named(words, files));
-            let outcome = told_of(threads, rt.alloc(), (form, None), true, &input);
-            say(rt, form, outcome)
-        }
-        Asked::Help => send(rt, HELP, Status::Yes),
-        Asked::Version => send(rt, VERSION, Status::Yes),
-    }
+    let form = match asked {
+        Asked::Saying(form, _) => form,
+        Asked::Strictly(form) => form,
+        Asked::Help => return send(rt, HELP, Status::Yes),
+        Asked::Version => return send(rt, VERSION, Status::Yes),
+    };
+    let input = input_of(rt, named(words, files));
+    let outcome = answered(threads, rt.alloc(), &asked, &input);
+    say(rt, form, outcome)
 }
 
 fn run<R: Threads + Wait + Sync>(rt: &HostRuntime, threads: &R) -> Status {

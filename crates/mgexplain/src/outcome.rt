@@ -1,8 +1,9 @@
 //! What comes of an input: what is said of a check, or with a plan of a run, where the words that the program was called with go with it.
 ghost use Rattle.std.specs.Prelude.{◌≡◌, true};
 ghost use Rattle.program_rim.specs.Sections.{pair_of, sections_of, triple_of};
-ghost use Rattle.mgexplain.specs.Saying.{AskOfRun, IsOutcome, IsOutcomeOf, IsOutcomeOn};
+ghost use Rattle.mgexplain.specs.Saying.{AskOfRun, IsAnswered, IsOutcome, IsOutcomeOf, IsOutcomeOn};
 
+use crate::words::Asked;
 use check_facts::form::Form;
 use check_facts::said::Said;
 use check_facts::told::{input_told, too_long_told};
@@ -62,7 +63,7 @@ fn outcome_on<R: Threads + Wait + Sync>(
 }
 
 /// What comes of an input: of a form and of the call of a plan that alone is told, where warnings count or don't.
-pub(crate) fn told_of<R: Threads + Wait + Sync>(
+fn told_of<R: Threads + Wait + Sync>(
     rt: &R,
     alloc: Global,
     asked: (Form, Option<u32>),
@@ -76,5 +77,22 @@ pub(crate) fn told_of<R: Threads + Wait + Sync>(
         Input::TooLong => outcome_of(too_long_told(alloc, asked.0)),
         Input::NoMemory => Outcome::NoMemory,
         Input::Failed => Outcome::ReadFailed,
+    }
+}
+
+/// What comes of an input, as the words ask. Where they ask for help or for the version the input has nothing to do with it.
+pub(crate) fn answered<R: Threads + Wait + Sync>(
+    rt: &R,
+    alloc: Global,
+    asked: &Asked,
+    input: &Input,
+) -> Outcome
+    ensures { IsAnswered asked.now input.now result }
+{
+    match *asked {
+        Asked::Saying(form, only) => told_of(rt, alloc, (form, only), false, input),
+        Asked::Strictly(form) => told_of(rt, alloc, (form, None), true, input),
+        Asked::Help => Outcome::Usage,
+        Asked::Version => Outcome::Usage,
     }
 }

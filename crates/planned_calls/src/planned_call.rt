@@ -2,10 +2,12 @@
 ghost use Rattle.std.specs.Prelude.{◌≡◌, ◌+◌, ◌++◌, ◌<◌, true, false, IfErr, IfNone, IfOk, IfSome, OnOk};
 ghost use Rattle.mg_model.specs.Numbers.{plan_calls};
 ghost use Rattle.mg_model.specs.declared.plans.PlanStep.TheVariants as steps;
+ghost use Rattle.agent.specs.declared.refusal.Refusal.TheVariants as refusals;
 ghost use Rattle.agent.specs.declared.refusal.Refusal.TheVariants.{NotEnabled};
 ghost use Rattle.shards.specs.CanOccur.{NeverOccurs};
 ghost use Rattle.shards.specs.Shards.{HasSameOpening};
 ghost use Rattle.planned_calls.specs.Disagreements.{IsBecause, IsNotTaken, IsUntaken, last_number};
+ghost use Rattle.planned_calls.specs.declared.fault.RunFault.TheVariants as faults;
 ghost use Rattle.planned_calls.specs.Taking.{IsTaken, IsWritten, SettlesAs, first_of, left_of, stands_behind};
 
 use crate::fault::RunFault;
@@ -98,6 +100,7 @@ impl CallLog {
 fn refused(shard: &Shard<'_>, event: Event, why: Refusal) -> Result<(), RunFault>
     ensures never { IfOk result (λ _. (why ≡ NotEnabled) × NeverOccurs shard.now event) }
     ensures untaken { IfErr result (IsBecause (IsUntaken shard.now event why)) }
+    ensures memory { IfErr result (λ fault. fault ≡ faults.NoMemory → why ≡ refusals.NoMemory) }
 {
     match (why, event) {
         (Refusal::NotEnabled, Event::OfCall { call, event }) => match shard.can_occur(call, event) {

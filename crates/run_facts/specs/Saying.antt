@@ -1,12 +1,13 @@
 -- What is told of an input with a plan: what `mgcall run` writes for it on one worker, with the status of that. This profile's own.
-use Rattle.std.specs.Prelude.{◌≡◌, List, ◌++◌, Ok, string_bytes}
-use Rattle.check_lines.specs.Output.{Text, Output, report, written, status_of}
+use Rattle.std.specs.Prelude.{◌≡◌, List, ◌++◌, Ok, codes, string_bytes}
+use Rattle.check_lines.specs.Output.{Text, Output, line, report, written, status_of, line_status}
 use Rattle.mg_model.specs.Script.{Script}
 use Rattle.mg_model.specs.Plans.{Plan}
 use Rattle.plans.specs.Reading.{ReadsPlan}
 use Rattle.run_reports.specs.Line.{Line as RunLine}
 use Rattle.run_reports.specs.RunAnswers.{AnswersPlan, AnswersRun, call_lines}
 use Rattle.program_rim.specs.Statuses.{code_of}
+use Rattle.check_facts.specs.Saying.{IsInValue}
 use Rattle.check_facts.specs.declared.form.Form.{Form}
 use Rattle.check_facts.specs.declared.form.Form.TheVariants as form
 use Rattle.check_facts.specs.declared.said.Said.{Said}
@@ -15,10 +16,19 @@ use Rattle.check_facts.specs.declared.said.Said.{Said}
 abbrev pub Begins : Output → Said → Type 0
 Begins out said = ((rest : Text) × (string_bytes said.text ≡ written out ++ rest)) × (code_of said.status ≡ status_of out)
 
--- the report stands before the line on words, and a JSON value has the status
+-- a JSON value with the lines of a report, and with members behind them
+abbrev pub report_value_text : (lines more : Text) → Text
+report_value_text lines more = codes "{\"format\":2,\"status\":0,\"report\":[" ++ (lines ++ (codes "]" ++ (more ++ codes "}\n")))
+
+-- the text is such a value
+abbrev pub IsReportValue : Text → Type 0
+IsReportValue text = (lines : Text) × ((more : Text) × (text ≡ report_value_text lines more))
+
+-- the output stands before the line on words; as JSON a line stands in a value beside its status, and a report's value has the status of a report
 abbrev pub IsUnderOutput : Form → Output → Said → Type 0
 IsUnderOutput form.Text out said = Begins out said
-IsUnderOutput form.Json out said = code_of said.status ≡ status_of out
+IsUnderOutput form.Json (line l) said = IsInValue l (code_of said.status) (string_bytes said.text) × (code_of said.status ≡ line_status l)
+IsUnderOutput form.Json (report lines) said = IsReportValue (string_bytes said.text) × (code_of said.status ≡ status_of (report lines))
 
 -- under an output of this kind
 abbrev pub IsTold : (Output → Type 0) → Form → Said → Type 0

@@ -1,11 +1,11 @@
 //! What is told of a script with its certificate and a plan: what `mgcall run` writes for them on one worker, which is made by the same calls, and as JSON
 //! each step.
-ghost use Rattle.std.specs.Prelude.{◌≡◌, IfOk};
+ghost use Rattle.std.specs.Prelude.{◌≡◌, IfOk, string_bytes};
 ghost use Rattle.check_lines.specs.Replies.{line_of};
 ghost use Rattle.run_reports.specs.RunAnswers.{TellsPlanFault, TellsRunFault};
 ghost use Rattle.plans.specs.Accepted.{IsPlanFor};
 ghost use Rattle.program_rim.specs.Statuses.{code_of};
-ghost use Rattle.run_facts.specs.Saying.{IsPlanTold, IsRunOfPlanTold, IsRunTold, IsUnderReport};
+ghost use Rattle.run_facts.specs.Saying.{IsPlanTold, IsReportValue, IsRunOfPlanTold, IsRunTold, IsUnderReport, report_value_text};
 
 use crate::calls::{lines_alone, marks_of, report_facts};
 use crate::line_text::report_text;
@@ -66,12 +66,23 @@ fn unknown_call(alloc: Global, plan: &Plan, only: Option<u32>) -> Result<String,
 }
 
 /// The JSON value of a report with these lines, and with more members behind them.
-fn report_value(alloc: Global, lines: &str, more: &str) -> Result<String, AllocError> {
+fn value_of(alloc: Global, lines: &str, more: &str) -> Result<String, AllocError>
+    ensures { IfOk result (λ text. string_bytes text ≡ report_value_text lines.now more.now) }
+{
     format!(in alloc; "{{\"format\":2,\"status\":0,\"report\":[{lines}]{more}}}\n")
 }
 
+/// The same, as a value of some report.
+fn report_value(alloc: Global, lines: &str, more: &str) -> Result<String, AllocError>
+    ensures { IfOk result (λ text. IsReportValue (string_bytes text)) }
+{
+    value_of(alloc, lines, more)
+}
+
 /// What is told of a run as a JSON value.
-fn run_value(alloc: Global, only: Option<u32>, ran: &Ran<'_, '_>) -> Result<String, AllocError> {
+fn run_value(alloc: Global, only: Option<u32>, ran: &Ran<'_, '_>) -> Result<String, AllocError>
+    ensures { IfOk result (λ text. IsReportValue (string_bytes text)) }
+{
     match report_facts(alloc, ran, only) {
         Ok(lines) => {
             let more = unknown_call(alloc, ran.plan, only)?;

@@ -1,5 +1,5 @@
 -- Why a step of a plan is idle. A reader should check that each reason is a fact of the call and of its gateway before the step. This profile's own.
-use Rattle.std.specs.Prelude.{◌≡◌, ℕ, ◌≤◌, false, None, Some}
+use Rattle.std.specs.Prelude.{◌≡◌, ℕ, ◌<◌, ◌≤◌, false, None, Some}
 use Rattle.mg_model.specs.declared.events.CallEvent.{CallEvent}
 use Rattle.mg_model.specs.declared.events.CallEvent.TheVariants as to_call
 use Rattle.mg_model.specs.declared.plans.PlanStep.{PlanStep}
@@ -63,6 +63,13 @@ IsTimer happens = ⊥
 abbrev pub association_of : Next → ℕ
 association_of next = (agent_of (value_of next).agent).association
 
+-- nothing else stands in its way: a request is executed, the timer of a state that has one ends, or a newer association is heard of
+abbrev pub WouldGoOn : Script → Next → CallEvent → Type 0
+WouldGoOn script next (to_call.Execute number chosen) = Unit {0}
+WouldGoOn script next to_call.Timer = (state_of script (agent_of (value_of next).agent).state).timer ≡ None → ⊥
+WouldGoOn script next (to_call.Hear association) = association_of next < association.0
+WouldGoOn script next happens = ⊥
+
 -- an event of a call is refused, where its gateway is in this association
 abbrev pub IsRefusedFor : Script → Next → (current : ℕ) → CallEvent → Idle → Type 0
 IsRefusedFor script next current happens Waits = (variant_of next ≡ waits) × (has_step happens waits ≡ false)
@@ -76,7 +83,6 @@ IsRefusedFor script next current happens NoTimer =
     IsTimer happens × ((state_of script (agent_of (value_of next).agent).state).timer ≡ None)
 IsRefusedFor script next current happens NothingToHear = IsHeardOf happens (association_of next)
 IsRefusedFor script next current happens NotOnLine = IsOnLine happens
--- what is left: a request that would be executed, a timer or an association that would be heard of
-IsRefusedFor script next current happens NumbersEnd = Unit {0}
+IsRefusedFor script next current happens NumbersEnd = WouldGoOn script next happens
 IsRefusedFor script next current happens NothingSent = ⊥
 IsRefusedFor script next current happens NoNoteWaits = ⊥

@@ -1,5 +1,5 @@
 //! An epoch: the calls of each shard go into a queue of their own, workers do their steps of it, and all come back.
-ghost use Rattle.std.specs.Prelude.{◌≡◌, ◌≤◌, IfOk, Ok, OnOk, length, option_map, vec_len};
+ghost use Rattle.std.specs.Prelude.{◌≡◌, ◌≤◌, IfOk, None, Ok, OnOk, length, option_map, vec_len};
 ghost use Rattle.std.specs.List.{All};
 ghost use Rattle.mg_model.specs.Numbers.{plan_calls};
 ghost use Rattle.call_queues.specs.Passing.{IsOwner, IsWorkersAt};
@@ -82,7 +82,8 @@ fn absorb<'s>(
 ) -> Result<(), RunFault>
     requires owners { All (λ o. IsOwner queues.now o) owners.old.items }
     requires workers { All (λ s. IsWorkersAt queues.now s) worked.worker_queues.items }
-    ensures { OnOk result (All (λ o. IsOwner queues.now o) owners.new.items) }
+    ensures owners { OnOk result (All (λ o. IsOwner queues.now o) owners.new.items) }
+    ensures untroubled { OnOk result (worked.entry.trouble ≡ None) }
 {
     let Worked {
         worker_queues,
