@@ -19,8 +19,7 @@ loop-count-preserved c =
 
 pub returns-then-not-ends_as-clause-no : goal.returns-then-not-ends_as-clause-no
 returns-then-not-ends_as-clause-no c told =
-    let counts = c.args.counts.now in
-    (
+    let counts = c.args.counts.now in (
       c.count-item.result,
       there counts c.loop-count.count-index c.count-item.result
           (slice_get-get_or counts c.loop-count.count-index c.count-item.result c.loop-count-test.true ∙ ap Some (sym c.count-item.is)),
