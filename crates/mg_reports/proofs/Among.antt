@@ -1,8 +1,6 @@
 -- A call among others beside a run of it alone.
 pub mod Within
 pub mod Placed
-pub mod EveryNumber
-pub mod Ended
 pub mod Unmoved
 pub mod Turns
 pub mod Reported

@@ -12,6 +12,7 @@ use Rattle.mg_alike.proofs.Events.Offers.{OffersAlike, offers_alike}
 use Rattle.mg_alike.proofs.Shared.Turned.{treated_mutually}
 use Rattle.mg_reports.proofs.Keys.{SameKey, RequestsInStep, RepliesInStep, joined, turned}
 use Rattle.mg_reports.proofs.Only.{IsOnly}
+use Rattle.mg_alike.proofs.Alone.OneCall.{execute_requests}
 
 -- of these calls the same messages but for identifiers, in one order, and the same that are retired
 pub record AreInStep (keep : ℕ → Bool) (w v : World) : Type 0 where
@@ -79,11 +80,6 @@ steps_requests keep w v after next call step other s t treat before =
         (subst (λ (x : Agent). PhasesAlike treat.renaming treat.one.phase x.phase) other_is treat.alike.agents.phase)
 
 -- ---- a request that reaches both gateways
-
-execute_requests : (w after : World) (request : Request) (chosen : Option ChosenRefusal) → Executes w request chosen after → after.requests ≡ w.requests
-execute_requests w after request chosen (inl f) = ap (λ (x : World). x.requests) f.after_is
-execute_requests w after request chosen (inr (inl f)) = ap (λ (x : World). x.requests) f.after_is
-execute_requests w after request chosen (inr (inr f)) = ap (λ (x : World). x.requests) f.1
 
 module _ (keep : ℕ → Bool) (w v : World) (call number : ℕ) (chosen : Option ChosenRefusal) (r : Renaming) (a b : Agent) (alike : CallAlike r w v call a b)
     (retired : v.gateway.retired call ≡ w.gateway.retired call) (once : AreOnce (λ (x : Request). x.call) (λ (x : Request). x.number) v.requests)

@@ -85,20 +85,20 @@ executes_class w after request chosen (inl f) n =
 executes_class w after request chosen (inr (inl f)) n = ap (λ (x : World). x.gateway.board.class n) f.after_is
 executes_class w after request chosen (inr (inr f)) n = ap (λ (x : World). x.gateway.board.class n) f.1
 
+pub execute_requests : (w after : World) (request : Request) (chosen : Option ChosenRefusal) → Executes w request chosen after → after.requests ≡ w.requests
+execute_requests w after request chosen (inl f) = ap (λ (x : World). x.requests) f.after_is
+execute_requests w after request chosen (inr (inl f)) = ap (λ (x : World). x.requests) f.after_is
+execute_requests w after request chosen (inr (inr f)) = ap (λ (x : World). x.requests) f.1
+
 executes_lone : (class : ℕ → Bool) (w after : World) (request : Request) (chosen : Option ChosenRefusal) → IsLone class w → Executes w request chosen after
     → IsLone class after
 executes_lone class w after request chosen lone executes =
-    same_lone class w after lone (agents executes) (requests executes) (executes_class w after request chosen executes)
+    same_lone class w after lone (agents executes) (execute_requests w after request chosen executes) (executes_class w after request chosen executes)
   where
     agents : Executes w request chosen after → after.agent ≡ w.agent
     agents (inl f) = ap (λ (x : World). x.agent) f.after_is
     agents (inr (inl f)) = ap (λ (x : World). x.agent) f.after_is
     agents (inr (inr f)) = ap (λ (x : World). x.agent) f.1
-
-    requests : Executes w request chosen after → after.requests ≡ w.requests
-    requests (inl f) = ap (λ (x : World). x.requests) f.after_is
-    requests (inr (inl f)) = ap (λ (x : World). x.requests) f.after_is
-    requests (inr (inr f)) = ap (λ (x : World). x.requests) f.1
 
 module _ (script : Script) (few : HasFewCommands script) (class : ℕ → Bool) where
   call_lone : (w after : World) (call : ℕ) (happens : CallEvent) → IsLone class w → OccursTo script w call happens after → IsLone class after

@@ -8,7 +8,7 @@ use Rattle.mg_alike.proofs.Commands.Reading.{same_term_same, at_same, place_alik
 use Rattle.mg_alike.proofs.Commands.Renamed.{renamed, renamed_wider, creates_same, makes_same}
 use Rattle.mg_alike.proofs.Commands.Twins.{Twin, subtract, subtract_all, one_of, other_of, IsTwin, InUse}
 use Rattle.mg_alike.proofs.Shared.Pairs.{pair_new}
-use Rattle.mg_alike.proofs.Shared.Rising.{rising_same}
+use Rattle.mg_alike.proofs.Shared.Images.{rising_same}
 
 module _ (r : Renaming) (held : ℕ → Bool) (renaming : IsRenaming r) (b m : Board) (alike : BoardsAlike r held b m) (ready : InUse r held b m) where
   -- ---- who leaves

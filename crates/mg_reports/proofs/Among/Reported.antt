@@ -1,15 +1,32 @@
 -- What a call tells among others it tells alone.
-use Rattle.std.proofs.Common.{◌≡◌, ◌∙◌, ◌++◌, ℕ, Bool, [], ◌∷◌, Some, sym, ap, subst, ◌%◌}
-use Rattle.mg_merge.proofs.Words.{Agent, Opened, Progress, ReportLine, Script, World, eqb-true, only_here, only_one, plan_calls, start_as, the_some}
+use Rattle.std.proofs.Common.{◌≡◌, ◌∙◌, ◌++◌, ℕ, Bool, [], ◌∷◌, Some, sym, ap, subst, ◌%◌, true, List, refl, IsTrue, Contains}
+use Rattle.mg_merge.proofs.Words.{Agent, IsOpening, Opened, Progress, ReportLine, Script, World, eqb-true, only_here, only_one, plan_calls, start_as, the_some}
 use Rattle.mg_reports.specs.Among.{ReportsAmongOthers}
 use Rattle.mg_reports.proofs.Along.{AreAlong}
-use Rattle.mg_reports.proofs.Among.EveryNumber.{opens_alone_with_every}
 use Rattle.mg_reports.proofs.Among.Placed.{are_placed, placed_in}
 use Rattle.mg_reports.proofs.Among.Turns.{all_turns}
 use Rattle.mg_reports.proofs.Among.Within.{is_within, within_itself}
 use Rattle.mg_reports.proofs.Lines.{line_same}
 use Rattle.mg_reports.proofs.Openings.{at_start}
 use Rattle.mg_reports.proofs.Runs.{told}
+use Rattle.mg_alike.proofs.Alone.Opening.{calls_open_alone}
+
+-- ---- an opening of the call alone, on a gateway that may give every number
+
+abbrev with_every : World → World
+with_every w = record w { gateway = record w.gateway { board = record w.gateway.board { class = λ n. true } } }
+
+-- whatever numbers its gateway gives, it is an opening
+opens_with_every : (script : Script) (calls : List Opened) (w : World) → IsOpening script calls w → IsOpening script calls (with_every w)
+opens_with_every script calls w opens = assumption
+
+opens_alone_with_every : (script : Script) (calls : List Opened) (one : Opened) (start : World) → Contains calls one → IsOpening script calls start
+    → (lone : World) × (IsOpening script (one ∷ []) lone × ((n : ℕ) → IsTrue (lone.gateway.board.class n)))
+opens_alone_with_every script calls one start among opens =
+    let alone = calls_open_alone script calls one start among opens in
+    (with_every alone.0, (opens_with_every script (one ∷ []) alone.0 alone.1.0, λ n. refl))
+
+-- ---- what is told
 
 -- where the one is, but for its world, the other tells the same
 same_told : (script : Script) (keep : ℕ → Bool) (start first : World) (end other : Progress) (it : AreAlong script keep start first end other) (a : Agent)

@@ -3,20 +3,32 @@
 use Rattle.std.proofs.Common.{◌≡◌, ◌∙◌, ◌<◌, ◌+◌, ℕ, Bool, true, false, List, [], ◌∷◌, Some, refl, sym, ap, subst, inl, inr, ◌%◌, IsTrue}
 use Rattle.mg_merge.proofs.Words.{Agent, All, Begins, CallEvent, Entry, HasIdentifiersLeft, IsEntryOf, IsOpening, IsScript, NoneBroken, Occurs, OccursTo}
 use Rattle.mg_merge.proofs.Words.{OfCall, Opened, PlanStep, Progress, Restart, Script, StepHappens, StepIsIdle, StepsRun, World, after_event, at_one, eqb-true}
-use Rattle.mg_merge.proofs.Words.{last_association, number_begun, plan_calls, restarted, with_gateway}
+use Rattle.mg_merge.proofs.Words.{last_association, not_both, number_begun, plan_calls, restarted, with_gateway}
 use Rattle.mg_alike.proofs.Words.{HasFewCommands, begins_on}
 use Rattle.mg_safety.proofs.Messages.NamedMessages.{event_numbered, opening_numbered, runs_numbered}
 use Rattle.mg_safety.proofs.Messages.NumberedWorlds.{IsNumbered}
 use Rattle.mg_alike.proofs.Alone.Heirs.{begun_on, stays_open}
 use Rattle.mg_reports.specs.Among.{Turn, own, beside, GoesAmong}
 use Rattle.mg_reports.proofs.Along.{AreAlong, Goes, along, next_step}
-use Rattle.mg_reports.proofs.Among.Ended.{never_ended}
 use Rattle.mg_reports.proofs.Among.Placed.{placed_in}
 use Rattle.mg_reports.proofs.Among.Unmoved.{other_beside}
 use Rattle.mg_reports.proofs.Among.Within.{is_within, within_begun}
 use Rattle.mg_reports.proofs.Beside.{AreBeside, beside_turned}
 use Rattle.mg_reports.proofs.Runs.{left_in}
 use Rattle.mg_reports.proofs.Steps.{not_idle, restarted_beside, step_too}
+use Rattle.mg_alike.proofs.Events.Alone.{event_retired}
+
+-- a call that stands at the end of its turns was never ended by an event beside them
+never_ended : (script : Script) (first : ℕ) (turns : List Turn) (p end : Progress) → IsNumbered p.world → p.world.gateway.retired p.standing ≡ true
+    → GoesAmong script first turns p end → (a : Agent) → end.world.agent end.standing ≡ Some a → ⊥
+unfolding GoesAmong
+never_ended script first [] p end numbered gone goes a there =
+    not_both gone (numbered.open_calls p.standing a (subst (λ (q : Progress). q.world.agent q.standing ≡ Some a) goes there))
+never_ended script first (own step ∷ more) p end numbered gone (left, (next, (inl x, rest))) a there = not_both gone (numbered.open_calls p.standing x.agent x.stands)
+never_ended script first (own step ∷ more) p end numbered gone (left, (next, (inr x, rest))) a there = not_both gone (numbered.open_calls p.standing x.agent x.stands)
+never_ended script first (beside event ∷ more) p end numbered gone (apart, (next, (occurs, rest))) a there =
+    never_ended script first more (record p { world = next }) end (event_numbered script p.world next event numbered occurs)
+    (event_retired script p.world next p.standing event occurs gone) rest a there
 
 module _ (script : Script) (entries : List Entry) (is_script : IsScript script) (listed : All (IsEntryOf script) entries) (none_broken : NoneBroken script entries)
     (few : HasFewCommands script) (calls : List Opened) (one : Opened) (small : one.call < plan_calls) (start lone : World) (opens : IsOpening script calls start)
