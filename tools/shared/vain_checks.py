@@ -234,7 +234,7 @@ NAMED = {
     **{f"lines.{line}.at": ["-", *CONTEXTS] for line in "gh"},
     "lines.b.at": ["-", "d"],
 }
-# The same where there are as many mixtures to be asked as sets of names: the budget of an entry is one for 256 numbers.
+# The same where there are as many hulls to be asked as sets of names: the budget of an entry is one for 256 numbers.
 NAMED_ENOUGH = {
     **{f"contexts.{name}": ["free", "live"] for name in CONTEXTS},
     **{spot(name): ["absent", "c", "d", "e"] for name in EPHEMERALS},
@@ -244,7 +244,7 @@ NAMED_ENOUGH = {
 
 def vain():
     """Blocks that are asked in vain: sixteen refusals that lie in 128 parts each, which can be told, and what is executed in 256 or 8,192, which is too much;
-    and the same in 128, which is told. Then 8,192 parts of each; and what holds of the points, but not of all that is mixed from them."""
+    and the same in 128, which is told. Then 8,192 parts of each; and what holds of the points, but not of all in their hull."""
     last = [spot("z"), remote("z")]
     few, many = [[remote("x"), remote("y")], last], [[remote("x"), spot("y"), remote("y")], last]
     for wide, states in ((1, 1), (2, 2)):
@@ -277,10 +277,10 @@ def settled():
 
 
 def bound():
-    """Names that are bound in some points and free in others, so that mixtures are asked for 256 sets of names."""
+    """Names that are bound in some points and free in others, so that hulls are asked for 256 sets of names."""
     scattered = [["lines.g.at", "lines.h.at"], [spot("w"), spot("x")]]
     for wide in (8, 16):
-        for turned, said in ((NAMED, "in vain"), (NAMED_ENOUGH, "with a mixture for each")):
+        for turned, said in ((NAMED, "in vain"), (NAMED_ENOUGH, "with a hull for each")):
             yield Shape(f"256 sets of names, {said}", turned, wide=wide)
             yield Shape(f"256 sets of names, {said}, results scattered", turned, scattered, scattered, wide=wide)
     stirred = {name: values for name, values in NAMED.items() if name not in ("contexts.c", "contexts.d")} | {"lines.a.mode": MODES}

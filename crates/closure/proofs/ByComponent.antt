@@ -1,4 +1,4 @@
--- Changes of configurations by which each component goes its way by itself: what they make of a mixture is mixed from what they make of each that it has.
+-- Changes of configurations by which each component goes its way by itself: what they make of a hull is in the hull of what they make of each.
 use Rattle.std.proofs.Common.{◌≡◌, ◌∙◌, ◌||◌, ℕ, ◌==◌, ◌&&◌, Bool, false, if◌then◌else◌, List, map, refl, sym, ap}
 use Rattle.std.specs.Prelude.{unwrap_or}
 use Rattle.mg_names.specs.declared.context_values.ContextValue.{ContextValue}
@@ -17,9 +17,9 @@ use Rattle.mg_model.specs.Configuration.{Configuration, is_same, value_of, with_
 use Rattle.mg_model.specs.Effects.{plays_after, remote_after, remote_set, spot_after, with_ephemeral_options, with_line_options, with_pair, without_cuts_of, without_terminations}
 use Rattle.mg_model.specs.Script.{Script}
 use Rattle.mg_model.specs.Updates.{with_at}
-use Rattle.closure.specs.Mixtures.{HasOne, IsMixed}
+use Rattle.closure.specs.Hulls.{HasOne, IsInHull}
 use Rattle.closure.specs.Placing.{valued_at}
-use Rattle.closure.proofs.MixtureLemmas.{contains_map, of_one_number, of_one_termination}
+use Rattle.closure.proofs.HullLemmas.{contains_map, of_one_number, of_one_termination}
 
 -- what is made of a component is made of that component alone
 pub record IsByComponent (f : Configuration → Configuration) : Type 0 where
@@ -38,17 +38,17 @@ module _ (some : List Configuration) (f : Configuration → Configuration) (c : 
       → HasOne (map f some) of (of (f c))
   one_by of by one = (f one.0, (contains_map f some one.0 one.1.0, by one.0 c one.1.1))
 
-  pub mixed_by : IsByComponent f → IsMixed some c → IsMixed (map f some) (f c)
-  mixed_by by mixed = record {
-    state = one_by (λ d. d.state) by.state mixed.state;
-    link = one_by (λ d. d.link) by.link mixed.link;
-    spot = λ t. one_by (λ d. d.spot t) (by.spot t) (mixed.spot t);
-    mode = λ t. one_by (λ d. d.mode t) (by.mode t) (mixed.mode t);
-    events = λ i. one_by (λ d. d.events i) (by.events i) (mixed.events i);
-    plays = λ i. one_by (λ d. d.plays i) (by.plays i) (mixed.plays i);
-    context = λ j. one_by (λ d. d.context j) (by.context j) (mixed.context j);
-    remote = λ k. one_by (λ d. d.remote k) (by.remote k) (mixed.remote k);
-    cut = λ t u. one_by (λ d. d.cut t u) (by.cut t u) (mixed.cut t u);
+  pub hull_by : IsByComponent f → IsInHull some c → IsInHull (map f some) (f c)
+  hull_by by inside = record {
+    state = one_by (λ d. d.state) by.state inside.state;
+    link = one_by (λ d. d.link) by.link inside.link;
+    spot = λ t. one_by (λ d. d.spot t) (by.spot t) (inside.spot t);
+    mode = λ t. one_by (λ d. d.mode t) (by.mode t) (inside.mode t);
+    events = λ i. one_by (λ d. d.events i) (by.events i) (inside.events i);
+    plays = λ i. one_by (λ d. d.plays i) (by.plays i) (inside.plays i);
+    context = λ j. one_by (λ d. d.context j) (by.context j) (inside.context j);
+    remote = λ k. one_by (λ d. d.remote k) (by.remote k) (inside.remote k);
+    cut = λ t u. one_by (λ d. d.cut t u) (by.cut t u) (inside.cut t u);
   }
 
 -- ---- one after another

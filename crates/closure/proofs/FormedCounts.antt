@@ -15,9 +15,9 @@ use Rattle.mg_model.specs.Obligations.{JoinedAreMarked}
 use Rattle.mg_model.proofs.Cases.{false_not_true}
 use Rattle.entry_table.specs.declared.component.Component as declared
 use Rattle.entry_table.specs.Shown.{shown, shown_all}
-use Rattle.closure.specs.Counting.{AreAllCounted, AreCounted, HasForm, IsCutFree, IsModeFree, KeepsForm, NoneGivesPlace, StandTogether}
+use Rattle.closure.specs.Counting.{AreAllCounted, AreCounted, HasForm, IsCutFree, IsModeFree, KeepsWellformedness, NoneGivesPlace, StandTogether}
 use Rattle.closure.specs.Findings.{IsKept}
-use Rattle.closure.specs.Mixtures.{AreOthersKept, IsBlockKept, IsBlockMarked}
+use Rattle.closure.specs.Hulls.{AreOthersKept, IsBlockKept, IsBlockMarked}
 use Rattle.closure.specs.Walk.{BlockIsPassed, HasPassed}
 use Rattle.closure.proofs.FormedPlaces.{stands_alike}
 use Rattle.closure.proofs.GivenValues.{both_given, both_true, choice_at, same_termination}
@@ -227,7 +227,7 @@ module _ (rest : List Component) (low c : Configuration) where
       (subst (λ (s : Termination). IsCutFree rest low u s) (sym (same_termination x w both.1)) free)
 
   -- a component of which any value is as good is given one in the other alone, and in the one
-  form_raised : (component : Component) (place : ℕ) → KeepsForm rest low component → HasForm rest low c
+  form_raised : (component : Component) (place : ℕ) → KeepsWellformedness rest low component → HasForm rest low c
       → HasForm rest low ((slice_index_or (choices_of component) place same_choice) c)
   form_raised (links values) place free was = absurd free
   form_raised (spots u values) place free was = absurd free
@@ -254,7 +254,7 @@ module _ (rest : List Component) (low c : Configuration) where
         cut = λ t x. one_given (IsCutFree rest low t x) (is_same t u && is_same x w) v (c.cut t x) (low.cut t x) (cut_here u w t x free) (was.cut t x);
       })
 
-  form_lowered : (component : Component) (place : ℕ) → KeepsForm rest low component → HasForm rest low c
+  form_lowered : (component : Component) (place : ℕ) → KeepsWellformedness rest low component → HasForm rest low c
       → HasForm rest ((slice_index_or (choices_of component) place same_choice) low) c
   form_lowered (links values) place free was = absurd free
   form_lowered (spots u values) place free was = absurd free
@@ -329,7 +329,7 @@ module _ (script : Script) (entries : List Entry) where
         (so_far entry c number before form kept marked numbers passed)))
 
     -- the same where any value is as good
-    module _ (free : KeepsForm rest low first) (n : ℕ)
+    module _ (free : KeepsWellformedness rest low first) (n : ℕ)
         (one : AreAllCounted rest ((slice_index_or (choices_of first) 0 same_choice) low) script entries n) where
       each_counted : (m : ℕ) → m ≤ length (choices_of first) → AreCounted (first ∷ rest) low script entries (m * size_of rest) (m * n)
       each_counted zero within =
@@ -350,7 +350,7 @@ module _ (script : Script) (entries : List Entry) where
 
   module _ (items : List declared.Component) (first : declared.Component) (more : List declared.Component) (whole : items ≡ first ∷ more) (low : Configuration)
       (count : ℕ) (counted : count ≡ length (choices_of (shown first))) where
-    pub free_counted : (n : ℕ) → KeepsForm (shown_all more) low (shown first)
+    pub free_counted : (n : ℕ) → KeepsWellformedness (shown_all more) low (shown first)
         → AreAllCounted (shown_all more) ((slice_index_or (choices_of (shown first)) 0 same_choice) low) script entries n
         → AreAllCounted (shown_all items) low script entries (n * count)
     free_counted n free one =

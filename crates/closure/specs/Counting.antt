@@ -6,7 +6,7 @@ use Rattle.mg_model.specs.declared.components.Spot.{Spot}
 use Rattle.mg_model.specs.Script.{Script}
 use Rattle.mg_model.specs.Configuration.{Configuration, is_in, is_present}
 use Rattle.mg_model.specs.Entries.{Entry, Component, size_of, links, spots, modes, events, plays, contexts, remotes, cuts}
-use Rattle.closure.specs.Mixtures.{IsBlockKept, IsBlockMarked}
+use Rattle.closure.specs.Hulls.{IsBlockKept, IsBlockMarked}
 use Rattle.closure.specs.Walk.{AreNumbered, HasPassed}
 
 -- no component among these gives a termination its place
@@ -27,15 +27,15 @@ module _ (rest : List Component) (low : Configuration) where
   IsCutFree t u = StandTogether low t u × (NoneGivesPlace rest t × NoneGivesPlace rest u)
 
   -- whatever value a component has, what the rest make of a configuration is well formed with each or with none
-  abbrev pub KeepsForm : Component → Type 0
-  KeepsForm (links values) = ⊥
-  KeepsForm (spots t values) = ⊥
-  KeepsForm (modes t values) = IsModeFree t
-  KeepsForm (events i values) = ⊤
-  KeepsForm (plays i values) = ⊤
-  KeepsForm (contexts j values) = ⊥
-  KeepsForm (remotes k values) = ⊥
-  KeepsForm (cuts t u values) = IsCutFree t u
+  abbrev pub KeepsWellformedness : Component → Type 0
+  KeepsWellformedness (links values) = ⊥
+  KeepsWellformedness (spots t values) = ⊥
+  KeepsWellformedness (modes t values) = IsModeFree t
+  KeepsWellformedness (events i values) = ⊤
+  KeepsWellformedness (plays i values) = ⊤
+  KeepsWellformedness (contexts j values) = ⊥
+  KeepsWellformedness (remotes k values) = ⊥
+  KeepsWellformedness (cuts t u values) = IsCutFree t u
 
   -- another configuration differs in such components alone
   pub record HasForm (c : Configuration) : Type 0 where

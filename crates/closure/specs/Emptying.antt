@@ -1,5 +1,5 @@
--- Those from which all is mixed that `subtract CONTEXT *` leaves, whoever stands in the context. Who stands there in each of some configurations leaves in all that
--- are mixed from them; who does in some may leave or not. No public clause speaks of these words.
+-- Those whose hull has all that `subtract CONTEXT *` leaves, whoever stands in the context. Who stands there in each of some configurations leaves in all
+-- of their hull; who does in some may leave or not. No public clause speaks of these words.
 use Rattle.std.specs.Prelude.{◌≡◌, ⊤, ℕ, false, if◌then◌else◌, IsTrue, List, [], ◌∷◌, Contains}
 use Rattle.mg_model.specs.declared.commands.Command.{Command}
 use Rattle.mg_model.specs.declared.commands.Command.TheVariants.{AddLine, AddEphemeral, ModifyLine, ModifyEphemeral, MoveLine, MoveEphemeral, Subtract, SubtractAll, SetTopology}
@@ -10,7 +10,7 @@ use Rattle.mg_model.specs.declared.components.Spot.{Spot}
 use Rattle.mg_model.specs.Script.{Script}
 use Rattle.mg_model.specs.Configuration.{Configuration, is_in, terminations, with_of}
 use Rattle.mg_model.specs.Effects.{spot_after}
-use Rattle.closure.specs.Mixtures.{IsMixed}
+use Rattle.closure.specs.Hulls.{IsInHull}
 use Rattle.closure.specs.Placing.{IsNowhere, unsettled}
 
 -- what a command does to a component hangs on that component alone, whatever the others are
@@ -25,9 +25,9 @@ GoesByComponent (Subtract j t) = ⊤
 GoesByComponent (SubtractAll j) = ⊥
 GoesByComponent (SetTopology j t u topology) = ⊤
 
--- a termination stands in a context in this one, if it does in one that is mixed from some
+-- a termination stands in a context in this one, if it does in one in the hull of some
 abbrev pub StandsToo : List Configuration → ℕ → Configuration → Termination → Type 0
-StandsToo some j one t = (c : Configuration) → IsMixed some c → IsTrue (is_in (c.spot t) j) → IsTrue (is_in (one.spot t) j)
+StandsToo some j one t = (c : Configuration) → IsInHull some c → IsTrue (is_in (c.spot t) j) → IsTrue (is_in (one.spot t) j)
 
 -- where it stands there in this one, it does in each of some
 abbrev pub StandsInEach : List Configuration → ℕ → Configuration → Termination → Type 0
@@ -52,12 +52,12 @@ emptied script j sure d = unsettled script (SubtractAll j) (out_each sure j d te
 abbrev pub NamesNoneOf : List Configuration → ℕ → ℕ → Configuration → Type 0
 NamesNoneOf some j k d = (i : ℕ) → d.remote k ≡ To i → IsNowhere some (Ephemeral i) j
 
--- the Remote of an ephemeral is gone in this one, if in one that is mixed from some it names one that leaves, and stays itself
+-- the Remote of an ephemeral is gone in this one, if in one in the hull of some it names one that leaves, and stays itself
 abbrev pub IsLost : List Configuration → ℕ → Configuration → ℕ → Type 0
 IsLost some j gone k =
-    (c : Configuration) (i : ℕ) → IsMixed some c → c.remote k ≡ To i → IsTrue (is_in (c.spot (Ephemeral i)) j) → is_in (c.spot (Ephemeral k)) j ≡ false
+    (c : Configuration) (i : ℕ) → IsInHull some c → c.remote k ≡ To i → IsTrue (is_in (c.spot (Ephemeral i)) j) → is_in (c.spot (Ephemeral k)) j ≡ false
     → gone.remote k ≡ Gone
 
--- what a command makes, but for the question which contexts still exist, of all that are mixed from some is mixed from others
+-- what a command makes, but for the question which contexts still exist, of the hull of some is in the hull of others
 abbrev pub AreMade : Script → List Configuration → Command → List Configuration → Type 0
-AreMade script some command made = (c : Configuration) → IsMixed some c → IsMixed made (unsettled script command c)
+AreMade script some command made = (c : Configuration) → IsInHull some c → IsInHull made (unsettled script command c)

@@ -9,7 +9,7 @@ use Rattle.mg_model.specs.declared.components.Spot.{Spot}
 use Rattle.mg_model.specs.declared.components.Spot.TheVariants.{Null, In}
 use Rattle.mg_model.specs.Configuration.{Configuration, with_of}
 use Rattle.mg_model.specs.Effects.{is_legal}
-use Rattle.closure.specs.Mixtures.{IsMixed}
+use Rattle.closure.specs.Hulls.{IsInHull}
 
 abbrev pub spot_at : Place → Spot
 spot_at NullContext = Null
@@ -27,6 +27,6 @@ found (Subtract j t) d = d
 found (SubtractAll j) d = d
 found (SetTopology j t u topology) d = record d { spot = with_of (with_of d.spot t (In j)) u (In j) }
 
--- all that is mixed from some, and in which a command is legal, is mixed from others
+-- all in the hull of some in which a command is legal is in the hull of others
 abbrev pub AreFound : List Configuration → Command → List Configuration → Type 0
-AreFound some command made = (c : Configuration) → IsMixed some c → IsTrue (is_legal c command) → IsMixed made c
+AreFound some command made = (c : Configuration) → IsInHull some c → IsTrue (is_legal c command) → IsInHull made c

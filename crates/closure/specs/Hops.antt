@@ -1,4 +1,4 @@
--- Which ways media may take in what is mixed from some configurations: each part of a hop and of a crossing is what one of these has, whichever that is.
+-- Which ways media may take in the hull of some configurations: each part of a hop and of a crossing is what one of these has, whichever that is.
 -- No public clause speaks of these words.
 use Rattle.std.specs.Prelude.{◌≡◌, ℕ, ◌==◌, Bool, false, not, ◌&&◌, ◌||◌, List, [], ◌∷◌}
 use Rattle.std.specs.List.{list_all, list_any, slice_index_or}
@@ -8,7 +8,7 @@ use Rattle.mg_model.specs.Configuration.{is_in, is_same, is_to}
 use Rattle.mg_model.specs.Paths.{passes_in, passes_out}
 use Rattle.configuration.specs.Config.{configuration_of}
 use Rattle.configuration.specs.Packed.{Words}
-use Rattle.closure.specs.declared.mixed_seen.Seen.{Seen}
+use Rattle.closure.specs.declared.hull_seen.Seen.{Seen}
 
 -- ---- what is seen of them
 

@@ -9,10 +9,10 @@ pub mod Elementwise
 pub mod Visits
 pub mod Walk
 pub mod Counting
-pub mod Mixtures
+pub mod Hulls
 pub mod Ways
 pub mod Naming
-pub mod Stayers
+pub mod Surviving
 pub mod Refusals
 pub mod Found
 pub mod Placing

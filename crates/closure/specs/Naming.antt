@@ -1,4 +1,4 @@
--- Which names are bound in configurations that are mixed from some. No public clause speaks of these words.
+-- Which names are bound in the hull of some configurations. No public clause speaks of these words.
 use Rattle.std.specs.Prelude.{◌≡◌, ℕ, ◌<◌, ◌-◌, nat_lt, Bool, true, false, not, if◌then◌else◌, List}
 use Rattle.mg_model.specs.declared.commands.Termination.{Termination}
 use Rattle.mg_model.specs.declared.commands.Termination.TheVariants.{Line, Ephemeral}
@@ -7,7 +7,7 @@ use Rattle.mg_model.specs.Configuration.{Configuration, IsWellFormed, is_free, i
 use Rattle.mg_model.specs.Entries.{Entry}
 use Rattle.mg_model.specs.Script.{Script}
 use Rattle.mg_model.specs.Updates.{with_at}
-use Rattle.closure.specs.Mixtures.{AreOthersKept, IsMixed}
+use Rattle.closure.specs.Hulls.{AreOthersKept, IsInHull}
 
 -- a value for which something holds or not, as for another one, or else that
 abbrev pub as_other : {A : Type 0} → Bool → Bool → A → A → A
@@ -48,7 +48,7 @@ is_number_bound c n = if nat_lt n 4 then is_context_bound c n else is_ephemeral_
 abbrev pub AreNamedBelow : ℕ → Configuration → Configuration → Type 0
 AreNamedBelow n one c = (m : ℕ) → m < n → is_number_bound c m ≡ is_number_bound one m
 
--- the obligations but that of joined lines hold of all that are mixed from some, well formed, and have the first few names bound as one has
+-- the obligations but that of joined lines hold of all in the hull of some, well formed, and have the first few names bound as one has
 abbrev pub AreNamedKept : Script → List Entry → List Configuration → ℕ → Configuration → Type 0
 AreNamedKept script entries some n one =
-    (c : Configuration) → IsMixed some c → AreNamedBelow n one c → IsWellFormed c → AreOthersKept script entries c
+    (c : Configuration) → IsInHull some c → AreNamedBelow n one c → IsWellFormed c → AreOthersKept script entries c

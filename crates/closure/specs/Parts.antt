@@ -1,4 +1,4 @@
--- Parts of a mixture: what is mixed has a value of a component that the component allows, or one that it doesn't. No public clause speaks of these words.
+-- Parts of a hull: what is in it has a value of a component that the component allows, or one that it doesn't. No public clause speaks of these words.
 use Rattle.std.specs.Prelude.{◌≡◌, ◌⊎◌, ◌↔◌, IsTrue, Bool, true, false, not, List, Contains}
 use Rattle.mg_model.specs.Configuration.{Configuration}
 use Rattle.configuration.specs.Config.{configuration_of}

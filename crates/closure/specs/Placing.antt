@@ -1,4 +1,4 @@
--- What a command makes of all configurations that are mixed from some, also where it adds, moves or subtracts. Each component goes its way by itself then, but
+-- What a command makes of all configurations in the hull of some, also where it adds, moves or subtracts. Each component goes its way by itself then, but
 -- where all of a context leave, and but for context names: whether a context still exists hangs on where all terminations stand. No public clause speaks of these words.
 use Rattle.std.specs.Prelude.{◌≡◌, ⊤, ℕ, ◌==◌, Bool, false, IsTrue, List, [], ◌∷◌, ◌++◌, Contains}
 use Rattle.mg_names.specs.declared.context_values.ContextValue.{ContextValue}
@@ -16,8 +16,8 @@ use Rattle.mg_model.specs.Steps.{executed, execution, refusals}
 use Rattle.mg_model.specs.Updates.{with_at}
 use Rattle.closure.specs.Findings.{AreCovered}
 use Rattle.closure.specs.Elementwise.{settled_at}
-use Rattle.closure.specs.Mixtures.{IsMixed}
-use Rattle.closure.specs.Stayers.{HaveStayers}
+use Rattle.closure.specs.Hulls.{IsInHull}
+use Rattle.closure.specs.Surviving.{DoSurvive}
 
 -- an ephemeral that a command adds is absent before
 abbrev pub AddsAbsent : Configuration → Command → Type 0
@@ -79,20 +79,20 @@ LeavesAlone some (SetTopology j t u topology) n = ⊤
 abbrev pub valued_at : ℕ → Bool → Configuration → Configuration
 valued_at n exists d = record d { context = with_at d.context n (value_of (d.context n) exists) }
 
--- what a command makes, where it is legal, of all that are mixed from some is mixed from others
+-- what a command makes, where it is legal, of the hull of some is in the hull of others
 abbrev pub AreLed : Script → List Configuration → Command → List Bool → List Configuration → Type 0
-AreLed script some command held made =
-    (c : Configuration) → IsMixed some c → IsWellFormed c → IsTrue (is_legal c command) → HaveStayers c (command ∷ []) held
-    → AddsAbsent c command × IsMixed made (effect script c command)
+AreLed script some command surviving made =
+    (c : Configuration) → IsInHull some c → IsWellFormed c → IsTrue (is_legal c command) → DoSurvive c (command ∷ []) surviving
+    → AddsAbsent c command × IsInHull made (effect script c command)
 
 -- of what a command leaves, one context name says whether its context exists
 abbrev pub IsSettledAt : Script → List Configuration → Command → List Bool → ℕ → List Configuration → List Configuration → Type 0
-IsSettledAt script some command held n before after =
-    (c x : Configuration) → IsMixed some c → IsWellFormed c → IsTrue (is_legal c command) → HaveStayers c (command ∷ []) held → AddsAbsent c command → x.spot ≡ (unsettled script command c).spot
-    → x.context n ≡ (unsettled script command c).context n → IsMixed before x → IsMixed after (settled_at x n)
+IsSettledAt script some command surviving n before after =
+    (c x : Configuration) → IsInHull some c → IsWellFormed c → IsTrue (is_legal c command) → DoSurvive c (command ∷ []) surviving → AddsAbsent c command → x.spot ≡ (unsettled script command c).spot
+    → x.context n ≡ (unsettled script command c).context n → IsInHull before x → IsInHull after (settled_at x n)
 
--- entries have what the rest of a request makes of all that are mixed from some, where somebody stays in each context that is held
-abbrev pub AreMixedRequestsCovered : Script → List Entry → List Configuration → List Bool → List Command → Type 0
-AreMixedRequestsCovered script entries some held request =
-    (c : Configuration) → IsMixed some c → IsWellFormed c → HaveStayers c request held → (place : ℕ)
+-- entries have what the rest of a request makes of all in the hull of some, where somebody stays in each surviving context
+abbrev pub AreHullRequestsCovered : Script → List Entry → List Configuration → List Bool → List Command → Type 0
+AreHullRequestsCovered script entries some surviving request =
+    (c : Configuration) → IsInHull some c → IsWellFormed c → DoSurvive c request surviving → (place : ℕ)
     → AreCovered entries (refusals script c place request ++ execution (executed script c request))

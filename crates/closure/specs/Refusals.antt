@@ -1,4 +1,4 @@
--- Commands that are refused in all that is mixed from some configurations, since their termination stands elsewhere. No public clause speaks of these words.
+-- Commands that are refused in the whole hull of some configurations, since their termination stands elsewhere. No public clause speaks of these words.
 use Rattle.std.specs.Prelude.{◌≡◌, Bool, true, false, List, Contains}
 use Rattle.mg_model.specs.declared.commands.Command.{Command}
 use Rattle.mg_model.specs.declared.commands.Command.TheVariants.{AddLine, AddEphemeral, ModifyLine, ModifyEphemeral, MoveLine, MoveEphemeral, Subtract, SubtractAll, SetTopology}

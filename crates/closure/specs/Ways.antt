@@ -3,7 +3,7 @@ use Rattle.std.specs.Prelude.{⊤, IsTrue, List}
 use Rattle.mg_model.specs.Script.{Script}
 use Rattle.mg_model.specs.Configuration.{Configuration}
 use Rattle.mg_model.specs.Entries.{Entry, Component}
-use Rattle.closure.specs.Mixtures.{IsBlockKept}
+use Rattle.closure.specs.Hulls.{IsBlockKept}
 use Rattle.closure.specs.Walk.{BlockIsPassed}
 use Rattle.closure.specs.declared.way.Way.{Way}
 use Rattle.closure.specs.declared.way.Way.TheVariants as way

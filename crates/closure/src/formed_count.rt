@@ -7,7 +7,7 @@ ghost use Rattle.mg_model.specs.Script.{Script as Table};
 ghost use Rattle.mg_model.specs.declared.components.Spot.{Spot as Place};
 ghost use Rattle.configuration.specs.Config.{configuration_of};
 ghost use Rattle.entry_table.specs.Shown.{shown, shown_all};
-ghost use Rattle.closure.specs.Counting.{AreAllCounted, IsCutFree, IsModeFree, KeepsForm, NoneGivesPlace};
+ghost use Rattle.closure.specs.Counting.{AreAllCounted, IsCutFree, IsModeFree, KeepsWellformedness, NoneGivesPlace};
 
 use configuration::config::Config;
 use configuration::spots;
@@ -85,8 +85,8 @@ fn stay_together(
 
 /// Whether what the rest of some components make of a configuration is well formed with each value of a component or with none. In the order of a certificate
 /// places come before what hangs on them.
-fn keeps_form(rest: &[Component], config: &Config, component: &Component) -> bool
-    ensures { IsTrue result → KeepsForm (shown_all rest.now) (configuration_of config.now) (shown component.now) }
+fn keeps_wellformedness(rest: &[Component], config: &Config, component: &Component) -> bool
+    ensures { IsTrue result → KeepsWellformedness (shown_all rest.now) (configuration_of config.now) (shown component.now) }
 {
     match component {
         Component::Events(_, _) => true,
@@ -106,7 +106,7 @@ pub(crate) fn count_formed(components: &[Component], config: &Config) -> u64
     let Some((first, rest)) = components.split_first() else {
         return u64::from(is_well_formed(config));
     };
-    if first.count() > 0 && keeps_form(rest, config, first) {
+    if first.count() > 0 && keeps_wellformedness(rest, config, first) {
         let mut chosen = *config;
         first.choose(0, &mut chosen);
         return count_formed(rest, &chosen) * first.count() as u64;

@@ -6,15 +6,15 @@ ghost use Rattle.mg_model.specs.Obligations.{EndedIsCleared, NamesAreLive};
 ghost use Rattle.mg_model.specs.Steps.{bound_names};
 ghost use Rattle.configuration.specs.Config.{configuration_of};
 ghost use Rattle.entry_table.specs.Shown.{shown_all};
-ghost use Rattle.closure.specs.Mixtures.{AreAlike, AreOfState, IsBlockKept, IsBlockMarked};
+ghost use Rattle.closure.specs.Hulls.{AreAlike, AreOfState, IsBlockKept, IsBlockMarked};
 ghost use Rattle.closure.specs.Naming.{AreNamedKept};
 
-use crate::block_mixture::mixture_of;
+use crate::block_hull::hull_of;
 use crate::looks::Looks;
-use crate::mixed_media::are_joined_marked;
-use crate::mixed_steps::are_steps_covered;
-use crate::mixture::Mixture;
-use crate::named_mixture::{named_each, named_unlike, with_name_of};
+use crate::hull_media::are_joined_marked;
+use crate::hull_steps::are_steps_covered;
+use crate::hull::Hull;
+use crate::named_hull::{named_each, named_unlike, with_name_of};
 use crate::obligations::{created_are_unbound, ended_is_cleared, names_are_live};
 use crate::requests::have_same_names;
 use configuration::config::Config;
@@ -30,10 +30,10 @@ fn is_same_link(one: LinkPhase, other: LinkPhase) -> bool
 }
 
 /// Whether some configurations are of one state, have one link and the same names bound.
-fn are_alike(mixture: &Mixture, one: &Config) -> bool
-    ensures { IsTrue result → AreAlike (map configuration_of mixture.now) (configuration_of one.now) }
+fn are_alike(hull: &Hull, one: &Config) -> bool
+    ensures { IsTrue result → AreAlike (map configuration_of hull.now) (configuration_of one.now) }
 {
-    for config in mixture.as_slice() {
+    for config in hull.as_slice() {
         if config.state() != one.state() {
             return false;
         }
@@ -48,10 +48,10 @@ fn are_alike(mixture: &Mixture, one: &Config) -> bool
 }
 
 /// Whether each of some configurations is cleared where it has ended.
-fn are_cleared(script: &Script, mixture: &Mixture) -> bool
-    ensures { IsTrue result → (d : Configuration) → Contains (map configuration_of mixture.now) d → EndedIsCleared script.now d }
+fn are_cleared(script: &Script, hull: &Hull) -> bool
+    ensures { IsTrue result → (d : Configuration) → Contains (map configuration_of hull.now) d → EndedIsCleared script.now d }
 {
-    for config in mixture.as_slice() {
+    for config in hull.as_slice() {
         if !ended_is_cleared(script, config) {
             return false;
         }
@@ -60,10 +60,10 @@ fn are_cleared(script: &Script, mixture: &Mixture) -> bool
 }
 
 /// Whether the names of each of some configurations stand for what exists, where they have to.
-fn are_live(mixture: &Mixture) -> bool
-    ensures { IsTrue result → (d : Configuration) → Contains (map configuration_of mixture.now) d → NamesAreLive d }
+fn are_live(hull: &Hull) -> bool
+    ensures { IsTrue result → (d : Configuration) → Contains (map configuration_of hull.now) d → NamesAreLive d }
 {
-    for config in mixture.as_slice() {
+    for config in hull.as_slice() {
         if !names_are_live(config) {
             return false;
         }
@@ -74,20 +74,20 @@ fn are_live(mixture: &Mixture) -> bool
 /// To give a configuration the names of another, and to ask it for obligations, takes so many looks.
 const LOOKS_A_NAMED: u64 = 10;
 
-/// Whether all obligations but that of joined lines hold of all that are mixed from some configurations and have the names bound that one has.
-fn is_mixture_kept(
+/// Whether all obligations but that of joined lines hold of all in the hull of some configurations and have the names bound that one has.
+fn is_hull_kept(
     script: &Script,
     cert: &Cert,
-    mixture: &Mixture,
+    hull: &Hull,
     one: &Config,
     looks: &mut Looks,
 ) -> bool
-    ensures { IsTrue result → AreNamedKept script.now cert.now (map configuration_of mixture.now) 8 (configuration_of one.now) }
+    ensures { IsTrue result → AreNamedKept script.now cert.now (map configuration_of hull.now) 8 (configuration_of one.now) }
 {
-    if !looks.take(LOOKS_A_NAMED, mixture.as_slice().len()) {
+    if !looks.take(LOOKS_A_NAMED, hull.as_slice().len()) {
         return false;
     }
-    let Ok(named) = named_each(mixture, one) else {
+    let Ok(named) = named_each(hull, one) else {
         return false;
     };
     if !are_alike(&named, one) {
@@ -105,32 +105,32 @@ fn is_mixture_kept(
     are_steps_covered(script, cert, &named, one, looks)
 }
 
-/// Of fewer numbers no mixture is asked: each step is looked for in the entries of a state, of which there may be as many, and one by one a number's step is
+/// Of fewer numbers no hull is asked: each step is looked for in the entries of a state, of which there may be as many, and one by one a number's step is
 /// looked for in little more than one.
-pub(crate) const NUMBERS_A_MIXTURE: u64 = 256;
+pub(crate) const NUMBERS_A_HULL: u64 = 256;
 
 /// The same of all that have the first few of the eight names bound that one has, whatever the others are. It fails too where so many looks aren't enough.
 fn are_named_kept(
     script: &Script,
     cert: &Cert,
-    mixture: &Mixture,
+    hull: &Hull,
     number: usize,
     one: &Config,
     looks: &mut Looks,
 ) -> bool
-    ensures { IsTrue result → AreNamedKept script.now cert.now (map configuration_of mixture.now) number (configuration_of one.now) }
+    ensures { IsTrue result → AreNamedKept script.now cert.now (map configuration_of hull.now) number (configuration_of one.now) }
 {
     if number >= 8 {
-        return is_mixture_kept(script, cert, mixture, one, looks);
+        return is_hull_kept(script, cert, hull, one, looks);
     }
-    if !are_named_kept(script, cert, mixture, number + 1, one, looks) {
+    if !are_named_kept(script, cert, hull, number + 1, one, looks) {
         return false;
     }
-    let Some(unlike) = named_unlike(mixture, number, one) else {
+    let Some(unlike) = named_unlike(hull, number, one) else {
         return true;
     };
     let other = with_name_of(one, number, &unlike);
-    are_named_kept(script, cert, mixture, number + 1, &other, looks)
+    are_named_kept(script, cert, hull, number + 1, &other, looks)
 }
 
 /// Whether it is known that all obligations but that of joined lines hold of all points that some components make of a configuration, where so many looks may be
@@ -144,21 +144,21 @@ pub(crate) fn is_block_kept(
 ) -> bool
     ensures { IsTrue result → IsBlockKept script.now cert.now (shown_all components.now) (configuration_of config.now) }
 {
-    let Ok(mixture) = mixture_of(components, config) else {
+    let Ok(hull) = hull_of(components, config) else {
         return false;
     };
-    let Some(one) = mixture.as_slice().first() else {
+    let Some(one) = hull.as_slice().first() else {
         return false;
     };
-    are_named_kept(script, cert, &mixture, 0, one, looks)
+    are_named_kept(script, cert, &hull, 0, one, looks)
 }
 
 /// Whether some configurations are of one state.
-fn are_of_state(mixture: &Mixture, one: &Config) -> bool
-    ensures { IsTrue result → AreOfState (map configuration_of mixture.now) (configuration_of one.now).state }
+fn are_of_state(hull: &Hull, one: &Config) -> bool
+    ensures { IsTrue result → AreOfState (map configuration_of hull.now) (configuration_of one.now).state }
 {
     let state = one.state();
-    for config in mixture.as_slice() {
+    for config in hull.as_slice() {
         if config.state() != state {
             return false;
         }
@@ -170,14 +170,14 @@ fn are_of_state(mixture: &Mixture, one: &Config) -> bool
 pub(crate) fn is_block_marked(script: &Script, components: &[Component], config: &Config) -> bool
     ensures { IsTrue result → IsBlockMarked script.now (shown_all components.now) (configuration_of config.now) }
 {
-    let Ok(mixture) = mixture_of(components, config) else {
+    let Ok(hull) = hull_of(components, config) else {
         return false;
     };
-    let Some(one) = mixture.as_slice().first() else {
+    let Some(one) = hull.as_slice().first() else {
         return false;
     };
-    if !are_of_state(&mixture, one) {
+    if !are_of_state(&hull, one) {
         return false;
     }
-    are_joined_marked(script, &mixture, one)
+    are_joined_marked(script, &hull, one)
 }

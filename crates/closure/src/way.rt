@@ -4,11 +4,11 @@ ghost use Rattle.std.specs.Prelude.{◌<◌, ◌^◌, IsTrue};
 ghost use Rattle.mg_model.specs.Entries.{size_of};
 ghost use Rattle.configuration.specs.Config.{configuration_of};
 ghost use Rattle.entry_table.specs.Shown.{shown_all};
-ghost use Rattle.closure.specs.Mixtures.{IsBlockKept};
+ghost use Rattle.closure.specs.Hulls.{IsBlockKept};
 ghost use Rattle.closure.specs.Ways.{IsWay};
 
 use crate::formed_count::count_formed;
-use crate::kept_block::{NUMBERS_A_MIXTURE, is_block_kept, is_block_marked};
+use crate::kept_block::{NUMBERS_A_HULL, is_block_kept, is_block_marked};
 use crate::looks::Looks;
 use configuration::config::Config;
 use entry_table::{Cert, Component, product_of};
@@ -48,7 +48,7 @@ pub(crate) fn way_of(
     if is_of_links(components) {
         return Way::Split;
     }
-    if looks.are_few() || product_of(components) < NUMBERS_A_MIXTURE {
+    if looks.are_few() || product_of(components) < NUMBERS_A_HULL {
         return Way::Walked(false);
     }
     let lent = looks.lend(script, components, config);

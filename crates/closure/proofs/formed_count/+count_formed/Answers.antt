@@ -13,10 +13,10 @@ returns-in_default-clause-counted t c script entries =
     counted_here script entries c.args.components.now (configuration_of c.args.config.now) c.is_well_formed.result c.from.result c.in_default.ensures.cases
     c.from.ensures c.is_well_formed.ensures
 
-pub returns-then-keeps_form-clause-counted : goal.returns-then-keeps_form-clause-counted
-returns-then-keeps_form-clause-counted t c script entries =
+pub returns-then-keeps_wellformedness-clause-counted : goal.returns-then-keeps_wellformedness-clause-counted
+returns-then-keeps_wellformedness-clause-counted t c script entries =
     free_counted script entries c.args.components.now c.in-Some.first.now c.in-Some.rest.now c.in-Some.ensures.cases.0 (configuration_of c.args.config.now)
-    c.count-then-keeps_form.result c.count-then-keeps_form.ensures c.count_formed.result (c.keeps_form.ensures c.if-keeps_form.true)
+    c.count-then-keeps_wellformedness.result c.count-then-keeps_wellformedness.ensures c.count_formed.result (c.keeps_wellformedness.ensures c.if-keeps_wellformedness.true)
     (subst (λ (d : Configuration). AreAllCounted (shown_all c.in-Some.rest.now) d script entries c.count_formed.result) c.choose.ensures
     (c.count_formed.ensures.counted script entries))
 

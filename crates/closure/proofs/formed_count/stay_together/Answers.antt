@@ -3,7 +3,7 @@ use Rattle.std.proofs.Common.{◌∙◌, sym, ap}
 use Rattle.mg_model.specs.declared.components.Spot.{Spot}
 use Rattle.mg_model.specs.Paths.{is_shared}
 use Rattle.configuration.specs.Config.{configuration_of}
-use Rattle.closure.proofs.MixtureHops.{shared_in}
+use Rattle.closure.proofs.HullPaths.{shared_in}
 use Rattle.closure.proofs.formed_count.stay_together.Goals as goal
 
 pub returns : goal.returns

@@ -3,7 +3,7 @@ use Rattle.std.proofs.Common.{◌≡◌, ◌∙◌, map, sym, Contains}
 use Rattle.mg_model.specs.Configuration.{Configuration}
 use Rattle.mg_model.specs.Steps.{bound_names}
 use Rattle.configuration.specs.Config.{configuration_of}
-use Rattle.closure.proofs.MixtureLemmas.{each_and_one, each_of_all}
+use Rattle.closure.proofs.HullLemmas.{each_and_one, each_of_all}
 use Rattle.closure.proofs.kept_block.are_alike.Goals as goal
 
 pub loop-config-preserved : goal.loop-config-preserved
@@ -19,10 +19,10 @@ loop-config-preserved c =
 
 pub returns : goal.returns
 returns c holds =
-    let each : (d : Configuration) → Contains (map configuration_of c.args.mixture.now) d → (d.state ≡ (configuration_of c.args.one.now).state)
+    let each : (d : Configuration) → Contains (map configuration_of c.args.hull.now) d → (d.state ≡ (configuration_of c.args.one.now).state)
     × ((d.link ≡ (configuration_of c.args.one.now).link) × (bound_names d ≡ bound_names (configuration_of c.args.one.now))) =
     each_of_all (λ (d : Configuration). (d.state ≡ (configuration_of c.args.one.now).state)
     × ((d.link ≡ (configuration_of c.args.one.now).link) × (bound_names d ≡ bound_names (configuration_of c.args.one.now))))
-    c.as_slice-config-items.result.now c.args.mixture.now c.loop-config.config-index c.as_slice-config-items.ensures c.loop-config-test.false
+    c.as_slice-config-items.result.now c.args.hull.now c.loop-config.config-index c.as_slice-config-items.ensures c.loop-config-test.false
     c.loop-config.invariant in
     record { state = λ d has. (each d has).0; link = λ d has. (each d has).1.0; names = λ d has. (each d has).1.1 }

@@ -1,4 +1,4 @@
--- All points are mixed from these, whatever names are bound.
+-- All points are in their hull, whatever names are bound.
 use Rattle.std.proofs.Common.{arith}
 use Rattle.closure.proofs.kept_block.is_block_kept.Goals as goal
 

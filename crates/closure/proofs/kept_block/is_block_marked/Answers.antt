@@ -1,4 +1,4 @@
--- All points are mixed from these.
+-- All points are in their hull.
 use Rattle.closure.proofs.kept_block.is_block_marked.Goals as goal
 
 pub returns : goal.returns

@@ -6,7 +6,7 @@ use Rattle.mg_model.specs.Steps.{bound_names}
 use Rattle.mg_model.proofs.Built.{same_names}
 use Rattle.configuration.specs.Config.{configuration_of}
 use Rattle.configuration.proofs.SlotLemmas.{absent_past_eight}
-use Rattle.closure.proofs.MixtureDuties.{same_functions}
+use Rattle.closure.proofs.HullDuties.{same_functions}
 use Rattle.closure.proofs.requests.have_same_names.Goals as goal
 
 pub returns : goal.returns

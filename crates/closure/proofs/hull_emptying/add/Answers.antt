@@ -1,0 +1,10 @@
+-- It is there, or was added.
+use Rattle.configuration.specs.Config.{configuration_of}
+use Rattle.closure.proofs.HullLemmas.{added_there, still_there}
+use Rattle.closure.proofs.hull_emptying.add.Goals as goal
+
+pub returns-clause-kept : goal.returns-clause-kept
+returns-clause-kept c = still_there configuration_of c.args.hull.now c.push.new.self c.args.config.now c.in_ok-push.ensures
+
+pub returns-clause-there : goal.returns-clause-there
+returns-clause-there c = added_there configuration_of c.args.hull.now c.push.new.self c.args.config.now c.in_ok-push.ensures
