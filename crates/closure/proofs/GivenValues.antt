@@ -25,6 +25,11 @@ value_at P make (v ∷ values) (suc place) within each =
 
 -- ---- a setting that is given a value
 
+-- in both, where they are one
+pub alike : {A : Type 0} (here : Bool) (v x y : A) → x ≡ y → (if here then v else x) ≡ (if here then v else y)
+alike true v x y same = refl
+alike false v x y same = same
+
 -- in both configurations
 pub both_given : {A : Type 0} (Q : A → Type 0) (here : Bool) (v x y : A) → (x ≡ y) ⊎ Q x
     → ((if here then v else x) ≡ (if here then v else y)) ⊎ Q (if here then v else x)
@@ -36,6 +41,15 @@ pub given_here : {A : Type 0} (Q : A → Type 0) (here : Bool) (v w x y : A) →
     → ((if here then v else x) ≡ (if here then w else y)) ⊎ Q (if here then v else x)
 given_here Q true v w x y free was = inr (free refl)
 given_here Q false v w x y free was = was
+
+-- one of two is, and any is as good
+pub one_given : {A : Type 0} (Q : Type 0) (here : Bool) (v x y : A) → (here ≡ true → Q) → (x ≡ y) ⊎ Q → ((if here then v else x) ≡ y) ⊎ Q
+one_given Q true v x y free was = inr (free refl)
+one_given Q false v x y free was = was
+
+pub other_given : {A : Type 0} (Q : Type 0) (here : Bool) (v x y : A) → (here ≡ true → Q) → (x ≡ y) ⊎ Q → (x ≡ (if here then v else y)) ⊎ Q
+other_given Q true v x y free was = inr (free refl)
+other_given Q false v x y free was = was
 
 pub same_termination : (t u : Termination) → is_same t u ≡ true → t ≡ u
 same_termination (Line i) (Line j) same = ap (λ (n : ℕ). Line n) (grind (arith, same))

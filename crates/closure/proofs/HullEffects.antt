@@ -1,6 +1,5 @@
 -- What a command makes, but for the question which contexts still exist, of all in the hull of some configurations.
-use Rattle.std.proofs.Common.{◌≡◌, List, map, sym, subst, Result, Ok, Err}
-use Rattle.std.specs.Prelude.{IfOk}
+use Rattle.std.proofs.Common.{◌≡◌, List, map, sym, subst}
 use Rattle.mg_names.specs.declared.context_values.ContextValue.TheVariants.{Live}
 use Rattle.mg_model.specs.declared.commands.Command.{Command}
 use Rattle.mg_model.specs.declared.commands.Command.TheVariants.{AddLine, AddEphemeral, ModifyLine, ModifyEphemeral, MoveLine, MoveEphemeral, Subtract, SubtractAll, SetTopology}
@@ -10,8 +9,6 @@ use Rattle.mg_model.specs.Script.{Script}
 use Rattle.mg_model.specs.Configuration.{Configuration, is_same, with_of}
 use Rattle.mg_model.specs.Effects.{cuts_backward, cuts_forward, with_ephemeral_options, with_line_options, with_pair, without_cuts_of}
 use Rattle.mg_model.specs.Updates.{with_at}
-use Rattle.configuration.specs.Config.{configuration_of}
-use Rattle.configuration.specs.Packed.{Words}
 use Rattle.closure.specs.Hulls.{IsInHull}
 use Rattle.closure.specs.Emptying.{AreMade, GoesByComponent}
 use Rattle.closure.specs.Placing.{unsettled}
@@ -55,9 +52,7 @@ hull_unsettled script some c (SetTopology j t u topology) goes inside =
     (then_by (λ d. record d { cut = with_pair d.cut t u (cuts_forward topology) }) (λ d. record d { cut = with_pair d.cut u t (cuts_backward topology) })
     (pair_by t u (cuts_forward topology)) (pair_by u t (cuts_backward topology))) inside
 
--- the same, if there was room
-pub each_made : {E : Type 0} (script : Script) (some : List Configuration) (command : Command) → GoesByComponent command → (made : Result (List Words) E)
-    → IfOk made (λ m. map configuration_of m ≡ map (unsettled script command) some) → IfOk made (λ m. AreMade script some command (map configuration_of m))
-each_made script some command goes (Ok m) is =
-    λ c inside. subst (λ (ds : List Configuration). IsInHull ds (unsettled script command c)) (sym is) (hull_unsettled script some c command goes inside)
-each_made script some command goes (Err e) is = is
+pub each_made : (script : Script) (some : List Configuration) (command : Command) → GoesByComponent command → (made : List Configuration)
+    → made ≡ map (unsettled script command) some → AreMade script some command made
+each_made script some command goes made is c inside =
+    subst (λ (ds : List Configuration). IsInHull ds (unsettled script command c)) (sym is) (hull_unsettled script some c command goes inside)

@@ -315,10 +315,3 @@ from_parts script words j sure left each too first second third gone is kept has
     (more_in_hull first third (λ d has. still d (kept d has)) x
     (subst (λ (ds : List Configuration). IsInHull ds x) (sym is) (emptied_in_hull script words j sure each c inside)))
     (configuration_of left) too (still (unsettled script (SubtractAll j) (configuration_of left)) has_left) (configuration_of gone) lost has_gone
-
--- ---- one that is there
-
-pub same_words : (one other : Words) → one.lines ≡ other.lines → one.ephemerals ≡ other.ephemerals → one.cuts ≡ other.cuts
-    → configuration_of one ≡ configuration_of other
-same_words one other lines ephemerals cuts =
-    ap configuration_of (λ p. record { lines = lines p; ephemerals = ephemerals p; cuts = cuts p })

@@ -1,11 +1,13 @@
--- What is known of each of some configurations is known of all in their hull: what an entry allows, which names are bound, and
--- what comes of each component by itself.
-use Rattle.std.proofs.Common.{◌≡◌, ◌∙◌, ℕ, zero, suc, ◌<◌, ◌==◌, Bool, true, false, if◌then◌else◌, List, [], ◌∷◌, map, length, take, ◌++◌, ◌+◌, ◌≤◌, add-one, refl, sym, ap, subst, arith, Contains, not}
-use Rattle.std.specs.List.{All, slice_index_or}
+-- What is known of each of some configurations is known of all in their hull: what an entry allows, which names are bound, and what comes of each
+-- component by itself.
+use Rattle.std.proofs.Common.{◌≡◌, ◌∙◌, ℕ, zero, suc, ◌==◌, Bool, true, false, if◌then◌else◌, List, [], ◌∷◌, map, ◌++◌, ◌+◌, refl, sym, ap, subst, arith, Contains, not}
+use Rattle.std.specs.Borrow.{Bor}
+use Rattle.std.specs.Fn.{FnReturnsAt, Shared}
+use Rattle.std.specs.List.{All, AllZip}
 use Rattle.std.proofs.Math.Path.{fun_ext}
 use Rattle.std.proofs.lemmas.List.{map-append}
 use Rattle.std.proofs.lemmas.Bool.{eqb-true}
-use Rattle.std.proofs.lemmas.List.Elements.{All-nil, All-cons, All-head, All-tail, Contains-append_left, Contains-append_right}
+use Rattle.std.proofs.lemmas.List.Elements.{All-nil, All-cons, All-contains, All-head, All-tail, Contains-append_left, Contains-append_right}
 use Rattle.mg_names.specs.declared.context_values.ContextValue.{ContextValue}
 use Rattle.mg_model.specs.declared.commands.Termination.{Termination}
 use Rattle.mg_model.specs.declared.commands.Termination.TheVariants.{Ephemeral}
@@ -18,7 +20,6 @@ use Rattle.mg_model.proofs.Built.{same_names}
 use Rattle.mg_model.proofs.Terminations.{is_same_is}
 use Rattle.configuration.specs.Config.{configuration_of}
 use Rattle.configuration.specs.Packed.{Words}
-use Rattle.closure.proofs.ListsSoFar.{all_of_few, few_and_one}
 use Rattle.closure.specs.Hulls.{HasOne, IsInHull, AreAlike}
 
 pub contains_map : {X Y : Type 0} (f : X → Y) (xs : List X) (x : X) → Contains xs x → Contains (map f xs) (f x)
@@ -123,55 +124,45 @@ added_there {X} {Y} f xs ys x is =
     subst (λ (zs : List X). Contains (map f zs) (f x)) (sym is)
     (contains_map f (xs ++ x ∷ []) x (Contains-append_right xs (x ∷ []) x (0, omega arith, refl)))
 
--- ---- one of some configurations after another
+-- ---- what a function gives of some configurations
 
-take_more : {X : Type 0} (xs : List X) (i : ℕ) (x : X) → i < length xs → slice_index_or xs i x ≡ x → take (suc i) xs ≡ take i xs ++ x ∷ []
-take_more [] i x lt is = absurd (omega (arith, lt))
-take_more {X} (y ∷ xs) zero x lt is = ap (λ (z : X). z ∷ []) is
-take_more {X} (y ∷ xs) (suc i) x lt is = ap (λ (zs : List X). y ∷ zs) (take_more xs i x (omega (arith, lt)) is)
+-- of each it gives what another one makes
+pub each_given : {F : Type 0} (g : Shared F (Bor Words × Unit {0}) Words) (given : F) (f : Configuration → Configuration) (words made : List Words)
+    → AllZip (FnReturnsAt g given) words made → ((x : Bor Words) (y : Words) → g.post given (x, tt) y → configuration_of y ≡ f (configuration_of x.now))
+    → map configuration_of made ≡ map f (map configuration_of words)
+each_given g given f [] [] all makes = refl
+each_given g given f [] (y ∷ made) all makes = absurd all
+each_given g given f (x ∷ words) [] all makes = absurd all
+each_given g given f (x ∷ words) (y ∷ made) all makes =
+    ap (λ (d : Configuration). d ∷ map configuration_of made)
+    (subst (λ (w : Words). configuration_of y ≡ f (configuration_of w)) all.0.shows (makes all.0.shown y all.0.says.met))
+    ∙ ap (λ (ds : List Configuration). f (configuration_of x) ∷ ds) (each_given g given f words made all.1 makes)
 
-config_at : (items : List Words) (i : ℕ) (x : Words) → i < length items → slice_index_or items i x ≡ x
-    → slice_index_or (map configuration_of items) i (configuration_of x) ≡ configuration_of x
-config_at [] i x lt is = absurd (omega (arith, lt))
-config_at (y ∷ items) zero x lt is = ap configuration_of is
-config_at (y ∷ items) (suc i) x lt is = config_at items i x (omega (arith, lt)) is
+-- one of what it gives is led to from each
+pub each_led : {F : Type 0} (g : Shared F (Bor Words × Unit {0}) Words) (given : F) (R : Configuration → Configuration → Type 0) (words made : List Words)
+    → AllZip (FnReturnsAt g given) words made → ((x : Bor Words) (y : Words) → g.post given (x, tt) y → R (configuration_of x.now) (configuration_of y))
+    → (d : Configuration) → Contains (map configuration_of words) d → (e : Configuration) × (Contains (map configuration_of made) e × R d e)
+each_led g given R [] made all leads d has = absurd (omega (arith, has.1))
+each_led g given R (x ∷ words) [] all leads d has = absurd all
+each_led g given R (x ∷ words) (y ∷ made) all leads d (zero, lt, is) = (
+  configuration_of y,
+  (
+    (0, omega arith, refl),
+    subst (λ (c : Configuration). R c (configuration_of y)) is
+        (subst (λ (w : Words). R (configuration_of w) (configuration_of y)) all.0.shows (leads all.0.shown y all.0.says.met)),
+  ),
+)
+each_led g given R (x ∷ words) (y ∷ made) all leads d (suc k, lt, is) =
+    let more = each_led g given R words made all.1 leads d (k, omega (arith, lt), is) in
+    (more.0, ((suc more.1.0.0, omega (arith, more.1.0.1), more.1.0.2), more.1.1))
 
-as_many_configs : (items : List Words) → length (map configuration_of items) ≡ length items
-as_many_configs [] = refl
-as_many_configs (x ∷ items) = ap suc (as_many_configs items)
-
--- what holds of each so far holds of one more, and in the end of all
-pub each_and_one : (P : Configuration → Type 0) (items : List Words) (i : ℕ) (x : Words) → i < length items → x ≡ slice_index_or items i x
-    → ((d : Configuration) → Contains (take i (map configuration_of items)) d → P d) → P (configuration_of x)
-    → (d : Configuration) → Contains (take (i + 1) (map configuration_of items)) d → P d
-each_and_one P items i x lt is = few_and_one P (map configuration_of items) i (configuration_of x) (config_at items i x lt (sym is))
-    (omega (arith, lt, as_many_configs items))
-
-pub each_of_all : (P : Configuration → Type 0) (items hull : List Words) (i : ℕ) → items ≡ hull → length items ≤ i
-    → ((d : Configuration) → Contains (take i (map configuration_of items)) d → P d) → (d : Configuration) → Contains (map configuration_of hull) d → P d
-each_of_all P items hull i same past so_far =
-    subst (λ (words : List Words). (d : Configuration) → Contains (map configuration_of words) d → P d) same
-    (subst (λ (ds : List Configuration). (d : Configuration) → Contains ds d → P d)
-    (all_of_few (map configuration_of items) i (omega (arith, past, as_many_configs items))) so_far)
-
--- the same of what is made of each
-pub one_more_made : (f : Configuration → Configuration) (items made new : List Words) (i : ℕ) (x y : Words) → i < length items → x ≡ slice_index_or items i x
-    → new ≡ made ++ y ∷ [] → configuration_of y ≡ f (configuration_of x)
-    → map configuration_of made ≡ map f (take i (map configuration_of items)) → map configuration_of new ≡ map f (take (i + 1) (map configuration_of items))
-one_more_made f items made new i x y lt is added makes so_far =
-    let configs : List Configuration = map configuration_of items in
-    ap (map configuration_of) added ∙ map-append configuration_of made (y ∷ [])
-    ∙ ap (λ (ds : List Configuration). ds ++ configuration_of y ∷ []) so_far
-    ∙ ap (λ (d : Configuration). map f (take i configs) ++ d ∷ []) makes
-    ∙ sym (map-append f (take i configs) (configuration_of x ∷ []))
-    ∙ ap (map f) (sym (take_more configs i (configuration_of x) (omega (arith, lt, as_many_configs items)) (config_at items i x lt (sym is))))
-    ∙ ap (λ (n : ℕ). map f (take n configs)) (sym (add-one i))
-
-pub all_made : (f : Configuration → Configuration) (items hull made : List Words) (i : ℕ) → items ≡ hull → length items ≤ i
-    → map configuration_of made ≡ map f (take i (map configuration_of items)) → map configuration_of made ≡ map f (map configuration_of hull)
-all_made f items hull made i same past so_far =
-    so_far ∙ ap (map f) (all_of_few (map configuration_of items) i (omega (arith, past, as_many_configs items)))
-    ∙ ap (λ (words : List Words). map f (map configuration_of words)) same
+-- what holds where a test has an answer holds of each of which it has that
+pub each_passed : {F : Type 0} (g : Shared F (Bor Words × Unit {0}) Bool) (test : F) (b : Bool) (P : Configuration → Type 0) (words : List Words)
+    → All (λ (w : Words). FnReturnsAt g test w b) words → ((x : Bor Words) → g.post test (x, tt) b → P (configuration_of x.now))
+    → (d : Configuration) → Contains (map configuration_of words) d → P d
+each_passed g test b P words all holds = each_of_words words P (λ w has.
+    let one = All-contains (λ (v : Words). FnReturnsAt g test v b) words w all has in
+    subst (λ (v : Words). P (configuration_of v)) one.shows (holds one.shown one.says.met))
 
 -- ---- an entry that has all
 

@@ -1,6 +1,7 @@
 -- Which contexts exist after a command, in the whole hull of some configurations.
-use Rattle.std.proofs.Common.{◌≡◌, ◌∙◌, ℕ, zero, suc, ◌≤◌, ◌==◌, ◌||◌, Bool, true, false, if◌then◌else◌, List, [], ◌∷◌, map, refl, sym, ap, subst, arith, IsTrue, Contains, not, Result, Ok, Err}
+use Rattle.std.proofs.Common.{◌≡◌, ◌∙◌, ℕ, zero, suc, ◌≤◌, ◌==◌, ◌||◌, Bool, true, false, if◌then◌else◌, List, [], ◌∷◌, map, refl, sym, ap, subst, arith, IsTrue, Contains, not, Result}
 use Rattle.std.specs.Prelude.{IfOk}
+use Rattle.std.proofs.lemmas.Result.{IfOk-weaker}
 use Rattle.std.specs.List.{list_any}
 use Rattle.std.proofs.Math.Path.{fun_ext}
 use Rattle.mg_names.specs.declared.context_values.ContextValue.{ContextValue}
@@ -241,23 +242,19 @@ alone_settled script some made command surviving n alone c x inside formed legal
 
 -- ---- what was made, if there was room
 
-pub where_ok : {A E : Type 0} (P Q : A → Type 0) → ((a : A) → P a → Q a) → (made : Result A E) → IfOk made P → IfOk made Q
-where_ok P Q each (Ok a) holds = each a holds
-where_ok P Q each (Err e) holds = holds
-
 pub all_valued : {E : Type 0} (some : List Configuration) (n : ℕ) (exists : Bool) → ((c : Configuration) → IsInHull some c → stands_in c.spot n ≡ exists)
     → (made : Result (List Words) E) → IfOk made (λ m. map configuration_of m ≡ map (valued_at n exists) some)
     → IfOk made (λ m. (c : Configuration) → IsInHull some c → IsInHull (map configuration_of m) (settled_at c n))
-all_valued some n exists stands =
-    where_ok (λ m. map configuration_of m ≡ map (valued_at n exists) some)
+all_valued some n exists stands made =
+    IfOk-weaker made (λ m. map configuration_of m ≡ map (valued_at n exists) some)
     (λ m. (c : Configuration) → IsInHull some c → IsInHull (map configuration_of m) (settled_at c n))
     (λ m is c inside. subst (λ (ds : List Configuration). IsInHull ds (settled_at c n)) (sym is) (valued_in_hull some n exists c inside (stands c inside)))
 
 pub all_settled : {E : Type 0} (some before : List Configuration) (command : Command) (surviving : List Bool) (n : ℕ) (made : Result (List Words) E)
     → IfOk made (λ m. (x : Configuration) → IsInHull before x → IsInHull (map configuration_of m) (settled_at x n))
     → IfOk made (λ m. (script : Script) → IsSettledAt script some command surviving n before (map configuration_of m))
-all_settled some before command surviving n =
-    where_ok (λ m. (x : Configuration) → IsInHull before x → IsInHull (map configuration_of m) (settled_at x n))
+all_settled some before command surviving n made =
+    IfOk-weaker made (λ m. (x : Configuration) → IsInHull before x → IsInHull (map configuration_of m) (settled_at x n))
     (λ m. (script : Script) → IsSettledAt script some command surviving n before (map configuration_of m))
     (λ m settles script c x inside formed legal survive absent spots names before_x. settles x before_x)
 

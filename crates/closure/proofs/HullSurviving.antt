@@ -1,6 +1,7 @@
 -- Who stays in a context as a request is executed, so that the context exists to its end.
 use Rattle.std.proofs.Common.{◌≡◌, ◌∙◌, ℕ, zero, suc, ◌==◌, ◌||◌, Bool, true, false, not, if◌then◌else◌, List, [], ◌∷◌, map, refl, sym, ap, subst, arith, IsTrue, Contains, Result, slice_index_or}
 use Rattle.std.specs.Prelude.{IfOk}
+use Rattle.std.proofs.lemmas.Result.{IfOk-weaker}
 use Rattle.std.specs.List.{All, list_any}
 use Rattle.std.proofs.lemmas.List.Elements.{All-nil, All-cons, All-head, All-tail}
 use Rattle.mg_names.specs.declared.context_values.ContextValue.{ContextValue}
@@ -23,7 +24,7 @@ use Rattle.closure.specs.Elementwise.{settled_at}
 use Rattle.closure.specs.Hulls.{IsInHull}
 use Rattle.closure.specs.Placing.{IsNowhere, IsSettledAt, unsettled, valued_at}
 use Rattle.closure.specs.Surviving.{Survives, DoSurvive, SparesAll, spares}
-use Rattle.closure.proofs.HullPlaces.{one_passes, valued_in_hull, where_ok}
+use Rattle.closure.proofs.HullPlaces.{one_passes, valued_in_hull}
 
 -- ---- a command
 
@@ -85,8 +86,8 @@ survivor_stands script c command n survives =
 pub surviving_settled : {E : Type 0} (some before : List Configuration) (command : Command) (surviving : List Bool) (n : ℕ) → slice_index_or surviving n false ≡ true
     → (made : Result (List Words) E) → IfOk made (λ m. map configuration_of m ≡ map (valued_at n true) before)
     → IfOk made (λ m. (script : Script) → IsSettledAt script some command surviving n before (map configuration_of m))
-surviving_settled some before command surviving n does_survive =
-    where_ok (λ m. map configuration_of m ≡ map (valued_at n true) before)
+surviving_settled some before command surviving n does_survive made =
+    IfOk-weaker made (λ m. map configuration_of m ≡ map (valued_at n true) before)
     (λ m. (script : Script) → IsSettledAt script some command surviving n before (map configuration_of m))
     (λ m is script c x inside formed legal survive absent spots names before_x.
     subst (λ (ds : List Configuration). IsInHull ds (settled_at x n)) (sym is)
@@ -113,11 +114,6 @@ survive_built c names commands surviving survive n is =
     (survives.0, (survives.1.0, (survives.1.1.0, built_all (λ (x : Command). IsTrue (spares x survives.0 n)) names commands survives.1.1.1)))
 
 -- ---- who stays in all of a hull
-
-pub all_from : {X : Type 0} (P : X → Type 0) (xs : List X) → ((x : X) → Contains xs x → P x) → All P xs
-all_from P [] each = All-nil P
-all_from P (y ∷ xs) each =
-    All-cons P y xs (each y (0, omega arith, refl)) (all_from P xs (λ x has. each x (suc has.0, omega (arith, has.1), has.2)))
 
 pub exists_live : (v : ContextValue) → is_live v ≡ true → v ≡ Live
 exists_live Live e = refl

@@ -34,4 +34,5 @@ pub mod NamedHulls
 pub mod HullPaths
 pub mod HullMedia
 pub mod HullParts
+pub mod Forms
 pub mod FormedCounts

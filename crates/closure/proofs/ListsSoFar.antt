@@ -1,5 +1,5 @@
 -- Components of a list that were looked at so far, and all of them.
-use Rattle.std.proofs.Common.{◌≡◌, ◌∙◌, ◌⊎◌, inl, inr, ℕ, zero, suc, ◌+◌, ◌<◌, ◌≤◌, ◌∷◌, [], List, length, take, refl, sym, ap, subst, arith, add-one, Contains}
+use Rattle.std.proofs.Common.{◌≡◌, ◌∙◌, ◌⊎◌, inl, inr, ℕ, zero, suc, ◌+◌, ◌<◌, ◌∷◌, [], List, length, take, refl, sym, ap, subst, arith, add-one, Contains}
 use Rattle.std.specs.List.{slice_index_or}
 use Rattle.mg_model.specs.Entries.{Component}
 use Rattle.entry_table.specs.declared.component.Component as declared
@@ -35,13 +35,6 @@ few_and_one P xs i x is within few one y has =
 pub none_of_few : {X : Type 0} (P : X → Type 0) (xs : List X) (y : X) → Contains (take 0 xs) y → P y
 none_of_few P [] y has = absurd (omega (arith, has.1))
 none_of_few P (x ∷ xs) y has = absurd (omega (arith, has.1))
-
--- the first few are all
-pub all_of_few : {X : Type 0} (xs : List X) (n : ℕ) → length xs ≤ n → take n xs ≡ xs
-all_of_few [] zero past = refl
-all_of_few [] (suc n) past = refl
-all_of_few (x ∷ xs) zero past = absurd (omega (arith, past))
-all_of_few {X = X} (x ∷ xs) (suc n) past = ap (λ (ys : List X). x ∷ ys) (all_of_few xs n (omega (arith, past)))
 
 -- what the code's component at a place shows is the component at that place
 pub shown_at : (items : List declared.Component) (i : ℕ) (x : declared.Component) → i < length items → slice_index_or items i x ≡ x

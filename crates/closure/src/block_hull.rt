@@ -6,7 +6,7 @@ ghost use Rattle.mg_model.specs.Configuration.{Configuration};
 ghost use Rattle.mg_model.specs.Entries.{choices_of, same_choice};
 ghost use Rattle.configuration.specs.Config.{configuration_of};
 ghost use Rattle.entry_table.specs.Shown.{shown, shown_all};
-ghost use Rattle.closure.specs.Hulls.{AreInHull, HaveEach, first_of};
+ghost use Rattle.closure.specs.Hulls.{AreInHull, first_of};
 
 use crate::hull::{Hull, TooMany};
 use configuration::config::Config;
@@ -37,21 +37,15 @@ fn push_each(hull: &mut Hull, component: &Component, first: &Config) -> Result<(
     Ok(())
 }
 
-/// That configuration, and it with each value of each component.
-fn each_of(components: &[Component], first: &Config) -> Result<Hull, TooMany>
-    ensures { IfOk result (λ hull. HaveEach (map configuration_of hull) (configuration_of first.now) (shown_all components.now)) }
-{
-    let mut hull = Hull::new();
-    hull.push(first)?;
-    for component in components {
-        push_each(&mut hull, component, first)?;
-    }
-    Ok(hull)
-}
-
 /// The hull of all that some components make of a configuration; nothing where there are too many.
 pub(crate) fn hull_of(components: &[Component], config: &Config) -> Result<Hull, TooMany>
     ensures { IfOk result (λ hull. AreInHull (map configuration_of hull) (shown_all components.now) (configuration_of config.now)) }
 {
-    each_of(components, &first_of(components, config))
+    let first = first_of(components, config);
+    let mut hull = Hull::new();
+    hull.push(&first)?;
+    for component in components {
+        push_each(&mut hull, component, &first)?;
+    }
+    Ok(hull)
 }

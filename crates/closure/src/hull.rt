@@ -31,7 +31,9 @@ impl Model for Hull {
 }
 
 impl Hull {
-    ghost use Rattle.std.specs.Prelude.{◌≡◌, ◌++◌, ◌∷◌, [], OnOk};
+    ghost use Rattle.std.specs.Fn.{FnReturnsAt};
+    ghost use Rattle.std.specs.List.{All, AllZip};
+    ghost use Rattle.std.specs.Prelude.{◌≡◌, ◌++◌, ◌∷◌, [], true, false, IsTrue, IfNone, IfOk, IfSome, OnOk, Contains};
 
     /// None yet.
     pub(crate) fn new() -> Hull
@@ -61,5 +63,44 @@ impl Hull {
         ensures { result.now ≡ self.now }
     {
         &self.configs[..self.count]
+    }
+
+    /// What a function gives of each of them, in their order.
+    pub(crate) fn map<F: Fn(&Config) -> Config>(&self, given: F) -> Result<Hull, TooMany>
+        requires { F.IsAlwaysCallable given }
+        ensures { IfOk result (λ m. AllZip (FnReturnsAt F.Fn given) self.now m) }
+    {
+        let mut made = Hull::new();
+        for config in self.as_slice() {
+            made.push(&given(config))?;
+        }
+        Ok(made)
+    }
+
+    /// Whether a test holds of each of them.
+    pub(crate) fn all<F: Fn(&Config) -> bool>(&self, test: F) -> bool
+        requires { F.IsAlwaysCallable test }
+        ensures { IsTrue result → All (λ config. FnReturnsAt F.Fn test config true) self.now }
+    {
+        for config in self.as_slice() {
+            if !test(config) {
+                return false;
+            }
+        }
+        true
+    }
+
+    /// The first of which a test holds.
+    pub(crate) fn find<F: Fn(&Config) -> bool>(&self, test: F) -> Option<Config>
+        requires { F.IsAlwaysCallable test }
+        ensures some { IfSome result (λ config. Contains self.now config × FnReturnsAt F.Fn test config true) }
+        ensures none { IfNone result (All (λ config. FnReturnsAt F.Fn test config false) self.now) }
+    {
+        for config in self.as_slice() {
+            if test(config) {
+                return Some(*config);
+            }
+        }
+        None
     }
 }

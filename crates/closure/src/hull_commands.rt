@@ -13,9 +13,9 @@ ghost use Rattle.closure.specs.Emptying.{AreMade, GoesByComponent};
 ghost use Rattle.closure.specs.Placing.{AreLed, IsNowhere, IsSettledAt, IsUniform, LeavesAlone, contexts_after, unsettled};
 
 use crate::effects::effect;
+use crate::hull::{Hull, TooMany};
 use crate::hull_contexts::{settled_each, valued_each};
 use crate::hull_emptying::all_emptied;
-use crate::hull::{Hull, TooMany};
 use crate::named_hull::with_context_of;
 use configuration::config::Config;
 use configuration::spots;
@@ -61,17 +61,6 @@ pub(crate) fn unsettled(script: &Script, config: &Config, command: &Command) -> 
     after
 }
 
-/// The same of some configurations, one by one.
-fn each_unsettled(script: &Script, hull: &Hull, command: &Command) -> Result<Hull, TooMany>
-    ensures { IfOk result (λ m. map configuration_of m ≡ map (unsettled script.now command.now) (map configuration_of hull.now)) }
-{
-    let mut made = Hull::new();
-    for config in hull.as_slice() {
-        made.push(&unsettled(script, config, command))?;
-    }
-    Ok(made)
-}
-
 /// The context that a command takes all out of, if it does so.
 fn emptied_by(command: &Command) -> Option<Slot>
     ensures some { IfSome result (λ j. command.now ≡ SubtractAll j) }
@@ -96,7 +85,7 @@ fn unsettled_each(script: &Script, hull: &Hull, command: &Command) -> Result<Hul
 {
     match emptied_by(command) {
         Some(context) => all_emptied(script, hull, context),
-        None => each_unsettled(script, hull, command),
+        None => hull.map(|config| unsettled(script, config, command)),
     }
 }
 
@@ -104,12 +93,7 @@ fn unsettled_each(script: &Script, hull: &Hull, command: &Command) -> Result<Hul
 fn is_absent(hull: &Hull, ephemeral: Slot) -> bool
     ensures { IsTrue result → (d : Configuration) → Contains (map configuration_of hull.now) d → d.spot (Named.Ephemeral ephemeral) ≡ Absent }
 {
-    for config in hull.as_slice() {
-        if spots::is_present(config.spot(Termination::Ephemeral(ephemeral))) {
-            return false;
-        }
-    }
-    true
+    hull.all(|config| !spots::is_present(config.spot(Termination::Ephemeral(ephemeral))))
 }
 
 /// Whether what a command adds is absent in each of some configurations.
@@ -133,12 +117,7 @@ fn is_uniform(hull: &Hull, command: &Command) -> bool
 pub(crate) fn is_nowhere(hull: &Hull, termination: &Termination, context: Slot) -> bool
     ensures { IsTrue result → IsNowhere (map configuration_of hull.now) termination.now context }
 {
-    for config in hull.as_slice() {
-        if spots::is_in(config.spot(*termination), context) {
-            return false;
-        }
-    }
-    true
+    hull.all(|config| !spots::is_in(config.spot(*termination), context))
 }
 
 /// Whether two slots are different.
@@ -163,8 +142,7 @@ fn leaves_alone(hull: &Hull, command: &Command, name: Slot) -> bool
             ephemeral,
             ..
         } => {
-            is_another(name, context)
-                && is_nowhere(hull, &Termination::Ephemeral(ephemeral), name)
+            is_another(name, context) && is_nowhere(hull, &Termination::Ephemeral(ephemeral), name)
         }
         Command::Subtract { context, .. } => is_another(name, context),
         Command::SubtractAll { .. } => true,

@@ -1,9 +1,7 @@
 //! Whether a context exists in the whole hull of a few configurations, and what that makes of its name. Where it is so in some and not in others
 //! the name is taken to stand for either.
-ghost use Rattle.std.specs.Prelude.{◌≡◌, false, IsTrue, IfOk, IfNone, OnOk, Contains, map};
-ghost use Rattle.mg_names.specs.declared.context_values.ContextValue.TheVariants.{Free};
+ghost use Rattle.std.specs.Prelude.{◌≡◌, IsTrue, IfOk, OnOk, Contains, map};
 ghost use Rattle.mg_model.specs.Configuration.{Configuration, is_in, stands_in};
-ghost use Rattle.mg_model.specs.Updates.{with_at};
 ghost use Rattle.configuration.specs.Config.{configuration_of};
 ghost use Rattle.closure.specs.Elementwise.{settled_at};
 ghost use Rattle.closure.specs.Hulls.{HasOne, IsInHull};
@@ -23,12 +21,7 @@ use mg_names::slots::Slot;
 pub(crate) fn does_each_stand(hull: &Hull, termination: &Termination, context: Slot) -> bool
     ensures { IsTrue result → (d : Configuration) → Contains (map configuration_of hull.now) d → IsTrue (is_in (d.spot termination.now) context) }
 {
-    for config in hull.as_slice() {
-        if !spots::is_in(config.spot(*termination), context) {
-            return false;
-        }
-    }
-    true
+    hull.all(|config| spots::is_in(config.spot(*termination), context))
 }
 
 /// Whether one termination stands in a context in each of them.
@@ -44,18 +37,6 @@ fn does_one_stand(hull: &Hull, context: Slot) -> bool
     false
 }
 
-/// Whether nothing stands in a context in any of them.
-fn does_none_stand(hull: &Hull, context: Slot) -> bool
-    ensures { IsTrue result → (d : Configuration) → Contains (map configuration_of hull.now) d → stands_in d.spot context ≡ false }
-{
-    for config in hull.as_slice() {
-        if stands_in(config, context) {
-            return false;
-        }
-    }
-    true
-}
-
 /// A configuration in which a context name, if it is bound, stands for what exists or not.
 fn valued_at(config: &Config, context: Slot, exists: bool) -> Config
     ensures { configuration_of result ≡ valued_at context exists (configuration_of config.now) }
@@ -66,39 +47,10 @@ fn valued_at(config: &Config, context: Slot, exists: bool) -> Config
 }
 
 /// The same of some configurations.
-pub(crate) fn valued_each(
-    hull: &Hull,
-    context: Slot,
-    exists: bool,
-) -> Result<Hull, TooMany>
+pub(crate) fn valued_each(hull: &Hull, context: Slot, exists: bool) -> Result<Hull, TooMany>
     ensures { IfOk result (λ m. map configuration_of m ≡ map (valued_at context exists) (map configuration_of hull.now)) }
 {
-    let mut made = Hull::new();
-    for config in hull.as_slice() {
-        made.push(&valued_at(config, context, exists))?;
-    }
-    Ok(made)
-}
-
-/// One of some configurations in which a context name is bound.
-fn bound_one(hull: &Hull, context: Slot) -> Option<Config>
-    ensures { IfNone result ((d : Configuration) → Contains (map configuration_of hull.now) d → d.context context ≡ Free) }
-{
-    for config in hull.as_slice() {
-        if is_bound(config, context) {
-            return Some(*config);
-        }
-    }
-    None
-}
-
-/// A configuration in which a context name stands for something.
-fn with_context(config: &Config, context: Slot, value: ContextValue) -> Config
-    ensures { configuration_of result ≡ record (configuration_of config.now) { context = with_at (configuration_of config.now).context context value } }
-{
-    let mut with = *config;
-    with.set_context(context, value);
-    with
+    hull.map(|config| valued_at(config, context, exists))
 }
 
 /// Whether two values of a context name are one.
@@ -106,18 +58,6 @@ fn is_same_value(one: ContextValue, other: ContextValue) -> bool
     ensures { IsTrue result → one ≡ other }
 {
     one == other
-}
-
-/// Whether a context name stands for a value in one of some configurations.
-fn has_context(hull: &Hull, context: Slot, value: ContextValue) -> bool
-    ensures { IsTrue result → HasOne (map configuration_of hull.now) (λ d. d.context context) value }
-{
-    for config in hull.as_slice() {
-        if is_same_value(config.context(context), value) {
-            return true;
-        }
-    }
-    false
 }
 
 /// Adds a configuration in which a context name stands for a value, unless it does in one that is there.
@@ -130,21 +70,13 @@ fn add_context(
     ensures kept { OnOk result ((d : Configuration) → Contains (map configuration_of hull.old) d → Contains (map configuration_of hull.new) d) }
     ensures there { OnOk result (HasOne (map configuration_of hull.new) (λ d. d.context context) value) }
 {
-    if has_context(hull, context, value) {
+    if let Some(_there) = hull.find(|config| is_same_value(config.context(context), value)) {
         return Ok(());
     }
-    hull.push(&with_context(one, context, value))?;
+    let mut with = *one;
+    with.set_context(context, value);
+    hull.push(&with)?;
     Ok(())
-}
-
-/// Some configurations, and such in which a context name stands for what exists, and for what doesn't.
-fn either_way(hull: Hull, context: Slot, one: &Config) -> Result<Hull, TooMany>
-    ensures { IfOk result (λ m. (c : Configuration) → IsInHull (map configuration_of hull) c → IsInHull (map configuration_of m) (settled_at c context)) }
-{
-    let mut made = hull;
-    add_context(&mut made, context, ContextValue::Live, one)?;
-    add_context(&mut made, context, ContextValue::Stale, one)?;
-    Ok(made)
 }
 
 /// Configurations whose hull has all in the hull of some, once one of their context names says whether its context exists.
@@ -154,11 +86,14 @@ pub(crate) fn settled_each(hull: Hull, context: Slot) -> Result<Hull, TooMany>
     if does_one_stand(&hull, context) {
         return valued_each(&hull, context, true);
     }
-    if does_none_stand(&hull, context) {
+    if hull.all(|config| !stands_in(config, context)) {
         return valued_each(&hull, context, false);
     }
-    let Some(one) = bound_one(&hull, context) else {
+    let Some(one) = hull.find(|config| is_bound(config, context)) else {
         return Ok(hull);
     };
-    either_way(hull, context, &one)
+    let mut made = hull;
+    add_context(&mut made, context, ContextValue::Live, &one)?;
+    add_context(&mut made, context, ContextValue::Stale, &one)?;
+    Ok(made)
 }

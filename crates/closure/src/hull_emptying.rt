@@ -9,12 +9,12 @@ ghost use Rattle.mg_model.specs.Configuration.{Configuration, is_in, termination
 ghost use Rattle.configuration.specs.Config.{configuration_of};
 ghost use Rattle.closure.specs.Emptying.{AreMade, IsLost, NamesNoneOf, StandsInEach, StandsToo, emptied, out_each, put_out, spot_out};
 
+use crate::hull::{Hull, TooMany};
 use crate::hull_commands::{is_nowhere, unsettled};
 use crate::hull_contexts::does_each_stand;
-use crate::hull::{Hull, TooMany};
+use crate::lookup::is_same;
 use configuration::config::Config;
 use configuration::spots;
-use configuration::value_set::config_word;
 use configuration::well_formed::all_terminations;
 use mg_model::commands::{Command, Termination};
 use mg_model::components::{Remote, Spot};
@@ -111,22 +111,6 @@ fn emptied(script: &Script, config: &Config, sure: &Config, context: Slot) -> Co
     unsettled(script, &out, &Command::SubtractAll { context })
 }
 
-/// The same of some configurations.
-fn emptied_each(
-    script: &Script,
-    hull: &Hull,
-    sure: &Config,
-    context: Slot,
-) -> Result<Hull, TooMany>
-    ensures { IfOk result (λ m. map configuration_of m ≡ map (emptied script.now context (configuration_of sure.now)) (map configuration_of hull.now)) }
-{
-    let mut made = Hull::new();
-    for config in hull.as_slice() {
-        made.push(&emptied(script, config, sure, context))?;
-    }
-    Ok(made)
-}
-
 /// Whether the Remote of an ephemeral names none that stands in a context in one of some configurations.
 fn names_none_of(config: &Config, hull: &Hull, ephemeral: Slot, context: Slot) -> bool
     ensures { IsTrue result → NamesNoneOf (map configuration_of hull.now) context ephemeral (configuration_of config.now) }
@@ -138,19 +122,6 @@ fn names_none_of(config: &Config, hull: &Hull, ephemeral: Slot, context: Slot) -
     }
 }
 
-/// Whether it does so in each of them.
-fn do_all_name_none(hull: &Hull, ephemeral: Slot, context: Slot) -> bool
-    ensures { IsTrue result → (d : Configuration) → Contains (map configuration_of hull.now) d
-        → NamesNoneOf (map configuration_of hull.now) context ephemeral d }
-{
-    for config in hull.as_slice() {
-        if !names_none_of(config, hull, ephemeral, context) {
-            return false;
-        }
-    }
-    true
-}
-
 /// Makes the Remote of an ephemeral name nothing, if it may stay as the one leaves whom its Remote names.
 fn lose_remote(gone: &mut Config, hull: &Hull, ephemeral: Slot, context: Slot)
     ensures kept { (k : ℕ) → (configuration_of gone.old).remote k ≡ Gone → (configuration_of gone.new).remote k ≡ Gone }
@@ -159,7 +130,7 @@ fn lose_remote(gone: &mut Config, hull: &Hull, ephemeral: Slot, context: Slot)
     if does_each_stand(hull, &Termination::Ephemeral(ephemeral), context) {
         return;
     }
-    if do_all_name_none(hull, ephemeral, context) {
+    if hull.all(|config| names_none_of(config, hull, ephemeral, context)) {
         return;
     }
     gone.set_remote(ephemeral, Remote::Gone);
@@ -178,37 +149,12 @@ fn with_lost(hull: &Hull, one: &Config, context: Slot) -> Config
     gone
 }
 
-/// Whether two configurations are one.
-fn is_same(one: &Config, other: &Config) -> bool
-    ensures { IsTrue result → configuration_of one.now ≡ configuration_of other.now }
-{
-    if config_word(one, 0) != config_word(other, 0) {
-        return false;
-    }
-    if config_word(one, 1) != config_word(other, 1) {
-        return false;
-    }
-    config_word(one, 2) == config_word(other, 2)
-}
-
-/// Whether a configuration is one of some.
-fn is_one_of(hull: &Hull, config: &Config) -> bool
-    ensures { IsTrue result → Contains (map configuration_of hull.now) (configuration_of config.now) }
-{
-    for one in hull.as_slice() {
-        if is_same(one, config) {
-            return true;
-        }
-    }
-    false
-}
-
 /// Adds a configuration, unless it is there.
 fn add(hull: &mut Hull, config: &Config) -> Result<(), TooMany>
     ensures kept { OnOk result ((d : Configuration) → Contains (map configuration_of hull.old) d → Contains (map configuration_of hull.new) d) }
     ensures there { OnOk result (Contains (map configuration_of hull.new) (configuration_of config.now)) }
 {
-    if is_one_of(hull, config) {
+    if let Some(_there) = hull.find(|one| is_same(one, config)) {
         return Ok(());
     }
     hull.push(config)?;
@@ -217,11 +163,7 @@ fn add(hull: &mut Hull, config: &Config) -> Result<(), TooMany>
 
 /// Configurations whose hull has all that is left of the hull of some once all of a context are subtracted, but for the question which contexts
 /// still exist.
-pub(crate) fn all_emptied(
-    script: &Script,
-    hull: &Hull,
-    context: Slot,
-) -> Result<Hull, TooMany>
+pub(crate) fn all_emptied(script: &Script, hull: &Hull, context: Slot) -> Result<Hull, TooMany>
     ensures { IfOk result (λ m. AreMade script.now (map configuration_of hull.now) (SubtractAll context) (map configuration_of m)) }
 {
     let Some(one) = hull.as_slice().first() else {
@@ -229,7 +171,7 @@ pub(crate) fn all_emptied(
     };
     let sure = standing_in_each(hull, one, context);
     let left = standing_too(hull, one, context);
-    let mut made = emptied_each(script, hull, &sure, context)?;
+    let mut made = hull.map(|config| emptied(script, config, &sure, context))?;
     add(
         &mut made,
         &unsettled(script, &left, &Command::SubtractAll { context }),

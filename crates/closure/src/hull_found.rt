@@ -1,11 +1,10 @@
 //! Where a command finds its terminations, in the whole hull of a few configurations: wherever it is legal they stand in its place. So a command
 //! that leaves terminations where they are is done in such alone.
-ghost use Rattle.std.specs.Prelude.{◌≡◌, IfOk, map};
+ghost use Rattle.std.specs.Prelude.{◌≡◌};
 ghost use Rattle.mg_model.specs.Configuration.{with_of};
 ghost use Rattle.configuration.specs.Config.{configuration_of};
 ghost use Rattle.closure.specs.Found.{found, spot_at};
 
-use crate::hull::{Hull, TooMany};
 use configuration::config::Config;
 use mg_model::commands::{Command, Place, Termination};
 use mg_model::components::Spot;
@@ -30,7 +29,7 @@ fn with_spot(config: &Config, termination: &Termination, spot: Spot) -> Config
 }
 
 /// A configuration in which the terminations of a command stand where it finds them.
-fn found(config: &Config, command: &Command) -> Config
+pub(crate) fn found(config: &Config, command: &Command) -> Config
     ensures { configuration_of result ≡ found command.now (configuration_of config.now) }
 {
     match *command {
@@ -58,15 +57,4 @@ fn found(config: &Config, command: &Command) -> Config
         Command::Subtract { .. } => *config,
         Command::SubtractAll { .. } => *config,
     }
-}
-
-/// The same of some configurations.
-pub(crate) fn found_each(hull: &Hull, command: &Command) -> Result<Hull, TooMany>
-    ensures { IfOk result (λ m. map configuration_of m ≡ map (found command.now) (map configuration_of hull.now)) }
-{
-    let mut made = Hull::new();
-    for config in hull.as_slice() {
-        made.push(&found(config, command))?;
-    }
-    Ok(made)
 }

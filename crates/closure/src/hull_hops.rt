@@ -5,8 +5,8 @@ ghost use Rattle.mg_model.specs.Configuration.{Configuration};
 ghost use Rattle.mg_model.specs.Paths.{HasPath};
 ghost use Rattle.configuration.specs.Config.{configuration_of};
 
-use crate::hull_seen::{Seen, may_pass, names_of, seen_of};
 use crate::hull::Hull;
+use crate::hull_seen::{Seen, may_pass, names_of, seen_of};
 use configuration::spots::is_same;
 use mg_model::commands::Termination;
 use mg_names::slots::Slot;

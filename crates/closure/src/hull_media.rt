@@ -7,9 +7,9 @@ ghost use Rattle.mg_model.specs.Tables.{is_marked};
 ghost use Rattle.configuration.specs.Config.{configuration_of};
 ghost use Rattle.closure.specs.Hulls.{AreHullLinesMarked, IsHullMarked, AreOfState, IsInHull};
 
-use crate::marks::marks_pair;
-use crate::hull_hops::HullHops;
 use crate::hull::Hull;
+use crate::hull_hops::HullHops;
+use crate::marks::marks_pair;
 use configuration::config::Config;
 use mg_model::transitions::Pair;
 use mg_names::slots::Slot;

@@ -1,16 +1,14 @@
-//! Whether entries have all in the hull of a few configurations, where no one entry has all: the hull is parted by a component that an entry gives
-//! other values, and each part is asked by itself.
+//! Whether entries have all in the hull of a few configurations: where one allows each of these, it allows all. Where no one does, the hull is parted
+//! by a component that an entry gives other values, and each part is asked by itself.
 ghost use Rattle.std.specs.Prelude.{◌≡◌, IsTrue, IfOk, IfSome, Contains, map};
-ghost use Rattle.std.specs.List.{All};
 ghost use Rattle.mg_model.specs.Entries.{Allows};
 ghost use Rattle.configuration.specs.Config.{configuration_of};
 ghost use Rattle.entry_table.specs.Shown.{shown};
 ghost use Rattle.closure.specs.Hulls.{IsHullCovered};
 ghost use Rattle.closure.specs.Parts.{HasPart, IsPart, IsSetOf, with_component_of};
 
-use crate::looks::Looks;
-use crate::hull_entries::are_in_one;
 use crate::hull::{Hull, TooMany};
+use crate::looks::Looks;
 use configuration::config::Config;
 use configuration::value_set::ValueSet;
 use entry_table::{Cert, Component, Entry, set_of};
@@ -82,11 +80,7 @@ fn part_each(
     ensures { IfOk result (λ m. HasPart (shown component.now) allowed (configuration_of like.now) (map configuration_of hull.now) (map configuration_of m)) }
 {
     let set = set_of(component);
-    let mut made = Hull::new();
-    for config in hull.as_slice() {
-        made.push(&part_of(config, component, &set, allowed, like))?;
-    }
-    Ok(made)
+    hull.map(|config| part_of(config, component, &set, allowed, like))
 }
 
 /// The first component of an entry that doesn't allow a configuration.
@@ -102,30 +96,8 @@ fn component_without<'e>(entry: &'e Entry, config: &Config) -> Option<&'e Compon
     None
 }
 
-/// What parts a hull: of an entry that allows one, the first component that doesn't allow the first that one of them doesn't.
-fn parting_by<'e>(entry: &'e Entry, hull: &Hull, one: &Config) -> Option<Parting<'e>>
-    requires { All (Allows (configuration_of one.now)) entry.now.components }
-    ensures parts { IfSome result (λ parting. Allows (configuration_of parting.within) (shown parting.component.now)
-        × (Allows (configuration_of parting.without) (shown parting.component.now) → ⊥)) }
-    ensures one { IfSome result (λ parting. parting.within ≡ one.now) }
-    ensures other { IfSome result (λ parting. Contains hull.now parting.without) }
-{
-    for other in hull.as_slice() {
-        if entry.allows(other) {
-            continue;
-        }
-        if let Some(component) = component_without(entry, other) {
-            return Some(Parting {
-                component,
-                within: *one,
-                without: *other,
-            });
-        }
-    }
-    None
-}
-
-/// What parts a hull by the first entry of a state that allows the first of it; nothing where none allows that, or the entry's components allow each.
+/// What parts a hull, of the first entry of a state that allows the first of it: the first component that doesn't allow the first that the entry doesn't.
+/// Nothing where no entry allows that, or the entry's components allow each.
 fn parting_of<'c>(cert: &'c Cert, hull: &Hull, state: u8) -> Option<Parting<'c>>
     ensures parts { IfSome result (λ parting. Allows (configuration_of parting.within) (shown parting.component.now)
         × (Allows (configuration_of parting.without) (shown parting.component.now) → ⊥)) }
@@ -133,7 +105,13 @@ fn parting_of<'c>(cert: &'c Cert, hull: &Hull, state: u8) -> Option<Parting<'c>>
 {
     let one = hull.as_slice().first()?;
     let entry = cert.entry_with_all(state, slice::from_ref(one))?;
-    parting_by(entry, hull, one)
+    let without = hull.find(|config| !entry.allows(config))?;
+    let component = component_without(entry, &without)?;
+    Some(Parting {
+        component,
+        within: *one,
+        without,
+    })
 }
 
 /// Whether entries of a state have all in the hull of some configurations, and well formed: one has all, or entries have all of either of two parts. It
@@ -144,7 +122,7 @@ fn are_in_parts(cert: &Cert, hull: &Hull, state: u8, depth: u32, looks: &mut Loo
     if depth == 0 || !looks.take(LOOKS_AN_INDEX, hull.as_slice().len()) {
         return false;
     }
-    if are_in_one(cert, hull, state) {
+    if let Some(_entry) = cert.entry_with_all(state, hull.as_slice()) {
         return true;
     }
     if !looks.take(LOOKS_A_PARTING, hull.as_slice().len()) {

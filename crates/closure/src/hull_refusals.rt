@@ -46,10 +46,5 @@ fn suits(config: &Config, command: &Command) -> bool
 pub(crate) fn is_refused(hull: &Hull, command: &Command) -> bool
     ensures { IsTrue result → SuitsNone (map configuration_of hull.now) command.now }
 {
-    for config in hull.as_slice() {
-        if suits(config, command) {
-            return false;
-        }
-    }
-    true
+    hull.all(|config| !suits(config, command))
 }

@@ -34,8 +34,7 @@ fn passes_out(mode: Mode) -> bool
 fn may_stand(hull: &Hull, termination: &Termination, context: Slot) -> bool
     ensures { result ≡ may_stand hull.now termination.now context }
 {
-    hull
-        .as_slice()
+    hull.as_slice()
         .iter()
         .any(|config| spots::is_in(config.spot(*termination), context))
 }
@@ -45,8 +44,7 @@ fn may_stand(hull: &Hull, termination: &Termination, context: Slot) -> bool
 fn may_come_in(hull: &Hull, termination: &Termination) -> bool
     ensures { result ≡ may_come_in hull.now termination.now }
 {
-    hull
-        .as_slice()
+    hull.as_slice()
         .iter()
         .any(|config| passes_in(config.mode(*termination)))
 }
@@ -56,8 +54,7 @@ fn may_come_in(hull: &Hull, termination: &Termination) -> bool
 fn may_go_out(hull: &Hull, termination: &Termination) -> bool
     ensures { result ≡ may_go_out hull.now termination.now }
 {
-    hull
-        .as_slice()
+    hull.as_slice()
         .iter()
         .any(|config| passes_out(config.mode(*termination)))
 }
@@ -67,8 +64,7 @@ fn may_go_out(hull: &Hull, termination: &Termination) -> bool
 fn may_name(hull: &Hull, ephemeral: Slot, other: Slot) -> bool
     ensures { result ≡ may_name hull.now ephemeral other }
 {
-    hull
-        .as_slice()
+    hull.as_slice()
         .iter()
         .any(|config| spots::is_to(config.remote(ephemeral), other))
 }
@@ -78,8 +74,7 @@ fn may_name(hull: &Hull, ephemeral: Slot, other: Slot) -> bool
 pub(crate) fn may_pass(hull: &Hull, source: &Termination, sink: &Termination) -> bool
     ensures { result ≡ may_pass hull.now source.now sink.now }
 {
-    hull
-        .as_slice()
+    hull.as_slice()
         .iter()
         .any(|config| !config.cut(*source, *sink))
 }

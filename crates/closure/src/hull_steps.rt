@@ -1,22 +1,19 @@
 //! Whether entries have all where steps lead, of the whole hull of a few configurations. It can be told where these are of one state, have one
 //! link and the same names bound.
-ghost use Rattle.std.specs.Prelude.{◌≡◌, false, IsTrue, Contains, map};
-ghost use Rattle.mg_model.specs.Configuration.{Configuration};
-ghost use Rattle.mg_model.specs.Tables.{items_of, raises};
+ghost use Rattle.std.specs.Prelude.{◌≡◌, IsTrue, map};
 ghost use Rattle.configuration.specs.Config.{configuration_of};
 ghost use Rattle.closure.specs.Placing.{AreHullRequestsCovered};
 ghost use Rattle.closure.specs.Hulls.{AreAlike, IsHullEntered, IsHullLineCovered, IsHullLinked, AreHullNotesCovered, AreHullRepliesCovered, AreHullRestsCovered, AreHullStepsCovered};
 
-use crate::looks::Looks;
+use crate::hull::Hull;
 use crate::hull_commands::led_by;
-use crate::hull_entries::{with_link_each, with_state_each};
-use crate::hull_found::found_each;
+use crate::hull_found::found;
 use crate::hull_parts::are_in_entries;
 use crate::hull_refusals::is_refused;
 use crate::hull_surviving::surviving_contexts;
-use crate::hull::Hull;
+use crate::looks::Looks;
 use crate::requests::bound_in;
-use crate::steps::with_state;
+use crate::steps::{with_link, with_state};
 use built_request::Request;
 use configuration::config::Config;
 use entry_table::Cert;
@@ -24,6 +21,16 @@ use mg_names::kinds::Kind;
 use mg_names::phases::LinkPhase;
 use mg_names::slots::Slot;
 use script_table::Script;
+
+/// A configuration with a state and a link.
+fn entered_with(config: &Config, state: u8, link: LinkPhase) -> Config
+    ensures { configuration_of result ≡ record (configuration_of config.now) { state = state; link = link } }
+{
+    let mut with = *config;
+    with.set_state(state);
+    with.set_link(link);
+    with
+}
 
 /// Whether entries have all in the hull of some configurations as they enter a state, if there is one.
 fn is_entered(
@@ -41,22 +48,10 @@ fn is_entered(
         return true;
     };
     let link = with_state(script, one, state).link();
-    let Ok(entered) = with_state_each(hull, state, link) else {
+    let Ok(entered) = hull.map(|config| entered_with(config, state, link)) else {
         return false;
     };
     are_in_entries(cert, &entered, looks)
-}
-
-/// Whether a line of one of some configurations has a list that raises notes of a kind.
-fn may_raise(script: &Script, hull: &Hull, line: Slot, kind: Kind) -> bool
-    ensures { result ≡ false → (d : Configuration) → Contains (map configuration_of hull.now) d → raises (items_of script.now (d.events line)) kind ≡ false }
-{
-    for config in hull.as_slice() {
-        if script.raises(config.events(line), kind) {
-            return true;
-        }
-    }
-    false
 }
 
 /// Notes of a line and kind.
@@ -78,7 +73,7 @@ fn are_notes_covered(
     requires { AreAlike (map configuration_of hull.now) (configuration_of one.now) }
     ensures { IsTrue result → AreHullNotesCovered script.now cert.now (map configuration_of hull.now) notes.line notes.kind }
 {
-    if !may_raise(script, hull, notes.line, notes.kind) {
+    if hull.all(|config| !script.raises(config.events(notes.line), notes.kind)) {
         return true;
     }
     let target = script.target_of(one.state(), notes.line, notes.kind);
@@ -166,7 +161,7 @@ fn is_rest_covered(
 fn is_linked(cert: &Cert, hull: &Hull, link: LinkPhase, looks: &mut Looks) -> bool
     ensures { IsTrue result → IsHullLinked cert.now (map configuration_of hull.now) link }
 {
-    let Ok(linked) = with_link_each(hull, link) else {
+    let Ok(linked) = hull.map(|config| with_link(config, link)) else {
         return false;
     };
     are_in_entries(cert, &linked, looks)
@@ -198,10 +193,10 @@ fn is_request_covered(
     if !looks.take(LOOKS_A_COMMAND, hull.as_slice().len()) {
         return false;
     }
-    let Ok(found) = found_each(hull, &command) else {
+    let Ok(there) = hull.map(|config| found(config, &command)) else {
         return false;
     };
-    let Some(after) = led_by(script, &found, &command, surviving) else {
+    let Some(after) = led_by(script, &there, &command, surviving) else {
         return false;
     };
     is_request_covered(script, cert, &after, surviving, request, looks)

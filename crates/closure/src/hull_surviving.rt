@@ -1,32 +1,18 @@
 //! Contexts in which somebody stays as a request is executed, in the whole hull of a few configurations: each of these has the context, and no
 //! command of the request takes out of it whoever may stand there. Such a context exists to the request's end, whoever else comes and goes.
-ghost use Rattle.std.specs.Prelude.{◌≡◌, IsTrue, Contains, map};
-ghost use Rattle.std.specs.List.{All};
-ghost use Rattle.mg_names.specs.declared.context_values.ContextValue.TheVariants.{Live};
+ghost use Rattle.std.specs.Prelude.{IsTrue, map};
 ghost use Rattle.mg_model.specs.Configuration.{Configuration, IsWellFormed};
 ghost use Rattle.mg_model.specs.Tables.{state_of};
 ghost use Rattle.configuration.specs.Config.{configuration_of};
 ghost use Rattle.closure.specs.Hulls.{IsInHull};
 ghost use Rattle.closure.specs.Surviving.{AreSurviving, Survives, SparesAll};
 
-use crate::hull_commands::{is_another, is_nowhere};
 use crate::hull::Hull;
+use crate::hull_commands::{is_another, is_nowhere};
 use configuration::spots;
 use mg_model::commands::{Command, Termination};
 use mg_names::slots::Slot;
 use script_table::Script;
-
-/// Whether a context exists in each of some configurations.
-fn is_live_in_each(hull: &Hull, context: Slot) -> bool
-    ensures { IsTrue result → (d : Configuration) → Contains (map configuration_of hull.now) d → d.context context ≡ Live }
-{
-    for config in hull.as_slice() {
-        if !spots::is_live(config.context(context)) {
-            return false;
-        }
-    }
-    true
-}
 
 /// Whether a command leaves whoever stands in a context there.
 fn spares_all(hull: &Hull, name: Slot, command: &Command) -> bool
@@ -49,26 +35,19 @@ fn spares_all(hull: &Hull, name: Slot, command: &Command) -> bool
     }
 }
 
-/// Whether each of some commands does.
-fn spare_all(hull: &Hull, name: Slot, commands: &[Command]) -> bool
-    ensures { IsTrue result → All (SparesAll (map configuration_of hull.now) name) commands.now }
+/// Whether somebody stays in a context as these commands are executed.
+fn does_survive(hull: &Hull, name: Slot, commands: &[Command]) -> bool
+    ensures { IsTrue result → (c : Configuration) → IsInHull (map configuration_of hull.now) c → IsWellFormed c → Survives c commands.now name }
 {
+    if !hull.all(|config| spots::is_live(config.context(name))) {
+        return false;
+    }
     for command in commands {
         if !spares_all(hull, name, command) {
             return false;
         }
     }
     true
-}
-
-/// Whether somebody stays in a context as these commands are executed.
-fn does_survive(hull: &Hull, name: Slot, commands: &[Command]) -> bool
-    ensures { IsTrue result → (c : Configuration) → IsInHull (map configuration_of hull.now) c → IsWellFormed c → Survives c commands.now name }
-{
-    if !is_live_in_each(hull, name) {
-        return false;
-    }
-    spare_all(hull, name, commands)
 }
 
 /// In which contexts somebody stays as the commands of a state are executed.

@@ -1,8 +1,6 @@
 //! Whether all obligations but that of joined lines hold of all points at once that some components make of a configuration; and whether joined lines are
 //! marked in all of them. Points that differ in places, contexts and Remotes are told of so, too.
-ghost use Rattle.std.specs.Prelude.{◌≡◌, IsTrue, Contains, map};
-ghost use Rattle.mg_model.specs.Configuration.{Configuration};
-ghost use Rattle.mg_model.specs.Obligations.{EndedIsCleared, NamesAreLive};
+ghost use Rattle.std.specs.Prelude.{◌≡◌, IsTrue, map};
 ghost use Rattle.mg_model.specs.Steps.{bound_names};
 ghost use Rattle.configuration.specs.Config.{configuration_of};
 ghost use Rattle.entry_table.specs.Shown.{shown_all};
@@ -10,11 +8,11 @@ ghost use Rattle.closure.specs.Hulls.{AreAlike, AreOfState, IsBlockKept, IsBlock
 ghost use Rattle.closure.specs.Naming.{AreNamedKept};
 
 use crate::block_hull::hull_of;
-use crate::looks::Looks;
+use crate::hull::Hull;
 use crate::hull_media::are_joined_marked;
 use crate::hull_steps::are_steps_covered;
-use crate::hull::Hull;
-use crate::named_hull::{named_each, named_unlike, with_name_of};
+use crate::looks::Looks;
+use crate::named_hull::{is_as_bound, is_number_bound, named_as, with_name_of};
 use crate::obligations::{created_are_unbound, ended_is_cleared, names_are_live};
 use crate::requests::have_same_names;
 use configuration::config::Config;
@@ -29,77 +27,49 @@ fn is_same_link(one: LinkPhase, other: LinkPhase) -> bool
     one == other
 }
 
-/// Whether some configurations are of one state, have one link and the same names bound.
+/// Whether some configurations are of one state.
+fn are_of_state(hull: &Hull, one: &Config) -> bool
+    ensures { IsTrue result → AreOfState (map configuration_of hull.now) (configuration_of one.now).state }
+{
+    hull.all(|config| config.state() == one.state())
+}
+
+/// Whether they are of one state, have one link and the same names bound.
 fn are_alike(hull: &Hull, one: &Config) -> bool
     ensures { IsTrue result → AreAlike (map configuration_of hull.now) (configuration_of one.now) }
 {
-    for config in hull.as_slice() {
-        if config.state() != one.state() {
-            return false;
-        }
-        if !is_same_link(config.link(), one.link()) {
-            return false;
-        }
-        if !have_same_names(config, one) {
-            return false;
-        }
+    if !are_of_state(hull, one) {
+        return false;
     }
-    true
-}
-
-/// Whether each of some configurations is cleared where it has ended.
-fn are_cleared(script: &Script, hull: &Hull) -> bool
-    ensures { IsTrue result → (d : Configuration) → Contains (map configuration_of hull.now) d → EndedIsCleared script.now d }
-{
-    for config in hull.as_slice() {
-        if !ended_is_cleared(script, config) {
-            return false;
-        }
+    if !hull.all(|config| is_same_link(config.link(), one.link())) {
+        return false;
     }
-    true
-}
-
-/// Whether the names of each of some configurations stand for what exists, where they have to.
-fn are_live(hull: &Hull) -> bool
-    ensures { IsTrue result → (d : Configuration) → Contains (map configuration_of hull.now) d → NamesAreLive d }
-{
-    for config in hull.as_slice() {
-        if !names_are_live(config) {
-            return false;
-        }
-    }
-    true
+    hull.all(|config| have_same_names(config, one))
 }
 
 /// To give a configuration the names of another, and to ask it for obligations, takes so many looks.
 const LOOKS_A_NAMED: u64 = 10;
 
 /// Whether all obligations but that of joined lines hold of all in the hull of some configurations and have the names bound that one has.
-fn is_hull_kept(
-    script: &Script,
-    cert: &Cert,
-    hull: &Hull,
-    one: &Config,
-    looks: &mut Looks,
-) -> bool
+fn is_hull_kept(script: &Script, cert: &Cert, hull: &Hull, one: &Config, looks: &mut Looks) -> bool
     ensures { IsTrue result → AreNamedKept script.now cert.now (map configuration_of hull.now) 8 (configuration_of one.now) }
 {
     if !looks.take(LOOKS_A_NAMED, hull.as_slice().len()) {
         return false;
     }
-    let Ok(named) = named_each(hull, one) else {
+    let Ok(named) = hull.map(|config| named_as(config, one)) else {
         return false;
     };
     if !are_alike(&named, one) {
         return false;
     }
-    if !are_cleared(script, &named) {
+    if !named.all(|config| ended_is_cleared(script, config)) {
         return false;
     }
     if !created_are_unbound(script, one) {
         return false;
     }
-    if !are_live(&named) {
+    if !named.all(|config| names_are_live(config)) {
         return false;
     }
     are_steps_covered(script, cert, &named, one, looks)
@@ -126,7 +96,9 @@ fn are_named_kept(
     if !are_named_kept(script, cert, hull, number + 1, one, looks) {
         return false;
     }
-    let Some(unlike) = named_unlike(hull, number, one) else {
+    let bound = is_number_bound(one, number);
+    let Some(unlike) = hull.find(|config| !is_as_bound(is_number_bound(config, number), bound))
+    else {
         return true;
     };
     let other = with_name_of(one, number, &unlike);
@@ -151,19 +123,6 @@ pub(crate) fn is_block_kept(
         return false;
     };
     are_named_kept(script, cert, &hull, 0, one, looks)
-}
-
-/// Whether some configurations are of one state.
-fn are_of_state(hull: &Hull, one: &Config) -> bool
-    ensures { IsTrue result → AreOfState (map configuration_of hull.now) (configuration_of one.now).state }
-{
-    let state = one.state();
-    for config in hull.as_slice() {
-        if config.state() != state {
-            return false;
-        }
-    }
-    true
 }
 
 /// Whether it is known that joined lines are marked in all that some components make of a configuration.

@@ -32,7 +32,7 @@ impl<'c> Model for Lookup<'c> {
 }
 
 /// Whether two configurations are one.
-fn is_same(one: &Config, other: &Config) -> bool
+pub(crate) fn is_same(one: &Config, other: &Config) -> bool
     ensures { IsTrue result → one.now ≡ other.now }
 {
     config_word(one, 0) == config_word(other, 0)

@@ -30,24 +30,16 @@ pub(crate) fn marks_pair(talk: &[Pair], lines: usize, one: Slot, other: Slot) ->
 fn marks_with(talk: &[Pair], lines: usize, one: Slot) -> bool
     ensures { result ≡ marks_with talk.now lines one }
 {
-    let slots = Slot::all();
-    let first = marks_pair(talk, lines, one, slots[0]);
-    let second = marks_pair(talk, lines, one, slots[1]);
-    let third = marks_pair(talk, lines, one, slots[2]);
-    let fourth = marks_pair(talk, lines, one, slots[3]);
-    first && second && third && fourth
+    Slot::all()
+        .iter()
+        .all(|other| marks_pair(talk, lines, one, *other))
 }
 
 /// Whether each two different lines among so many are marked.
 fn marks_every_pair(talk: &[Pair], lines: usize) -> bool
     ensures { result ≡ list_all (marks_with talk.now lines) (0 ∷ 1 ∷ 2 ∷ 3 ∷ []) }
 {
-    let slots = Slot::all();
-    let first = marks_with(talk, lines, slots[0]);
-    let second = marks_with(talk, lines, slots[1]);
-    let third = marks_with(talk, lines, slots[2]);
-    let fourth = marks_with(talk, lines, slots[3]);
-    first && second && third && fourth
+    Slot::all().iter().all(|one| marks_with(talk, lines, *one))
 }
 
 /// Whether an entry's state marks each two lines of the script.

@@ -1,12 +1,11 @@
 //! Hulls in which the same names are bound: what stands for a name that is bound in one configuration and not in another is taken from there.
-ghost use Rattle.std.specs.Prelude.{◌≡◌, ◌<◌, ◌==◌, ℕ, false, if◌then◌else◌, IsTrue, IfOk, IfSome, IfNone, Contains, map};
-ghost use Rattle.mg_model.specs.Configuration.{Configuration, with_of};
+ghost use Rattle.std.specs.Prelude.{◌≡◌, ◌<◌, ◌==◌, ℕ, false, if◌then◌else◌, IsTrue};
+ghost use Rattle.mg_model.specs.Configuration.{with_of};
 ghost use Rattle.mg_model.specs.Updates.{with_at};
 ghost use Rattle.mg_model.specs.declared.commands.Termination.TheVariants as Terminations;
 ghost use Rattle.configuration.specs.Config.{configuration_of};
 ghost use Rattle.closure.specs.Naming.{as_other, is_context_bound, is_ephemeral_bound, is_number_bound, named_as, named_at};
 
-use crate::hull::{Hull, TooMany};
 use crate::requests::{exists, is_bound};
 use configuration::config::Config;
 use mg_model::commands::Termination;
@@ -48,7 +47,7 @@ fn name_slot(named: &mut Config, config: &Config, one: &Config, slot: Slot)
 }
 
 /// A configuration in which the same names are bound as in another one.
-fn named_as(config: &Config, one: &Config) -> Config
+pub(crate) fn named_as(config: &Config, one: &Config) -> Config
     ensures { configuration_of result ≡ named_as (configuration_of one.now) (configuration_of config.now) }
 {
     let [first, second, third, fourth] = Slot::all();
@@ -60,19 +59,8 @@ fn named_as(config: &Config, one: &Config) -> Config
     named
 }
 
-/// The same of some configurations.
-pub(crate) fn named_each(hull: &Hull, one: &Config) -> Result<Hull, TooMany>
-    ensures { IfOk result (λ m. map configuration_of m ≡ map (named_as (configuration_of one.now)) (map configuration_of hull.now)) }
-{
-    let mut made = Hull::new();
-    for config in hull.as_slice() {
-        made.push(&named_as(config, one))?;
-    }
-    Ok(made)
-}
-
 /// Whether a name with a number below eight is bound.
-fn is_number_bound(config: &Config, number: usize) -> bool
+pub(crate) fn is_number_bound(config: &Config, number: usize) -> bool
     requires { number < 8 }
     ensures { result ≡ is_number_bound (configuration_of config.now) number }
 {
@@ -85,27 +73,11 @@ fn is_number_bound(config: &Config, number: usize) -> bool
 }
 
 /// Whether two names are bound, or neither is.
-fn is_as_bound(one: bool, other: bool) -> bool
+pub(crate) fn is_as_bound(one: bool, other: bool) -> bool
     ensures same { IsTrue result → one ≡ other }
     ensures apart { result ≡ false → one ≡ other → ⊥ }
 {
     one == other
-}
-
-/// One of some configurations in which the name with a number is bound and isn't so in another one, or the other way around.
-pub(crate) fn named_unlike(hull: &Hull, number: usize, one: &Config) -> Option<Config>
-    requires { number < 8 }
-    ensures some { IfSome result (λ d. is_number_bound (configuration_of d) number ≡ is_number_bound (configuration_of one.now) number → ⊥) }
-    ensures none { IfNone result ((d : Configuration) → Contains (map configuration_of hull.now) d
-        → is_number_bound d number ≡ is_number_bound (configuration_of one.now) number) }
-{
-    let bound = is_number_bound(one, number);
-    for config in hull.as_slice() {
-        if !is_as_bound(is_number_bound(config, number), bound) {
-            return Some(*config);
-        }
-    }
-    None
 }
 
 /// A configuration with what another one has for a context name.

@@ -8,7 +8,7 @@ ghost use Rattle.mg_names.specs.declared.context_values.ContextValue.TheVariants
 ghost use Rattle.mg_model.specs.declared.components.Remote.TheVariants as Remote;
 ghost use Rattle.configuration.specs.Config.{configuration_of};
 ghost use Rattle.configuration.specs.Search.{IsWays};
-ghost use Rattle.closure.specs.Tests.{PairIsMarked, PairBelowIsMarked, line_is_cleared, ephemeral_is_absent, context_stands, remote_stands};
+ghost use Rattle.closure.specs.Tests.{PairBelowIsMarked, line_is_cleared, ephemeral_is_absent, context_stands, remote_stands};
 
 use crate::requests::are_names_unbound;
 use configuration::config::Config;
@@ -34,18 +34,7 @@ pub fn is_marked(talk: &[Pair], one: Slot, other: Slot) -> bool
     })
 }
 
-/// Whether two lines are marked in the configuration's state, if they are two that are joined.
-fn pair_is_marked(script: &Script, config: &Config, ways: Ways, one: Slot, other: Slot) -> bool
-    requires ways { IsWays (configuration_of config.now) ways }
-    ensures { IsTrue result ↔ PairIsMarked script.now (configuration_of config.now) one other }
-{
-    if !ways.join(one, other) {
-        return true;
-    }
-    is_marked(script.talk_of(config.state()), one, other)
-}
-
-/// Whether two lines are marked if they are two lines of the script that are joined.
+/// Whether two lines are marked in the configuration's state, if they are two of the script that are joined.
 fn pair_below_is_marked(
     script: &Script,
     config: &Config,
@@ -60,7 +49,10 @@ fn pair_below_is_marked(
     if one.index() >= lines || other.index() >= lines {
         return true;
     }
-    pair_is_marked(script, config, ways, one, other)
+    if !ways.join(one, other) {
+        return true;
+    }
+    is_marked(script.talk_of(config.state()), one, other)
 }
 
 /// Whether a line is marked with each line that it is joined with.

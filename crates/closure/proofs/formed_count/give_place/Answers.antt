@@ -1,9 +1,10 @@
 -- One component more doesn't give it; then none does.
 use Rattle.std.proofs.Common.{◌≡◌, List, Contains, refl, sym, subst, arith}
+use Rattle.std.proofs.lemmas.List.{take_all}
 use Rattle.mg_model.specs.declared.components.Spot.{Spot}
 use Rattle.mg_model.specs.Entries.{Component, spots}
 use Rattle.entry_table.specs.Shown.{shown, shown_all}
-use Rattle.closure.proofs.ListsSoFar.{all_of_few, as_many, few_and_one, none_of_few, shown_at}
+use Rattle.closure.proofs.ListsSoFar.{as_many, few_and_one, none_of_few, shown_at}
 use Rattle.closure.proofs.formed_count.give_place.Goals as goal
 
 pub loop-component-init : goal.loop-component-init
@@ -24,5 +25,5 @@ returns c none values has =
     let items = c.args.components.now in
     c.loop-component.invariant (spots c.args.termination.now values)
     (subst (λ (xs : List Component). Contains xs (spots c.args.termination.now values))
-    (sym (all_of_few (shown_all items) c.loop-component.component-index (omega (arith, c.loop-component-test.false, as_many items)))) has)
+    (sym (take_all c.loop-component.component-index (shown_all items) (omega (arith, c.loop-component-test.false, as_many items)))) has)
     values refl

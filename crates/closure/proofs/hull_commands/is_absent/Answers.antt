@@ -1,20 +1,13 @@
--- It is absent in one configuration more; then in all.
-use Rattle.std.proofs.Common.{◌≡◌, ◌∙◌, sym, ap}
+-- It is absent in each.
+use Rattle.std.proofs.Common.{◌≡◌, true, rules}
 use Rattle.mg_model.specs.declared.components.Spot.TheVariants.{Absent}
 use Rattle.mg_model.specs.declared.commands.Termination.TheVariants.{Ephemeral}
-use Rattle.mg_model.specs.Configuration.{Configuration, is_present}
+use Rattle.mg_model.specs.Configuration.{Configuration}
+use Rattle.closure.proofs.HullLemmas.{each_passed}
 use Rattle.closure.proofs.HullPlaces.{not_there}
-use Rattle.closure.proofs.HullLemmas.{each_and_one, each_of_all}
 use Rattle.closure.proofs.hull_commands.is_absent.Goals as goal
-
-pub loop-config-preserved : goal.loop-config-preserved
-loop-config-preserved c =
-    each_and_one (λ (d : Configuration). d.spot (Ephemeral c.args.ephemeral) ≡ Absent)
-    c.as_slice-config-items.result.now c.loop-config.config-index c.config-item.result c.loop-config-test.true c.config-item.is c.loop-config.invariant
-    (not_there _ (ap is_present (sym c.spot.ensures) ∙ sym c.is_present.ensures ∙ c.if-is_present.false))
 
 pub returns : goal.returns
 returns c holds =
-    each_of_all (λ (d : Configuration). d.spot (Ephemeral c.args.ephemeral) ≡ Absent)
-    c.as_slice-config-items.result.now c.args.hull.now c.loop-config.config-index c.as_slice-config-items.ensures c.loop-config-test.false
-    c.loop-config.invariant
+    each_passed _ _ true (λ (d : Configuration). d.spot (Ephemeral c.args.ephemeral) ≡ Absent) c.args.hull.now (c.all.ensures holds)
+    (λ x e. not_there _ (search rules))

@@ -1,14 +1,10 @@
--- One configuration more is made; then all are.
+-- Each is made so.
+use Rattle.std.proofs.Common.{rules}
+use Rattle.std.proofs.lemmas.Result.{IfOk-weaker}
 use Rattle.closure.specs.Placing.{valued_at}
-use Rattle.closure.proofs.HullLemmas.{all_made, one_more_made}
+use Rattle.closure.proofs.HullLemmas.{each_given}
 use Rattle.closure.proofs.hull_contexts.valued_each.Goals as goal
-
-pub loop-config-preserved : goal.loop-config-preserved
-loop-config-preserved c =
-    one_more_made (valued_at c.args.context c.args.exists) c.as_slice-config-items.result.now c.loop-config.made c.push.new.self c.loop-config.config-index
-    c.config-item.result c.valued_at.result c.loop-config-test.true c.config-item.is c.in_ok-push.ensures c.valued_at.ensures c.loop-config.invariant
 
 pub returns : goal.returns
 returns c =
-    all_made (valued_at c.args.context c.args.exists) c.as_slice-config-items.result.now c.args.hull.now c.loop-config.made c.loop-config.config-index
-    c.as_slice-config-items.ensures c.loop-config-test.false c.loop-config.invariant
+    IfOk-weaker c.map.result _ _ (λ m all. each_given _ _ (valued_at c.args.context c.args.exists) c.args.hull.now m all (λ x y e. search rules)) c.map.ensures

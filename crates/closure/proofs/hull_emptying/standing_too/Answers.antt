@@ -1,9 +1,10 @@
 -- It is so of one termination more; then of all.
 use Rattle.std.proofs.Common.{◌≡◌, ◌∙◌, List, length, map, Contains, sym, ap, subst, arith}
+use Rattle.std.proofs.lemmas.List.{take_all}
 use Rattle.mg_model.specs.declared.commands.Termination.{Termination}
 use Rattle.configuration.specs.Config.{configuration_of}
 use Rattle.closure.specs.Emptying.{StandsToo}
-use Rattle.closure.proofs.ListsSoFar.{all_of_few, few_and_one, none_of_few}
+use Rattle.closure.proofs.ListsSoFar.{few_and_one, none_of_few}
 use Rattle.closure.proofs.HullEmptying.{all_stand_too}
 use Rattle.closure.proofs.hull_emptying.standing_too.Goals as goal
 
@@ -26,5 +27,5 @@ returns c =
     all_stand_too c.args.hull.now c.args.context (configuration_of c.loop-termination.config)
     (subst (λ (all : List Termination). (t : Termination) → Contains all t
     → StandsToo (map configuration_of c.args.hull.now) c.args.context (configuration_of c.loop-termination.config) t)
-    (all_of_few c.all_terminations-all.result c.loop-termination.termination-index
+    (take_all c.loop-termination.termination-index c.all_terminations-all.result
     (omega (arith, c.loop-termination-test.false, many)) ∙ c.all_terminations-all.ensures) c.loop-termination.invariant)
