@@ -2,7 +2,8 @@
 ghost use Rattle.call_ways.specs.Followed.{RunsFollowWays};
 
 /// Where no obligation is broken, a world of a run shows of each call of the gateway's association a configuration that calls come to, with its state: for any
-/// number of calls, whatever is lost, repeated, late, refused or restarted. So where calls come to no such configuration, no call of any run is so.
+/// number of calls, whatever is lost, repeated, late, refused or restarted. So where calls come to no such configuration, no call of that association is so, in
+/// any run.
 pub fn runs_follow_ways()
     ensures { RunsFollowWays }
 {}

@@ -6,8 +6,8 @@
 //!
 //! What a yes is worth: it says that nothing bad can happen; a warning tells a place at which it says so of nothing, or of a telephone that nobody
 //! can use. All that can be warned of is listed (`candidates`), each is held against the configurations that calls come to (`sights`), against the
-//! points of its entry (`points`) or against the other entries (`holders`), and what is so is kept (`warnings`). That no call of any run comes to anything else
-//! is a law over the model (`laws`). This profile's own.
+//! points of its entry (`points`) or against the other entries (`holders`), and what is so is kept (`warnings`). That no call of the
+//! gateway's association comes to anything else, in any run, is a law over the model (`laws`). This profile's own.
 #![tactic(auto)]
 
 mod candidates;

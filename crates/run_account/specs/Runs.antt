@@ -1,5 +1,5 @@
 -- A run of a plan that ends well: what its outcome shows. A reader should check that one history is a run of the plan's calls, in which every world is good,
--- that it is the merge of what happened in the shards, that each shard went through the plan's steps of its calls and nothing else, and that what happened to
+-- that it is the merge of what happened in the shards, that each shard went through the plan's steps of its calls, and that what happened to
 -- each call of the plan stands in the history, each event once and in order. This profile's own.
 use Rattle.std.specs.Prelude.{◌≡◌, ℕ, ◌+◌, ◌<◌, ◌≤◌, ◌%◌, ◌==◌, max, Bool, false, IsTrue, List, [], ◌++◌, length, slice_get, slice_index_or, Contains, Some, Result, Ok, Err}
 use Rattle.std.specs.List.{filter}

@@ -1,8 +1,9 @@
 //! The account of a run, from data, once its threads are joined: one history of all shards, what each call went through, and the report.
 //!
 //! The way of an event: the shard that it happened in has it in its history, and its call in its transcript. Both are gone along side by side and have to
-//! agree (`compare`), and the histories of all shards are merged into one (`merge`). What is counted in each shard has to be all of the plan's steps (`taken_all`).
-//! Then the lines that it counts of a call are those of a run of the call alone, and each has to tell where the shard leaves the call (`report`, `final_state`).
+//! agree (`compare`), and the histories of all shards are merged into one (`merge`). What is counted in each shard has to be all of the plan's steps
+//! (`taken_all`). Then the lines that it counts of a call are those of a run of the call alone, and each has to tell where the shard leaves the call
+//! (`report`, `final_state`).
 //! `account` puts these together, and `outcome` is what they come to.
 #![tactic(auto)]
 

@@ -1,5 +1,5 @@
-//! Whether the steps that are counted in the shards are all of the plan's: none of a call is left, in no epoch, and each restart is counted. And whether all shards
-//! ended each epoch after as many restarts.
+//! Whether the steps that are counted in the shards are all of the plan's: none of a call is left, in no epoch, and each restart is counted. And whether all
+//! shards ended each epoch after as many restarts.
 ghost use Rattle.std.specs.Prelude.{◌≡◌, ◌+◌, ◌<◌, ◌≤◌, false, IsTrue, length, max};
 ghost use Rattle.std.specs.List.{All};
 ghost use Rattle.mg_model.specs.Numbers.{plan_calls};
