@@ -8,11 +8,11 @@ use Rattle.mg_model.specs.Numbers.{plan_calls}
 use Rattle.mg_model.specs.World.{World}
 use Rattle.agent.specs.declared.refusal.Refusal.{Refusal}
 use Rattle.agent.specs.declared.refusal.Refusal.TheVariants as refusal
-use Rattle.shards.specs.CanOccur.{CouldOccur, slot_call}
+use Rattle.shards.specs.CanOccur.{CouldOccur, record_call}
 use Rattle.shards.specs.CouldHappen.{CouldHappen}
 use Rattle.shards.specs.Meaning.{IsMeant}
 use Rattle.shards.specs.Shards.{IsShard, IsUnchanged, IsWorldOf, ShardValue}
-use Rattle.shards.specs.SlotTable.{slot_in}
+use Rattle.shards.specs.CallTable.{record_in}
 use Rattle.shards.specs.Stepping.{IsBehind, IsNotEnabled}
 use Rattle.planned_calls.specs.declared.fault.RunFault.{RunFault}
 use Rattle.planned_calls.specs.declared.fault.RunFault.TheVariants.{BadWorkers, TooManyCalls, Disagree, NoMemory}
@@ -37,7 +37,7 @@ IsBecause why TooManyCalls = ⊥
 
 -- an event could happen in a shard, or its call isn't open there; a restart is no call's
 abbrev pub MayOccur : ShardValue → Event → Type 0
-MayOccur v (OfCall call happens) = (slot_in v.slots (slot_call call.0 happens) ≡ None) ⊎ CouldOccur v call.0 happens
+MayOccur v (OfCall call happens) = (record_in v.call_table (record_call call.0 happens) ≡ None) ⊎ CouldOccur v call.0 happens
 MayOccur v Restart = Unit {0}
 
 -- the step isn't idle, by what its event was refused for: it could happen in the shard, or the shard counts another number of events

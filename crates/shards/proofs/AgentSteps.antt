@@ -1,4 +1,4 @@
--- A step of the agent in a slot is an event of the world that the slots show, and they show the world after it.
+-- A step of the agent in a record is an event of the world that the records show, and they show the world after it.
 use Rattle.std.proofs.Common.{◌≡◌, ◌∙◌, ◌+◌, ◌==◌, ℕ, Bool, length, Option, Some, reverse, refl, sym, ap, subst, arith}
 use Rattle.std.specs.Prelude.{Contains, is_some}
 use Rattle.std.specs.List.{find}
@@ -26,11 +26,11 @@ use Rattle.agent.specs.declared.delivered.Delivery.{Delivery}
 use Rattle.agent.specs.declared.delivered.Delivery.TheVariants as delivery
 use Rattle.shards.specs.Messages.{AreNumberedFrom, Messages, fits, listed, reply_for, request_numbers, sending}
 use Rattle.shards.specs.Shows.{IsTold, ShowsCall}
-use Rattle.shards.specs.Slots.{AreSettled, IsDelivered, IsTied, request_in}
+use Rattle.shards.specs.CallRecords.{AreSettled, IsDelivered, IsTied, request_in}
 use Rattle.shards.specs.declared.call_record.CallRecord.{CallRecord}
 use Rattle.shards.proofs.MessageLemmas.{found_in, is_own, length_over, length_places, over_first, own_message, places_for, same_found, same_replies}
 use Rattle.shards.proofs.SettledNotes.{settled_after}
-use Rattle.shards.proofs.SlotLemmas.{next_over}
+use Rattle.shards.proofs.RecordLemmas.{next_over}
 use Rattle.shards.proofs.NumberLemmas.{numbered_on}
 
 pub stepped_next : (script : Script) (a : Agent) (brought : Delivery) → GivesNext a.call a.next a.lines (stepped_by script a brought)
@@ -90,7 +90,7 @@ module _ (script : Script) (w : World) (call : ℕ) (s t : CallRecord) (shows : 
   is_event (to_call.Hear association) (delivery.Hear heard_of) told delivered steps =
       (told, agent_takes (λ a. heard script a association.0) (ap (λ (n : Assoc). heard script before n.0) (sym delivered) ∙ steps))
 
-  -- ---- and the slot shows its call after it
+  -- ---- and the record shows its call after it
 
   module _ (numbered : IsNumbered w) (goes : GoesOn before.call before.next before.lines (agent_of t.agent))
       (sent : t.messages.sent ≡ sending s.messages.sent (outstanding before.phase) (is_some (outstanding (agent_of t.agent).phase)))

@@ -9,7 +9,7 @@ use Rattle.mg_model.specs.Messages.{Reply, SentNote}
 use Rattle.agent.specs.declared.delivered.Delivery.{Delivery}
 use Rattle.agent.specs.declared.delivered.Delivery.TheVariants as delivery
 use Rattle.shards.specs.Messages.{Messages, reply_for}
-use Rattle.shards.specs.Slots.{IsDelivered}
+use Rattle.shards.specs.CallRecords.{IsDelivered}
 
 -- what holds of each of the five holds of whatever is brought
 pub record HoldsOfEach (m : Messages) (P : CallEvent → Delivery → Type 0) : Type 0 where

@@ -1,7 +1,7 @@
 pub mod NumberLemmas
 pub mod AgentSteps
 pub mod AnsweredReplies
-pub mod CountedSlots
+pub mod CountedRecords
 pub mod FoundNotes
 pub mod GatewayLemmas
 pub mod MeantSteps
@@ -15,7 +15,7 @@ pub mod ShownLines
 pub mod ShownRestarts
 pub mod ShownSteps
 pub mod SettledNotes
-pub mod SlotLemmas
+pub mod RecordLemmas
 pub mod Delivered
 pub mod ValueSteps
 pub mod ShardSteps

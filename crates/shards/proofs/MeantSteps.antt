@@ -1,4 +1,4 @@
--- A step means, in each world that a shard shows, the event that the slot of its call gives.
+-- A step means, in each world that a shard shows, the event that the record of its call gives.
 use Rattle.std.proofs.Common.{◌≡◌, ◌∙◌, ◌==◌, ℕ, true, List, Option, Some, None, refl, sym, ap, subst}
 use Rattle.std.specs.Prelude.{Contains, option_map}
 use Rattle.std.specs.List.{find}
@@ -18,12 +18,12 @@ use Rattle.shards.specs.Messages.{AreNumberedFrom, note_numbers, reply_for}
 use Rattle.shards.proofs.FoundNotes.{lowest_found, none_passes}
 use Rattle.shards.proofs.MessageLemmas.{found_in}
 use Rattle.shards.proofs.ShardLemmas.{world_numbered}
-use Rattle.shards.proofs.ShardSteps.{AreSameSlots, none_same, one_same, refused_counts, shard_unchanged, step_refused}
+use Rattle.shards.proofs.ShardSteps.{AreSameRecords, none_same, one_same, refused_counts, shard_unchanged, step_refused}
 use Rattle.shards.specs.Meaning.{HasNumberedNotes, IsMeant, IsSameEntry, IsTiedEntry, MeansIn, event_in, event_of_entry}
 use Rattle.shards.specs.Shards.{IsShard, IsUnchanged, ShardValue}
 use Rattle.shards.specs.Shows.{ShowsCall}
-use Rattle.shards.specs.SlotTable.{OthersStay, slot_in}
-use Rattle.shards.specs.Slots.{request_in}
+use Rattle.shards.specs.CallTable.{OthersStay, record_in}
+use Rattle.shards.specs.CallRecords.{request_in}
 use Rattle.shards.specs.declared.call_record.CallRecord.{CallRecord}
 
 module _ (w : World) (s : CallRecord) (shows : ShowsCall w (agent_of s.agent).call s) (numbered : AreNumberedFrom 1 (note_numbers s.messages.sent.notes))
@@ -47,7 +47,7 @@ module _ (w : World) (s : CallRecord) (shows : ShowsCall w (agent_of s.agent).ca
       by_found None none = λ event means. none_is_some means.0 (sym none ∙ means.1)
       by_found (Some r) is = (r, is, refl)
 
-  -- a note that waits is one of the slot's
+  -- a note that waits is one of the record's
   is_kept : (n : SentNote) → Contains w.notes n → is_waiting a n ≡ true → Contains s.messages.sent.notes n
   is_kept n among waits = shows.notes_kept n among
       (eqb-true n.call a.call (and_first (n.call == a.call) (is_new (arrival (inbox_of a) n.association n.number)) waits))
@@ -104,44 +104,44 @@ module _ (w : World) (s : CallRecord) (shows : ShowsCall w (agent_of s.agent).ca
 -- ---- in a shard
 
 module _ (v : ShardValue) (call next : ℕ) (step : PlanStep) where
-  -- the event of the slot of a call is meant
-  slot_meant : (s : CallRecord) → slot_in v.slots call ≡ Some s → AreNumberedFrom 1 (note_numbers s.messages.sent.notes)
+  -- the event of the record of a call is meant
+  record_meant : (s : CallRecord) → record_in v.call_table call ≡ Some s → AreNumberedFrom 1 (note_numbers s.messages.sent.notes)
       → IsMeant v call next step (event_in s v.gateway.association next step)
   unfolding gateway_of
-  slot_meant s there numbered w is =
+  record_meant s there numbered w is =
       let shows = is.shows.calls call s there in
       let own : (agent_of s.agent).call ≡ call = (world_numbered v w is).agents call (agent_of s.agent) shows.agent in
       subst (λ (agent : Option Agent). MeansIn w agent next step (event_in s v.gateway.association next step)) (sym shows.agent)
       (step_meant w s (subst (λ c. ShowsCall w c s) (sym own) shows) numbered v.gateway.association next (ap (λ (g : Gateway). g.association) is.shows.gateway) step)
 
   -- and nothing of a call without one
-  entry_meant : (entry : Option CallRecord) → slot_in v.slots call ≡ entry → HasNumberedNotes entry → IsMeant v call next step (event_of_entry entry v.gateway.association next step)
+  entry_meant : (entry : Option CallRecord) → record_in v.call_table call ≡ entry → HasNumberedNotes entry → IsMeant v call next step (event_of_entry entry v.gateway.association next step)
   entry_meant None there numbered w is =
       subst (λ (agent : Option Agent). MeansIn w agent next step None) (sym (is.shows.no_others call there)) refl
-  entry_meant (Some s) there numbered w is = slot_meant s there (numbered s refl) w is
+  entry_meant (Some s) there numbered w is = record_meant s there (numbered s refl) w is
 
-  pub is_meant : HasNumberedNotes (slot_in v.slots call) → IsMeant v call next step (event_of_entry (slot_in v.slots call) v.gateway.association next step)
-  is_meant numbered = entry_meant (slot_in v.slots call) refl numbered
+  pub is_meant : HasNumberedNotes (record_in v.call_table call) → IsMeant v call next step (event_of_entry (record_in v.call_table call) v.gateway.association next step)
+  is_meant numbered = entry_meant (record_in v.call_table call) refl numbered
 
--- the slot of a call that a shard holds is tied
-pub tied_entry : (v : ShardValue) (call : ℕ) → IsShard v → IsTiedEntry (slot_in v.slots call)
+-- the record of a call that a shard holds is tied
+pub tied_entry : (v : ShardValue) (call : ℕ) → IsShard v → IsTiedEntry (record_in v.call_table call)
 tied_entry v call was s there = (was.is_world.shows.calls call s there).tied
 
--- where the slot of one call is as it was, nothing has changed
-module _ (v : ShardValue) (call : ℕ) (entries : List (ℕ × CallRecord)) (same : IsSameEntry (slot_in v.slots call) (slot_in entries call))
-    (others : OthersStay v.slots call entries) where
+-- where the record of one call is as it was, nothing has changed
+module _ (v : ShardValue) (call : ℕ) (entries : List (ℕ × CallRecord)) (same : IsSameEntry (record_in v.call_table call) (record_in entries call))
+    (others : OthersStay v.call_table call entries) where
   abbrev after : ShardValue
-  after = record v { slots = entries }
+  after = record v { call_table = entries }
 
-  same_slots : (entry : Option CallRecord) → slot_in v.slots call ≡ entry → IsSameEntry entry (slot_in entries call) → AreSameSlots v.slots entries
-  same_slots None there none = none_same v.slots entries call others there none
-  same_slots (Some s) there (t, is, alike) = one_same v.slots entries call s t there is alike others
+  same_records : (entry : Option CallRecord) → record_in v.call_table call ≡ entry → IsSameEntry entry (record_in entries call) → AreSameRecords v.call_table entries
+  same_records None there none = none_same v.call_table entries call others there none
+  same_records (Some s) there (t, is, alike) = one_same v.call_table entries call s t there is alike others
 
-  slots : AreSameSlots v.slots entries
-  slots = same_slots (slot_in v.slots call) refl same
+  call_table : AreSameRecords v.call_table entries
+  call_table = same_records (record_in v.call_table call) refl same
 
   pub entry_unchanged : IsUnchanged v after
-  entry_unchanged = step_refused v v.gateway entries (refl, λ c. refl) slots
+  entry_unchanged = step_refused v v.gateway entries (refl, λ c. refl) call_table
 
   pub entry_kept : IsShard v → IsShard after
-  entry_kept was = shard_unchanged v after was entry_unchanged (refused_counts v v.gateway entries (refl, λ c. refl) slots was.counts)
+  entry_kept was = shard_unchanged v after was entry_unchanged (refused_counts v v.gateway entries (refl, λ c. refl) call_table was.counts)

@@ -1,4 +1,4 @@
--- Messages that are looked up in a world and in a slot.
+-- Messages that are looked up in a world and in a record.
 use Rattle.std.proofs.Common.{◌≡◌, ◌∙◌, ◌-◌, ◌<◌, ◌==◌, ◌++◌, ℕ, zero, suc, Bool, true, false, List, [], ◌∷◌, length, Option, Some, None, if◌then◌else◌, reverse, refl, sym, ap, subst, arith}
 use Rattle.std.specs.Prelude.{Contains, ◌&&◌, is_some, nat_le, slice_get}
 use Rattle.std.specs.List.{find}

@@ -1,4 +1,4 @@
--- Whether an event can occur in a shard: where the gateway or the slot says no, it occurs in no world that is shown.
+-- Whether an event can occur in a shard: where the gateway or the record says no, it occurs in no world that is shown.
 use Rattle.std.specs.Prelude.{is_some}
 use Rattle.std.proofs.Common.{◌≡◌, ◌∙◌, inl, inr, ℕ, Bool, true, false, true≢false, Option, Some, None, Ok, refl, sym}
 use Rattle.mg_names.specs.declared.identifiers.LineNo.{LineNo}
@@ -26,12 +26,12 @@ use Rattle.shards.specs.CanOccur.{IsOccurrence, IsTakeable, NeverOccurs}
 use Rattle.shards.specs.CouldHappen.{IsExecutable, IsPossibleOn, IsPossibleRequest}
 use Rattle.shards.specs.Shards.{IsShard, ShardValue}
 use Rattle.shards.specs.Shows.{is_told}
-use Rattle.shards.specs.SlotTable.{slot_in}
-use Rattle.shards.specs.Slots.{IsDelivered}
+use Rattle.shards.specs.CallTable.{record_in}
+use Rattle.shards.specs.CallRecords.{IsDelivered}
 use Rattle.shards.specs.Stepping.{IsAtAgent}
 use Rattle.shards.specs.declared.call_record.CallRecord.{CallRecord}
 
--- ---- what is asked of a slot
+-- ---- what is asked of a record
 
 nothing : (o : Option Agent) → is_some o ≡ false → o ≡ None
 nothing None none = refl
@@ -45,12 +45,12 @@ takeable script event s brought false delivered is = inr (brought, (delivered, n
 -- ---- what it comes to
 
 module _ (v : ShardValue) (was : IsShard v) (call : ℕ) (s : CallRecord) where
-  module _ (held : slot_in v.slots call ≡ Some s) where
+  module _ (held : record_in v.call_table call ≡ Some s) where
     pub line_occurs : (line : LineNo) (event : LineEvent) (can : Bool) → IsPossibleOn v.gateway call line.0 event can
         → IsOccurrence v call (to_call.OnLine line event) can
-    line_occurs line event true is = record { slot = s; held = held; could = is }
+    line_occurs line event true is = record { call_record = s; held = held; could = is }
     line_occurs line event false is = λ w shown world occurs.
-        cannot_happen w v.gateway (slot_in v.slots) shown.shows (world_numbered v w shown) call s held v.script line.0 event world is occurs
+        cannot_happen w v.gateway (record_in v.call_table) shown.shows (world_numbered v w shown) call s held v.script line.0 event world is occurs
 
     addressed : (number : ℕ) (x : IsExecutable v.gateway call number s) → IsAddressed v.gateway call x.request
     addressed number x =
@@ -61,29 +61,29 @@ module _ (v : ShardValue) (was : IsShard v) (call : ℕ) (s : CallRecord) where
     pub request_occurs : (number : ℕ) (chosen : Option ChosenRefusal) (can : Bool) → IsPossibleRequest v.gateway call number s can
         → IsOccurrence v call (to_call.Execute number chosen) can
     request_occurs number chosen true x = record {
-      slot = s;
+      call_record = s;
       held = held;
       could = record { request = x.request; sent = x.sent; room = λ full. x.can (addressed number x, full) };
     }
     request_occurs number chosen false is = λ w shown world occurs.
-        cannot_execute w v.gateway (slot_in v.slots) shown.shows (world_numbered v w shown) call s held v.script number chosen world is occurs
+        cannot_execute w v.gateway (record_in v.call_table) shown.shows (world_numbered v w shown) call s held v.script number chosen world is occurs
 
     never_taken : (event : CallEvent) → IsAtAgent event → IsTakeable v.script event s false → NeverOccurs v (OfCall (record { 0 = call }) event)
     never_taken event of_agent (inl none) w shown after occurs =
-        not_brought v.script w v.gateway (slot_in v.slots) shown.shows (world_numbered v w shown) call s held event after of_agent none occurs
+        not_brought v.script w v.gateway (record_in v.call_table) shown.shows (world_numbered v w shown) call s held event after of_agent none occurs
     never_taken event of_agent (inr (brought, (delivered, none))) w shown after occurs =
-        not_stepped v.script w v.gateway (slot_in v.slots) shown.shows (world_numbered v w shown) call s held event brought after delivered none occurs
+        not_stepped v.script w v.gateway (record_in v.call_table) shown.shows (world_numbered v w shown) call s held event brought after delivered none occurs
 
     pub taken_occurs : (event : CallEvent) → IsAtAgent event → is_told v.gateway.association event ≡ true → (can : Bool) → IsTakeable v.script event s can
         → IsOccurrence v call event can
     taken_occurs (to_call.OnLine line happens) none told can is = absurd none
     taken_occurs (to_call.Execute number chosen) none told can is = absurd none
     taken_occurs (to_call.Begin old) none told can is = absurd none
-    taken_occurs (to_call.Reply number) of_agent told true is = record { slot = s; held = held; could = (told, is) }
-    taken_occurs to_call.Pass of_agent told true is = record { slot = s; held = held; could = (told, is) }
-    taken_occurs (to_call.Note number) of_agent told true is = record { slot = s; held = held; could = (told, is) }
-    taken_occurs to_call.Timer of_agent told true is = record { slot = s; held = held; could = (told, is) }
-    taken_occurs (to_call.Hear association) of_agent told true is = record { slot = s; held = held; could = (told, is) }
+    taken_occurs (to_call.Reply number) of_agent told true is = record { call_record = s; held = held; could = (told, is) }
+    taken_occurs to_call.Pass of_agent told true is = record { call_record = s; held = held; could = (told, is) }
+    taken_occurs (to_call.Note number) of_agent told true is = record { call_record = s; held = held; could = (told, is) }
+    taken_occurs to_call.Timer of_agent told true is = record { call_record = s; held = held; could = (told, is) }
+    taken_occurs (to_call.Hear association) of_agent told true is = record { call_record = s; held = held; could = (told, is) }
     taken_occurs (to_call.Reply number) of_agent told false is = never_taken (to_call.Reply number) of_agent is
     taken_occurs to_call.Pass of_agent told false is = never_taken to_call.Pass of_agent is
     taken_occurs (to_call.Note number) of_agent told false is = never_taken (to_call.Note number) of_agent is
@@ -93,6 +93,6 @@ module _ (v : ShardValue) (was : IsShard v) (call : ℕ) (s : CallRecord) where
     pub untold_never : (event : CallEvent) → IsAtAgent event → is_told v.gateway.association event ≡ false → IsOccurrence v call event false
     untold_never event of_agent told w shown after occurs = never_told v call event told w shown after occurs
 
-  pub begins : (held : slot_in v.slots call ≡ Some s) (new : ℕ) → has_ended v.script (agent_of s.agent) v.gateway.association ≡ true
+  pub begins : (held : record_in v.call_table call ≡ Some s) (new : ℕ) → has_ended v.script (agent_of s.agent) v.gateway.association ≡ true
       → CanBegin v.gateway call new (Ok tt) → IsOccurrence v new (to_call.Begin (record { 0 = call })) true
-  begins held new ended may = record { slot = s; held = held; could = (ended, may) }
+  begins held new ended may = record { call_record = s; held = held; could = (ended, may) }

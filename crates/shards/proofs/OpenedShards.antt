@@ -1,4 +1,4 @@
--- Calls that are opened on a new gateway, with their slots, are a shard in which nothing happened yet.
+-- Calls that are opened on a new gateway, with their records, are a shard in which nothing happened yet.
 use Rattle.std.proofs.Common.{◌≡◌, ◌∙◌, ◌+◌, ◌<◌, ◌≤◌, ◌++◌, ◌==◌, inl, inr, ℕ, Bool, true, false, List, [], ◌∷◌, length, map, Option, Some, None, if◌then◌else◌, reverse, refl, sym, ap, subst}
 use Rattle.std.specs.Prelude.{Contains, is_some, option_map}
 use Rattle.std.specs.List.{find}
@@ -31,8 +31,8 @@ use Rattle.shards.proofs.ShownBegins.{no_reply}
 use Rattle.shards.specs.Opening.{AreEntered, AreOpenedOn, IsEntered, OpensOne, call_of, system_of}
 use Rattle.shards.specs.Shards.{IsShard, ShardValue, opened_as}
 use Rattle.shards.specs.Shows.{ShowsCall}
-use Rattle.shards.specs.SlotTable.{slot_in}
-use Rattle.shards.specs.Slots.{IsTied, request_in}
+use Rattle.shards.specs.CallTable.{record_in}
+use Rattle.shards.specs.CallRecords.{IsTied, request_in}
 use Rattle.shards.specs.declared.opened.OpenedCall.{OpenedCall}
 use Rattle.shards.specs.declared.call_record.CallRecord.{CallRecord}
 
@@ -48,7 +48,7 @@ map_ended (first ∷ more) one = ap (λ rest. opened_as first ∷ rest) (map_end
 -- no call is open, and nothing was sent
 pub none_opened : (script : Script) (first stride : ℕ) (lines : List LineNo) (g : GatewayValue) → gateway_of g ≡ first_gateway (is_of_class first stride) lines
     → ((call : ℕ) → is_open g call ≡ false) → AreOpenedOn script [] first stride g []
-unfolding slot_in
+unfolding record_in
 none_opened script first stride lines g gateway no_call = record {
   done = [];
   opened = record {
@@ -64,16 +64,16 @@ none_opened script first stride lines g gateway no_call = record {
   has = λ o among. among;
   each = λ o among. among;
   class = ap (λ (x : Gateway). x.board.class) gateway;
-  slots = λ c t is. absurd (none_is_some t is);
+  call_table = λ c t is. absurd (none_is_some t is);
 }
 
 module _ (script : Script) (calls : List OpenedCall) (first stride : ℕ) (g h : GatewayValue) (old new : List (ℕ × CallRecord)) (one : OpenedCall)
     (was : AreOpenedOn script calls first stride g old) (x : OpensOne script g h old new one) where
-  calls_are : (λ c. option_map (call_of script) (slot_in new c)) ≡ with_call (λ c. option_map (call_of script) (slot_in old c)) one.call.0 (call_of script x.slot)
-  calls_are = same_calls (λ c. ap (option_map (call_of script)) (x.slots c) ∙ by_test c (c == one.call.0))
+  calls_are : (λ c. option_map (call_of script) (record_in new c)) ≡ with_call (λ c. option_map (call_of script) (record_in old c)) one.call.0 (call_of script x.call_record)
+  calls_are = same_calls (λ c. ap (option_map (call_of script)) (x.call_table c) ∙ by_test c (c == one.call.0))
     where
-      by_test : (c : ℕ) (test : Bool) → option_map (call_of script) (if test then Some x.slot else slot_in old c)
-          ≡ (if test then Some (call_of script x.slot) else option_map (call_of script) (slot_in old c))
+      by_test : (c : ℕ) (test : Bool) → option_map (call_of script) (if test then Some x.call_record else record_in old c)
+          ≡ (if test then Some (call_of script x.call_record) else option_map (call_of script) (record_in old c))
       by_test c true = refl
       by_test c false = refl
 
@@ -85,7 +85,7 @@ module _ (script : Script) (calls : List OpenedCall) (first stride : ℕ) (g h :
     may = x.may;
     gateway = x.gateway;
     open_calls = x.open_calls;
-    call = call_of script x.slot;
+    call = call_of script x.call_record;
     of_script = refl;
     entered = x.first.agent;
     calls = calls_are;
@@ -107,12 +107,12 @@ module _ (script : Script) (calls : List OpenedCall) (first stride : ℕ) (g h :
       | inr here ↦ Contains-append_left (opened_as one ∷ []) was.done o here
     ];
     class = ap (λ (y : Gateway). y.board.class) x.gateway ∙ was.class;
-    slots = λ c t is. slot_at c t (c == one.call.0) (sym (x.slots c) ∙ is);
+    call_table = λ c t is. record_at c t (c == one.call.0) (sym (x.call_table c) ∙ is);
   }
     where
-      slot_at : (c : ℕ) (t : CallRecord) (test : Bool) → (if test then Some x.slot else slot_in old c) ≡ Some t → (t.events ≡ 0) × (t.messages.sent ≡ none_sent 1) × (t.settled ≡ 0)
-      slot_at c t true is = subst (λ (y : CallRecord). (y.events ≡ 0) × (y.messages.sent ≡ none_sent 1) × (y.settled ≡ 0)) (the_some x.slot t is) (x.first.events, x.first.sent, x.first.settled)
-      slot_at c t false is = was.slots c t is
+      record_at : (c : ℕ) (t : CallRecord) (test : Bool) → (if test then Some x.call_record else record_in old c) ≡ Some t → (t.events ≡ 0) × (t.messages.sent ≡ none_sent 1) × (t.settled ≡ 0)
+      record_at c t true is = subst (λ (y : CallRecord). (y.events ≡ 0) × (y.messages.sent ≡ none_sent 1) × (y.settled ≡ 0)) (the_some x.call_record t is) (x.first.events, x.first.sent, x.first.settled)
+      record_at c t false is = was.call_table c t is
 
 pub entered_more : (script : Script) (calls : List OpenedCall) (nexts : List Next) (one : OpenedCall) (next : Next) → AreEntered script calls nexts
     → IsEntered script one next → AreEntered script (calls ++ one ∷ []) (nexts ++ next ∷ [])
@@ -160,55 +160,55 @@ module _ (script : Script) (calls : List OpenedCall) (first stride : ℕ) (g : G
   abbrev o : IsOpened script x.done system
   o = calls_opened script x.done system x.opened
 
-  agent_at : (c : ℕ) (t : CallRecord) → slot_in entries c ≡ Some t → w.agent c ≡ Some (agent_of t.agent)
-  agent_at c t is = ap (λ (slot : Option CallRecord). option_map agent_in (option_map (call_of script) slot)) is
+  agent_at : (c : ℕ) (t : CallRecord) → record_in entries c ≡ Some t → w.agent c ≡ Some (agent_of t.agent)
+  agent_at c t is = ap (λ (call_record : Option CallRecord). option_map agent_in (option_map (call_of script) call_record)) is
 
   -- each agent is at rest, and its first request has number 1
   pub record IsFresh (t : CallRecord) : Type 0 where
     pub rests : sent_in (agent_of t.agent).phase ≡ []
     pub next : (agent_of t.agent).next ≡ 1
 
-  fresh : (c : ℕ) (t : CallRecord) → slot_in entries c ≡ Some t → IsFresh t
+  fresh : (c : ℕ) (t : CallRecord) → record_in entries c ≡ Some t → IsFresh t
   fresh c t is =
       let one = o.is_opening.agents.no_other c (agent_of t.agent) (agent_at c t is) in
       let same : model.opened script one.0.call one.0.lines ≡ agent_of t.agent =
       the_some _ (agent_of t.agent) (sym (o.is_opening.agents.opened one.0 one.1) ∙ ap w.agent one.2 ∙ agent_at c t is) in
       record { rests = ap (λ (a : Agent). sent_in a.phase) (sym same); next = ap (λ (a : Agent). a.next) (sym same) }
 
-  no_request : (c : ℕ) (t : CallRecord) → slot_in entries c ≡ Some t → (which : Option ℕ) → request_in t which ≡ None
+  no_request : (c : ℕ) (t : CallRecord) → record_in entries c ≡ Some t → (which : Option ℕ) → request_in t which ≡ None
   no_request c t is which =
       ap (λ (sent : List Request). find (λ (r : Request). fits which r.number) (sent ++ reverse t.messages.sent.requests)) (fresh c t is).rests
-      ∙ ap (λ (m : Messages). find (λ (r : Request). fits which r.number) (reverse m.requests)) (x.slots c t is).1
+      ∙ ap (λ (m : Messages). find (λ (r : Request). fits which r.number) (reverse m.requests)) (x.call_table c t is).1
 
-  tied : (c : ℕ) (t : CallRecord) → slot_in entries c ≡ Some t → IsTied t
+  tied : (c : ℕ) (t : CallRecord) → record_in entries c ≡ Some t → IsTied t
   tied c t is =
-      let sent = (x.slots c t is).1 in
+      let sent = (x.call_table c t is).1 in
       record {
         numbered = subst (λ (m : Messages). AreNumberedFrom m.first (request_numbers m.requests)) (sym sent) tt;
         places = ap (λ (m : Messages). length m.replies) sent ∙ sym (ap (λ (m : Messages). length m.requests + length (sent_in (agent_of t.agent).phase)) sent
             ∙ ap (λ (requests : List Request). 0 + length requests) (fresh c t is).rests);
         awaited = λ r among. absurd (none_in r (subst (λ (requests : List Request). Contains requests r) (fresh c t is).rests among));
         next = (fresh c t is).next ∙ sym (ap (λ (m : Messages). m.first + length m.replies) sent);
-        settled = none_settled (agent_of t.agent) t.messages.sent.notes t.settled (x.slots c t is).2;
+        settled = none_settled (agent_of t.agent) t.messages.sent.notes t.settled (x.call_table c t is).2;
       }
 
-  shown : (c : ℕ) (t : CallRecord) → slot_in entries c ≡ Some t → ShowsCall w c t
+  shown : (c : ℕ) (t : CallRecord) → record_in entries c ≡ Some t → ShowsCall w c t
   shown c t is = record {
     agent = agent_at c t is;
     requests = λ which. sym (no_request c t is which);
-    replies = λ which. sym (ap (λ (m : Messages). reply_for m which) (x.slots c t is).1 ∙ no_reply 1 which);
-    notes_sent = λ n among. absurd (none_in n (subst (λ (m : Messages). Contains m.notes n) (x.slots c t is).1 among));
+    replies = λ which. sym (ap (λ (m : Messages). reply_for m which) (x.call_table c t is).1 ∙ no_reply 1 which);
+    notes_sent = λ n among. absurd (none_in n (subst (λ (m : Messages). Contains m.notes n) (x.call_table c t is).1 among));
     notes_kept = λ n among of_it. absurd (none_in n among);
-    counted = ap (λ link. (link c).notes) o.is_opening.gateway.no_reply_kept ∙ sym (ap (λ (m : Messages). length m.notes) (x.slots c t is).1);
+    counted = ap (λ link. (link c).notes) o.is_opening.gateway.no_reply_kept ∙ sym (ap (λ (m : Messages). length m.notes) (x.call_table c t is).1);
     tied = tied c t is;
   }
 
-  mapped : (slot : Option CallRecord) → is_some (option_map (call_of script) slot) ≡ is_some slot
+  mapped : (call_record : Option CallRecord) → is_some (option_map (call_of script) call_record) ≡ is_some call_record
   mapped None = refl
   mapped (Some t) = refl
 
   abbrev opened_value : ShardValue
-  opened_value = record { script = script; first = first; stride = stride; calls = calls; gateway = g; slots = entries; history = [] }
+  opened_value = record { script = script; first = first; stride = stride; calls = calls; gateway = g; call_table = entries; history = [] }
 
   pub shard_opened : IsScript script → HasFewCommands script → RunsAreGood script → first < stride → stride ≤ most_shards → IsShard opened_value
   unfolding Runs
@@ -226,10 +226,10 @@ module _ (script : Script) (calls : List OpenedCall) (first stride : ℕ) (g : G
       runs = refl;
       shows = record {
         gateway = refl;
-        open_calls = λ c. sym (o.are_open c) ∙ mapped (slot_in entries c);
+        open_calls = λ c. sym (o.are_open c) ∙ mapped (record_in entries c);
         calls = shown;
-        no_others = λ c none. ap (λ (slot : Option CallRecord). option_map agent_in (option_map (call_of script) slot)) none;
+        no_others = λ c none. ap (λ (call_record : Option CallRecord). option_map agent_in (option_map (call_of script) call_record)) none;
       };
     };
-    counts = record { counted = λ c t is. (x.slots c t is).0; unused = λ c not_open not_retired. refl };
+    counts = record { counted = λ c t is. (x.call_table c t is).0; unused = λ c not_open not_retired. refl };
   }

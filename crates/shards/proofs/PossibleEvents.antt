@@ -1,4 +1,4 @@
--- Whether an event could happen: where the gateway, the slot or the call that is handed in says no, it can't happen in any world that is shown.
+-- Whether an event could happen: where the gateway, the record or the call that is handed in says no, it can't happen in any world that is shown.
 use Rattle.std.specs.Prelude.{is_some}
 use Rattle.std.proofs.Common.{◌≡◌, ◌∙◌, ◌⊎◌, inl, inr, ℕ, Bool, true, false, true≢false, Option, Some, None, Ok, Err, refl, sym, ap, subst}
 use Rattle.mg_names.specs.declared.identifiers.LineNo.{LineNo}
@@ -33,11 +33,11 @@ use Rattle.shards.proofs.ShardLemmas.{world_numbered}
 use Rattle.shards.proofs.TakenSteps.{of_another, stands}
 use Rattle.shards.proofs.ValueSteps.{value_cannot}
 use Rattle.shards.specs.Beginnings.{has_ended}
-use Rattle.shards.specs.CouldHappen.{CouldHappen, HasOwnSlot, IsExecutable, IsPossibleOn, IsPossibleRequest, IsPossibleStep}
+use Rattle.shards.specs.CouldHappen.{CouldHappen, HasOwnRecord, IsExecutable, IsPossibleOn, IsPossibleRequest, IsPossibleStep}
 use Rattle.shards.specs.Shards.{IsShard, ShardValue}
 use Rattle.shards.specs.Shows.{is_told}
-use Rattle.shards.specs.SlotTable.{slot_in}
-use Rattle.shards.specs.Slots.{CannotStep, IsDelivered, request_in}
+use Rattle.shards.specs.CallTable.{record_in}
+use Rattle.shards.specs.CallRecords.{CannotStep, IsDelivered, request_in}
 use Rattle.shards.specs.Stepping.{CannotOccur, IsAtAgent, IsNotEnabled, IsPossible, call_in, is_ended}
 use Rattle.shards.specs.declared.call_record.CallRecord.{CallRecord}
 
@@ -57,39 +57,39 @@ nothing : (o : Option Agent) → is_some o ≡ false → o ≡ None
 nothing None none = refl
 nothing (Some a) none = absurd (true≢false none)
 
-pub slot_cannot : (script : Script) (next : Next) (event : CallEvent) (s : CallRecord) (brought : Delivery) → IsDelivered s.messages.sent event (Some brought)
+pub record_cannot : (script : Script) (next : Next) (event : CallEvent) (s : CallRecord) (brought : Delivery) → IsDelivered s.messages.sent event (Some brought)
     → is_some (stepped_by script (agent_of s.agent) brought) ≡ false → IsPossibleStep script next event s false
-slot_cannot script next event s brought delivered none = inr (brought, delivered, inl (nothing _ none))
+record_cannot script next event s brought delivered none = inr (brought, delivered, inl (nothing _ none))
 
 pub possible_step : (script : Script) (next : Next) (event : CallEvent) (s : CallRecord) (brought : Delivery) → IsDelivered s.messages.sent event (Some brought)
     → is_some (stepped_by script (agent_of s.agent) brought) ≡ true → (can : Bool) → can ≡ is_some (advancing next brought) → IsPossibleStep script next event s can
-possible_step script next event s brought delivered by_slot true is = record { brought = brought; delivered = delivered; by_slot = by_slot; by_call = sym is }
-possible_step script next event s brought delivered by_slot false is = inr (brought, delivered, inr (nothing _ (sym is)))
+possible_step script next event s brought delivered by_record true is = record { brought = brought; delivered = delivered; by_record = by_record; by_call = sym is }
+possible_step script next event s brought delivered by_record false is = inr (brought, delivered, inr (nothing _ (sym is)))
 
-pub own_or_none : (v : ShardValue) (next : Next) (call : ℕ) (o : Option CallRecord) → call ≡ call_in next → o ≡ slot_in v.slots call → HasOwnSlot v next call o
-own_or_none v next call None same is = inr (ap (slot_in v.slots) (sym same) ∙ sym is)
+pub own_or_none : (v : ShardValue) (next : Next) (call : ℕ) (o : Option CallRecord) → call ≡ call_in next → o ≡ record_in v.call_table call → HasOwnRecord v next call o
+own_or_none v next call None same is = inr (ap (record_in v.call_table) (sym same) ∙ sym is)
 own_or_none v next call (Some s) same is = (same, sym is)
 
 -- ---- what it comes to
 
 -- it is of another call, or the call isn't held
-pub none_own : (v : ShardValue) (next : Next) (call : ℕ) (event : CallEvent) → IsAtAgent event ⊎ (is_of_gateway event ≡ true) → HasOwnSlot v next call None
+pub none_own : (v : ShardValue) (next : Next) (call : ℕ) (event : CallEvent) → IsAtAgent event ⊎ (is_of_gateway event ≡ true) → HasOwnRecord v next call None
     → IsNotEnabled v next (OfCall (record { 0 = call }) event)
 none_own v next call event may (inl other) = inl (of_another v next call event may (λ same. other (sym same)))
 none_own v next call event may (inr none) = inr none
 
 module _ (v : ShardValue) (was : IsShard v) (next : Next) (call : ℕ) where
-  module _ (s : CallRecord) (own : HasOwnSlot v next call (Some s)) where
-    held : slot_in v.slots (call_in next) ≡ Some s
-    held = ap (slot_in v.slots) (sym own.0) ∙ own.1
+  module _ (s : CallRecord) (own : HasOwnRecord v next call (Some s)) where
+    held : record_in v.call_table (call_in next) ≡ Some s
+    held = ap (record_in v.call_table) (sym own.0) ∙ own.1
 
     -- ---- an event of a line
 
     pub line_possible : (line : LineNo) (event : LineEvent) (can : Bool) → IsPossibleOn v.gateway call line.0 event can
         → IsPossible v next (OfCall (record { 0 = call }) (to_call.OnLine line event)) can
-    line_possible line event true is = record { slot = s; held = held; could = (own.0, is) }
+    line_possible line event true is = record { call_record = s; held = held; could = (own.0, is) }
     line_possible line event false is = inl (λ w shown world a occurs goes.
-        cannot_happen w v.gateway (slot_in v.slots) shown.shows (world_numbered v w shown) call s own.1 v.script line.0 event world is occurs)
+        cannot_happen w v.gateway (record_in v.call_table) shown.shows (world_numbered v w shown) call s own.1 v.script line.0 event world is occurs)
 
     -- ---- a request
 
@@ -102,18 +102,18 @@ module _ (v : ShardValue) (was : IsShard v) (next : Next) (call : ℕ) where
     pub request_possible : (number : ℕ) (chosen : Option ChosenRefusal) (can : Bool) → IsPossibleRequest v.gateway call number s can
         → IsPossible v next (OfCall (record { 0 = call }) (to_call.Execute number chosen)) can
     request_possible number chosen true x = record {
-      slot = s;
+      call_record = s;
       held = held;
       could = (own.0, record { request = x.request; sent = x.sent; room = λ full. x.can (addressed number x, full) });
     }
     request_possible number chosen false is = inl (λ w shown world a occurs goes.
-        cannot_execute w v.gateway (slot_in v.slots) shown.shows (world_numbered v w shown) call s own.1 v.script number chosen world is occurs)
+        cannot_execute w v.gateway (record_in v.call_table) shown.shows (world_numbered v w shown) call s own.1 v.script number chosen world is occurs)
 
     -- ---- at the agent
 
     cannot_reach : (event : CallEvent) → IsAtAgent event → CannotStep v.script next event s → CannotOccur v next (OfCall (record { 0 = call }) event)
     cannot_reach event of_agent is w shown world a occurs goes =
-        elim (cannot_step v.script w v.gateway (slot_in v.slots) shown.shows (world_numbered v w shown) call s own.1 next event of_agent is) [
+        elim (cannot_step v.script w v.gateway (record_in v.call_table) shown.shows (world_numbered v w shown) call s own.1 next event of_agent is) [
           | inl none ↦ none world occurs
           | inr stuck ↦ value_cannot w call s (shown.shows.calls call s own.1) next own.0 (world_numbered v w shown) event stuck.0 a stuck.1 stuck.2 goes
         ]
@@ -123,11 +123,11 @@ module _ (v : ShardValue) (was : IsShard v) (next : Next) (call : ℕ) where
     step_possible (to_call.OnLine line happens) none told can is = absurd none
     step_possible (to_call.Execute number chosen) none told can is = absurd none
     step_possible (to_call.Begin old) none told can is = absurd none
-    step_possible (to_call.Reply number) of_agent told true is = record { slot = s; held = held; could = (own.0, told, is) }
-    step_possible to_call.Pass of_agent told true is = record { slot = s; held = held; could = (own.0, told, is) }
-    step_possible (to_call.Note number) of_agent told true is = record { slot = s; held = held; could = (own.0, told, is) }
-    step_possible to_call.Timer of_agent told true is = record { slot = s; held = held; could = (own.0, told, is) }
-    step_possible (to_call.Hear association) of_agent told true is = record { slot = s; held = held; could = (own.0, told, is) }
+    step_possible (to_call.Reply number) of_agent told true is = record { call_record = s; held = held; could = (own.0, told, is) }
+    step_possible to_call.Pass of_agent told true is = record { call_record = s; held = held; could = (own.0, told, is) }
+    step_possible (to_call.Note number) of_agent told true is = record { call_record = s; held = held; could = (own.0, told, is) }
+    step_possible to_call.Timer of_agent told true is = record { call_record = s; held = held; could = (own.0, told, is) }
+    step_possible (to_call.Hear association) of_agent told true is = record { call_record = s; held = held; could = (own.0, told, is) }
     step_possible (to_call.Reply number) of_agent told false is = inl (cannot_reach (to_call.Reply number) of_agent is)
     step_possible to_call.Pass of_agent told false is = inl (cannot_reach to_call.Pass of_agent is)
     step_possible (to_call.Note number) of_agent told false is = inl (cannot_reach (to_call.Note number) of_agent is)
@@ -136,7 +136,7 @@ module _ (v : ShardValue) (was : IsShard v) (next : Next) (call : ℕ) where
 
 -- ---- the same of what a shard shows
 
-module _ (u v : ShardValue) (is : u ≡ v) (was : IsShard u) (next : Next) (call : ℕ) (s : CallRecord) (own : HasOwnSlot v next call (Some s)) where
+module _ (u v : ShardValue) (is : u ≡ v) (was : IsShard u) (next : Next) (call : ℕ) (s : CallRecord) (own : HasOwnRecord v next call (Some s)) where
   pub line_shown_possible : (line : LineNo) (event : LineEvent) (can : Bool) → IsPossibleOn u.gateway call line.0 event can
       → IsPossible v next (OfCall (record { 0 = call }) (to_call.OnLine line event)) can
   line_shown_possible line event can possible =
@@ -172,10 +172,10 @@ module _ (v : ShardValue) (was : IsShard v) (value : CallValue) (new old : ℕ) 
   not_begun fault.CannotHappen is = cannot v was value new old v.gateway fault.CannotHappen (stays fault.CannotHappen is)
   not_begun fault.NoMemory is = absurd is
 
-  pub begun_possible : (own : value.agent.call ≡ old) (s : CallRecord) → slot_in v.slots old ≡ Some s → has_ended v.script (agent_of s.agent) v.gateway.association ≡ true
+  pub begun_possible : (own : value.agent.call ≡ old) (s : CallRecord) → record_in v.call_table old ≡ Some s → has_ended v.script (agent_of s.agent) v.gateway.association ≡ true
       → CanBegin v.gateway old new (Ok tt) → CouldHappen v (next.Ended value) (begin new old)
   begun_possible own s there ended may = record {
-    slot = s;
-    held = ap (slot_in v.slots) own ∙ there;
+    call_record = s;
+    held = ap (record_in v.call_table) own ∙ there;
     could = (sym own, record { kind = refl; ended = ended; may = may });
   }

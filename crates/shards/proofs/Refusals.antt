@@ -18,7 +18,7 @@ use Rattle.gateway.specs.Answers.{HasNoRoom}
 use Rattle.gateway.specs.GatewayValue.{GatewayValue, gateway_of}
 use Rattle.shards.proofs.MessageLemmas.{found_in, is_own, own_message}
 use Rattle.shards.specs.Shows.{Shows, ShowsCall}
-use Rattle.shards.specs.Slots.{CannotExecute, CannotHappenOn, request_in}
+use Rattle.shards.specs.CallRecords.{CannotExecute, CannotHappenOn, request_in}
 use Rattle.shards.specs.declared.call_record.CallRecord.{CallRecord}
 
 -- what a test doesn't find isn't there
@@ -33,8 +33,8 @@ not_found p (y ∷ more) x none among passes = by_test (not_found p more x) (p y
     by_test rest false other is (inr later) = rest is later passes
 
 -- the one message with this name
-module _ (w : World) (g : GatewayValue) (slot : ℕ → Option CallRecord) (shows : Shows w g slot) (numbered : IsNumbered w)
-    (call : ℕ) (s : CallRecord) (there : slot call ≡ Some s) where
+module _ (w : World) (g : GatewayValue) (call_record : ℕ → Option CallRecord) (shows : Shows w g call_record) (numbered : IsNumbered w)
+    (call : ℕ) (s : CallRecord) (there : call_record call ≡ Some s) where
   abbrev own : ShowsCall w call s
   own = shows.calls call s there
 

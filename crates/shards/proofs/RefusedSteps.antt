@@ -22,7 +22,7 @@ use Rattle.agent.specs.declared.delivered.Delivery.TheVariants as delivery
 use Rattle.shards.proofs.MessageLemmas.{found_in, is_own, own_message}
 use Rattle.shards.proofs.Refusals.{not_found}
 use Rattle.shards.specs.Shows.{Shows, ShowsCall}
-use Rattle.shards.specs.Slots.{CannotStep, IsDelivered}
+use Rattle.shards.specs.CallRecords.{CannotStep, IsDelivered}
 use Rattle.shards.specs.Stepping.{IsAtAgent}
 use Rattle.agent.specs.Advancing.{advancing}
 use Rattle.shards.specs.declared.call_record.CallRecord.{CallRecord}
@@ -31,8 +31,8 @@ use Rattle.shards.specs.declared.call_record.CallRecord.{CallRecord}
 abbrev pub ValueCannot : Next → CallEvent → CallRecord → Type 0
 ValueCannot old event s = (brought : Delivery) × IsDelivered s.messages.sent event (Some brought) × (advancing old brought ≡ None)
 
-module _ (script : Script) (w : World) (g : GatewayValue) (slot : ℕ → Option CallRecord) (shows : Shows w g slot) (numbered : IsNumbered w)
-    (call : ℕ) (s : CallRecord) (there : slot call ≡ Some s) where
+module _ (script : Script) (w : World) (g : GatewayValue) (call_record : ℕ → Option CallRecord) (shows : Shows w g call_record) (numbered : IsNumbered w)
+    (call : ℕ) (s : CallRecord) (there : call_record call ≡ Some s) where
   abbrev own : ShowsCall w call s
   own = shows.calls call s there
 

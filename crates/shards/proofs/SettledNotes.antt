@@ -28,7 +28,7 @@ use Rattle.agent.specs.declared.delivered.Delivery.{Delivery}
 use Rattle.agent.specs.declared.delivered.Delivery.TheVariants as delivery
 use Rattle.shards.proofs.MessageLemmas.{same_found}
 use Rattle.shards.proofs.OtherCalls.{none_found}
-use Rattle.shards.specs.Slots.{AreSettled, is_settled}
+use Rattle.shards.specs.CallRecords.{AreSettled, is_settled}
 
 -- ---- a step of the agent
 
@@ -121,15 +121,15 @@ passed_kept script a = in_phase a.phase
     in_phase (awaits_reply request) = gives_none a
     in_phase resting = gives_none a
 
-noted_kept : (script : Script) (a : Agent) (slots : List ℕ) (sent : SentNote) → GivesKept a (noted script a slots sent)
-noted_kept script a slots sent = accepted (may_accept script a sent)
+noted_kept : (script : Script) (a : Agent) (call_table : List ℕ) (sent : SentNote) → GivesKept a (noted script a call_table sent)
+noted_kept script a call_table sent = accepted (may_accept script a sent)
   where
     still : (number : ℕ) → a.accepted number ≡ true → (test : Bool) → (if test then true else a.accepted number) ≡ true
     still number is true = refl
     still number is false = is
 
-    accepted : (may : Bool) → GivesKept a (if may then entered_or_stays script (record a { accepted = with_at a.accepted sent.number true }) (target_of script a (line_in a sent.line slots) sent.note) else None)
-    accepted true = stays_kept script a (record a { accepted = with_at a.accepted sent.number true }) (target_of script a (line_in a sent.line slots) sent.note)
+    accepted : (may : Bool) → GivesKept a (if may then entered_or_stays script (record a { accepted = with_at a.accepted sent.number true }) (target_of script a (line_in a sent.line call_table) sent.note) else None)
+    accepted true = stays_kept script a (record a { accepted = with_at a.accepted sent.number true }) (target_of script a (line_in a sent.line call_table) sent.note)
         (inl (refl, λ number is. still number is (number == sent.number)))
     accepted false = gives_none a
 

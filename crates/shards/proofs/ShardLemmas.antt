@@ -17,7 +17,7 @@ use Rattle.gateway.specs.GatewayValue.{GatewayValue, gateway_of}
 use Rattle.shards.proofs.ShownRestarts.{restart_shown}
 use Rattle.shards.specs.Shards.{CountsEvents, HasHappened, HasSameOpening, IsShard, IsWorldOf, ShardValue, events_of, opened_as}
 use Rattle.shards.specs.Shows.{LeadsOn}
-use Rattle.shards.specs.SlotTable.{slot_in}
+use Rattle.shards.specs.CallTable.{record_in}
 use Rattle.shards.specs.declared.opened.OpenedCall.{OpenedCall}
 
 -- ---- one event more
@@ -52,7 +52,7 @@ world_numbered v w is = runs_numbered v.script v.history is.start w (opening_num
 
 -- where an event leads on, the world that it leads to is the shard's
 pub led_on : (old new : ShardValue) (event : Event) → HasSameOpening old new → new.history ≡ old.history ++ event ∷ [] → (w : World) → IsWorldOf old w
-    → LeadsOn old.script w event new.gateway (slot_in new.slots) → (after : World) × (Occurs old.script w event after × IsWorldOf new after)
+    → LeadsOn old.script w event new.gateway (record_in new.call_table) → (after : World) × (Occurs old.script w event after × IsWorldOf new after)
 led_on old new event same history w is leads = (
   leads.after,
   (
@@ -96,7 +96,7 @@ module _ (old : ShardValue) (h : GatewayValue) (events : List Event) (associatio
     same = record { script = refl; first = refl; stride = refl; calls = refl };
     history = history;
     worlds = λ w is. led_on old later Restart (record { script = refl; first = refl; stride = refl; calls = refl }) history w is
-        (restart_shown old.script w old.gateway h (slot_in old.slots) association is.shows next);
+        (restart_shown old.script w old.gateway h (record_in old.call_table) association is.shows next);
   }
 
   same_count : (call : ℕ) → events_of call events ≡ events_of call old.history

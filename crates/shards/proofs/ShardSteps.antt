@@ -1,4 +1,4 @@
--- A shard after an event of one call: its slot is put in place of the old one, and the event is the last of the history. And a shard of which an event is
+-- A shard after an event of one call: its record is put in place of the old one, and the event is the last of the history. And a shard of which an event is
 -- refused: it shows the same worlds.
 use Rattle.std.proofs.Common.{◌≡◌, ◌∙◌, ◌+◌, ◌≤◌, ◌++◌, ◌==◌, ◌⊎◌, inl, inr, ℕ, Bool, true, false, true≢false, List, [], ◌∷◌, length, Option, Some, None, if◌then◌else◌, reverse, refl, sym, ap, subst, arith}
 use Rattle.std.specs.Prelude.{Contains, is_some}
@@ -22,14 +22,14 @@ use Rattle.agent.specs.AgentValue.{agent_of}
 use Rattle.shards.specs.Messages.{AreNumberedFrom, Messages, fits, reply_for, request_numbers}
 use Rattle.shards.proofs.ShardLemmas.{led_on, one_more, still_within}
 use Rattle.shards.specs.Shards.{CountsEvents, HasHappened, IsShard, IsUnchanged, IsWorldOf, ShardValue, events_of}
-use Rattle.shards.specs.Shows.{LeadsOn, Shows, ShowsCall, with_slot}
-use Rattle.shards.specs.Slots.{AreSettled, IsSameSlot, IsTied, request_in}
-use Rattle.shards.specs.SlotTable.{OthersStay, slot_in}
+use Rattle.shards.specs.Shows.{LeadsOn, Shows, ShowsCall, with_record}
+use Rattle.shards.specs.CallRecords.{AreSettled, IsSameRecord, IsTied, request_in}
+use Rattle.shards.specs.CallTable.{OthersStay, record_in}
 use Rattle.shards.specs.declared.call_record.CallRecord.{CallRecord}
 
--- slots that are alike at each call are the same
-pub same_slots : {f g : ℕ → Option CallRecord} → ((n : ℕ) → f n ≡ g n) → f ≡ g
-same_slots h = λ i n. h n i
+-- records that are alike at each call are the same
+pub same_records : {f g : ℕ → Option CallRecord} → ((n : ℕ) → f n ≡ g n) → f ≡ g
+same_records h = λ i n. h n i
 
 -- the calls that are open and those that are retired stay
 pub record KeepsCalls (g h : GatewayValue) : Type 0 where
@@ -42,27 +42,27 @@ keeps_all g = record { open_calls = λ call. refl; retired = λ call. refl }
 -- ---- an event happens
 
 module _ (old : ShardValue) (h : GatewayValue) (entries : List (ℕ × CallRecord)) (events : List Event) (call : ℕ) (happens : CallEvent) (s t : CallRecord)
-    (there : slot_in old.slots call ≡ Some s) (here : slot_in entries call ≡ Some t) (others : OthersStay old.slots call entries)
+    (there : record_in old.call_table call ≡ Some s) (here : record_in entries call ≡ Some t) (others : OthersStay old.call_table call entries)
     (history : events ≡ old.history ++ OfCall (record { 0 = call }) happens ∷ []) where
   abbrev event : Event
   event = OfCall (record { 0 = call }) happens
 
   abbrev pub stepped : ShardValue
-  stepped = record old { gateway = h; slots = entries; history = events }
+  stepped = record old { gateway = h; call_table = entries; history = events }
 
-  slots_are : slot_in entries ≡ with_slot (slot_in old.slots) call t
-  slots_are = same_slots (λ c. by_test c (c == call) refl)
+  records_are : record_in entries ≡ with_record (record_in old.call_table) call t
+  records_are = same_records (λ c. by_test c (c == call) refl)
     where
-      by_test : (c : ℕ) (test : Bool) → (c == call) ≡ test → slot_in entries c ≡ (if test then Some t else slot_in old.slots c)
-      by_test c true same = ap (slot_in entries) (eqb-true c call same) ∙ here
+      by_test : (c : ℕ) (test : Bool) → (c == call) ≡ test → record_in entries c ≡ (if test then Some t else record_in old.call_table c)
+      by_test c true same = ap (record_in entries) (eqb-true c call same) ∙ here
       by_test c false other = others c (eqb-false c call other)
 
-  pub step_happened : ((w : World) → IsWorldOf old w → LeadsOn old.script w event h (with_slot (slot_in old.slots) call t)) → HasHappened old stepped event
+  pub step_happened : ((w : World) → IsWorldOf old w → LeadsOn old.script w event h (with_record (record_in old.call_table) call t)) → HasHappened old stepped event
   step_happened leads = record {
     same = record { script = refl; first = refl; stride = refl; calls = refl };
     history = history;
     worlds = λ w is. led_on old stepped event (record { script = refl; first = refl; stride = refl; calls = refl }) history w is
-        (subst (λ (slot : ℕ → Option CallRecord). LeadsOn old.script w event h slot) (sym slots_are) (leads w is));
+        (subst (λ (call_record : ℕ → Option CallRecord). LeadsOn old.script w event h call_record) (sym records_are) (leads w is));
   }
 
   own_count : events_of call events ≡ events_of call old.history + 1
@@ -85,10 +85,10 @@ module _ (old : ShardValue) (h : GatewayValue) (entries : List (ℕ × CallRecor
         ∙ counts.unused c closed (sym (keeps.retired c) ∙ not_retired);
   }
     where
-      counted_at : (c : ℕ) (x : CallRecord) → slot_in entries c ≡ Some x → (test : Bool) → (c == call) ≡ test → x.events ≡ events_of c events
+      counted_at : (c : ℕ) (x : CallRecord) → record_in entries c ≡ Some x → (test : Bool) → (c == call) ≡ test → x.events ≡ events_of c events
       counted_at c x is true same =
           let this : c ≡ call = eqb-true c call same in
-          let was : t ≡ x = the_some t x (sym here ∙ ap (slot_in entries) (sym this) ∙ is) in
+          let was : t ≡ x = the_some t x (sym here ∙ ap (record_in entries) (sym this) ∙ is) in
           ap (λ (y : CallRecord). y.events) (sym was) ∙ one ∙ ap (λ n. n + 1) (counts.counted call s there) ∙ sym own_count ∙ ap (λ n. events_of n events) (sym this)
       counted_at c x is false other =
           let differs = eqb-false c call other in
@@ -96,8 +96,8 @@ module _ (old : ShardValue) (h : GatewayValue) (entries : List (ℕ × CallRecor
 
 -- ---- an event is refused
 
--- a slot that is as it was shows its call as before
-pub same_shown : (w : World) (call : ℕ) (s t : CallRecord) → IsSameSlot s t → ShowsCall w call s → ShowsCall w call t
+-- a record that is as it was shows its call as before
+pub same_shown : (w : World) (call : ℕ) (s t : CallRecord) → IsSameRecord s t → ShowsCall w call s → ShowsCall w call t
 same_shown w call s t same shows = record {
   agent = shows.agent ∙ ap (λ (a : Agent). Some a) (sym same.agent);
   requests = λ which. shows.requests which ∙ found which;
@@ -131,28 +131,28 @@ same_shown w call s t same shows = record {
           (subst (λ (m : Messages). AreSettled (agent_of s.agent) m.notes t.settled) (sym same.sent) (settled is.settled same.settled));
     }
 
--- the slot of each call is as it was
-abbrev pub AreSameSlots : List (ℕ × CallRecord) → List (ℕ × CallRecord) → Type 0
-AreSameSlots old new =
-    ((call : ℕ) (t : CallRecord) → slot_in new call ≡ Some t → (s : CallRecord) × (slot_in old call ≡ Some s) × IsSameSlot s t)
-    × ((call : ℕ) → is_some (slot_in new call) ≡ is_some (slot_in old call))
+-- the record of each call is as it was
+abbrev pub AreSameRecords : List (ℕ × CallRecord) → List (ℕ × CallRecord) → Type 0
+AreSameRecords old new =
+    ((call : ℕ) (t : CallRecord) → record_in new call ≡ Some t → (s : CallRecord) × (record_in old call ≡ Some s) × IsSameRecord s t)
+    × ((call : ℕ) → is_some (record_in new call) ≡ is_some (record_in old call))
 
-module _ (old : ShardValue) (h : GatewayValue) (entries : List (ℕ × CallRecord)) (same : IsSame old.gateway h) (slots : AreSameSlots old.slots entries) where
+module _ (old : ShardValue) (h : GatewayValue) (entries : List (ℕ × CallRecord)) (same : IsSame old.gateway h) (call_table : AreSameRecords old.call_table entries) where
   abbrev pub refused : ShardValue
-  refused = record old { gateway = h; slots = entries }
+  refused = record old { gateway = h; call_table = entries }
 
-  none_there : (call : ℕ) → slot_in entries call ≡ None → slot_in old.slots call ≡ None
-  none_there call none = by_slot (slot_in old.slots call) refl
+  none_there : (call : ℕ) → record_in entries call ≡ None → record_in old.call_table call ≡ None
+  none_there call none = by_record (record_in old.call_table call) refl
     where
-      by_slot : (o : Option CallRecord) → slot_in old.slots call ≡ o → o ≡ None
-      by_slot None is = refl
-      by_slot (Some s) is = absurd (true≢false (ap is_some (sym is) ∙ sym (slots.1 call) ∙ ap is_some none))
+      by_record : (o : Option CallRecord) → record_in old.call_table call ≡ o → o ≡ None
+      by_record None is = refl
+      by_record (Some s) is = absurd (true≢false (ap is_some (sym is) ∙ sym (call_table.1 call) ∙ ap is_some none))
 
-  still_shown : (w : World) → Shows w old.gateway (slot_in old.slots) → Shows w h (slot_in entries)
+  still_shown : (w : World) → Shows w old.gateway (record_in old.call_table) → Shows w h (record_in entries)
   still_shown w shows = record {
     gateway = shows.gateway ∙ sym same.0;
-    open_calls = λ call. same.1 call ∙ shows.open_calls call ∙ sym (slots.1 call);
-    calls = λ call t is. let was = slots.0 call t is in same_shown w call was.0 t was.2 (shows.calls call was.0 was.1);
+    open_calls = λ call. same.1 call ∙ shows.open_calls call ∙ sym (call_table.1 call);
+    calls = λ call t is. let was = call_table.0 call t is in same_shown w call was.0 t was.2 (shows.calls call was.0 was.1);
     no_others = λ call none. shows.no_others call (none_there call none);
   }
 
@@ -166,29 +166,29 @@ module _ (old : ShardValue) (h : GatewayValue) (entries : List (ℕ × CallRecor
   pub refused_counts : CountsEvents old → CountsEvents refused
   unfolding gateway_of
   refused_counts counts = record {
-    counted = λ call t is. let was = slots.0 call t is in was.2.events ∙ counts.counted call was.0 was.1;
+    counted = λ call t is. let was = call_table.0 call t is in was.2.events ∙ counts.counted call was.0 was.1;
     unused = λ call not_open not_retired.
         counts.unused call (sym (same.1 call) ∙ not_open) (ap (λ (g : Gateway). g.retired call) (sym same.0) ∙ not_retired);
   }
 
--- where one slot is as it was, and the others stay, each is
-pub one_same : (old new : List (ℕ × CallRecord)) (call : ℕ) (s t : CallRecord) → slot_in old call ≡ Some s → slot_in new call ≡ Some t → IsSameSlot s t
-    → OthersStay old call new → AreSameSlots old new
+-- where one record is as it was, and the others stay, each is
+pub one_same : (old new : List (ℕ × CallRecord)) (call : ℕ) (s t : CallRecord) → record_in old call ≡ Some s → record_in new call ≡ Some t → IsSameRecord s t
+    → OthersStay old call new → AreSameRecords old new
 one_same old new call s t there here same others = (λ c x is. at c x is (c == call) refl, λ c. stands c (c == call) refl)
   where
-    same_as : (x : CallRecord) → IsSameSlot x x
+    same_as : (x : CallRecord) → IsSameRecord x x
     same_as x = record { agent = refl; sent = refl; events = refl; settled = inl refl }
 
-    at : (c : ℕ) (x : CallRecord) → slot_in new c ≡ Some x → (test : Bool) → (c == call) ≡ test → (y : CallRecord) × (slot_in old c ≡ Some y) × IsSameSlot y x
+    at : (c : ℕ) (x : CallRecord) → record_in new c ≡ Some x → (test : Bool) → (c == call) ≡ test → (y : CallRecord) × (record_in old c ≡ Some y) × IsSameRecord y x
     at c x is true this =
         let own : c ≡ call = eqb-true c call this in
-        let was : t ≡ x = the_some t x (sym here ∙ ap (slot_in new) (sym own) ∙ is) in
-        (s, ap (slot_in old) own ∙ there, subst (IsSameSlot s) was same)
+        let was : t ≡ x = the_some t x (sym here ∙ ap (record_in new) (sym own) ∙ is) in
+        (s, ap (record_in old) own ∙ there, subst (IsSameRecord s) was same)
     at c x is false other = (x, sym (others c (eqb-false c call other)) ∙ is, same_as x)
 
-    stands : (c : ℕ) (test : Bool) → (c == call) ≡ test → is_some (slot_in new c) ≡ is_some (slot_in old c)
-    stands c true this = ap (λ n. is_some (slot_in new n)) (eqb-true c call this) ∙ ap is_some here ∙ sym (ap is_some there)
-        ∙ ap (λ n. is_some (slot_in old n)) (sym (eqb-true c call this))
+    stands : (c : ℕ) (test : Bool) → (c == call) ≡ test → is_some (record_in new c) ≡ is_some (record_in old c)
+    stands c true this = ap (λ n. is_some (record_in new n)) (eqb-true c call this) ∙ ap is_some here ∙ sym (ap is_some there)
+        ∙ ap (λ n. is_some (record_in old n)) (sym (eqb-true c call this))
     stands c false other = ap is_some (others c (eqb-false c call other))
 
 -- nothing changed
@@ -211,15 +211,15 @@ shard_unchanged old new was unchanged counts = record {
   counts = counts;
 }
 
--- where a call had no slot and has none, and the others stay, each is as it was
-pub none_same : (old new : List (ℕ × CallRecord)) (call : ℕ) → OthersStay old call new → slot_in old call ≡ None → slot_in new call ≡ None → AreSameSlots old new
+-- where a call had no record and has none, and the others stay, each is as it was
+pub none_same : (old new : List (ℕ × CallRecord)) (call : ℕ) → OthersStay old call new → record_in old call ≡ None → record_in new call ≡ None → AreSameRecords old new
 none_same old new call others there here = (λ c x is. at c x is (c == call) refl, λ c. open_as c (c == call) refl)
   where
-    at : (c : ℕ) (x : CallRecord) → slot_in new c ≡ Some x → (test : Bool) → (c == call) ≡ test → (y : CallRecord) × (slot_in old c ≡ Some y) × IsSameSlot y x
-    at c x is true this = absurd (some_is_none x (sym is ∙ ap (slot_in new) (eqb-true c call this) ∙ here))
+    at : (c : ℕ) (x : CallRecord) → record_in new c ≡ Some x → (test : Bool) → (c == call) ≡ test → (y : CallRecord) × (record_in old c ≡ Some y) × IsSameRecord y x
+    at c x is true this = absurd (some_is_none x (sym is ∙ ap (record_in new) (eqb-true c call this) ∙ here))
     at c x is false other = (x, sym (others c (eqb-false c call other)) ∙ is, record { agent = refl; sent = refl; events = refl; settled = inl refl })
 
-    open_as : (c : ℕ) (test : Bool) → (c == call) ≡ test → is_some (slot_in new c) ≡ is_some (slot_in old c)
-    open_as c true this = ap (λ n. is_some (slot_in new n)) (eqb-true c call this) ∙ ap is_some here ∙ sym (ap is_some there)
-        ∙ ap (λ n. is_some (slot_in old n)) (sym (eqb-true c call this))
+    open_as : (c : ℕ) (test : Bool) → (c == call) ≡ test → is_some (record_in new c) ≡ is_some (record_in old c)
+    open_as c true this = ap (λ n. is_some (record_in new n)) (eqb-true c call this) ∙ ap is_some here ∙ sym (ap is_some there)
+        ∙ ap (λ n. is_some (record_in old n)) (sym (eqb-true c call this))
     open_as c false other = ap is_some (others c (eqb-false c call other))

@@ -1,4 +1,4 @@
--- A call that begins on the lines of another is an event of the world that the slots show, and they show the world after it; and where it is refused as not
+-- A call that begins on the lines of another is an event of the world that the records show, and they show the world after it; and where it is refused as not
 -- enabled, no call begins so in that world.
 use Rattle.std.proofs.Common.{◌≡◌, ◌∙◌, ◌+◌, ◌++◌, ◌==◌, ◌⊎◌, inl, inr, ℕ, Bool, true, false, true≢false, List, [], length, Option, Some, None, Ok, if◌then◌else◌, reverse, refl, sym, ap, subst, arith}
 use Rattle.std.specs.Prelude.{Contains, ◌-◌, is_some, nat_le, not, slice_get, ◌&&◌, ◌||◌}
@@ -27,9 +27,9 @@ use Rattle.shards.specs.Messages.{AreNumberedFrom, Messages, request_numbers, fi
 use Rattle.shards.proofs.MessageLemmas.{is_anothers, same_found}
 use Rattle.shards.proofs.OtherCalls.{none_found, stays_shown}
 use Rattle.shards.proofs.SettledNotes.{none_settled}
-use Rattle.shards.specs.Beginnings.{IsBegunSlot, has_ended}
+use Rattle.shards.specs.Beginnings.{IsBegunRecord, has_ended}
 use Rattle.shards.specs.Shows.{LeadsOn, Shows, ShowsCall}
-use Rattle.shards.specs.Slots.{IsTied, request_in}
+use Rattle.shards.specs.CallRecords.{IsTied, request_in}
 use Rattle.shards.specs.declared.call_record.CallRecord.{CallRecord}
 
 -- ---- numbers that were never used
@@ -82,8 +82,8 @@ no_reply first (Some n) = no_place first n
 
 -- ---- the world after it
 
-module _ (script : Script) (w : World) (g h : GatewayValue) (slot : ℕ → Option CallRecord) (shows : Shows w g slot) (numbered : IsNumbered w)
-    (old new : ℕ) (s : CallRecord) (there : slot old ≡ Some s) (b : IsBegun g old new h (Ok tt)) where
+module _ (script : Script) (w : World) (g h : GatewayValue) (call_record : ℕ → Option CallRecord) (shows : Shows w g call_record) (numbered : IsNumbered w)
+    (old new : ℕ) (s : CallRecord) (there : call_record old ≡ Some s) (b : IsBegun g old new h (Ok tt)) where
   abbrev a : Agent
   a = agent_of s.agent
 
@@ -97,7 +97,7 @@ module _ (script : Script) (w : World) (g h : GatewayValue) (slot : ℕ → Opti
   differ same = true≢false (sym b.0 ∙ ap (is_open g) (sym same) ∙ free.0)
 
   no_agent : w.agent new ≡ None
-  no_agent = shows.no_others new (none_of (slot new) (sym (shows.open_calls new) ∙ free.0))
+  no_agent = shows.no_others new (none_of (call_record new) (sym (shows.open_calls new) ∙ free.0))
 
   not_retired : w.gateway.retired new ≡ false
   not_retired = ap (λ (x : Gateway). x.retired new) shows.gateway ∙ free.1
@@ -118,8 +118,8 @@ module _ (script : Script) (w : World) (g h : GatewayValue) (slot : ℕ → Opti
   none_of_new of number which xs other =
       same_found (λ x. is_of new which (of x) (number x)) (λ x. false) xs (λ x among. is_anothers new (of x) which (number x) (other x among)) ∙ none_found xs
 
-  module _ (ended : has_ended script a g.association ≡ true) (t : CallRecord) (x : IsBegunSlot script new s t) (slots : ℕ → Option CallRecord)
-      (slots_are : (c : ℕ) → slots c ≡ (if c == new then Some t else if c == old then None else slot c)) where
+  module _ (ended : has_ended script a g.association ≡ true) (t : CallRecord) (x : IsBegunRecord script new s t) (call_table : ℕ → Option CallRecord)
+      (records_are : (c : ℕ) → call_table c ≡ (if c == new then Some t else if c == old then None else call_record c)) where
     requests_of_none : (which : Option ℕ) → request_in t which ≡ None
     requests_of_none which =
         ap (λ (y : Agent). find (λ (r : Request). fits which r.number) (sent_in y.phase ++ reverse t.messages.sent.requests)) x.agent
@@ -147,43 +147,43 @@ module _ (script : Script) (w : World) (g h : GatewayValue) (slot : ℕ → Opti
       tied = tied;
     }
 
-    other_shown : (c : ℕ) (y : CallRecord) → (c ≡ new → ⊥) → (c ≡ old → ⊥) → slot c ≡ Some y → ShowsCall after c y
+    other_shown : (c : ℕ) (y : CallRecord) → (c ≡ new → ⊥) → (c ≡ old → ⊥) → call_record c ≡ Some y → ShowsCall after c y
     other_shown c y not_new not_old is =
         stays_shown w after c y (shows.calls c y is) (agent_other script w new old c a not_old not_new) (λ which. refl) (λ which. refl)
         (λ n among. among) (λ n among of_it. among) (ap (λ (link : CallLink). link.notes) (link_other w.gateway old new c not_old not_new))
 
-    calls : (c : ℕ) (y : CallRecord) → slots c ≡ Some y → ShowsCall after c y
-    calls c y is = by_new (c == new) refl (sym (slots_are c) ∙ is)
+    calls : (c : ℕ) (y : CallRecord) → call_table c ≡ Some y → ShowsCall after c y
+    calls c y is = by_new (c == new) refl (sym (records_are c) ∙ is)
       where
-        by_old : (test : Bool) → (c == old) ≡ test → (c ≡ new → ⊥) → (if test then None else slot c) ≡ Some y → ShowsCall after c y
+        by_old : (test : Bool) → (c == old) ≡ test → (c ≡ new → ⊥) → (if test then None else call_record c) ≡ Some y → ShowsCall after c y
         by_old true this not_new at = absurd (none_is_some y at)
         by_old false other not_new at = other_shown c y not_new (eqb-false c old other) at
 
-        by_new : (test : Bool) → (c == new) ≡ test → (if test then Some t else if c == old then None else slot c) ≡ Some y → ShowsCall after c y
+        by_new : (test : Bool) → (c == new) ≡ test → (if test then Some t else if c == old then None else call_record c) ≡ Some y → ShowsCall after c y
         by_new true this at = subst (λ n. ShowsCall after n y) (sym (eqb-true c new this))
             (subst (λ (z : CallRecord). ShowsCall after new z) (the_some t y at) new_shown)
         by_new false other at = by_old (c == old) refl (eqb-false c new other) at
 
-    no_others : (c : ℕ) → slots c ≡ None → after.agent c ≡ None
-    no_others c none = by_new (c == new) (sym (slots_are c) ∙ none)
+    no_others : (c : ℕ) → call_table c ≡ None → after.agent c ≡ None
+    no_others c none = by_new (c == new) (sym (records_are c) ∙ none)
       where
-        by_old : (test : Bool) → (if test then None else slot c) ≡ None → (if test then None else w.agent c) ≡ None
+        by_old : (test : Bool) → (if test then None else call_record c) ≡ None → (if test then None else w.agent c) ≡ None
         by_old true at = refl
         by_old false at = shows.no_others c at
 
-        by_new : (test : Bool) → (if test then Some t else if c == old then None else slot c) ≡ None
+        by_new : (test : Bool) → (if test then Some t else if c == old then None else call_record c) ≡ None
             → (if test then Some (begun script new a) else if c == old then None else w.agent c) ≡ None
         by_new true at = absurd (some_is_none t at)
         by_new false at = by_old (c == old) at
 
-    open_calls : (c : ℕ) → is_open h c ≡ is_some (slots c)
-    open_calls c = b.4 c ∙ by_new (c == new) ∙ ap is_some (sym (slots_are c))
+    open_calls : (c : ℕ) → is_open h c ≡ is_some (call_table c)
+    open_calls c = b.4 c ∙ by_new (c == new) ∙ ap is_some (sym (records_are c))
       where
-        by_old : (test : Bool) → (not test && is_open g c) ≡ is_some (if test then None else slot c)
+        by_old : (test : Bool) → (not test && is_open g c) ≡ is_some (if test then None else call_record c)
         by_old true = refl
         by_old false = shows.open_calls c
 
-        by_new : (test : Bool) → (test || (not (c == old) && is_open g c)) ≡ is_some (if test then Some t else if c == old then None else slot c)
+        by_new : (test : Bool) → (test || (not (c == old) && is_open g c)) ≡ is_some (if test then Some t else if c == old then None else call_record c)
         by_new true = refl
         by_new false = by_old (c == old)
 
@@ -194,7 +194,7 @@ module _ (script : Script) (w : World) (g h : GatewayValue) (slot : ℕ → Opti
     unfolding gateway_of
     current = ap (λ (x : Gateway). x.association) shows.gateway
 
-    pub begin_leads_on : LeadsOn script w (begin new old) h slots
+    pub begin_leads_on : LeadsOn script w (begin new old) h call_table
     begin_leads_on = record {
       after = after;
       occurs = record {

@@ -1,4 +1,4 @@
--- A request that reaches the gateway is an event of the world that the slots show, and they show the world after it.
+-- A request that reaches the gateway is an event of the world that the records show, and they show the world after it.
 use Rattle.std.proofs.Common.{◌≡◌, ◌∙◌, ◌+◌, ◌++◌, ◌⊎◌, inl, inr, ℕ, true, true≢false, List, [], ◌∷◌, length, Option, Some, if◌then◌else◌, refl, sym, ap, subst}
 use Rattle.std.specs.Prelude.{Contains, is_some}
 use Rattle.std.specs.List.{find}
@@ -21,18 +21,18 @@ use Rattle.gateway.specs.Answers.{IsAddressed, IsAnswered, SameOpen}
 use Rattle.gateway.specs.GatewayValue.{GatewayValue, gateway_of, is_open}
 use Rattle.shards.specs.Messages.{WasSent, answering, fits, raising, reply_for}
 use Rattle.shards.proofs.AnsweredReplies.{length_set, raising_replies, replies_answered}
-use Rattle.shards.proofs.CountedSlots.{HasSameRequests, counted_shown, notes_in_slot, notes_in_world}
+use Rattle.shards.proofs.CountedRecords.{HasSameRequests, counted_shown, notes_in_record, notes_in_world}
 use Rattle.shards.proofs.GatewayLemmas.{length_sent, reply_kept, reply_number}
 use Rattle.shards.proofs.MessageLemmas.{found_in, is_own, own_message}
 use Rattle.shards.proofs.OtherCalls.{others_added, stays_shown}
-use Rattle.shards.proofs.ShownSteps.{each_slot, none_before, same_open}
-use Rattle.shards.proofs.SlotLemmas.{was_sent}
-use Rattle.shards.specs.Shows.{LeadsOn, Shows, ShowsCall, with_slot}
-use Rattle.shards.specs.Slots.{Executes, IsCounted, after_answer, is_event, request_in}
+use Rattle.shards.proofs.ShownSteps.{each_record, none_before, same_open}
+use Rattle.shards.proofs.RecordLemmas.{was_sent}
+use Rattle.shards.specs.Shows.{LeadsOn, Shows, ShowsCall, with_record}
+use Rattle.shards.specs.CallRecords.{Executes, IsCounted, after_answer, is_event, request_in}
 use Rattle.shards.specs.declared.call_record.CallRecord.{CallRecord}
 
-module _ (script : Script) (w : World) (g h : GatewayValue) (slot : ℕ → Option CallRecord) (shows : Shows w g slot)
-    (call number : ℕ) (refusal : Option ChosenRefusal) (s t : CallRecord) (there : slot call ≡ Some s)
+module _ (script : Script) (w : World) (g h : GatewayValue) (call_record : ℕ → Option CallRecord) (shows : Shows w g call_record)
+    (call number : ℕ) (refusal : Option ChosenRefusal) (s t : CallRecord) (there : call_record call ≡ Some s)
     (request : Request) (sent : request_in s (Some number) ≡ Some request) where
   abbrev own : ShowsCall w call s
   own = shows.calls call s there
@@ -77,15 +77,15 @@ module _ (script : Script) (w : World) (g h : GatewayValue) (slot : ℕ → Opti
     abbrev repeated : World
     repeated = record w { replies = reply ∷ w.replies }
 
-    other_repeated : (c : ℕ) (x : CallRecord) → (c ≡ call → ⊥) → slot c ≡ Some x → ShowsCall repeated c x
+    other_repeated : (c : ℕ) (x : CallRecord) → (c ≡ call → ⊥) → call_record c ≡ Some x → ShowsCall repeated c x
     other_repeated c x other is =
         stays_shown w repeated c x (shows.calls c x is) refl (λ which. refl) (other_replies c other) (λ n among. among) (λ n among of_it. among) refl
 
-    pub repeated_shown : h ≡ g → IsCounted s t (answering s.messages.sent reply) → Shows repeated h (with_slot slot call t)
+    pub repeated_shown : h ≡ g → IsCounted s t (answering s.messages.sent reply) → Shows repeated h (with_record call_record call t)
     repeated_shown same counted = record {
       gateway = shows.gateway ∙ ap gateway_of (sym same);
-      open_calls = λ c. ap (λ x. is_open x c) same ∙ shows.open_calls c ∙ same_open slot call s t there c;
-      calls = each_slot slot call t (ShowsCall repeated) (counted_shown w repeated call s t (answering s.messages.sent reply) own counted (record {
+      open_calls = λ c. ap (λ x. is_open x c) same ∙ shows.open_calls c ∙ same_open call_record call s t there c;
+      calls = each_record call_record call t (ShowsCall repeated) (counted_shown w repeated call s t (answering s.messages.sent reply) own counted (record {
         agent = refl;
         requests = refl;
         same = same_requests;
@@ -94,7 +94,7 @@ module _ (script : Script) (w : World) (g h : GatewayValue) (slot : ℕ → Opti
         notes_kept = own.notes_kept;
         counted = own.counted;
       })) other_repeated;
-      no_others = λ c none. shows.no_others c (none_before slot call t c none).1;
+      no_others = λ c none. shows.no_others c (none_before call_record call t c none).1;
     }
 
     -- the first time
@@ -121,7 +121,7 @@ module _ (script : Script) (w : World) (g h : GatewayValue) (slot : ℕ → Opti
           ap (λ (x : Gateway). (x.link c).notes) e.after_is
           ∙ ap (λ (l : CallLink). l.notes) (at_another request.call c _ (w.gateway.link c) (λ same. other (same ∙ names.0)))
 
-      other_executed : (c : ℕ) (x : CallRecord) → (c ≡ call → ⊥) → slot c ≡ Some x → ShowsCall executed c x
+      other_executed : (c : ℕ) (x : CallRecord) → (c ≡ call → ⊥) → call_record c ≡ Some x → ShowsCall executed c x
       other_executed c x other is =
           stays_shown w executed c x (shows.calls c x is) refl (λ which. refl) (other_replies c other)
           (λ n among. Contains-append_right notes w.notes n among) (λ n among of_it. not_added n of_it (Contains-append_cases notes w.notes n among)) (other_link c other)
@@ -130,20 +130,20 @@ module _ (script : Script) (w : World) (g h : GatewayValue) (slot : ℕ → Opti
           not_added n of_it (inl new) = absurd (other (sym of_it ∙ notes_of_call n new))
           not_added n of_it (inr old) = old
 
-      pub executed_shown : SameOpen g h → IsCounted s t (raising (answering s.messages.sent reply) notes) → Shows executed h (with_slot slot call t)
+      pub executed_shown : SameOpen g h → IsCounted s t (raising (answering s.messages.sent reply) notes) → Shows executed h (with_record call_record call t)
       executed_shown open_calls counted = record {
         gateway = refl;
-        open_calls = λ c. open_calls c ∙ shows.open_calls c ∙ same_open slot call s t there c;
-        calls = each_slot slot call t (ShowsCall executed) (counted_shown w executed call s t (raising (answering s.messages.sent reply) notes) own counted (record {
+        open_calls = λ c. open_calls c ∙ shows.open_calls c ∙ same_open call_record call s t there c;
+        calls = each_record call_record call t (ShowsCall executed) (counted_shown w executed call s t (raising (answering s.messages.sent reply) notes) own counted (record {
           agent = refl;
           requests = refl;
           same = record { first = refl; requests = refl; replies = length_set s.messages.sent.replies _ (Some reply); more = notes; notes = refl };
           replies = λ which. replies_shown which ∙ sym (raising_replies (answering s.messages.sent reply) notes which);
           notes_sent = notes_in_world w call s own notes notes_of_call;
-          notes_kept = notes_in_slot w call s own notes notes_of_call;
+          notes_kept = notes_in_record w call s own notes notes_of_call;
           counted = counted_on;
         })) other_executed;
-        no_others = λ c none. shows.no_others c (none_before slot call t c none).1;
+        no_others = λ c none. shows.no_others c (none_before call_record call t c none).1;
       }
 
   -- ---- what the gateway answers
@@ -155,11 +155,11 @@ module _ (script : Script) (w : World) (g h : GatewayValue) (slot : ℕ → Opti
   sent_request = (in_world.0, names.0, names.1)
 
   -- nothing is sent
-  discarded_shown : h ≡ g → IsCounted s t s.messages.sent → Shows w h (with_slot slot call t)
+  discarded_shown : h ≡ g → IsCounted s t s.messages.sent → Shows w h (with_record call_record call t)
   discarded_shown same counted = record {
     gateway = shows.gateway ∙ ap gateway_of (sym same);
-    open_calls = λ c. ap (λ x. is_open x c) same ∙ shows.open_calls c ∙ same_open slot call s t there c;
-    calls = each_slot slot call t (ShowsCall w) (counted_shown w w call s t s.messages.sent own counted (record {
+    open_calls = λ c. ap (λ x. is_open x c) same ∙ shows.open_calls c ∙ same_open call_record call s t there c;
+    calls = each_record call_record call t (ShowsCall w) (counted_shown w w call s t s.messages.sent own counted (record {
       agent = refl;
       requests = refl;
       same = record { first = refl; requests = refl; replies = refl; more = []; notes = sym (append-nil s.messages.sent.notes) };
@@ -168,11 +168,11 @@ module _ (script : Script) (w : World) (g h : GatewayValue) (slot : ℕ → Opti
       notes_kept = own.notes_kept;
       counted = own.counted;
     })) (λ c x other is. shows.calls c x is);
-    no_others = λ c none. shows.no_others c (none_before slot call t c none).1;
+    no_others = λ c none. shows.no_others c (none_before call_record call t c none).1;
   }
 
   answered_shown : IsNumbered w → (told : Answer) → is_event told ≡ true → IsAnswered g call request refusal h told → IsCounted s t (after_answer s.messages.sent told)
-      → LeadsOn script w (execute call number refusal) h (with_slot slot call t)
+      → LeadsOn script w (execute call number refusal) h (with_record call_record call t)
   answered_shown numbered (answer.Executed reply notes) happens is counted =
       let e = subst (λ (x : Gateway). IsExecutedBy x request refusal (gateway_of h) reply notes.items) (sym shows.gateway) is.1.0 in
       let of_call = ap (λ (r : Reply). r.call) e.reply_is ∙ names.0 in
@@ -200,9 +200,9 @@ module _ (script : Script) (w : World) (g h : GatewayValue) (slot : ℕ → Opti
   answered_shown numbered answer.CannotHappen happens is counted = absurd (true≢false (sym happens))
   answered_shown numbered answer.NoMemory happens is counted = absurd (true≢false (sym happens))
 
--- a request that reaches the gateway, as the slots and the gateway take it
-pub execute_shown : (script : Script) (w : World) (g h : GatewayValue) (slot : ℕ → Option CallRecord) → Shows w g slot → IsNumbered w
-    → (call number : ℕ) (refusal : Option ChosenRefusal) (s t : CallRecord) → slot call ≡ Some s → Executes g h call number refusal s t
-    → LeadsOn script w (execute call number refusal) h (with_slot slot call t)
-execute_shown script w g h slot shows numbered call number refusal s t there x =
-    answered_shown script w g h slot shows call number refusal s t there x.request x.sent numbered x.told x.happens x.answered x.counted
+-- a request that reaches the gateway, as the records and the gateway take it
+pub execute_shown : (script : Script) (w : World) (g h : GatewayValue) (call_record : ℕ → Option CallRecord) → Shows w g call_record → IsNumbered w
+    → (call number : ℕ) (refusal : Option ChosenRefusal) (s t : CallRecord) → call_record call ≡ Some s → Executes g h call number refusal s t
+    → LeadsOn script w (execute call number refusal) h (with_record call_record call t)
+execute_shown script w g h call_record shows numbered call number refusal s t there x =
+    answered_shown script w g h call_record shows call number refusal s t there x.request x.sent numbered x.told x.happens x.answered x.counted

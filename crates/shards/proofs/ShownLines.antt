@@ -1,4 +1,4 @@
--- An event of a line is an event of the world that the slots show, and they show the world after it; and so is a restart.
+-- An event of a line is an event of the world that the records show, and they show the world after it; and so is a restart.
 use Rattle.std.proofs.Common.{◌≡◌, ◌∙◌, ◌+◌, ◌++◌, ◌⊎◌, inl, inr, ℕ, List, length, Option, Some, refl, sym, ap, subst}
 use Rattle.std.specs.Prelude.{Contains}
 use Rattle.std.proofs.lemmas.List.{length-append}
@@ -15,15 +15,15 @@ use Rattle.gateway.specs.Answers.{note_listed}
 use Rattle.gateway.specs.GatewayValue.{GatewayValue, gateway_of}
 use Rattle.shards.specs.Messages.{raising}
 use Rattle.shards.proofs.AnsweredReplies.{raising_replies}
-use Rattle.shards.proofs.CountedSlots.{counted_shown, notes_in_slot, notes_in_world}
+use Rattle.shards.proofs.CountedRecords.{counted_shown, notes_in_record, notes_in_world}
 use Rattle.shards.proofs.OtherCalls.{stays_shown}
-use Rattle.shards.proofs.ShownSteps.{each_slot, none_before, same_open}
-use Rattle.shards.specs.Shows.{LeadsOn, Shows, ShowsCall, with_slot}
-use Rattle.shards.specs.Slots.{HappensOn}
+use Rattle.shards.proofs.ShownSteps.{each_record, none_before, same_open}
+use Rattle.shards.specs.Shows.{LeadsOn, Shows, ShowsCall, with_record}
+use Rattle.shards.specs.CallRecords.{HappensOn}
 use Rattle.shards.specs.declared.call_record.CallRecord.{CallRecord}
 
-module _ (script : Script) (w : World) (g h : GatewayValue) (slot : ℕ → Option CallRecord) (shows : Shows w g slot)
-    (call line : ℕ) (event : LineEvent) (s t : CallRecord) (there : slot call ≡ Some s) (x : HappensOn g h call line event s t) where
+module _ (script : Script) (w : World) (g h : GatewayValue) (call_record : ℕ → Option CallRecord) (shows : Shows w g call_record)
+    (call line : ℕ) (event : LineEvent) (s t : CallRecord) (there : call_record call ≡ Some s) (x : HappensOn g h call line event s t) where
   abbrev own : ShowsCall w call s
   own = shows.calls call s there
 
@@ -59,7 +59,7 @@ module _ (script : Script) (w : World) (g h : GatewayValue) (slot : ℕ → Opti
       ap (λ (g : Gateway). (g.link c).notes) happens.after_is
       ∙ ap (λ (l : CallLink). l.notes) (at_another happens.call c _ (w.gateway.link c) (λ same. other (same ∙ to_call)))
 
-  other_shown : (c : ℕ) (y : CallRecord) → (c ≡ call → ⊥) → slot c ≡ Some y → ShowsCall after c y
+  other_shown : (c : ℕ) (y : CallRecord) → (c ≡ call → ⊥) → call_record c ≡ Some y → ShowsCall after c y
   other_shown c y other is =
       stays_shown w after c y (shows.calls c y is) refl (λ which. refl) (λ which. refl)
       (λ n among. Contains-append_right new w.notes n among) (λ n among of_it. not_added n of_it (Contains-append_cases new w.notes n among)) (other_link c other)
@@ -68,22 +68,22 @@ module _ (script : Script) (w : World) (g h : GatewayValue) (slot : ℕ → Opti
       not_added n of_it (inl here) = absurd (other (sym of_it ∙ of_call n here))
       not_added n of_it (inr old) = old
 
-  pub line_shown : LeadsOn script w (on_a_line call line event) h (with_slot slot call t)
+  pub line_shown : LeadsOn script w (on_a_line call line event) h (with_record call_record call t)
   line_shown = record {
     after = after;
     occurs = (held, record { gateway = gateway_of h; sent = new; happens = happens; after_is = refl });
     shown = record {
       gateway = refl;
-      open_calls = λ c. x.open_calls c ∙ shows.open_calls c ∙ same_open slot call s t there c;
-      calls = each_slot slot call t (ShowsCall after) (counted_shown w after call s t (raising s.messages.sent new) own x.counted (record {
+      open_calls = λ c. x.open_calls c ∙ shows.open_calls c ∙ same_open call_record call s t there c;
+      calls = each_record call_record call t (ShowsCall after) (counted_shown w after call s t (raising s.messages.sent new) own x.counted (record {
         agent = refl;
         requests = refl;
         same = record { first = refl; requests = refl; replies = refl; more = new; notes = refl };
         replies = λ which. own.replies which ∙ sym (raising_replies s.messages.sent new which);
         notes_sent = notes_in_world w call s own new of_call;
-        notes_kept = notes_in_slot w call s own new of_call;
+        notes_kept = notes_in_record w call s own new of_call;
         counted = counted_on;
       })) other_shown;
-      no_others = λ c none. shows.no_others c (none_before slot call t c none).1;
+      no_others = λ c none. shows.no_others c (none_before call_record call t c none).1;
     };
   }

@@ -1,4 +1,4 @@
--- A restart is an event of the world that the slots show, and they show the world after it: no agent knows of it yet, and nothing that was sent is lost.
+-- A restart is an event of the world that the records show, and they show the world after it: no agent knows of it yet, and nothing that was sent is lost.
 use Rattle.std.proofs.Common.{◌∙◌, ℕ, Option, refl, sym, ap, subst}
 use Rattle.std.specs.Prelude.{◌<◌}
 use Rattle.mg_model.specs.declared.events.Event.TheVariants.{Restart}
@@ -12,10 +12,10 @@ use Rattle.shards.proofs.OtherCalls.{stays_shown}
 use Rattle.shards.specs.Shows.{LeadsOn, Shows}
 use Rattle.shards.specs.declared.call_record.CallRecord.{CallRecord}
 
-pub restart_shown : (script : Script) (w : World) (g h : GatewayValue) (slot : ℕ → Option CallRecord) (association : ℕ) → Shows w g slot → IsNext g h association
-    → LeadsOn script w Restart h slot
+pub restart_shown : (script : Script) (w : World) (g h : GatewayValue) (call_record : ℕ → Option CallRecord) (association : ℕ) → Shows w g call_record → IsNext g h association
+    → LeadsOn script w Restart h call_record
 unfolding gateway_of
-restart_shown script w g h slot association shows next = record {
+restart_shown script w g h call_record association shows next = record {
   after = with_gateway w (restarted w.gateway);
   occurs = (subst (λ (x : Gateway). x.association < last_association) (sym shows.gateway) next.room, refl);
   shown = record {

@@ -26,9 +26,9 @@ use Rattle.systems.specs.Systems.{System, agent_in}
 use Rattle.systems.proofs.LineLists.{named}
 use Rattle.systems.proofs.OpenedCalls.{IsOpened, calls_opened}
 use Rattle.shards.proofs.ShownBegins.{used_number}
-use Rattle.shards.specs.Opening.{AreOpenedOn, AreOpenedSlots, IsOpenedOne, IsTakenAfter, call_of, system_of}
+use Rattle.shards.specs.Opening.{AreOpenedOn, AreOpenedRecords, IsOpenedOne, IsTakenAfter, call_of, system_of}
 use Rattle.shards.specs.Shards.{opened_as}
-use Rattle.shards.specs.SlotTable.{slot_in}
+use Rattle.shards.specs.CallTable.{record_in}
 use Rattle.shards.specs.declared.fault.OpenFault as shard_fault
 use Rattle.shards.specs.declared.fault.OpenFault.TheVariants as why_not
 use Rattle.shards.specs.declared.opened.OpenedCall.{OpenedCall}
@@ -147,13 +147,13 @@ module _ (script : Script) (calls : List OpenedCall) (first stride : ℕ) (g : G
   -- a call of this number is open
   number_taken : is_taken g one.call.0 ≡ true → Taken
   number_taken taken = elim (used_number g one.call.0 taken) [
-    | inl stands ↦ by_slot (slot_in entries one.call.0) refl (o.are_open one.call.0 ∙ stands)
+    | inl stands ↦ by_record (record_in entries one.call.0) refl (o.are_open one.call.0 ∙ stands)
     | inr retired ↦ absurd (true≢false (sym retired ∙ ap (λ (of : ℕ → Bool). of one.call.0) o.is_opening.gateway.none_retired))
   ]
     where
-      by_slot : (slot : Option CallRecord) → slot_in entries one.call.0 ≡ slot → is_some (option_map (call_of script) (slot_in entries one.call.0)) ≡ true → Taken
-      by_slot None at there = absurd (true≢false (sym there ∙ ap (λ (s : Option CallRecord). is_some (option_map (call_of script) s)) at))
-      by_slot (Some t) at there =
+      by_record : (call_record : Option CallRecord) → record_in entries one.call.0 ≡ call_record → is_some (option_map (call_of script) (record_in entries one.call.0)) ≡ true → Taken
+      by_record None at there = absurd (true≢false (sym there ∙ ap (λ (s : Option CallRecord). is_some (option_map (call_of script) s)) at))
+      by_record (Some t) at there =
           let opening = o.is_opening.agents.no_other one.call.0 (agent_of t.agent) (ap (λ (s : Option CallRecord). option_map agent_in (option_map (call_of script) s)) at) in
           let earlier = is_before opening.0 opening.1 in
           inl (earlier.0, earlier.1.0, inl (ap (λ (of : Opened). of.call) earlier.1.1 ∙ opening.2))
@@ -232,7 +232,7 @@ parts_at calls i one here =
 module _ (script : Script) (calls : List OpenedCall) (i : ℕ) (first stride : ℕ) (g h : GatewayValue) (old new : List (ℕ × CallRecord)) (one : OpenedCall)
     (among : Contains calls one) (here : take i calls ++ one ∷ [] ≡ take (i + 1) calls) (x : AreOpenedOn script (take i calls) first stride g old)
     (have : HaveAllLines script (take i calls)) (there : AreThere calls (gateway_of g)) where
-  pub not_opened : (why : shard_fault.OpenFault) → IsOpenedOne script g h old new one (Err why) → AreOpenedSlots script calls first stride (Err why)
+  pub not_opened : (why : shard_fault.OpenFault) → IsOpenedOne script g h old new one (Err why) → AreOpenedRecords script calls first stride (Err why)
   not_opened why_not.WrongLines wrong = record { one = one; among = among; wrong = wrong }
   not_opened why_not.Taken is = record {
     before = take i calls;

@@ -1,4 +1,4 @@
--- A step of a shard, by what its slots, its gateway and the call that is handed in come to.
+-- A step of a shard, by what its records, its gateway and the call that is handed in come to.
 use Rattle.std.proofs.Common.{◌≡◌, ◌∙◌, ◌+◌, ◌<◌, ◌≤◌, ◌++◌, ◌⊎◌, inl, inr, ℕ, suc, Bool, true, false, true≢false, List, [], ◌∷◌, length, Option, Some, None, Ok, Err, if◌then◌else◌, refl, sym, ap, subst, arith}
 use Rattle.std.specs.Prelude.{is_some, nat_le}
 use Rattle.std.proofs.lemmas.Bool.Decides.{nat_tests}
@@ -18,19 +18,19 @@ use Rattle.agent.specs.declared.refusal.Refusal.{Refusal}
 use Rattle.agent.specs.declared.refusal.Refusal.TheVariants.{NotEnabled, Behind, NoMemory}
 use Rattle.shards.proofs.RefusedSteps.{cannot_step}
 use Rattle.shards.proofs.ShardLemmas.{shard_after, world_numbered}
-use Rattle.shards.proofs.ShardSteps.{AreSameSlots, keeps_all, none_same, one_same, refused_counts, shard_unchanged, step_counts, step_happened, step_refused}
+use Rattle.shards.proofs.ShardSteps.{AreSameRecords, keeps_all, none_same, one_same, refused_counts, shard_unchanged, step_counts, step_happened, step_refused}
 use Rattle.shards.proofs.ShownSteps.{step_leads_on}
 use Rattle.shards.proofs.ValueSteps.{event_is, value_cannot, value_goes}
 use Rattle.shards.specs.CanOccur.{NeverOccurs}
 use Rattle.shards.specs.Shards.{CountsEvents, HasHappened, IsShard, IsUnchanged, IsWorldOf, ShardValue, events_of}
 use Rattle.shards.specs.Shows.{IsTold, is_told}
-use Rattle.shards.specs.SlotTable.{IsReady, CountsNotes, OthersStay, StepsIn, events_bound, slot_in}
-use Rattle.shards.specs.Slots.{IsStepped, Steps}
+use Rattle.shards.specs.CallTable.{IsReady, CountsNotes, OthersStay, StepsIn, events_bound, record_in}
+use Rattle.shards.specs.CallRecords.{IsStepped, Steps}
 use Rattle.shards.specs.Stepping.{CannotOccur, HasStepped, IsAtAgent, IsRefusedStep, IsSameNext, call_in, is_beginning}
 use Rattle.agent.specs.Advancing.{event_of}
 use Rattle.shards.specs.declared.call_record.CallRecord.{CallRecord}
 
--- ---- what a slot is fit for
+-- ---- what a record is fit for
 
 few_events : (call : ℕ) (history : List Event) → events_of call history ≤ length history
 few_events call [] = omega arith
@@ -40,18 +40,18 @@ few_events call (event ∷ more) = by_test (is_of_call call event) (few_events c
     by_test true few = omega (arith, few)
     by_test false few = omega (arith, few)
 
-pub ready : (v : ShardValue) → IsShard v → (call : ℕ) → length v.history + 1 < events_bound → IsReady (slot_in v.slots call)
+pub ready : (v : ShardValue) → IsShard v → (call : ℕ) → length v.history + 1 < events_bound → IsReady (record_in v.call_table call)
 ready v is call room s there =
     let counted : s.events ≡ events_of call v.history = is.counts.counted call s there in
     let few : events_of call v.history ≤ length v.history = few_events call v.history in
     ((is.is_world.shows.calls call s there).tied, omega (arith, counted, few, room))
 
-pub counts_notes : (v : ShardValue) → IsShard v → (call : ℕ) → CountsNotes v.gateway call (slot_in v.slots call)
+pub counts_notes : (v : ShardValue) → IsShard v → (call : ℕ) → CountsNotes v.gateway call (record_in v.call_table call)
 counts_notes v is call s there =
     ap (λ (g : Gateway). (g.link call).notes) (sym is.is_world.shows.gateway) ∙ (is.is_world.shows.calls call s there).counted
 
--- a call that has a slot is open
-pub stands : (v : ShardValue) → IsShard v → (call : ℕ) (s : CallRecord) → slot_in v.slots call ≡ Some s → is_open v.gateway call ≡ true
+-- a call that has a record is open
+pub stands : (v : ShardValue) → IsShard v → (call : ℕ) (s : CallRecord) → record_in v.call_table call ≡ Some s → is_open v.gateway call ≡ true
 stands v is call s there = is.is_world.shows.open_calls call ∙ ap is_some there
 
 -- ---- what an agent is told
@@ -121,19 +121,19 @@ no_beginning call to_call.Timer is = refl
 no_beginning call (to_call.Hear association) is = refl
 
 module _ (old : ShardValue) (was : IsShard old) (call : ℕ) (next after : Next) (own : call_in next ≡ call) (event : CallEvent) (of_agent : IsAtAgent event)
-    (entries : List (ℕ × CallRecord)) (others : OthersStay old.slots call entries) where
+    (entries : List (ℕ × CallRecord)) (others : OthersStay old.call_table call entries) where
   abbrev named : Event
   named = OfCall (record { 0 = call }) event
 
   module _ (told : is_told old.gateway.association event ≡ true) (events : List Event) (history : events ≡ old.history ++ named ∷ []) where
     abbrev later : ShardValue
-    later = record old { slots = entries; history = events }
+    later = record old { call_table = entries; history = events }
 
-    taken : (s t : CallRecord) → slot_in old.slots call ≡ Some s → slot_in entries call ≡ Some t → Steps old.script next event s t after
+    taken : (s t : CallRecord) → record_in old.call_table call ≡ Some s → record_in entries call ≡ Some t → Steps old.script next event s t after
         → IsShard later × HasStepped old later next after named
     taken s t there here steps =
         let happened : HasHappened old later named = step_happened old old.gateway entries events call event s t there here others history
-        (λ w is. step_leads_on old.script w old.gateway (slot_in old.slots) is.shows (world_numbered old w is) call s t there next after event steps (told_in old w is event told)) in
+        (λ w is. step_leads_on old.script w old.gateway (record_in old.call_table) is.shows (world_numbered old w is) call s t there next after event steps (told_in old w is event told)) in
         let counts : CountsEvents later = step_counts old old.gateway entries events call event s t there here others history was.counts
         (keeps_all old.gateway) (stands old was call s there) steps.events in (
           shard_after old later named was happened counts,
@@ -149,75 +149,75 @@ module _ (old : ShardValue) (was : IsShard old) (call : ℕ) (next after : Next)
           },
         )
 
-    pub agent_taken : StepsIn old.script next event (slot_in old.slots call) (slot_in entries call) after (Ok tt) → IsShard later × HasStepped old later next after named
-    agent_taken steps = by_slot (slot_in old.slots call) refl steps
+    pub agent_taken : StepsIn old.script next event (record_in old.call_table call) (record_in entries call) after (Ok tt) → IsShard later × HasStepped old later next after named
+    agent_taken steps = by_record (record_in old.call_table call) refl steps
       where
-        by_slot : (o : Option CallRecord) → slot_in old.slots call ≡ o → StepsIn old.script next event o (slot_in entries call) after (Ok tt)
+        by_record : (o : Option CallRecord) → record_in old.call_table call ≡ o → StepsIn old.script next event o (record_in entries call) after (Ok tt)
             → IsShard later × HasStepped old later next after named
-        by_slot None there is = absurd (let told_so = is.1 in cc)
-        by_slot (Some s) there is = taken s is.0 there is.1 is.2
+        by_record None there is = absurd (let told_so = is.1 in cc)
+        by_record (Some s) there is = taken s is.0 there is.1 is.2
 
   abbrev back : ShardValue
-  back = record old { slots = entries }
+  back = record old { call_table = entries }
 
-  unchanged : AreSameSlots old.slots entries → IsShard back × IsUnchanged old back
-  unchanged slots =
+  unchanged : AreSameRecords old.call_table entries → IsShard back × IsUnchanged old back
+  unchanged call_table =
       let same : IsSame old.gateway old.gateway = (refl, λ c. refl) in
-      let stays : IsUnchanged old back = step_refused old old.gateway entries same slots in
-      (shard_unchanged old back was stays (refused_counts old old.gateway entries same slots was.counts), stays)
+      let stays : IsUnchanged old back = step_refused old old.gateway entries same call_table in
+      (shard_unchanged old back was stays (refused_counts old old.gateway entries same call_table was.counts), stays)
 
-  refused : (s t : CallRecord) → slot_in old.slots call ≡ Some s → slot_in entries call ≡ Some t → (why : Refusal) → IsStepped old.script next event s t after (Err why)
+  refused : (s t : CallRecord) → record_in old.call_table call ≡ Some s → record_in entries call ≡ Some t → (why : Refusal) → IsStepped old.script next event s t after (Err why)
       → IsShard back × (IsRefusedStep old next named why × (IsUnchanged old back × IsSameNext next after))
   refused s t there here NotEnabled is =
-      let both = unchanged (one_same old.slots entries call s t there here is.1 others) in
+      let both = unchanged (one_same old.call_table entries call s t there here is.1 others) in
       (both.0, (inl cannot, (both.1, back_as next after is.2)))
     where
       cannot : CannotOccur old next named
-      cannot w shown world a occurs goes = elim (cannot_step old.script w old.gateway (slot_in old.slots) shown.shows (world_numbered old w shown) call s there next event of_agent is.0) [
+      cannot w shown world a occurs goes = elim (cannot_step old.script w old.gateway (record_in old.call_table) shown.shows (world_numbered old w shown) call s there next event of_agent is.0) [
         | inl none ↦ none world occurs
         | inr stuck ↦ value_cannot w call s (shown.shows.calls call s there) next (sym own) (world_numbered old w shown) event stuck.0 a stuck.1 stuck.2 goes
       ]
   refused s t there here NoMemory is =
-      let both = unchanged (one_same old.slots entries call s t there here is.0 others) in
+      let both = unchanged (one_same old.call_table entries call s t there here is.0 others) in
       (both.0, (tt, (both.1, back_as next after is.1)))
   refused s t there here (Behind slot_count) is = absurd is
 
-  pub agent_refused : (why : Refusal) → StepsIn old.script next event (slot_in old.slots call) (slot_in entries call) after (Err why)
+  pub agent_refused : (why : Refusal) → StepsIn old.script next event (record_in old.call_table call) (record_in entries call) after (Err why)
       → IsShard back × (IsRefusedStep old next named why × (IsUnchanged old back × IsSameNext next after))
-  agent_refused why steps = by_slot (slot_in old.slots call) refl steps
+  agent_refused why steps = by_record (record_in old.call_table call) refl steps
     where
-      no_slot : (told : Refusal) → slot_in old.slots call ≡ None → slot_in entries call ≡ None → NotEnabled ≡ told → after ≡ next
+      no_record : (told : Refusal) → record_in old.call_table call ≡ None → record_in entries call ≡ None → NotEnabled ≡ told → after ≡ next
           → IsShard back × (IsRefusedStep old next named told × (IsUnchanged old back × IsSameNext next after))
-      no_slot told there here is same =
-          let both = unchanged (none_same old.slots entries call others there here) in
-          (both.0, (subst (λ (x : Refusal). IsRefusedStep old next named x) is (inr (ap (slot_in old.slots) own ∙ there)), (both.1, back_as next after same)))
+      no_record told there here is same =
+          let both = unchanged (none_same old.call_table entries call others there here) in
+          (both.0, (subst (λ (x : Refusal). IsRefusedStep old next named x) is (inr (ap (record_in old.call_table) own ∙ there)), (both.1, back_as next after same)))
 
-      by_slot : (o : Option CallRecord) → slot_in old.slots call ≡ o → StepsIn old.script next event o (slot_in entries call) after (Err why)
+      by_record : (o : Option CallRecord) → record_in old.call_table call ≡ o → StepsIn old.script next event o (record_in entries call) after (Err why)
           → IsShard back × (IsRefusedStep old next named why × (IsUnchanged old back × IsSameNext next after))
-      by_slot None there is = no_slot why there is.0 (let same = is.1 in cc) is.2
-      by_slot (Some s) there is = refused s is.0 there is.1 why is.2
+      by_record None there is = no_record why there is.0 (let same = is.1 in cc) is.2
+      by_record (Some s) there is = refused s is.0 there is.1 why is.2
 
 -- ---- the same with what is left of the old shard beside it
 
 pub agent_back : (old v : ShardValue) → old ≡ v → IsShard old → (call : ℕ) (next after : Next) → call_in next ≡ call → (event : CallEvent) → IsAtAgent event
-    → (entries : List (ℕ × CallRecord)) → OthersStay old.slots call entries → (events : List Event) → events ≡ old.history → (why : Refusal)
-    → StepsIn old.script next event (slot_in old.slots call) (slot_in entries call) after (Err why)
-    → IsShard (record old { slots = entries; history = events }) × (IsRefusedStep v next (OfCall (record { 0 = call }) event) why
-    × (IsUnchanged v (record old { slots = entries; history = events }) × IsSameNext next after))
+    → (entries : List (ℕ × CallRecord)) → OthersStay old.call_table call entries → (events : List Event) → events ≡ old.history → (why : Refusal)
+    → StepsIn old.script next event (record_in old.call_table call) (record_in entries call) after (Err why)
+    → IsShard (record old { call_table = entries; history = events }) × (IsRefusedStep v next (OfCall (record { 0 = call }) event) why
+    × (IsUnchanged v (record old { call_table = entries; history = events }) × IsSameNext next after))
 agent_back old v is was call next after own event of_agent entries others events same why steps =
-    subst (λ (x : ShardValue). IsShard (record old { slots = entries; history = events }) × (IsRefusedStep x next (OfCall (record { 0 = call }) event) why
-    × (IsUnchanged x (record old { slots = entries; history = events }) × IsSameNext next after))) is
-    (subst (λ (es : List Event). IsShard (record old { slots = entries; history = es }) × (IsRefusedStep old next (OfCall (record { 0 = call }) event) why
-    × (IsUnchanged old (record old { slots = entries; history = es }) × IsSameNext next after))) (sym same)
+    subst (λ (x : ShardValue). IsShard (record old { call_table = entries; history = events }) × (IsRefusedStep x next (OfCall (record { 0 = call }) event) why
+    × (IsUnchanged x (record old { call_table = entries; history = events }) × IsSameNext next after))) is
+    (subst (λ (es : List Event). IsShard (record old { call_table = entries; history = es }) × (IsRefusedStep old next (OfCall (record { 0 = call }) event) why
+    × (IsUnchanged old (record old { call_table = entries; history = es }) × IsSameNext next after))) (sym same)
     (agent_refused old was call next after own event of_agent entries others why steps))
 
 pub agent_forward : (old v : ShardValue) → old ≡ v → IsShard old → (call : ℕ) (next after : Next) → call_in next ≡ call → (event : CallEvent) → IsAtAgent event
-    → (entries : List (ℕ × CallRecord)) → OthersStay old.slots call entries → is_told old.gateway.association event ≡ true
+    → (entries : List (ℕ × CallRecord)) → OthersStay old.call_table call entries → is_told old.gateway.association event ≡ true
     → (events : List Event) → events ≡ old.history ++ OfCall (record { 0 = call }) event ∷ []
-    → StepsIn old.script next event (slot_in old.slots call) (slot_in entries call) after (Ok tt)
-    → IsShard (record old { slots = entries; history = events })
-    × HasStepped v (record old { slots = entries; history = events }) next after (OfCall (record { 0 = call }) event)
+    → StepsIn old.script next event (record_in old.call_table call) (record_in entries call) after (Ok tt)
+    → IsShard (record old { call_table = entries; history = events })
+    × HasStepped v (record old { call_table = entries; history = events }) next after (OfCall (record { 0 = call }) event)
 agent_forward old v is was call next after own event of_agent entries others told events history steps =
-    subst (λ (x : ShardValue). IsShard (record old { slots = entries; history = events })
-    × HasStepped x (record old { slots = entries; history = events }) next after (OfCall (record { 0 = call }) event)) is
+    subst (λ (x : ShardValue). IsShard (record old { call_table = entries; history = events })
+    × HasStepped x (record old { call_table = entries; history = events }) next after (OfCall (record { 0 = call }) event)) is
     (agent_taken old was call next after own event of_agent entries others told events history steps)

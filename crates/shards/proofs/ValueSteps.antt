@@ -24,7 +24,7 @@ use Rattle.agent.specs.declared.delivered.Delivery.TheVariants as delivery
 use Rattle.shards.proofs.Delivered.{of_delivered}
 use Rattle.shards.proofs.MessageLemmas.{found_in, own_message}
 use Rattle.shards.specs.Shows.{ShowsCall}
-use Rattle.shards.specs.Slots.{IsDelivered}
+use Rattle.shards.specs.CallRecords.{IsDelivered}
 use Rattle.shards.specs.Stepping.{ValueGoes, call_in, is_at_rest, is_waiting}
 use Rattle.agent.specs.Advancing.{advancing, event_of, takes}
 use Rattle.shards.specs.declared.call_record.CallRecord.{CallRecord}

@@ -1,5 +1,5 @@
--- A call that begins on the lines of one that has ended, in a shard. A reader should check that the call of the slot has to have ended in the association of
--- the gateway, and that the new slot has the number after the old call's last request, and no message.
+-- A call that begins on the lines of one that has ended, in a shard. A reader should check that the call of the record has to have ended in the association of
+-- the gateway, and that the new record has the number after the old call's last request, and no message.
 use Rattle.std.specs.Prelude.{◌≡◌, ℕ, ◌==◌, ◌&&◌, Bool, if◌then◌else◌, List, Option, Some, None, Result, Ok}
 use Rattle.gateway.specs.declared.fault.BeginFault.{BeginFault}
 use Rattle.gateway.specs.declared.fault.BeginFault.TheVariants as fault
@@ -13,7 +13,7 @@ use Rattle.agent.specs.declared.call.Next.{Next}
 use Rattle.agent.specs.declared.refusal.Refusal.{Refusal}
 use Rattle.agent.specs.declared.refusal.Refusal.TheVariants.{NotEnabled, NoMemory}
 use Rattle.shards.specs.Messages.{none_sent}
-use Rattle.shards.specs.SlotTable.{slot_in}
+use Rattle.shards.specs.CallTable.{record_in}
 use Rattle.shards.specs.declared.call_record.CallRecord.{CallRecord}
 use Rattle.shards.specs.declared.stepped.Stepped.{Stepped}
 use Rattle.shards.specs.declared.stepped.Stepped.TheVariants.{Begun}
@@ -30,20 +30,20 @@ refusal_of fault.Taken = NotEnabled
 refusal_of fault.CannotHappen = NotEnabled
 refusal_of fault.NoMemory = NoMemory
 
--- ---- the slots
+-- ---- the records
 
--- the slot of the call that began: its beginning is the one event, nothing was sent, and no note is settled
-pub record IsBegunSlot (script : Script) (call : ℕ) (old new : CallRecord) : Type 0 where
+-- the record of the call that began: its beginning is the one event, nothing was sent, and no note is settled
+pub record IsBegunRecord (script : Script) (call : ℕ) (old new : CallRecord) : Type 0 where
   pub agent : agent_of new.agent ≡ begun script call (agent_of old.agent)
   pub events : new.events ≡ 1
   pub sent : new.messages.sent ≡ none_sent (agent_of old.agent).next
   pub settled : new.settled ≡ 0
 
--- the new call has its slot in place of the old one's, which has none
+-- the new call has its record in place of the old one's, which has none
 pub record HandsOver (script : Script) (old new : List (ℕ × CallRecord)) (from call : ℕ) (s : CallRecord) : Type 0 where
-  pub slot : CallRecord
-  pub begun_slot : IsBegunSlot script call s slot
-  pub slots : (c : ℕ) → slot_in new c ≡ (if c == call then Some slot else if c == from then None else slot_in old c)
+  pub call_record : CallRecord
+  pub begun_record : IsBegunRecord script call s call_record
+  pub call_table : (c : ℕ) → record_in new c ≡ (if c == call then Some call_record else if c == from then None else record_in old c)
 
 -- ---- the call that is handed in
 

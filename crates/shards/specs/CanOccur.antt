@@ -15,8 +15,8 @@ use Rattle.shards.specs.Beginnings.{has_ended}
 use Rattle.shards.specs.CouldHappen.{CouldExecute, CouldHappenOn}
 use Rattle.shards.specs.Shards.{IsWorldOf, ShardValue}
 use Rattle.shards.specs.Shows.{is_told}
-use Rattle.shards.specs.Slots.{IsDelivered}
-use Rattle.shards.specs.SlotTable.{slot_in}
+use Rattle.shards.specs.CallRecords.{IsDelivered}
+use Rattle.shards.specs.CallTable.{record_in}
 use Rattle.shards.specs.declared.call_record.CallRecord.{CallRecord}
 
 -- ---- what can't
@@ -27,39 +27,39 @@ NeverOccurs v event = (w : World) → IsWorldOf v w → (after : World) → Occu
 
 -- ---- what could
 
--- at the agent of a slot: what the event brings was sent, and the agent can take it
-pub record IsTakenBySlot (script : Script) (event : CallEvent) (s : CallRecord) : Type 0 where
+-- at the agent of a record: what the event brings was sent, and the agent can take it
+pub record IsTakenByRecord (script : Script) (event : CallEvent) (s : CallRecord) : Type 0 where
   pub brought : Delivery
   pub delivered : IsDelivered s.messages.sent event (Some brought)
   pub takes : is_some (stepped_by script (agent_of s.agent) brought) ≡ true
 
 -- nothing of that kind was sent, or the agent can't take it
-abbrev pub IsNotTakenBySlot : Script → CallEvent → CallRecord → Type 0
-IsNotTakenBySlot script event s =
+abbrev pub IsNotTakenByRecord : Script → CallEvent → CallRecord → Type 0
+IsNotTakenByRecord script event s =
     IsDelivered s.messages.sent event None
     ⊎ ((brought : Delivery) × (IsDelivered s.messages.sent event (Some brought) × (stepped_by script (agent_of s.agent) brought ≡ None)))
 
 abbrev pub IsTakeable : Script → CallEvent → CallRecord → Bool → Type 0
-IsTakeable script event s true = IsTakenBySlot script event s
-IsTakeable script event s false = IsNotTakenBySlot script event s
+IsTakeable script event s true = IsTakenByRecord script event s
+IsTakeable script event s false = IsNotTakenByRecord script event s
 
--- the event of a call, of which this is the slot; of a beginning it is that of the call on whose lines the other begins
+-- the event of a call, of which this is the record; of a beginning it is that of the call on whose lines the other begins
 abbrev pub CouldOccurTo : ShardValue → CallRecord → (call : ℕ) → CallEvent → Type 0
 CouldOccurTo v s call (to_call.OnLine line happens) = CouldHappenOn v.gateway call line.0 happens
 CouldOccurTo v s call (to_call.Execute number chosen) = CouldExecute v.gateway number s
 CouldOccurTo v s call (to_call.Begin old) =
     (has_ended v.script (agent_of s.agent) v.gateway.association ≡ true) × CanBegin v.gateway old.0 call (Ok tt)
-CouldOccurTo v s call event = (is_told v.gateway.association event ≡ true) × IsTakenBySlot v.script event s
+CouldOccurTo v s call event = (is_told v.gateway.association event ≡ true) × IsTakenByRecord v.script event s
 
--- the call whose slot it is
-abbrev pub slot_call : (call : ℕ) → CallEvent → ℕ
-slot_call call (to_call.Begin old) = old.0
-slot_call call event = call
+-- the call whose record it is
+abbrev pub record_call : (call : ℕ) → CallEvent → ℕ
+record_call call (to_call.Begin old) = old.0
+record_call call event = call
 
 pub record CouldOccur (v : ShardValue) (call : ℕ) (event : CallEvent) : Type 0 where
-  pub slot : CallRecord
-  pub held : slot_in v.slots (slot_call call event) ≡ Some slot
-  pub could : CouldOccurTo v slot call event
+  pub call_record : CallRecord
+  pub held : record_in v.call_table (record_call call event) ≡ Some call_record
+  pub could : CouldOccurTo v call_record call event
 
 -- ---- the answer
 
@@ -70,4 +70,4 @@ IsOccurrence v call event false = NeverOccurs v (OfCall (record { 0 = call }) ev
 -- nothing where the call isn't open there
 abbrev pub TellsOccurrence : ShardValue → (call : ℕ) → CallEvent → Option Bool → Type 0
 TellsOccurrence v call event (Some can) = IsOccurrence v call event can
-TellsOccurrence v call event None = slot_in v.slots (slot_call call event) ≡ None
+TellsOccurrence v call event None = record_in v.call_table (record_call call event) ≡ None

@@ -21,8 +21,8 @@ use Rattle.agent.specs.declared.call.Next.{Next}
 use Rattle.shards.specs.Beginnings.{has_ended}
 use Rattle.shards.specs.Shards.{ShardValue}
 use Rattle.shards.specs.Shows.{is_told}
-use Rattle.shards.specs.Slots.{CannotExecute, CannotHappenOn, CannotStep, IsDelivered, request_in}
-use Rattle.shards.specs.SlotTable.{slot_in}
+use Rattle.shards.specs.CallRecords.{CannotExecute, CannotHappenOn, CannotStep, IsDelivered, request_in}
+use Rattle.shards.specs.CallTable.{record_in}
 use Rattle.shards.specs.declared.call_record.CallRecord.{CallRecord}
 
 -- ---- each kind of event
@@ -38,14 +38,14 @@ pub record CouldExecute (g : GatewayValue) (number : ℕ) (s : CallRecord) : Typ
   pub sent : request_in s (Some number) ≡ Some request
   pub room : HasNoRoom (gateway_of g) request → ⊥
 
--- at the agent: what it brings was sent, and the slot's agent and the call that is handed in can both take it
+-- at the agent: what it brings was sent, and the record's agent and the call that is handed in can both take it
 pub record CouldStep (script : Script) (next : Next) (event : CallEvent) (s : CallRecord) : Type 0 where
   pub brought : Delivery
   pub delivered : IsDelivered s.messages.sent event (Some brought)
-  pub by_slot : is_some (stepped_by script (agent_of s.agent) brought) ≡ true
+  pub by_record : is_some (stepped_by script (agent_of s.agent) brought) ≡ true
   pub by_call : is_some (advancing next brought) ≡ true
 
--- a beginning: the call that is handed in has ended, the slot's has in the gateway's association, and the gateway lets the new one begin
+-- a beginning: the call that is handed in has ended, the record's has in the gateway's association, and the gateway lets the new one begin
 pub record CouldBegin (script : Script) (g : GatewayValue) (next : Next) (old new : ℕ) (s : CallRecord) : Type 0 where
   pub kind : variant_of next ≡ ended_kind
   pub ended : has_ended script (agent_of s.agent) g.association ≡ true
@@ -53,7 +53,7 @@ pub record CouldBegin (script : Script) (g : GatewayValue) (next : Next) (old ne
 
 -- ---- an event
 
--- it is one of the call that is handed in, of which this is the slot, and could happen
+-- it is one of the call that is handed in, of which this is the record, and could happen
 abbrev pub CouldHappenTo : ShardValue → Next → CallRecord → Event → Type 0
 CouldHappenTo v next s (OfCall call (to_call.OnLine line happens)) =
     (call.0 ≡ (value_of next).agent.call) × CouldHappenOn v.gateway call.0 line.0 happens
@@ -64,16 +64,16 @@ CouldHappenTo v next s (OfCall call event) =
 CouldHappenTo v next s Restart = ⊥
 
 pub record CouldHappen (v : ShardValue) (next : Next) (event : Event) : Type 0 where
-  pub slot : CallRecord
-  pub held : slot_in v.slots (value_of next).agent.call ≡ Some slot
-  pub could : CouldHappenTo v next slot event
+  pub call_record : CallRecord
+  pub held : record_in v.call_table (value_of next).agent.call ≡ Some call_record
+  pub could : CouldHappenTo v next call_record event
 
 -- ---- how it is asked
 
--- the slot of the call that is handed in, where that is the call of the event
-abbrev pub HasOwnSlot : ShardValue → Next → (call : ℕ) → Option CallRecord → Type 0
-HasOwnSlot v next call (Some s) = (call ≡ (value_of next).agent.call) × (slot_in v.slots call ≡ Some s)
-HasOwnSlot v next call None = (call ≡ (value_of next).agent.call → ⊥) ⊎ (slot_in v.slots (value_of next).agent.call ≡ None)
+-- the record of the call that is handed in, where that is the call of the event
+abbrev pub HasOwnRecord : ShardValue → Next → (call : ℕ) → Option CallRecord → Type 0
+HasOwnRecord v next call (Some s) = (call ≡ (value_of next).agent.call) × (record_in v.call_table call ≡ Some s)
+HasOwnRecord v next call None = (call ≡ (value_of next).agent.call → ⊥) ⊎ (record_in v.call_table (value_of next).agent.call ≡ None)
 
 -- of a line
 abbrev pub IsPossibleOn : GatewayValue → (call line : ℕ) → LineEvent → Bool → Type 0

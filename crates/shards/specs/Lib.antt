@@ -1,6 +1,6 @@
 pub mod Messages
-pub mod Slots
-pub mod SlotTable
+pub mod CallRecords
+pub mod CallTable
 pub mod Shows
 pub mod Shards
 pub mod Standings

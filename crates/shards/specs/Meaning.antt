@@ -16,28 +16,28 @@ use Rattle.mg_model.specs.World.{World, on_a_line, execute, reply, pass, note, t
 use Rattle.agent.specs.AgentValue.{agent_of}
 use Rattle.shards.specs.Messages.{AreNumberedFrom, note_numbers, reply_for}
 use Rattle.shards.specs.Shards.{IsWorldOf, ShardValue}
-use Rattle.shards.specs.Slots.{IsSameSlot, IsTied, request_in}
+use Rattle.shards.specs.CallRecords.{IsSameRecord, IsTied, request_in}
 use Rattle.shards.specs.declared.call_record.CallRecord.{CallRecord}
 
--- ---- of a slot
+-- ---- of a record
 
 -- an event of a line of the script
-abbrev pub on_slot : CallRecord → (line : ℕ) → LineEvent → Event
-on_slot s line event = on_a_line (agent_of s.agent).call ((agent_of s.agent).lines line) event
+abbrev pub on_record : CallRecord → (line : ℕ) → LineEvent → Event
+on_record s line event = on_a_line (agent_of s.agent).call ((agent_of s.agent).lines line) event
 
 -- the note of this number, or the oldest that waits for the agent
 abbrev pub note_in : CallRecord → Option ℕ → Option SentNote
 note_in s None = find (is_waiting (agent_of s.agent)) s.messages.sent.notes
 note_in s (Some n) = find (λ (m : SentNote). m.number == n) s.messages.sent.notes
 
--- the event that a step means for the call of a slot, where the gateway is in this association and the next call to begin has this number
+-- the event that a step means for the call of a record, where the gateway is in this association and the next call to begin has this number
 abbrev pub event_in : CallRecord → (association next : ℕ) → PlanStep → Option Event
-event_in s association next (GoesOff l) = Some (on_slot s l (Hook Off))
-event_in s association next (GoesOn l) = Some (on_slot s l (Hook On))
-event_in s association next (Flashes l) = Some (on_slot s l Flash)
-event_in s association next (Dials l symbol) = Some (on_slot s l (Digit symbol))
-event_in s association next (Pauses l) = Some (on_slot s l Pause)
-event_in s association next (Ends l signal) = Some (on_slot s l (SignalEnd signal))
+event_in s association next (GoesOff l) = Some (on_record s l (Hook Off))
+event_in s association next (GoesOn l) = Some (on_record s l (Hook On))
+event_in s association next (Flashes l) = Some (on_record s l Flash)
+event_in s association next (Dials l symbol) = Some (on_record s l (Digit symbol))
+event_in s association next (Pauses l) = Some (on_record s l Pause)
+event_in s association next (Ends l signal) = Some (on_record s l (SignalEnd signal))
 event_in s association next (Executes which place) =
     option_map (λ (r : Request). execute (agent_of s.agent).call r.number (refusal_at place)) (request_in s which)
 event_in s association next (TakesReply which) = option_map (λ (r : Reply). reply (agent_of s.agent).call r.number) (reply_for s.messages.sent which)
@@ -48,12 +48,12 @@ event_in s association next Hears = Some (hear (agent_of s.agent).call associati
 event_in s association next Begins = Some (begin next (agent_of s.agent).call)
 event_in s association next Restarts = Some Restart
 
--- and that of a call that may have no slot: then it means nothing
+-- and that of a call that may have no record: then it means nothing
 abbrev pub event_of_entry : Option CallRecord → (association next : ℕ) → PlanStep → Option Event
 event_of_entry None association next step = None
 event_of_entry (Some s) association next step = event_in s association next step
 
--- the slot, if there is one, is tied
+-- the record, if there is one, is tied
 abbrev pub IsTiedEntry : Option CallRecord → Type 0
 IsTiedEntry entry = (s : CallRecord) → entry ≡ Some s → IsTied s
 
@@ -64,7 +64,7 @@ HasNumberedNotes entry = (s : CallRecord) → entry ≡ Some s → AreNumberedFr
 -- it stays, but for how many notes are counted as settled
 abbrev pub IsSameEntry : Option CallRecord → Option CallRecord → Type 0
 IsSameEntry None new = new ≡ None
-IsSameEntry (Some s) new = (t : CallRecord) × (new ≡ Some t) × IsSameSlot s t
+IsSameEntry (Some s) new = (t : CallRecord) × (new ≡ Some t) × IsSameRecord s t
 
 -- ---- of a world
 

@@ -20,7 +20,7 @@ use Rattle.shards.specs.Messages.{none_sent}
 use Rattle.systems.specs.Openings.{AreOpened, line_at}
 use Rattle.systems.specs.Systems.{System}
 use Rattle.shards.specs.Shards.{ShardValue, opened_as}
-use Rattle.shards.specs.SlotTable.{slot_in}
+use Rattle.shards.specs.CallTable.{record_in}
 use Rattle.shards.specs.declared.fault.OpenFault.{OpenFault}
 use Rattle.shards.specs.declared.fault.OpenFault.TheVariants.{WrongLines, Taken, NoMemory}
 use Rattle.shards.specs.declared.opening.Opened as opening
@@ -84,8 +84,8 @@ IsShardOpened script calls first stride (Err NoMemory) = Unit {0}
 
 -- ---- one call of it
 
--- the slot of a call that opens: no event happened, and nothing was sent
-pub record IsFirstSlot (script : Script) (one : OpenedCall) (t : CallRecord) : Type 0 where
+-- the record of a call that opens: no event happened, and nothing was sent
+pub record IsFirstRecord (script : Script) (one : OpenedCall) (t : CallRecord) : Type 0 where
   pub agent : agent_of t.agent ≡ opened script one.call.0 (line_at one.lines.items)
   pub events : t.events ≡ 0
   pub sent : t.messages.sent ≡ none_sent 1
@@ -96,9 +96,9 @@ pub record OpensOne (script : Script) (g h : GatewayValue) (old new : List (ℕ 
   pub may : gateway.opening (gateway_of g) (is_taken g one.call.0) one.lines.items ≡ Ok tt
   pub gateway : gateway_of h ≡ gateway.opened (gateway_of g) one.call.0 one.lines.items
   pub open_calls : (other : ℕ) → is_open h other ≡ ((other == one.call.0) || is_open g other)
-  pub slot : CallRecord
-  pub first : IsFirstSlot script one slot
-  pub slots : (c : ℕ) → slot_in new c ≡ (if c == one.call.0 then Some slot else slot_in old c)
+  pub call_record : CallRecord
+  pub first : IsFirstRecord script one call_record
+  pub call_table : (c : ℕ) → record_in new c ≡ (if c == one.call.0 then Some call_record else record_in old c)
 
 abbrev pub IsOpenedOne : Script → GatewayValue → GatewayValue → List (ℕ × CallRecord) → List (ℕ × CallRecord) → OpenedCall → Result Next OpenFault → Type 0
 IsOpenedOne script g h old new one (Ok next) = OpensOne script g h old new one × IsEntered script one next
@@ -109,13 +109,13 @@ IsOpenedOne script g h old new one (Err NoMemory) = Unit {0}
 
 -- ---- all of them
 
--- a slot as a call that is open on the gateway
+-- a record as a call that is open on the gateway
 abbrev pub call_of : Script → CallRecord → CallValue
 call_of script t = record { script = script; agent = t.agent; transcript = []; room = false }
 
 abbrev pub system_of : Script → GatewayValue → List (ℕ × CallRecord) → System
 system_of script g entries =
-    record { gateway = g; call = λ c. option_map (call_of script) (slot_in entries c); requests = []; replies = []; notes = [] }
+    record { gateway = g; call = λ c. option_map (call_of script) (record_in entries c); requests = []; replies = []; notes = [] }
 
 -- these calls were opened, in some order, on a new gateway of this class
 pub record AreOpenedOn (script : Script) (calls : List OpenedCall) (first stride : ℕ) (g : GatewayValue) (entries : List (ℕ × CallRecord)) : Type 0 where
@@ -124,10 +124,10 @@ pub record AreOpenedOn (script : Script) (calls : List OpenedCall) (first stride
   pub has : (o : Opened) → Contains done o → Contains (map opened_as calls) o
   pub each : (o : Opened) → Contains (map opened_as calls) o → Contains done o
   pub class : (gateway_of g).board.class ≡ is_of_class first stride
-  pub slots : (c : ℕ) (t : CallRecord) → slot_in entries c ≡ Some t → (t.events ≡ 0) × (t.messages.sent ≡ none_sent 1) × (t.settled ≡ 0)
+  pub call_table : (c : ℕ) (t : CallRecord) → record_in entries c ≡ Some t → (t.events ≡ 0) × (t.messages.sent ≡ none_sent 1) × (t.settled ≡ 0)
 
-abbrev pub AreOpenedSlots : Script → List OpenedCall → (first stride : ℕ) → Result opening.Opened OpenFault → Type 0
-AreOpenedSlots script calls first stride (Ok o) = AreOpenedOn script calls first stride o.gateway o.slots.entries × AreEntered script calls o.nexts.items
-AreOpenedSlots script calls first stride (Err WrongLines) = HasWrongLines script calls
-AreOpenedSlots script calls first stride (Err Taken) = HasTaken calls
-AreOpenedSlots script calls first stride (Err NoMemory) = Unit {0}
+abbrev pub AreOpenedRecords : Script → List OpenedCall → (first stride : ℕ) → Result opening.Opened OpenFault → Type 0
+AreOpenedRecords script calls first stride (Ok o) = AreOpenedOn script calls first stride o.gateway o.call_table.entries × AreEntered script calls o.nexts.items
+AreOpenedRecords script calls first stride (Err WrongLines) = HasWrongLines script calls
+AreOpenedRecords script calls first stride (Err Taken) = HasTaken calls
+AreOpenedRecords script calls first stride (Err NoMemory) = Unit {0}

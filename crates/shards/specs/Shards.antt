@@ -16,7 +16,7 @@ use Rattle.mg_safety.specs.Headline.{RunsAreGood}
 use Rattle.scriptreader.specs.Laws.{HasFewCommands}
 use Rattle.gateway.specs.GatewayValue.{GatewayValue, gateway_of, is_open}
 use Rattle.shards.specs.Shows.{Shows}
-use Rattle.shards.specs.SlotTable.{slot_in}
+use Rattle.shards.specs.CallTable.{record_in}
 use Rattle.shards.specs.declared.fault.RestartFault.{RestartFault}
 use Rattle.shards.specs.declared.fault.RestartFault.TheVariants.{CannotHappen, NoMemory}
 use Rattle.shards.specs.declared.opened.OpenedCall.{OpenedCall}
@@ -30,7 +30,7 @@ pub record ShardValue : Type 0 where
   -- the calls of its opening
   pub calls : List OpenedCall
   pub gateway : GatewayValue
-  pub slots : List (ℕ × CallRecord)
+  pub call_table : List (ℕ × CallRecord)
   pub history : List Event
 
 -- a call of the opening, as the model has it
@@ -45,16 +45,16 @@ pub record IsWorldOf (v : ShardValue) (w : World) : Type 0 where
   pub opens : IsOpening v.script (map opened_as v.calls) start
   pub class : start.gateway.board.class ≡ is_of_class v.first v.stride
   pub runs : Runs v.script v.history start w
-  pub shows : Shows w v.gateway (slot_in v.slots)
+  pub shows : Shows w v.gateway (record_in v.call_table)
 
 -- how many events of a list are a call's
 abbrev pub events_of : ℕ → List Event → ℕ
 events_of call [] = 0
 events_of call (event ∷ more) = if is_of_call call event then suc (events_of call more) else events_of call more
 
--- each slot counts the events of its call, and no event is of a call whose number was never used
+-- each record counts the events of its call, and no event is of a call whose number was never used
 pub record CountsEvents (v : ShardValue) : Type 0 where
-  pub counted : (call : ℕ) (s : CallRecord) → slot_in v.slots call ≡ Some s → s.events ≡ events_of call v.history
+  pub counted : (call : ℕ) (s : CallRecord) → record_in v.call_table call ≡ Some s → s.events ≡ events_of call v.history
   pub unused : (call : ℕ) → is_open v.gateway call ≡ false → (gateway_of v.gateway).retired call ≡ false → events_of call v.history ≡ 0
 
 pub record IsShard (v : ShardValue) : Type 0 where

@@ -1,4 +1,4 @@
--- A step of a shard: an event of a call, at its slot and to the call that is handed in. A reader should check that both go on by the event alone, that a
+-- A step of a shard: an event of a call, at its record and to the call that is handed in. A reader should check that both go on by the event alone, that a
 -- step is refused as not enabled only where the event can't happen, to the shard or to the call that is handed in, or where the shard doesn't hold that
 -- call, as behind only where it could happen, and that whatever is refused leaves both as they were. This profile's own.
 use Rattle.std.specs.Prelude.{◌≡◌, ℕ, Bool, true, false, [], ◌∷◌, length, Option, Some, None, Result, Ok, Err, ◌⊎◌}
@@ -19,7 +19,7 @@ use Rattle.agent.specs.declared.refusal.Refusal.TheVariants.{NotEnabled, Behind,
 use Rattle.shards.specs.CouldHappen.{CouldHappen}
 use Rattle.shards.specs.Shards.{HasHappened, IsUnchanged, IsWorldOf, ShardValue}
 use Rattle.gateway.specs.GatewayValue.{GatewayValue}
-use Rattle.shards.specs.SlotTable.{ExecutesIn, HappensIn, slot_in}
+use Rattle.shards.specs.CallTable.{ExecutesIn, HappensIn, record_in}
 use Rattle.agent.specs.Advancing.{IsSameCall}
 use Rattle.shards.specs.declared.call_record.CallRecord.{CallRecord}
 use Rattle.shards.specs.declared.stepped.Stepped.{Stepped}
@@ -120,18 +120,18 @@ CannotOccur v next event = (w : World) → IsWorldOf v w → (after : World) (a 
 
 -- it can't, or the shard doesn't hold the call
 abbrev pub IsNotEnabled : ShardValue → Next → Event → Type 0
-IsNotEnabled v next event = CannotOccur v next event ⊎ (slot_in v.slots (call_in next) ≡ None)
+IsNotEnabled v next event = CannotOccur v next event ⊎ (record_in v.call_table (call_in next) ≡ None)
 
 -- whether it could happen
 abbrev pub IsPossible : ShardValue → Next → Event → Bool → Type 0
 IsPossible v next event true = CouldHappen v next event
 IsPossible v next event false = IsNotEnabled v next event
 
--- the slot of the call counts so many events, and the transcript has another number of them
+-- the record of the call counts so many events, and the transcript has another number of them
 pub record IsBehind (v : ShardValue) (next : Next) (slot_count : ℕ) : Type 0 where
-  pub slot : CallRecord
-  pub held : slot_in v.slots (call_in next) ≡ Some slot
-  pub counted : slot_count ≡ slot.events
+  pub call_record : CallRecord
+  pub held : record_in v.call_table (call_in next) ≡ Some call_record
+  pub counted : slot_count ≡ call_record.events
   pub differs : length (value_of next).transcript ≡ slot_count → ⊥
 
 abbrev pub IsRefusedStep : ShardValue → Next → Event → Refusal → Type 0
@@ -141,11 +141,11 @@ IsRefusedStep v next event NoMemory = Unit {0}
 
 -- ---- a step
 
--- the slot of the call counts as many events as its transcript has: no other step is taken
+-- the record of the call counts as many events as its transcript has: no other step is taken
 pub record IsUpToDate (v : ShardValue) (next : Next) : Type 0 where
-  pub slot : CallRecord
-  pub held : slot_in v.slots (call_in next) ≡ Some slot
-  pub agrees : length (value_of next).transcript ≡ slot.events
+  pub call_record : CallRecord
+  pub held : record_in v.call_table (call_in next) ≡ Some call_record
+  pub agrees : length (value_of next).transcript ≡ call_record.events
 
 abbrev pub IsStep : ShardValue → ShardValue → Next → Next → Event → Result Stepped Refusal → Type 0
 IsStep old new next after event (Ok stepped) = IsTakenStep old new next after event stepped

@@ -1,7 +1,7 @@
-//! Events of a call that are steps of its agent: the slot's and that of the call that is handed in take the same step, or neither does.
+//! Events of a call that are steps of its agent: the record's and that of the call that is handed in take the same step, or neither does.
 ghost use Rattle.std.specs.Prelude.{◌≡◌, ◌+◌, ◌<◌};
 ghost use Rattle.agent.specs.Calls.{refusal_of};
-ghost use Rattle.shards.specs.Slots.{IsDelivered, IsStepped, IsTied};
+ghost use Rattle.shards.specs.CallRecords.{IsDelivered, IsStepped, IsTied};
 
 use crate::call_record::CallRecord;
 use crate::messages::Messages;
@@ -33,36 +33,36 @@ fn refusal(fault: PlainFault) -> Refusal
     }
 }
 
-/// The agent of a slot and a call that is handed in take a step. `NotEnabled` where nothing of that kind was sent, or where one of the two can't take
+/// The agent of a record and a call that is handed in take a step. `NotEnabled` where nothing of that kind was sent, or where one of the two can't take
 /// it; `NoMemory` where memory ran out. Then both are as they were.
 pub(crate) fn step<'s>(
-    slot: &mut CallRecord,
+    call_record: &mut CallRecord,
     script: &Script,
     next: Next<'s>,
     event: CallEvent,
 ) -> (Next<'s>, Result<(), Refusal>)
-    requires tied { IsTied slot.old }
-    requires events { slot.old.events + 1 < 18446744073709551616 }
-    ensures { IsStepped script.now next.entry event slot.old slot.new result.0 result.1 }
+    requires tied { IsTied call_record.old }
+    requires events { call_record.old.events + 1 < 18446744073709551616 }
+    ensures { IsStepped script.now next.entry event call_record.old call_record.new result.0 result.1 }
 {
-    let Ok(()) = slot.messages.room_to_send() else {
+    let Ok(()) = call_record.messages.room_to_send() else {
         return (next, Err(Refusal::NoMemory));
     };
-    let Some(delivery) = brought(&slot.messages, &event) else {
+    let Some(delivery) = brought(&call_record.messages, &event) else {
         return (next, Err(Refusal::NotEnabled));
     };
-    let prepared = match slot.agent.prepare(script, &delivery) {
+    let prepared = match call_record.agent.prepare(script, &delivery) {
         Ok(prepared) => prepared,
         Err(fault) => return (next, Err(refusal(fault))),
     };
     let (next, done) = next.advance(&delivery);
     if let Err(why) = done {
-        slot.agent.cancel(prepared);
+        call_record.agent.cancel(prepared);
         return (next, Err(why));
     }
     let sends = prepared.request().is_some();
-    let over = slot.agent.finish(prepared);
-    slot.messages.send(over, sends);
-    slot.events += 1;
+    let over = call_record.agent.finish(prepared);
+    call_record.messages.send(over, sends);
+    call_record.events += 1;
     (next, Ok(()))
 }

@@ -1,4 +1,4 @@
-//! A call begins on the lines of one that has ended: at the gateway, in the slots and by the call that is handed in. All that may want memory comes first.
+//! A call begins on the lines of one that has ended: at the gateway, in the records and by the call that is handed in. All that may want memory comes first.
 ghost use Rattle.std.specs.Prelude.{◌≡◌, true};
 ghost use Rattle.mg_model.specs.declared.events.CallEvent.TheVariants.{Begin};
 ghost use Rattle.mg_model.specs.declared.events.Event.TheVariants.{OfCall};
@@ -8,8 +8,8 @@ ghost use Rattle.shards.specs.Beginnings.{IsBegunBy, has_ended, refusal_of};
 ghost use Rattle.shards.specs.Stepping.{IsStep};
 
 use crate::call_record::CallRecord;
+use crate::call_table;
 use crate::shard::{self, Shard};
-use crate::slots;
 use crate::stepped::Stepped;
 use agent::{Call, Ended, Next, Refusal};
 use gateway::BeginFault;
@@ -18,16 +18,16 @@ use mg_names::identifiers::{Assoc, CallNo};
 use script_table::Script;
 
 /// Whether a call has ended in this association.
-pub(crate) fn has_ended(slot: &CallRecord, script: &Script, association: Assoc) -> bool
-    ensures { result ≡ has_ended script.now (agent_of slot.now.agent) association.0 }
+pub(crate) fn has_ended(call_record: &CallRecord, script: &Script, association: Assoc) -> bool
+    ensures { result ≡ has_ended script.now (agent_of call_record.now.agent) association.0 }
 {
-    if !slot.agent.is_resting() {
+    if !call_record.agent.is_resting() {
         return false;
     }
-    if !script.ends_in(slot.agent.state()) {
+    if !script.ends_in(call_record.agent.state()) {
         return false;
     }
-    slot.agent.association() == association
+    call_record.agent.association() == association
 }
 
 /// Why a call doesn't begin, of what the gateway answers.
@@ -67,10 +67,10 @@ impl<'s> Shard<'s> {
         if ended.call().0 != old.0 {
             return (Next::Ended(ended), Err(Refusal::NotEnabled));
         }
-        let Some(slot) = slots::slot(&self.slots, old) else {
+        let Some(call_record) = call_table::call_record(&self.call_table, old) else {
             return (Next::Ended(ended), Err(Refusal::NotEnabled));
         };
-        if !has_ended(slot, self.script, self.gateway.association()) {
+        if !has_ended(call_record, self.script, self.gateway.association()) {
             return (Next::Ended(ended), Err(Refusal::NotEnabled));
         }
         let mut ended = ended;
@@ -80,13 +80,13 @@ impl<'s> Shard<'s> {
         let Ok(()) = ended.room() else {
             return (Next::Ended(ended), Err(Refusal::NoMemory));
         };
-        let Ok(()) = slots::reserve(&mut self.slots) else {
+        let Ok(()) = call_table::reserve(&mut self.call_table) else {
             return (Next::Ended(ended), Err(Refusal::NoMemory));
         };
         if let Err(fault) = self.gateway.begin(old, call) {
             return (Next::Ended(ended), Err(refusal_of(fault)));
         }
-        slots::hand_over(&mut self.slots, self.alloc, self.script, old, call);
+        call_table::hand_over(&mut self.call_table, self.alloc, self.script, old, call);
         let event = CallEvent::Begin { old };
         self.history.push_reserved(Event::OfCall { call, event });
         begun(ended, call)

@@ -2,32 +2,32 @@
 ghost use Rattle.std.specs.Prelude.{◌≡◌, true, Some};
 ghost use Rattle.mg_model.specs.declared.events.CallEvent.TheVariants.{Begin};
 ghost use Rattle.agent.specs.Calls.{is_of_gateway};
-ghost use Rattle.shards.specs.CanOccur.{IsOccurrence, IsTakeable, TellsOccurrence, slot_call};
-ghost use Rattle.shards.specs.SlotTable.{slot_in};
+ghost use Rattle.shards.specs.CanOccur.{IsOccurrence, IsTakeable, TellsOccurrence, record_call};
+ghost use Rattle.shards.specs.CallTable.{record_in};
 ghost use Rattle.shards.specs.Stepping.{IsAtAgent};
 
 use crate::call_record::CallRecord;
 use crate::could_happen::{could_execute, could_happen_on};
 use crate::shard::Shard;
 use crate::step::is_told;
-use crate::{at_agent, begin, slots};
+use crate::{at_agent, begin, call_table};
 use mg_model::events::CallEvent;
 use mg_names::identifiers::CallNo;
 use script_table::Script;
 
-/// Whether what an event brings was sent, and the slot's agent can take it.
-fn is_takeable(slot: &CallRecord, script: &Script, event: &CallEvent) -> bool
-    ensures { IsTakeable script.now event.now slot.now result }
+/// Whether what an event brings was sent, and the record's agent can take it.
+fn is_takeable(call_record: &CallRecord, script: &Script, event: &CallEvent) -> bool
+    ensures { IsTakeable script.now event.now call_record.now result }
 {
-    let Some(delivery) = at_agent::brought(&slot.messages, event) else {
+    let Some(delivery) = at_agent::brought(&call_record.messages, event) else {
         return false;
     };
-    slot.agent.can_take(script, &delivery)
+    call_record.agent.can_take(script, &delivery)
 }
 
-/// The call in whose slot an event is looked for: of a beginning that on whose lines it is.
-fn slot_call(call: CallNo, event: &CallEvent) -> CallNo
-    ensures { result.0 ≡ slot_call call.0 event.now }
+/// The call in whose record an event is looked for: of a beginning that on whose lines it is.
+fn record_call(call: CallNo, event: &CallEvent) -> CallNo
+    ensures { result.0 ≡ record_call call.0 event.now }
 {
     match *event {
         CallEvent::Begin { old } => old,
@@ -36,37 +36,42 @@ fn slot_call(call: CallNo, event: &CallEvent) -> CallNo
 }
 
 impl<'s> Shard<'s> {
-    /// Whether an event can reach the agent of a slot.
-    fn can_reach_agent(&self, slot: &CallRecord, call: CallNo, event: CallEvent) -> bool
+    /// Whether an event can reach the agent of a record.
+    fn can_reach_agent(&self, call_record: &CallRecord, call: CallNo, event: CallEvent) -> bool
         requires agent { IsAtAgent event }
-        requires held { slot_in self.now.slots call.0 ≡ Some slot.now }
+        requires held { record_in self.now.call_table call.0 ≡ Some call_record.now }
         ensures { IsOccurrence self.now call.0 event result }
     {
         if !is_told(&self.gateway, &event) {
             return false;
         }
-        is_takeable(slot, self.script, &event)
+        is_takeable(call_record, self.script, &event)
     }
 
-    /// Whether an event can happen at the gateway, to the call of a slot.
-    fn can_reach_gateway(&self, slot: &CallRecord, call: CallNo, event: CallEvent) -> bool
+    /// Whether an event can happen at the gateway, to the call of a record.
+    fn can_reach_gateway(&self, call_record: &CallRecord, call: CallNo, event: CallEvent) -> bool
         requires gateway { is_of_gateway event ≡ true }
-        requires held { slot_in self.now.slots call.0 ≡ Some slot.now }
+        requires held { record_in self.now.call_table call.0 ≡ Some call_record.now }
         ensures { IsOccurrence self.now call.0 event result }
     {
         match event {
             CallEvent::OnLine { line, event } => could_happen_on(&self.gateway, call, line, event),
-            CallEvent::Execute { number, .. } => could_execute(&self.gateway, slot, call, number),
+            CallEvent::Execute { number, .. } => could_execute(
+                &self.gateway,
+                call_record,
+                call,
+                number,
+            ),
             _ => false,
         }
     }
 
-    /// Whether a call can begin on the lines of the call of a slot.
-    fn can_begin_on(&self, slot: &CallRecord, call: CallNo, old: CallNo) -> bool
-        requires held { slot_in self.now.slots old.0 ≡ Some slot.now }
+    /// Whether a call can begin on the lines of the call of a record.
+    fn can_begin_on(&self, call_record: &CallRecord, call: CallNo, old: CallNo) -> bool
+        requires held { record_in self.now.call_table old.0 ≡ Some call_record.now }
         ensures { IsOccurrence self.now call.0 (Begin old) result }
     {
-        if !begin::has_ended(slot, self.script, self.gateway.association()) {
+        if !begin::has_ended(call_record, self.script, self.gateway.association()) {
             return false;
         }
         let Ok(()) = self.gateway.can_begin(old, call) else {
@@ -80,13 +85,13 @@ impl<'s> Shard<'s> {
     pub fn can_occur(&self, call: CallNo, event: CallEvent) -> Option<bool>
         ensures { TellsOccurrence self.now call.0 event result }
     {
-        let slot = slots::slot(&self.slots, slot_call(call, &event))?;
+        let call_record = call_table::call_record(&self.call_table, record_call(call, &event))?;
         Some(match event {
-            CallEvent::Begin { old } => self.can_begin_on(slot, call, old),
+            CallEvent::Begin { old } => self.can_begin_on(call_record, call, old),
             CallEvent::OnLine { .. } | CallEvent::Execute { .. } => {
-                self.can_reach_gateway(slot, call, event)
+                self.can_reach_gateway(call_record, call, event)
             }
-            _ => self.can_reach_agent(slot, call, event),
+            _ => self.can_reach_agent(call_record, call, event),
         })
     }
 }

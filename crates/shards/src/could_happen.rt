@@ -4,13 +4,13 @@ ghost use Rattle.mg_model.specs.declared.events.CallEvent.TheVariants.{Begin};
 ghost use Rattle.mg_model.specs.declared.events.Event.TheVariants.{OfCall};
 ghost use Rattle.agent.specs.Calls.{is_of_gateway};
 ghost use Rattle.agent.specs.declared.call.Next.TheVariants as next;
-ghost use Rattle.shards.specs.CouldHappen.{HasOwnSlot, IsPossibleOn, IsPossibleRequest, IsPossibleStep};
+ghost use Rattle.shards.specs.CouldHappen.{HasOwnRecord, IsPossibleOn, IsPossibleRequest, IsPossibleStep};
 ghost use Rattle.shards.specs.Stepping.{IsAtAgent, IsPossible};
 
 use crate::call_record::CallRecord;
 use crate::shard::Shard;
 use crate::step::is_told;
-use crate::{at_agent, at_gateway, begin, slots};
+use crate::{at_agent, at_gateway, begin, call_table};
 use agent::{Call, Ended, Next};
 use gateway::Gateway;
 use mg_model::events::CallEvent;
@@ -34,37 +34,42 @@ pub(crate) fn could_happen_on(
 }
 
 /// Whether a call sent a request with this number, and the gateway would take it.
-pub(crate) fn could_execute(gateway: &Gateway, slot: &CallRecord, call: CallNo, number: u32) -> bool
-    ensures { IsPossibleRequest gateway.now call.0 number slot.now result }
+pub(crate) fn could_execute(
+    gateway: &Gateway,
+    call_record: &CallRecord,
+    call: CallNo,
+    number: u32,
+) -> bool
+    ensures { IsPossibleRequest gateway.now call.0 number call_record.now result }
 {
-    let Some(request) = at_gateway::request(slot, number) else {
+    let Some(request) = at_gateway::request(call_record, number) else {
         return false;
     };
     gateway.can_execute(call, request)
 }
 
-/// Whether what an event brings was sent, and the slot's agent and the call that is handed in can both take it.
-fn could_step(slot: &CallRecord, script: &Script, next: &Next<'_>, event: &CallEvent) -> bool
-    ensures { IsPossibleStep script.now next.now event.now slot.now result }
+/// Whether what an event brings was sent, and the record's agent and the call that is handed in can both take it.
+fn could_step(call_record: &CallRecord, script: &Script, next: &Next<'_>, event: &CallEvent) -> bool
+    ensures { IsPossibleStep script.now next.now event.now call_record.now result }
 {
-    let Some(delivery) = at_agent::brought(&slot.messages, event) else {
+    let Some(delivery) = at_agent::brought(&call_record.messages, event) else {
         return false;
     };
-    if !slot.agent.can_take(script, &delivery) {
+    if !call_record.agent.can_take(script, &delivery) {
         return false;
     }
     next.can_take(&delivery)
 }
 
 impl<'s> Shard<'s> {
-    /// The slot of the call that is handed in, where it is the call of the event.
-    fn own_slot(&self, next: &Next<'s>, call: CallNo) -> Option<&CallRecord>
-        ensures { HasOwnSlot self.now next.now call.0 (option_map (λ s. s.now) result) }
+    /// The record of the call that is handed in, where it is the call of the event.
+    fn own_record(&self, next: &Next<'s>, call: CallNo) -> Option<&CallRecord>
+        ensures { HasOwnRecord self.now next.now call.0 (option_map (λ s. s.now) result) }
     {
         if next.call().0 != call.0 {
             return None;
         }
-        slots::slot(&self.slots, call)
+        call_table::call_record(&self.call_table, call)
     }
 
     /// Whether an event could reach the agent.
@@ -72,13 +77,13 @@ impl<'s> Shard<'s> {
         requires { IsAtAgent event }
         ensures { IsPossible self.now next.now (OfCall call event) result }
     {
-        let Some(slot) = self.own_slot(next, call) else {
+        let Some(call_record) = self.own_record(next, call) else {
             return false;
         };
         if !is_told(&self.gateway, &event) {
             return false;
         }
-        could_step(slot, self.script, next, &event)
+        could_step(call_record, self.script, next, &event)
     }
 
     /// Whether an event could happen at the gateway.
@@ -86,12 +91,17 @@ impl<'s> Shard<'s> {
         requires { is_of_gateway event ≡ true }
         ensures { IsPossible self.now next.now (OfCall call event) result }
     {
-        let Some(slot) = self.own_slot(next, call) else {
+        let Some(call_record) = self.own_record(next, call) else {
             return false;
         };
         match event {
             CallEvent::OnLine { line, event } => could_happen_on(&self.gateway, call, line, event),
-            CallEvent::Execute { number, .. } => could_execute(&self.gateway, slot, call, number),
+            CallEvent::Execute { number, .. } => could_execute(
+                &self.gateway,
+                call_record,
+                call,
+                number,
+            ),
             _ => false,
         }
     }
@@ -103,10 +113,10 @@ impl<'s> Shard<'s> {
         if ended.call().0 != old.0 {
             return false;
         }
-        let Some(slot) = slots::slot(&self.slots, old) else {
+        let Some(call_record) = call_table::call_record(&self.call_table, old) else {
             return false;
         };
-        if !begin::has_ended(slot, self.script, self.gateway.association()) {
+        if !begin::has_ended(call_record, self.script, self.gateway.association()) {
             return false;
         }
         let Ok(()) = self.gateway.can_begin(old, call) else {

@@ -6,7 +6,7 @@ use crate::shard::Shard;
 use mg_merge::laws;
 
 impl<'s> Shard<'s> {
-    /// What the type keeps: the shard's history is a run from an opening of its calls to a world that it shows, on a gateway of its class, each slot counts the
+    /// What the type keeps: the shard's history is a run from an opening of its calls to a world that it shows, on a gateway of its class, each record counts the
     /// events of its call, and every run of its script is good.
     pub fn keeps_its_run(&self)
         ensures { IsShard self.now }

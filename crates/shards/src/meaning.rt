@@ -7,15 +7,15 @@ ghost use Rattle.mg_model.specs.Reports as reports;
 ghost use Rattle.mg_model.specs.World as world;
 ghost use Rattle.agent.specs.AgentValue.{agent_of};
 ghost use Rattle.shards.specs.Messages.{AreNumberedFrom, note_numbers};
-ghost use Rattle.shards.specs.Meaning.{HasNumberedNotes, IsMeant, IsSameEntry, IsTiedEntry, event_in, event_of_entry, note_in, on_slot};
+ghost use Rattle.shards.specs.Meaning.{HasNumberedNotes, IsMeant, IsSameEntry, IsTiedEntry, event_in, event_of_entry, note_in, on_record};
 ghost use Rattle.shards.specs.Shards.{IsUnchanged};
-ghost use Rattle.shards.specs.Slots.{AreSettled, IsSameSlot, IsTied, is_settled, request_in};
-ghost use Rattle.shards.specs.SlotTable.{OthersStay, slot_in};
+ghost use Rattle.shards.specs.CallRecords.{AreSettled, IsSameRecord, IsTied, is_settled, request_in};
+ghost use Rattle.shards.specs.CallTable.{OthersStay, record_in};
 
 use crate::at_gateway;
 use crate::call_record::CallRecord;
+use crate::call_table::CallTable;
 use crate::shard::Shard;
-use crate::slots::Slots;
 use agent::Plain;
 use mg_model::events::{CallEvent, Event};
 use mg_model::failures::{ChosenRefusal, Refusal};
@@ -25,22 +25,22 @@ use mg_names::identifiers::{Assoc, CallNo};
 use mg_names::slots::Slot as Place;
 use requests::{Request, SentNote};
 
-/// An event of the call of a slot.
-fn of_call(slot: &CallRecord, event: CallEvent) -> Event
-    ensures { result ≡ events.OfCall (record { 0 = (agent_of slot.now.agent).call }) event }
+/// An event of the call of a record.
+fn of_call(call_record: &CallRecord, event: CallEvent) -> Event
+    ensures { result ≡ events.OfCall (record { 0 = (agent_of call_record.now.agent).call }) event }
 {
     Event::OfCall {
-        call: slot.agent.call(),
+        call: call_record.agent.call(),
         event,
     }
 }
 
 /// An event of the gateway's line for a line of the script.
-fn on_line(slot: &CallRecord, line: Place, event: LineEvent) -> Option<Event>
-    ensures { result ≡ Some (on_slot slot.now line event) }
+fn on_line(call_record: &CallRecord, line: Place, event: LineEvent) -> Option<Event>
+    ensures { result ≡ Some (on_record call_record.now line event) }
 {
-    let line = slot.agent.line(line);
-    Some(of_call(slot, CallEvent::OnLine { line, event }))
+    let line = call_record.agent.line(line);
+    Some(of_call(call_record, CallEvent::OnLine { line, event }))
 }
 
 /// The refusal at a place, if there is one.
@@ -57,33 +57,33 @@ fn refusal(place: Option<u8>) -> Option<ChosenRefusal>
 }
 
 /// The request of this number, or the latest.
-fn request(slot: &CallRecord, which: Option<u32>) -> Option<&Request>
-    ensures { option_map (λ r. r.now) result ≡ request_in slot.now which }
+fn request(call_record: &CallRecord, which: Option<u32>) -> Option<&Request>
+    ensures { option_map (λ r. r.now) result ≡ request_in call_record.now which }
 {
     match which {
-        Some(number) => at_gateway::request(slot, number),
-        None => match slot.agent.request() {
+        Some(number) => at_gateway::request(call_record, number),
+        None => match call_record.agent.request() {
             Some(request) => Some(request),
-            None => slot.messages.request(None),
+            None => call_record.messages.request(None),
         },
     }
 }
 
 /// A request reaches the gateway: the one of this number, or the latest.
-fn executes(slot: &CallRecord, which: Option<u32>, place: Option<u8>) -> Option<Event>
-    ensures { result ≡ event_in slot.now 0 0 (steps.Executes which place) }
+fn executes(call_record: &CallRecord, which: Option<u32>, place: Option<u8>) -> Option<Event>
+    ensures { result ≡ event_in call_record.now 0 0 (steps.Executes which place) }
 {
-    let number = request(slot, which)?.number();
+    let number = request(call_record, which)?.number();
     let chosen = refusal(place);
-    Some(of_call(slot, CallEvent::Execute { number, chosen }))
+    Some(of_call(call_record, CallEvent::Execute { number, chosen }))
 }
 
 /// A reply reaches the call: the latest to the request of this number, or the latest of all.
-fn takes_reply(slot: &CallRecord, which: Option<u32>) -> Option<Event>
-    ensures { result ≡ event_in slot.now 0 0 (steps.TakesReply which) }
+fn takes_reply(call_record: &CallRecord, which: Option<u32>) -> Option<Event>
+    ensures { result ≡ event_in call_record.now 0 0 (steps.TakesReply which) }
 {
-    let number = slot.messages.reply(which)?.number();
-    Some(of_call(slot, CallEvent::Reply { number }))
+    let number = call_record.messages.reply(which)?.number();
+    Some(of_call(call_record, CallEvent::Reply { number }))
 }
 
 /// Whether a note is one to the agent that is new to it.
@@ -129,89 +129,98 @@ fn settled_from(agent: &Plain, notes: &[SentNote], settled: usize) -> usize
 }
 
 /// Counts on over the notes that are settled, so that none is looked at once more.
-fn settle(slot: &mut CallRecord)
-    requires { IsTied slot.old }
-    ensures same { IsSameSlot slot.old slot.new }
-    ensures tied { IsTied slot.new }
-    ensures numbered { AreNumberedFrom 1 (note_numbers slot.old.messages.sent.notes) }
+fn settle(call_record: &mut CallRecord)
+    requires { IsTied call_record.old }
+    ensures same { IsSameRecord call_record.old call_record.new }
+    ensures tied { IsTied call_record.new }
+    ensures numbered { AreNumberedFrom 1 (note_numbers call_record.old.messages.sent.notes) }
 {
-    slot.settled = settled_from(&slot.agent, slot.messages.notes(), slot.settled);
+    call_record.settled = settled_from(
+        &call_record.agent,
+        call_record.messages.notes(),
+        call_record.settled,
+    );
 }
 
 /// The oldest note that waits for the agent, looked for past those that are settled.
-fn oldest(slot: &CallRecord) -> Option<&SentNote>
-    requires { IsTied slot.now }
-    ensures { option_map (λ n. n.now) result ≡ note_in slot.now None }
+fn oldest(call_record: &CallRecord) -> Option<&SentNote>
+    requires { IsTied call_record.now }
+    ensures { option_map (λ n. n.now) result ≡ note_in call_record.now None }
 {
-    let notes = slot.messages.notes();
-    first_waiting(&slot.agent, &notes[slot.settled..])
+    let notes = call_record.messages.notes();
+    first_waiting(&call_record.agent, &notes[call_record.settled..])
 }
 
 /// A note reaches the call: the one of this number, or the oldest that waits for the agent.
-fn takes_note(slot: &CallRecord, which: Option<u32>) -> Option<Event>
-    requires { IsTied slot.now }
-    ensures { result ≡ event_in slot.now 0 0 (steps.TakesNote which) }
+fn takes_note(call_record: &CallRecord, which: Option<u32>) -> Option<Event>
+    requires { IsTied call_record.now }
+    ensures { result ≡ event_in call_record.now 0 0 (steps.TakesNote which) }
 {
     let number = match which {
-        Some(number) => slot.messages.note(number)?.number(),
-        None => oldest(slot)?.number(),
+        Some(number) => call_record.messages.note(number)?.number(),
+        None => oldest(call_record)?.number(),
     };
-    Some(of_call(slot, CallEvent::Note { number }))
+    Some(of_call(call_record, CallEvent::Note { number }))
 }
 
-/// A call of this number begins on the lines of the slot's.
-fn begins(slot: &CallRecord, next: CallNo) -> Event
-    ensures { result ≡ world.begin next.0 (agent_of slot.now.agent).call }
+/// A call of this number begins on the lines of the record's.
+fn begins(call_record: &CallRecord, next: CallNo) -> Event
+    ensures { result ≡ world.begin next.0 (agent_of call_record.now.agent).call }
 {
-    let old = slot.agent.call();
+    let old = call_record.agent.call();
     Event::OfCall {
         call: next,
         event: CallEvent::Begin { old },
     }
 }
 
-/// The event that a step means for the call of a slot, where the gateway is in this association and the next call to begin has this number.
-fn event(slot: &CallRecord, association: Assoc, next: CallNo, step: &PlanStep) -> Option<Event>
-    requires { IsTied slot.now }
-    ensures { result ≡ event_in slot.now association.0 next.0 step.now }
+/// The event that a step means for the call of a record, where the gateway is in this association and the next call to begin has this number.
+fn event(
+    call_record: &CallRecord,
+    association: Assoc,
+    next: CallNo,
+    step: &PlanStep,
+) -> Option<Event>
+    requires { IsTied call_record.now }
+    ensures { result ≡ event_in call_record.now association.0 next.0 step.now }
 {
     match *step {
-        PlanStep::GoesOff(line) => on_line(slot, line, LineEvent::Hook(Hook::Off)),
-        PlanStep::GoesOn(line) => on_line(slot, line, LineEvent::Hook(Hook::On)),
-        PlanStep::Flashes(line) => on_line(slot, line, LineEvent::Flash),
-        PlanStep::Dials(line, symbol) => on_line(slot, line, LineEvent::Digit(symbol)),
-        PlanStep::Pauses(line) => on_line(slot, line, LineEvent::Pause),
-        PlanStep::Ends(line, signal) => on_line(slot, line, LineEvent::SignalEnd(signal)),
-        PlanStep::Executes(which, place) => executes(slot, which, place),
-        PlanStep::TakesReply(which) => takes_reply(slot, which),
-        PlanStep::Passes => Some(of_call(slot, CallEvent::Pass)),
-        PlanStep::TakesNote(which) => takes_note(slot, which),
-        PlanStep::TimesOut => Some(of_call(slot, CallEvent::Timer)),
-        PlanStep::Hears => Some(of_call(slot, CallEvent::Hear { association })),
-        PlanStep::Begins => Some(begins(slot, next)),
+        PlanStep::GoesOff(line) => on_line(call_record, line, LineEvent::Hook(Hook::Off)),
+        PlanStep::GoesOn(line) => on_line(call_record, line, LineEvent::Hook(Hook::On)),
+        PlanStep::Flashes(line) => on_line(call_record, line, LineEvent::Flash),
+        PlanStep::Dials(line, symbol) => on_line(call_record, line, LineEvent::Digit(symbol)),
+        PlanStep::Pauses(line) => on_line(call_record, line, LineEvent::Pause),
+        PlanStep::Ends(line, signal) => on_line(call_record, line, LineEvent::SignalEnd(signal)),
+        PlanStep::Executes(which, place) => executes(call_record, which, place),
+        PlanStep::TakesReply(which) => takes_reply(call_record, which),
+        PlanStep::Passes => Some(of_call(call_record, CallEvent::Pass)),
+        PlanStep::TakesNote(which) => takes_note(call_record, which),
+        PlanStep::TimesOut => Some(of_call(call_record, CallEvent::Timer)),
+        PlanStep::Hears => Some(of_call(call_record, CallEvent::Hear { association })),
+        PlanStep::Begins => Some(begins(call_record, next)),
         PlanStep::Restarts => Some(Event::Restart),
     }
 }
 
 /// The event that a step means for a call.
-#[tactic(auto, unfolding(crate::specs::SlotTable::slot_in))]
+#[tactic(auto, unfolding(crate::specs::CallTable::record_in))]
 fn event_of(
-    slots: &mut Slots,
+    call_table: &mut CallTable,
     call: CallNo,
     association: Assoc,
     next: CallNo,
     step: &PlanStep,
 ) -> Option<Event>
-    requires { IsTiedEntry (slot_in slots.old.entries call.0) }
-    ensures means { result ≡ event_of_entry (slot_in slots.old.entries call.0) association.0 next.0 step.now }
-    ensures numbered { HasNumberedNotes (slot_in slots.old.entries call.0) }
-    ensures same { IsSameEntry (slot_in slots.old.entries call.0) (slot_in slots.new.entries call.0) }
-    ensures others { OthersStay slots.old.entries call.0 slots.new.entries }
+    requires { IsTiedEntry (record_in call_table.old.entries call.0) }
+    ensures means { result ≡ event_of_entry (record_in call_table.old.entries call.0) association.0 next.0 step.now }
+    ensures numbered { HasNumberedNotes (record_in call_table.old.entries call.0) }
+    ensures same { IsSameEntry (record_in call_table.old.entries call.0) (record_in call_table.new.entries call.0) }
+    ensures others { OthersStay call_table.old.entries call.0 call_table.new.entries }
 {
-    match slots.get_mut(&call.0) {
-        Some(slot) => {
-            settle(slot);
-            event(slot, association, next, step)
+    match call_table.get_mut(&call.0) {
+        Some(call_record) => {
+            settle(call_record);
+            event(call_record, association, next, step)
         }
         None => None,
     }
@@ -227,6 +236,6 @@ impl<'s> Shard<'s> {
         ensures unchanged { IsUnchanged self.old self.new }
     {
         let association = self.gateway.association();
-        event_of(&mut self.slots, call, association, next, step)
+        event_of(&mut self.call_table, call, association, next, step)
     }
 }

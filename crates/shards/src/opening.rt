@@ -1,14 +1,14 @@
-//! The opening of a shard: a new gateway, on which its calls are opened one after the other, each with its slot.
+//! The opening of a shard: a new gateway, on which its calls are opened one after the other, each with its record.
 ghost use Rattle.std.specs.Prelude.{◌≡◌, ◌<◌, ◌≤◌, IfOk};
 ghost use Rattle.std.specs.List.{flat_map};
-ghost use Rattle.shards.specs.Opening.{AreOpenedSlots, IsOpenedOne, IsShardOpened};
+ghost use Rattle.shards.specs.Opening.{AreOpenedRecords, IsOpenedOne, IsShardOpened};
 
 use crate::call_record::CallRecord;
+use crate::call_table::{self, CallTable};
 use crate::fault::OpenFault;
 use crate::messages::Messages;
 use crate::opened::OpenedCall;
 use crate::shard::Shard;
-use crate::slots::{self, Slots};
 use agent::{Call, Next, Plain};
 use composition::Checked;
 use gateway::Gateway;
@@ -17,11 +17,11 @@ use script_table::Script;
 use std::alloc::{AllocError, Global};
 use std::collections::HashMap;
 
-/// A gateway with the slots of the calls that are open on it, and those calls.
+/// A gateway with the records of the calls that are open on it, and those calls.
 #[derive(Drop)]
 struct Opened<'s> {
     gateway: Gateway,
-    slots: Slots,
+    call_table: CallTable,
     nexts: Vec<Next<'s>>,
 }
 
@@ -36,15 +36,15 @@ fn all_lines(alloc: Global, calls: &[OpenedCall]) -> Result<Vec<LineNo>, AllocEr
     Ok(lines)
 }
 
-/// Opens a call on a gateway, with its slot, and enters it.
+/// Opens a call on a gateway, with its record, and enters it.
 fn open_one<'s>(
     alloc: Global,
     gateway: &mut Gateway,
-    slots: &mut Slots,
+    call_table: &mut CallTable,
     script: &'s Script,
     call: &OpenedCall,
 ) -> Result<Next<'s>, OpenFault>
-    ensures { IsOpenedOne script.now gateway.old gateway.new slots.old.entries slots.new.entries call.now result }
+    ensures { IsOpenedOne script.now gateway.old gateway.new call_table.old.entries call_table.new.entries call.now result }
 {
     let lines = call.lines.as_slice();
     if lines.len() != script.lines() {
@@ -57,13 +57,13 @@ fn open_one<'s>(
             return Err(OpenFault::Taken);
         }
     }
-    let slot = CallRecord {
+    let call_record = CallRecord {
         agent: Plain::enter(alloc, script, call.call, lines),
         events: 0,
         messages: Messages::new(alloc, 1),
         settled: 0,
     };
-    let Ok(()) = slots::put(slots, call.call, slot) else {
+    let Ok(()) = call_table::put(call_table, call.call, call_record) else {
         return Err(OpenFault::NoMemory);
     };
     match Call::enter(alloc, script, call.call, lines) {
@@ -81,7 +81,7 @@ fn open_all<'s>(
     stride: u32,
 ) -> Result<Opened<'s>, OpenFault>
     requires { first < stride }
-    ensures { AreOpenedSlots script.now calls.now first stride result }
+    ensures { AreOpenedRecords script.now calls.now first stride result }
 {
     let Ok(lines) = all_lines(alloc, calls) else {
         return Err(OpenFault::NoMemory);
@@ -89,10 +89,10 @@ fn open_all<'s>(
     let Ok(mut gateway) = Gateway::with_ids(alloc, lines.as_slice(), first, stride) else {
         return Err(OpenFault::NoMemory);
     };
-    let mut slots = HashMap::new(alloc);
+    let mut call_table = HashMap::new(alloc);
     let mut nexts = Vec::new(alloc);
     for call in calls {
-        let next = match open_one(alloc, &mut gateway, &mut slots, script, call) {
+        let next = match open_one(alloc, &mut gateway, &mut call_table, script, call) {
             Ok(next) => next,
             Err(fault) => return Err(fault),
         };
@@ -102,7 +102,7 @@ fn open_all<'s>(
     }
     Ok(Opened {
         gateway,
-        slots,
+        call_table,
         nexts,
     })
 }
@@ -125,7 +125,7 @@ impl<'s> Shard<'s> {
         let script = checked.script();
         let Opened {
             gateway,
-            slots,
+            call_table,
             nexts,
         } = match open_all(alloc, script, calls.as_slice(), first, stride) {
             Ok(opened) => opened,
@@ -138,7 +138,7 @@ impl<'s> Shard<'s> {
             stride,
             calls,
             gateway,
-            slots,
+            call_table,
             history: Vec::new(alloc),
         };
         Ok((shard, nexts))

@@ -2,9 +2,9 @@
 ghost use Rattle.std.specs.Prelude.{◌≡◌, ◌+◌, ◌<◌, IfOk, OnOk, length, vec_len, vec_capacity};
 ghost use Rattle.shards.specs.Shards.{IsRestarting, is_part_of, part_of};
 
+use crate::call_table::CallTable;
 use crate::fault::RestartFault;
 use crate::opened::OpenedCall;
-use crate::slots::Slots;
 use gateway::Gateway;
 use mg_model::events::Event;
 use mg_names::identifiers::{Assoc, CallNo};
@@ -22,7 +22,7 @@ pub struct Shard<'s> {
     pub(crate) stride: u32,
     pub(crate) calls: Vec<OpenedCall>,
     pub(crate) gateway: Gateway,
-    pub(crate) slots: Slots,
+    pub(crate) call_table: CallTable,
     pub(crate) history: Vec<Event>,
 }
 
@@ -31,9 +31,9 @@ impl<'s> Model for Shard<'s> {
 
     ghost Value = { ShardValue };
 
-    ghost view = { λ s. record { script = s.script.now; first = s.first; stride = s.stride; calls = s.calls.items; gateway = s.gateway; slots = s.slots.entries; history = s.history.items } };
+    ghost view = { λ s. record { script = s.script.now; first = s.first; stride = s.stride; calls = s.calls.items; gateway = s.gateway; call_table = s.call_table.entries; history = s.history.items } };
 
-    ghost invariant = { λ s. IsShard (record { script = s.script.now; first = s.first; stride = s.stride; calls = s.calls.items; gateway = s.gateway; slots = s.slots.entries; history = s.history.items }) };
+    ghost invariant = { λ s. IsShard (record { script = s.script.now; first = s.first; stride = s.stride; calls = s.calls.items; gateway = s.gateway; call_table = s.call_table.entries; history = s.history.items }) };
 }
 
 /// Makes room for one event more.

@@ -1,8 +1,8 @@
 //! Where a call that is open in a shard is.
 ghost use Rattle.shards.specs.Standings.{TellsStanding};
 
+use crate::call_table;
 use crate::shard::Shard;
-use crate::slots;
 use mg_names::identifiers::{Assoc, CallNo};
 
 /// Where a call that is open in a shard is. This profile's own.
@@ -22,11 +22,11 @@ impl<'s> Shard<'s> {
     pub fn standing(&self, call: CallNo) -> Option<Standing>
         ensures { TellsStanding self.now call.0 result }
     {
-        let slot = slots::slot(&self.slots, call)?;
+        let call_record = call_table::call_record(&self.call_table, call)?;
         Some(Standing {
-            association: slot.agent.association(),
-            state: slot.agent.state(),
-            is_resting: slot.agent.is_resting(),
+            association: call_record.agent.association(),
+            state: call_record.agent.state(),
+            is_resting: call_record.agent.is_resting(),
         })
     }
 }

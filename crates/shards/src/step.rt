@@ -1,14 +1,14 @@
-//! An event of a call, at its slot and to the call that is handed in. All that may want memory comes first: whoever comes second can't fail after the first.
+//! An event of a call, at its record and to the call that is handed in. All that may want memory comes first: whoever comes second can't fail after the first.
 ghost use Rattle.std.specs.Prelude.{◌≡◌, OnOk, true};
 ghost use Rattle.mg_model.specs.declared.events.Event.TheVariants.{OfCall};
 ghost use Rattle.agent.specs.Calls.{is_of_gateway};
 ghost use Rattle.shards.specs.Shows.{is_told};
-ghost use Rattle.shards.specs.SlotTable.{slot_in, CountsNotes, IsReady, OthersStay};
+ghost use Rattle.shards.specs.CallTable.{record_in, CountsNotes, IsReady, OthersStay};
 ghost use Rattle.shards.specs.Stepping.{AtGateway, IsAtAgent, IsHeld, IsStep, IsUpToDate};
 
+use crate::call_table;
+use crate::call_table::CallTable;
 use crate::shard::{self, Shard};
-use crate::slots;
-use crate::slots::Slots;
 use crate::stepped::Stepped;
 use agent::{Next, Refusal};
 use gateway::Gateway;
@@ -28,19 +28,21 @@ pub(crate) fn is_told(gateway: &Gateway, event: &CallEvent) -> bool
 /// An event of a call at the gateway.
 fn at_gateway(
     gateway: &mut Gateway,
-    slots: &mut Slots,
+    call_table: &mut CallTable,
     call: CallNo,
     event: CallEvent,
 ) -> Result<(), Refusal>
-    requires ready { IsReady (slot_in slots.old.entries call.0) }
-    requires notes { CountsNotes gateway.old call.0 (slot_in slots.old.entries call.0) }
-    ensures happened { AtGateway gateway.old gateway.new call.0 event (slot_in slots.old.entries call.0) (slot_in slots.new.entries call.0) result }
-    ensures others { OthersStay slots.old.entries call.0 slots.new.entries }
+    requires ready { IsReady (record_in call_table.old.entries call.0) }
+    requires notes { CountsNotes gateway.old call.0 (record_in call_table.old.entries call.0) }
+    ensures happened { AtGateway gateway.old gateway.new call.0 event (record_in call_table.old.entries call.0) (record_in call_table.new.entries call.0) result }
+    ensures others { OthersStay call_table.old.entries call.0 call_table.new.entries }
 {
     match event {
-        CallEvent::OnLine { line, event } => slots::happen(gateway, slots, call, line, event),
+        CallEvent::OnLine { line, event } => call_table::happen(
+            gateway, call_table, call, line, event,
+        ),
         CallEvent::Execute { number, chosen } => {
-            slots::execute(gateway, slots, call, number, chosen)
+            call_table::execute(gateway, call_table, call, number, chosen)
         }
         _ => Err(Refusal::NotEnabled),
     }
@@ -52,10 +54,10 @@ impl<'s> Shard<'s> {
     fn holds(&self, next: &Next<'s>, call: CallNo, event: CallEvent) -> Result<(), Refusal>
         ensures { IsHeld self.now next.now (OfCall call event) result }
     {
-        let Some(slot) = slots::slot(&self.slots, next.call()) else {
+        let Some(call_record) = call_table::call_record(&self.call_table, next.call()) else {
             return Err(Refusal::NotEnabled);
         };
-        let slot_count = slot.events;
+        let slot_count = call_record.events;
         if next.transcript().len() != slot_count {
             if !self.could_happen(next, call, event) {
                 return Err(Refusal::NotEnabled);
@@ -84,7 +86,7 @@ impl<'s> Shard<'s> {
         let Ok(()) = shard::room(&mut self.history) else {
             return (next, Err(Refusal::NoMemory));
         };
-        let (next, done) = slots::step(&mut self.slots, self.script, next, call, event);
+        let (next, done) = call_table::step(&mut self.call_table, self.script, next, call, event);
         if let Err(why) = done {
             return (next, Err(why));
         }
@@ -112,7 +114,7 @@ impl<'s> Shard<'s> {
         let Ok(()) = next.room() else {
             return (next, Err(Refusal::NoMemory));
         };
-        if let Err(why) = at_gateway(&mut self.gateway, &mut self.slots, call, event) {
+        if let Err(why) = at_gateway(&mut self.gateway, &mut self.call_table, call, event) {
             return (next, Err(why));
         }
         let event = Event::OfCall { call, event };

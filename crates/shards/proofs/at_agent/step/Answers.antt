@@ -5,37 +5,37 @@ use Rattle.mg_model.specs.Agent.{Agent}
 use Rattle.agent.specs.AgentValue.{agent_of}
 use Rattle.agent.specs.Steps.{outstanding}
 use Rattle.shards.specs.Messages.{IsNextOver, Messages, sending}
-use Rattle.shards.specs.Slots.{IsDelivered}
+use Rattle.shards.specs.CallRecords.{IsDelivered}
 use Rattle.agent.specs.Advancing.{IsAdvanced}
-use Rattle.shards.proofs.SlotLemmas.{next_over, same_phase, finished_phase}
+use Rattle.shards.proofs.RecordLemmas.{next_over, same_phase, finished_phase}
 use Rattle.shards.proofs.at_agent.step.Goals as goal
 
 pub send-requires-clause-next : goal.send-requires-clause-next
 send-requires-clause-next c =
     subst (λ (m : Messages). IsNextOver m c.finish-over.result) (sym c.room_to_send.ensures.same)
-    (subst (IsNextOver c.args.slot.now.messages.sent) (sym (c.finish-over.ensures.over ∙ ap outstanding before))
-    (next_over c.args.slot.now.messages.sent (agent_of c.args.slot.now.agent).phase c.requires.tied.awaited))
+    (subst (IsNextOver c.args.call_record.now.messages.sent) (sym (c.finish-over.ensures.over ∙ ap outstanding before))
+    (next_over c.args.call_record.now.messages.sent (agent_of c.args.call_record.now.agent).phase c.requires.tied.awaited))
   where
-    before : (agent_of c.prepare.new.self).phase ≡ (agent_of c.args.slot.now.agent).phase
+    before : (agent_of c.prepare.new.self).phase ≡ (agent_of c.args.call_record.now.agent).phase
     before = sym (same_phase (agent_of c.prepare.new.self) c.in-Ok-prepare.prepared) ∙ ap (λ (a : Agent). a.phase) c.in-Ok-prepare.ensures.1
 
 pub returns : goal.returns
 returns c = record {
   brought = c.in-Some.delivery;
-  delivered = subst (IsDelivered c.args.slot.now.messages.sent c.args.event) c.in-Some.is delivered;
+  delivered = subst (IsDelivered c.args.call_record.now.messages.sent c.args.event) c.in-Some.is delivered;
   steps = c.in-Ok-prepare.ensures.0 ∙ ap Some (sym c.finish-over.ensures.finished);
   sent = c.send.ensures ∙ ap (λ (m : Messages). sending m c.finish-over.result c.is_some-sends.result) c.room_to_send.ensures.same
-      ∙ ap (λ over. sending c.args.slot.now.messages.sent over c.is_some-sends.result) (c.finish-over.ensures.over ∙ ap outstanding before)
-      ∙ ap (λ sends. sending c.args.slot.now.messages.sent (outstanding (agent_of c.args.slot.now.agent).phase) sends) sends;
+      ∙ ap (λ over. sending c.args.call_record.now.messages.sent over c.is_some-sends.result) (c.finish-over.ensures.over ∙ ap outstanding before)
+      ∙ ap (λ sends. sending c.args.call_record.now.messages.sent (outstanding (agent_of c.args.call_record.now.agent).phase) sends) sends;
   events = refl;
   settled = refl;
   advanced = subst (IsAdvanced c.args.next c.in-Some.delivery c.advance-next.result.0) c.in_default-done.is c.advance-next.ensures;
 }
   where
-    before : (agent_of c.prepare.new.self).phase ≡ (agent_of c.args.slot.now.agent).phase
+    before : (agent_of c.prepare.new.self).phase ≡ (agent_of c.args.call_record.now.agent).phase
     before = sym (same_phase (agent_of c.prepare.new.self) c.in-Ok-prepare.prepared) ∙ ap (λ (a : Agent). a.phase) c.in-Ok-prepare.ensures.1
 
-    delivered : IsDelivered c.args.slot.now.messages.sent c.args.event c.brought.result
+    delivered : IsDelivered c.args.call_record.now.messages.sent c.args.event c.brought.result
     delivered = subst (λ (m : Messages). IsDelivered m c.args.event c.brought.result) c.room_to_send.ensures.same c.brought.ensures
 
     sends : c.is_some-sends.result ≡ is_some (outstanding (agent_of c.finish-over.new.self).phase)

@@ -10,21 +10,21 @@ use Rattle.gateway.specs.declared.answer.Answer.TheVariants.{Executed}
 use Rattle.gateway.specs.Answers.{IsAnswered}
 use Rattle.gateway.specs.GatewayValue.{gateway_of}
 use Rattle.shards.proofs.GatewayLemmas.{few_notes, notes_numbered, reply_kept, reply_number}
-use Rattle.shards.proofs.SlotLemmas.{found_again, was_sent}
-use Rattle.shards.specs.Slots.{request_in}
+use Rattle.shards.proofs.RecordLemmas.{found_again, was_sent}
+use Rattle.shards.specs.CallRecords.{request_in}
 use Rattle.shards.proofs.at_gateway.execute.Goals as goal
 
 pub answer-requires : goal.answer-requires
 answer-requires c =
     subst (λ (m : Messages). WasSent m c.in-Executed.reply.number) (sym c.room_for_notes.ensures.same)
-    (subst (WasSent c.args.slot.now.messages.sent) (sym sent.0 ∙ sym (reply_number _ _ _ _ _ _ executed)) sent.1)
+    (subst (WasSent c.args.call_record.now.messages.sent) (sym sent.0 ∙ sym (reply_number _ _ _ _ _ _ executed)) sent.1)
   where
-    found : request_in c.args.slot.now (Some c.args.number) ≡ Some c.in-Some-request.sent.now
-    found = found_again c.args.slot.now c.room_for_notes.new.self c.args.number c.request-2.result c.in-Some-request.sent
+    found : request_in c.args.call_record.now (Some c.args.number) ≡ Some c.in-Some-request.sent.now
+    found = found_again c.args.call_record.now c.room_for_notes.new.self c.args.number c.request-2.result c.in-Some-request.sent
         c.room_for_notes.ensures.same c.request-2.ensures c.in-Some-request.is
 
-    sent : (c.in-Some-request.sent.now.number ≡ c.args.number) × WasSent c.args.slot.now.messages.sent c.args.number
-    sent = was_sent c.args.slot.now c.requires.tied c.args.number c.in-Some-request.sent.now found
+    sent : (c.in-Some-request.sent.now.number ≡ c.args.number) × WasSent c.args.call_record.now.messages.sent c.args.number
+    sent = was_sent c.args.call_record.now c.requires.tied c.args.number c.in-Some-request.sent.now found
 
     executed : IsExecutedBy (gateway_of c.args.gateway.now) c.in-Some-request.sent.now c.args.refusal (gateway_of c.execute.new.self) c.in-Executed.reply c.in-Executed.notes.items
     executed = (subst (IsAnswered c.args.gateway.now c.args.call.0 c.in-Some-request.sent.now c.args.refusal c.execute.new.self) c.in-Executed.is c.execute.ensures).1.0
@@ -41,11 +41,11 @@ raise-requires-clause-room c =
     let room : length c.room_for_notes.new.self.sent.notes + length c.commands-commands.result.now ≤ c.room_for_notes.new.self.places.notes = c.in-Ok.ensures.room in
     omega (arith, few, same, kept, places, told, room)
   where
-    first_found : request_in c.args.slot.now (Some c.args.number) ≡ Some c.in-Some.sent.now
-    first_found = found_again c.args.slot.now c.args.slot.now.messages c.args.number c.request.result c.in-Some.sent refl c.request.ensures c.in-Some.is
+    first_found : request_in c.args.call_record.now (Some c.args.number) ≡ Some c.in-Some.sent.now
+    first_found = found_again c.args.call_record.now c.args.call_record.now.messages c.args.number c.request.result c.in-Some.sent refl c.request.ensures c.in-Some.is
 
-    found : request_in c.args.slot.now (Some c.args.number) ≡ Some c.in-Some-request.sent.now
-    found = found_again c.args.slot.now c.room_for_notes.new.self c.args.number c.request-2.result c.in-Some-request.sent
+    found : request_in c.args.call_record.now (Some c.args.number) ≡ Some c.in-Some-request.sent.now
+    found = found_again c.args.call_record.now c.room_for_notes.new.self c.args.number c.request-2.result c.in-Some-request.sent
         c.room_for_notes.ensures.same c.request-2.ensures c.in-Some-request.is
 
     answered : IsAnswered c.args.gateway.now c.args.call.0 c.in-Some-request.sent.now c.args.refusal c.execute.new.self
@@ -59,11 +59,11 @@ raise-requires-clause-numbered c =
     ∙ ap (λ (m : Messages). length m.notes) (sym c.room_for_notes.ensures.same) ∙ ap (λ (m : Messages). length m.notes) (sym c.answer.ensures.sent))
     (notes_numbered _ _ _ _ _ _ answered.1.0)
   where
-    first_found : request_in c.args.slot.now (Some c.args.number) ≡ Some c.in-Some.sent.now
-    first_found = found_again c.args.slot.now c.args.slot.now.messages c.args.number c.request.result c.in-Some.sent refl c.request.ensures c.in-Some.is
+    first_found : request_in c.args.call_record.now (Some c.args.number) ≡ Some c.in-Some.sent.now
+    first_found = found_again c.args.call_record.now c.args.call_record.now.messages c.args.number c.request.result c.in-Some.sent refl c.request.ensures c.in-Some.is
 
-    found : request_in c.args.slot.now (Some c.args.number) ≡ Some c.in-Some-request.sent.now
-    found = found_again c.args.slot.now c.room_for_notes.new.self c.args.number c.request-2.result c.in-Some-request.sent
+    found : request_in c.args.call_record.now (Some c.args.number) ≡ Some c.in-Some-request.sent.now
+    found = found_again c.args.call_record.now c.room_for_notes.new.self c.args.number c.request-2.result c.in-Some-request.sent
         c.room_for_notes.ensures.same c.request-2.ensures c.in-Some-request.is
 
     answered : IsAnswered c.args.gateway.now c.args.call.0 c.in-Some-request.sent.now c.args.refusal c.execute.new.self
@@ -73,14 +73,14 @@ raise-requires-clause-numbered c =
 pub answer-requires-in-Kept : goal.answer-requires-in-Kept
 answer-requires-in-Kept c =
     subst (λ (m : Messages). WasSent m c.in-Kept.reply.number) (sym c.room_for_notes.ensures.same)
-    (subst (WasSent c.args.slot.now.messages.sent) (sym sent.0 ∙ sym (reply_kept (gateway_of c.args.gateway.now) c.in-Some-request.sent.now c.in-Kept.reply is_kept)) sent.1)
+    (subst (WasSent c.args.call_record.now.messages.sent) (sym sent.0 ∙ sym (reply_kept (gateway_of c.args.gateway.now) c.in-Some-request.sent.now c.in-Kept.reply is_kept)) sent.1)
   where
-    found : request_in c.args.slot.now (Some c.args.number) ≡ Some c.in-Some-request.sent.now
-    found = found_again c.args.slot.now c.room_for_notes.new.self c.args.number c.request-2.result c.in-Some-request.sent
+    found : request_in c.args.call_record.now (Some c.args.number) ≡ Some c.in-Some-request.sent.now
+    found = found_again c.args.call_record.now c.room_for_notes.new.self c.args.number c.request-2.result c.in-Some-request.sent
         c.room_for_notes.ensures.same c.request-2.ensures c.in-Some-request.is
 
-    sent : (c.in-Some-request.sent.now.number ≡ c.args.number) × WasSent c.args.slot.now.messages.sent c.args.number
-    sent = was_sent c.args.slot.now c.requires.tied c.args.number c.in-Some-request.sent.now found
+    sent : (c.in-Some-request.sent.now.number ≡ c.args.number) × WasSent c.args.call_record.now.messages.sent c.args.number
+    sent = was_sent c.args.call_record.now c.requires.tied c.args.number c.in-Some-request.sent.now found
 
     is_kept : IsKept (gateway_of c.args.gateway.now) c.in-Some-request.sent.now c.in-Kept.reply
     is_kept = (subst (IsAnswered c.args.gateway.now c.args.call.0 c.in-Some-request.sent.now c.args.refusal c.execute.new.self) c.in-Kept.is c.execute.ensures).1.0

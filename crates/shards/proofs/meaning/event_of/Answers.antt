@@ -1,8 +1,8 @@
--- The slot that is found is that of the call, so it is tied.
+-- The record that is found is that of the call, so it is tied.
 use Rattle.std.proofs.Common.{sym}
-use Rattle.shards.specs.SlotTable.{slot_in}
+use Rattle.shards.specs.CallTable.{record_in}
 use Rattle.shards.proofs.meaning.event_of.Goals as goal
 
 pub settle-requires : goal.settle-requires
-unfolding slot_in
+unfolding record_in
 settle-requires c = c.requires _ (sym c.in-Some.ensures.value)

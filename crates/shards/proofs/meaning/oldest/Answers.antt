@@ -10,6 +10,6 @@ use Rattle.shards.proofs.meaning.oldest.Goals as goal
 pub returns : goal.returns
 returns c =
     c.first_waiting.ensures
-    ∙ ap (find (is_waiting (agent_of c.args.slot.now.agent))) (take_rest c.notes-notes.result.now c.args.slot.now.settled)
-    ∙ ap (λ notes. find (is_waiting (agent_of c.args.slot.now.agent)) (drop c.args.slot.now.settled notes)) c.notes-notes.ensures.notes
-    ∙ found_later (agent_of c.args.slot.now.agent) c.args.slot.now.messages.sent.notes c.args.slot.now.settled c.requires.settled
+    ∙ ap (find (is_waiting (agent_of c.args.call_record.now.agent))) (take_rest c.notes-notes.result.now c.args.call_record.now.settled)
+    ∙ ap (λ notes. find (is_waiting (agent_of c.args.call_record.now.agent)) (drop c.args.call_record.now.settled notes)) c.notes-notes.ensures.notes
+    ∙ found_later (agent_of c.args.call_record.now.agent) c.args.call_record.now.messages.sent.notes c.args.call_record.now.settled c.requires.settled

@@ -7,5 +7,5 @@ use Rattle.shards.proofs.opening.open_all.Given as goal
 
 abbrev pub invariant-loop-call : goal.invariant-loop-call
 invariant-loop-call l =
-    AreOpenedOn l.script (take l.call-index l.calls) l.first l.stride l.gateway l.slots.entries × AreEntered l.script (take l.call-index l.calls) l.nexts.items
+    AreOpenedOn l.script (take l.call-index l.calls) l.first l.stride l.gateway l.call_table.entries × AreEntered l.script (take l.call-index l.calls) l.nexts.items
     × HaveAllLines l.script (take l.call-index l.calls) × AreThere l.calls (gateway_of l.gateway)

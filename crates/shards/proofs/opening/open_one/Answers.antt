@@ -1,4 +1,4 @@
--- The call is open on its lines, as many as the script has, and its slot has the agent that it was entered with.
+-- The call is open on its lines, as many as the script has, and its record has the agent that it was entered with.
 use Rattle.std.proofs.Common.{◌≡◌, ◌∙◌, List, length, Ok, refl, sym, ap, subst}
 use Rattle.mg_names.specs.declared.identifiers.LineNo.{LineNo}
 use Rattle.mg_model.specs.Agent.{opened}
@@ -14,14 +14,14 @@ returns-in-Ok-enter c = (
     may = subst (λ (lines : List LineNo). gateway.opening (gateway_of c.args.gateway.now) (is_taken c.args.gateway.now c.args.call.now.call.0) lines ≡ Ok tt) same c.in-Ok.ensures.answer;
     gateway = c.in-Ok.ensures.opened ∙ ap (gateway.opened (gateway_of c.args.gateway.now) c.args.call.now.call.0) same;
     open_calls = c.in-Ok.ensures.open_calls;
-    slot = record { agent = c.enter.result; events = 0; messages = c.new.result; settled = 0 };
+    call_record = record { agent = c.enter.result; events = 0; messages = c.new.result; settled = 0 };
     first = record {
       agent = c.enter.ensures ∙ ap (λ (lines : List LineNo). opened c.args.script.now c.args.call.now.call.0 (line_at lines)) same;
       events = refl;
       sent = c.new.ensures;
       settled = refl;
     };
-    slots = c.in-Ok-put.ensures.put;
+    call_table = c.in-Ok-put.ensures.put;
   },
   record {
     kind = c.in-Ok-enter.ensures.kind;

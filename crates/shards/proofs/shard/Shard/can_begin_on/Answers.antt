@@ -1,4 +1,4 @@
--- The call of the slot has ended and the gateway lets the new one begin; or one of these isn't so.
+-- The call of the record has ended and the gateway lets the new one begin; or one of these isn't so.
 use Rattle.std.proofs.Common.{◌∙◌, true, sym, ap, subst}
 use Rattle.mg_model.specs.declared.events.CallEvent.TheVariants.{Begin}
 use Rattle.mg_model.specs.World.{begin}
@@ -9,14 +9,14 @@ use Rattle.shards.proofs.Occurrences.{begins}
 use Rattle.shards.specs.Beginnings.{has_ended}
 use Rattle.shards.specs.CanOccur.{IsOccurrence, NeverOccurs}
 use Rattle.shards.specs.Shards.{ShardValue}
-use Rattle.shards.specs.SlotTable.{slot_in}
+use Rattle.shards.specs.CallTable.{record_in}
 use Rattle.shards.proofs.shard.Shard.can_begin_on.Goals as goal
 
 pub returns-then-not-has_ended : goal.returns-then-not-has_ended
 returns-then-not-has_ended c =
     subst (λ (v : ShardValue). NeverOccurs v (begin c.args.call.0 c.args.old.0)) c.self.view_is
-    (never_ended _ c.args.call.0 c.args.old.0 c.args.slot.now (ap (λ (v : ShardValue). slot_in v.slots c.args.old.0) c.self.view_is ∙ c.requires.held)
-    (ap (has_ended c.self.inside.script.now (agent_of c.args.slot.now.agent)) (sym c.association.ensures) ∙ sym c.has_ended.ensures ∙ c.if-not-has_ended.true))
+    (never_ended _ c.args.call.0 c.args.old.0 c.args.call_record.now (ap (λ (v : ShardValue). record_in v.call_table c.args.old.0) c.self.view_is ∙ c.requires.held)
+    (ap (has_ended c.self.inside.script.now (agent_of c.args.call_record.now.agent)) (sym c.association.ensures) ∙ sym c.has_ended.ensures ∙ c.if-not-has_ended.true))
 
 pub returns-in_default : goal.returns-in_default
 returns-in_default c =
@@ -27,6 +27,6 @@ returns-in_default c =
 pub returns : goal.returns
 returns c =
     subst (λ (v : ShardValue). IsOccurrence v c.args.call.0 (Begin c.args.old) true) c.self.view_is
-    (begins _ c.self.invariant c.args.old.0 c.args.slot.now (ap (λ (v : ShardValue). slot_in v.slots c.args.old.0) c.self.view_is ∙ c.requires.held) c.args.call.0
-    (ap (has_ended c.self.inside.script.now (agent_of c.args.slot.now.agent)) (sym c.association.ensures) ∙ sym c.has_ended.ensures ∙ c.if-not-has_ended.false)
+    (begins _ c.self.invariant c.args.old.0 c.args.call_record.now (ap (λ (v : ShardValue). record_in v.call_table c.args.old.0) c.self.view_is ∙ c.requires.held) c.args.call.0
+    (ap (has_ended c.self.inside.script.now (agent_of c.args.call_record.now.agent)) (sym c.association.ensures) ∙ sym c.has_ended.ensures ∙ c.if-not-has_ended.false)
     (subst (CanBegin c.self.inside.gateway c.args.old.0 c.args.call.0) c.in-Ok.is c.can_begin.ensures))

@@ -5,7 +5,7 @@ use Rattle.shards.proofs.TakenSteps.{never_told}
 use Rattle.mg_model.specs.declared.events.Event.TheVariants.{OfCall}
 use Rattle.shards.specs.CanOccur.{IsOccurrence, NeverOccurs}
 use Rattle.shards.specs.Shards.{ShardValue}
-use Rattle.shards.specs.SlotTable.{slot_in}
+use Rattle.shards.specs.CallTable.{record_in}
 use Rattle.shards.proofs.shard.Shard.can_reach_agent.Goals as goal
 
 pub returns-then-not-is_told : goal.returns-then-not-is_told
@@ -16,5 +16,5 @@ returns-then-not-is_told c =
 pub returns : goal.returns
 returns c =
     subst (λ (v : ShardValue). IsOccurrence v c.args.call.0 c.args.event c.is_takeable.result) c.self.view_is
-    (taken_occurs _ c.self.invariant c.args.call.0 c.args.slot.now (ap (λ (v : ShardValue). slot_in v.slots c.args.call.0) c.self.view_is ∙ c.requires.held)
+    (taken_occurs _ c.self.invariant c.args.call.0 c.args.call_record.now (ap (λ (v : ShardValue). record_in v.call_table c.args.call.0) c.self.view_is ∙ c.requires.held)
     c.args.event c.requires.agent (sym c.is_told.ensures ∙ c.if-not-is_told.false) c.is_takeable.result c.is_takeable.ensures)

@@ -12,7 +12,7 @@ use Rattle.shards.proofs.ValueSteps.{call_is}
 use Rattle.shards.specs.Beginnings.{has_ended}
 use Rattle.shards.specs.CouldHappen.{CouldHappen}
 use Rattle.shards.specs.Shards.{ShardValue}
-use Rattle.shards.specs.SlotTable.{slot_in}
+use Rattle.shards.specs.CallTable.{record_in}
 use Rattle.shards.specs.Stepping.{CannotOccur, IsNotEnabled}
 use Rattle.shards.proofs.shard.Shard.could_begin_on.Goals as goal
 
@@ -21,15 +21,15 @@ returns-then-call-old c = inl (not_own _ c.args.ended.now c.args.call.0 c.args.o
 
 pub returns-in_default : goal.returns-in_default
 returns-in_default c =
-    inr (ap (λ (v : ShardValue). slot_in v.slots c.args.ended.now.agent.call) (sym c.self.view_is)
-    ∙ ap (slot_in c.self.inside.slots.entries) (sym (call_is c.args.ended.now) ∙ sym c.call.ensures ∙ c.if-call-old.false) ∙ sym c.slot.ensures
+    inr (ap (λ (v : ShardValue). record_in v.call_table c.args.ended.now.agent.call) (sym c.self.view_is)
+    ∙ ap (record_in c.self.inside.call_table.entries) (sym (call_is c.args.ended.now) ∙ sym c.call.ensures ∙ c.if-call-old.false) ∙ sym c.call_record.ensures
     ∙ ap (option_map (λ s. s.now)) c.in_default.is)
 
 pub returns-then-not-has_ended : goal.returns-then-not-has_ended
 returns-then-not-has_ended c =
     inl (subst (λ (v : ShardValue). CannotOccur v (next.Ended c.args.ended.now) (OfCall c.args.call (Begin c.args.old))) c.self.view_is
-    (not_ended _ c.args.ended.now c.args.call.0 c.args.old.0 c.in-Some.slot.now (sym c.slot.ensures ∙ ap (option_map (λ s. s.now)) c.in-Some.is)
-    (ap (has_ended c.self.inside.script.now (agent_of c.in-Some.slot.now.agent)) (sym c.association.ensures) ∙ sym c.has_ended.ensures ∙ c.if-not-has_ended.true)))
+    (not_ended _ c.args.ended.now c.args.call.0 c.args.old.0 c.in-Some.call_record.now (sym c.call_record.ensures ∙ ap (option_map (λ s. s.now)) c.in-Some.is)
+    (ap (has_ended c.self.inside.script.now (agent_of c.in-Some.call_record.now.agent)) (sym c.association.ensures) ∙ sym c.has_ended.ensures ∙ c.if-not-has_ended.true)))
 
 pub returns-in_default-can_begin : goal.returns-in_default-can_begin
 returns-in_default-can_begin c =
@@ -41,6 +41,6 @@ pub returns : goal.returns
 returns c =
     subst (λ (v : ShardValue). CouldHappen v (next.Ended c.args.ended.now) (OfCall c.args.call (Begin c.args.old))) c.self.view_is
     (begun_possible _ c.self.invariant c.args.ended.now c.args.call.0 c.args.old.0 (sym (call_is c.args.ended.now) ∙ sym c.call.ensures ∙ c.if-call-old.false)
-    c.in-Some.slot.now (sym c.slot.ensures ∙ ap (option_map (λ s. s.now)) c.in-Some.is)
-    (ap (has_ended c.self.inside.script.now (agent_of c.in-Some.slot.now.agent)) (sym c.association.ensures) ∙ sym c.has_ended.ensures ∙ c.if-not-has_ended.false)
+    c.in-Some.call_record.now (sym c.call_record.ensures ∙ ap (option_map (λ s. s.now)) c.in-Some.is)
+    (ap (has_ended c.self.inside.script.now (agent_of c.in-Some.call_record.now.agent)) (sym c.association.ensures) ∙ sym c.has_ended.ensures ∙ c.if-not-has_ended.false)
     (subst (CanBegin c.self.inside.gateway c.args.old.0 c.args.call.0) c.in-Ok.is c.can_begin.ensures))

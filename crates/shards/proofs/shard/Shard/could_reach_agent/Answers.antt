@@ -4,7 +4,7 @@ use Rattle.std.specs.Prelude.{option_map}
 use Rattle.mg_model.specs.declared.events.Event.TheVariants.{OfCall}
 use Rattle.shards.proofs.PossibleEvents.{none_own, step_shown_possible}
 use Rattle.shards.proofs.TakenSteps.{not_told}
-use Rattle.shards.specs.CouldHappen.{HasOwnSlot}
+use Rattle.shards.specs.CouldHappen.{HasOwnRecord}
 use Rattle.shards.specs.Shards.{ShardValue}
 use Rattle.shards.specs.Stepping.{CannotOccur}
 use Rattle.shards.proofs.shard.Shard.could_reach_agent.Goals as goal
@@ -12,7 +12,7 @@ use Rattle.shards.proofs.shard.Shard.could_reach_agent.Goals as goal
 pub returns-in_default : goal.returns-in_default
 returns-in_default c =
     none_own c.args.self.now c.args.next.now c.args.call.0 c.args.event (inl c.requires)
-    (subst (λ o. HasOwnSlot c.args.self.now c.args.next.now c.args.call.0 (option_map (λ s. s.now) o)) c.in_default.is c.own_slot.ensures)
+    (subst (λ o. HasOwnRecord c.args.self.now c.args.next.now c.args.call.0 (option_map (λ s. s.now) o)) c.in_default.is c.own_record.ensures)
 
 pub returns-then-not-is_told : goal.returns-then-not-is_told
 returns-then-not-is_told c =
@@ -21,6 +21,6 @@ returns-then-not-is_told c =
 
 pub returns : goal.returns
 returns c =
-    step_shown_possible _ c.args.self.now c.self.view_is c.self.invariant c.args.next.now c.args.call.0 c.in-Some.slot.now
-    (subst (λ o. HasOwnSlot c.args.self.now c.args.next.now c.args.call.0 (option_map (λ s. s.now) o)) c.in-Some.is c.own_slot.ensures)
+    step_shown_possible _ c.args.self.now c.self.view_is c.self.invariant c.args.next.now c.args.call.0 c.in-Some.call_record.now
+    (subst (λ o. HasOwnRecord c.args.self.now c.args.next.now c.args.call.0 (option_map (λ s. s.now) o)) c.in-Some.is c.own_record.ensures)
     c.args.event c.requires (sym c.is_told.ensures ∙ c.if-not-is_told.false) c.could_step.result c.could_step.ensures

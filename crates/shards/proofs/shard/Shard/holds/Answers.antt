@@ -1,4 +1,4 @@
--- The slot is that of the call that is handed in.
+-- The record is that of the call that is handed in.
 use Rattle.std.proofs.Common.{◌∙◌, List, length, inr, refl, sym, ap, subst}
 use Rattle.std.specs.Prelude.{option_map}
 use Rattle.mg_model.specs.declared.events.Event.{Event}
@@ -6,14 +6,14 @@ use Rattle.mg_model.specs.declared.events.Event.TheVariants.{OfCall}
 use Rattle.agent.specs.Calls.{value_of}
 use Rattle.shards.proofs.ValueSteps.{call_is}
 use Rattle.shards.specs.Shards.{ShardValue}
-use Rattle.shards.specs.SlotTable.{slot_in}
+use Rattle.shards.specs.CallTable.{record_in}
 use Rattle.shards.specs.Stepping.{IsPossible, call_in}
 use Rattle.shards.proofs.shard.Shard.holds.Goals as goal
 
 pub returns-in_default : goal.returns-in_default
 returns-in_default c =
-    inr (ap (λ (v : ShardValue). slot_in v.slots (call_in c.args.next.now)) (sym c.self.view_is)
-    ∙ ap (slot_in c.self.inside.slots.entries) (sym (call_is (value_of c.args.next.now)) ∙ sym c.call.ensures) ∙ sym c.slot.ensures
+    inr (ap (λ (v : ShardValue). record_in v.call_table (call_in c.args.next.now)) (sym c.self.view_is)
+    ∙ ap (record_in c.self.inside.call_table.entries) (sym (call_is (value_of c.args.next.now)) ∙ sym c.call.ensures) ∙ sym c.call_record.ensures
     ∙ ap (option_map (λ s. s.now)) c.in_default.is)
 
 pub returns-then-not-could_happen : goal.returns-then-not-could_happen
@@ -23,9 +23,9 @@ returns-then-not-could_happen c =
 pub returns-then-transcript-slot_count : goal.returns-then-transcript-slot_count
 returns-then-transcript-slot_count c = (
   record {
-    slot = c.in-Some.slot.now;
-    held = ap (λ (v : ShardValue). slot_in v.slots (call_in c.args.next.now)) (sym c.self.view_is)
-        ∙ ap (slot_in c.self.inside.slots.entries) (sym (call_is (value_of c.args.next.now)) ∙ sym c.call.ensures) ∙ sym c.slot.ensures
+    call_record = c.in-Some.call_record.now;
+    held = ap (λ (v : ShardValue). record_in v.call_table (call_in c.args.next.now)) (sym c.self.view_is)
+        ∙ ap (record_in c.self.inside.call_table.entries) (sym (call_is (value_of c.args.next.now)) ∙ sym c.call.ensures) ∙ sym c.call_record.ensures
         ∙ ap (option_map (λ s. s.now)) c.in-Some.is;
     counted = refl;
     differs = λ same. c.if-transcript-slot_count.true (ap (λ (events : List Event). length events) c.transcript.ensures ∙ same);
@@ -35,9 +35,9 @@ returns-then-transcript-slot_count c = (
 
 pub returns : goal.returns
 returns c = record {
-  slot = c.in-Some.slot.now;
-  held = ap (λ (v : ShardValue). slot_in v.slots (call_in c.args.next.now)) (sym c.self.view_is)
-      ∙ ap (slot_in c.self.inside.slots.entries) (sym (call_is (value_of c.args.next.now)) ∙ sym c.call.ensures) ∙ sym c.slot.ensures
+  call_record = c.in-Some.call_record.now;
+  held = ap (λ (v : ShardValue). record_in v.call_table (call_in c.args.next.now)) (sym c.self.view_is)
+      ∙ ap (record_in c.self.inside.call_table.entries) (sym (call_is (value_of c.args.next.now)) ∙ sym c.call.ensures) ∙ sym c.call_record.ensures
       ∙ ap (option_map (λ s. s.now)) c.in-Some.is;
   agrees = ap (λ (events : List Event). length events) (sym c.transcript.ensures) ∙ c.if-transcript-slot_count.false;
 }

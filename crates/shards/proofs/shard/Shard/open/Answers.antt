@@ -15,10 +15,10 @@ invariant_of-shard c =
       stride = c.args.stride;
       calls = c.args.calls.items;
       gateway = c.in-Ok.opened.gateway;
-      slots = c.in-Ok.opened.slots.entries;
+      call_table = c.in-Ok.opened.call_table.entries;
       history = events;
     })) (sym c.new.ensures.items)
-    (shard_opened c.script-script.result.now c.args.calls.items c.args.first c.args.stride c.in-Ok.opened.gateway c.in-Ok.opened.slots.entries
-    (subst (λ (calls : List OpenedCall). AreOpenedOn c.script-script.result.now calls c.args.first c.args.stride c.in-Ok.opened.gateway c.in-Ok.opened.slots.entries)
+    (shard_opened c.script-script.result.now c.args.calls.items c.args.first c.args.stride c.in-Ok.opened.gateway c.in-Ok.opened.call_table.entries
+    (subst (λ (calls : List OpenedCall). AreOpenedOn c.script-script.result.now calls c.args.first c.args.stride c.in-Ok.opened.gateway c.in-Ok.opened.call_table.entries)
     c.as_slice.ensures.value c.in-Ok.ensures.0)
     c.script-script.ensures.accepted c.script-script.ensures.few_commands c.script-script.ensures.safe c.requires.class c.requires.shards)

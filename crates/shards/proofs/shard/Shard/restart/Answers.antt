@@ -22,7 +22,7 @@ returns c = (
     stride = c.self.inside.stride;
     calls = c.self.inside.calls.items;
     gateway = c.restart.new.self;
-    slots = c.self.inside.slots.entries;
+    call_table = c.self.inside.call_table.entries;
     history = c.push_reserved.new.self.items;
   }) Restart) c.self.view_is
       (restart_happened _ c.restart.new.self c.push_reserved.new.self.items c.in-Ok-restart.association.0 history c.in-Ok-restart.ensures),

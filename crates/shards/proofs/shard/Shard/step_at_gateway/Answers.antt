@@ -1,4 +1,4 @@
--- The event happens at the gateway and in the slot, and the call that is handed in writes it down; or all is as it was, but for room.
+-- The event happens at the gateway and in the record, and the call that is handed in writes it down; or all is as it was, but for room.
 use Rattle.std.proofs.Common.{◌∙◌, ◌++◌, List, [], ◌∷◌, inl, inr, refl, sym, ap, subst}
 use Rattle.mg_model.specs.declared.events.Event.{Event}
 use Rattle.mg_model.specs.declared.events.Event.TheVariants.{OfCall}
@@ -8,7 +8,7 @@ use Rattle.shards.proofs.GatewaySteps.{gateway_back, gateway_forward, loggable_a
 use Rattle.shards.proofs.ShardSteps.{stays_unchanged}
 use Rattle.shards.proofs.TakenSteps.{back_as, counts_notes, of_another, ready}
 use Rattle.shards.proofs.ValueSteps.{call_is}
-use Rattle.shards.specs.SlotTable.{slot_in}
+use Rattle.shards.specs.CallTable.{record_in}
 use Rattle.shards.specs.Stepping.{AtGateway}
 use Rattle.shards.proofs.shard.Shard.step_at_gateway.Goals as goal
 
@@ -28,20 +28,20 @@ at_gateway-requires-clause-notes c = counts_notes _ c.self.invariant c.args.call
 pub invariant_of-self-in-Err : goal.invariant_of-self-in-Err
 invariant_of-self-in-Err c =
     (gateway_back _ _ c.self.view_is c.self.invariant c.args.call.0 c.args.next c.room-2.new.self
-    (sym (call_is (value_of c.args.next)) ∙ sym c.call.ensures ∙ c.if-call.false) c.args.event c.requires c.at_gateway.new.gateway c.at_gateway.new.slots.entries
+    (sym (call_is (value_of c.args.next)) ∙ sym c.call.ensures ∙ c.if-call.false) c.args.event c.requires c.at_gateway.new.gateway c.at_gateway.new.call_table.entries
     c.at_gateway.ensures.others (with_more_room c.args.next c.room-2.new.self c.room-2.ensures.kind c.in-Ok-room.ensures.made)
     c.room.new.history.items c.room.ensures.items c.in-Err.why
-    (subst (λ told. AtGateway c.self.inside.gateway c.at_gateway.new.gateway c.args.call.0 c.args.event (slot_in c.self.inside.slots.entries c.args.call.0)
-    (slot_in c.at_gateway.new.slots.entries c.args.call.0) told) c.in-Err.is c.at_gateway.ensures.happened)).0
+    (subst (λ told. AtGateway c.self.inside.gateway c.at_gateway.new.gateway c.args.call.0 c.args.event (record_in c.self.inside.call_table.entries c.args.call.0)
+    (record_in c.at_gateway.new.call_table.entries c.args.call.0) told) c.in-Err.is c.at_gateway.ensures.happened)).0
 
 pub returns-in-Err : goal.returns-in-Err
 returns-in-Err c =
     (gateway_back _ _ c.self.view_is c.self.invariant c.args.call.0 c.args.next c.room-2.new.self
-    (sym (call_is (value_of c.args.next)) ∙ sym c.call.ensures ∙ c.if-call.false) c.args.event c.requires c.at_gateway.new.gateway c.at_gateway.new.slots.entries
+    (sym (call_is (value_of c.args.next)) ∙ sym c.call.ensures ∙ c.if-call.false) c.args.event c.requires c.at_gateway.new.gateway c.at_gateway.new.call_table.entries
     c.at_gateway.ensures.others (with_more_room c.args.next c.room-2.new.self c.room-2.ensures.kind c.in-Ok-room.ensures.made)
     c.room.new.history.items c.room.ensures.items c.in-Err.why
-    (subst (λ told. AtGateway c.self.inside.gateway c.at_gateway.new.gateway c.args.call.0 c.args.event (slot_in c.self.inside.slots.entries c.args.call.0)
-    (slot_in c.at_gateway.new.slots.entries c.args.call.0) told) c.in-Err.is c.at_gateway.ensures.happened)).1
+    (subst (λ told. AtGateway c.self.inside.gateway c.at_gateway.new.gateway c.args.call.0 c.args.event (record_in c.self.inside.call_table.entries c.args.call.0)
+    (record_in c.at_gateway.new.call_table.entries c.args.call.0) told) c.in-Err.is c.at_gateway.ensures.happened)).1
 
 pub log_event-next-requires-clause-loggable : goal.log_event-next-requires-clause-loggable
 log_event-next-requires-clause-loggable c =
@@ -51,21 +51,21 @@ log_event-next-requires-clause-loggable c =
 pub invariant_of-self-2 : goal.invariant_of-self-2
 invariant_of-self-2 c =
     (gateway_forward _ _ c.self.view_is c.self.invariant c.args.call.0 c.args.next c.log_event-next.result
-    (sym (call_is (value_of c.args.next)) ∙ sym c.call.ensures ∙ c.if-call.false) c.args.event c.requires c.at_gateway.new.gateway c.at_gateway.new.slots.entries
+    (sym (call_is (value_of c.args.next)) ∙ sym c.call.ensures ∙ c.if-call.false) c.args.event c.requires c.at_gateway.new.gateway c.at_gateway.new.call_table.entries
     c.at_gateway.ensures.others c.log_event-next.ensures.kind
     (subst (λ (v : CallValue). IsWithEvent (OfCall c.args.call c.args.event) v (value_of c.log_event-next.result)) c.in-Ok-room.ensures.made c.log_event-next.ensures.logged)
     c.push_reserved.new.self.items
     (c.push_reserved.ensures.items ∙ ap (λ (events : List Event). events ++ OfCall c.args.call c.args.event ∷ []) c.room.ensures.items)
-    (subst (λ told. AtGateway c.self.inside.gateway c.at_gateway.new.gateway c.args.call.0 c.args.event (slot_in c.self.inside.slots.entries c.args.call.0)
-    (slot_in c.at_gateway.new.slots.entries c.args.call.0) told) c.in_default-at_gateway.is c.at_gateway.ensures.happened)).0
+    (subst (λ told. AtGateway c.self.inside.gateway c.at_gateway.new.gateway c.args.call.0 c.args.event (record_in c.self.inside.call_table.entries c.args.call.0)
+    (record_in c.at_gateway.new.call_table.entries c.args.call.0) told) c.in_default-at_gateway.is c.at_gateway.ensures.happened)).0
 
 pub returns : goal.returns
 returns c =
     (gateway_forward _ _ c.self.view_is c.self.invariant c.args.call.0 c.args.next c.log_event-next.result
-    (sym (call_is (value_of c.args.next)) ∙ sym c.call.ensures ∙ c.if-call.false) c.args.event c.requires c.at_gateway.new.gateway c.at_gateway.new.slots.entries
+    (sym (call_is (value_of c.args.next)) ∙ sym c.call.ensures ∙ c.if-call.false) c.args.event c.requires c.at_gateway.new.gateway c.at_gateway.new.call_table.entries
     c.at_gateway.ensures.others c.log_event-next.ensures.kind
     (subst (λ (v : CallValue). IsWithEvent (OfCall c.args.call c.args.event) v (value_of c.log_event-next.result)) c.in-Ok-room.ensures.made c.log_event-next.ensures.logged)
     c.push_reserved.new.self.items
     (c.push_reserved.ensures.items ∙ ap (λ (events : List Event). events ++ OfCall c.args.call c.args.event ∷ []) c.room.ensures.items)
-    (subst (λ told. AtGateway c.self.inside.gateway c.at_gateway.new.gateway c.args.call.0 c.args.event (slot_in c.self.inside.slots.entries c.args.call.0)
-    (slot_in c.at_gateway.new.slots.entries c.args.call.0) told) c.in_default-at_gateway.is c.at_gateway.ensures.happened)).1
+    (subst (λ told. AtGateway c.self.inside.gateway c.at_gateway.new.gateway c.args.call.0 c.args.event (record_in c.self.inside.call_table.entries c.args.call.0)
+    (record_in c.at_gateway.new.call_table.entries c.args.call.0) told) c.in_default-at_gateway.is c.at_gateway.ensures.happened)).1

@@ -50,7 +50,7 @@ pub record AreSettled (a : Agent) (notes : List SentNote) (count : ℕ) : Type 0
   pub sent : count ≤ length notes
   pub each : All (λ (n : SentNote). is_settled a n ≡ true) (take count notes)
 
--- ---- a slot as it stands
+-- ---- a record as it stands
 
 -- the requests that were sent are numbered on, each has a place for its reply, the next one has the number after them, and the notes that
 -- are counted as settled are
@@ -62,10 +62,10 @@ pub record IsTied (s : CallRecord) : Type 0 where
   pub next : (agent_of s.agent).next ≡ s.messages.sent.first + length s.messages.sent.replies
   pub settled : AreSettled (agent_of s.agent) s.messages.sent.notes s.settled
 
--- ---- a slot that is as it was
+-- ---- a record that is as it was
 
 -- but for memory that was made, and for how many notes are counted as settled, where they are
-pub record IsSameSlot (s t : CallRecord) : Type 0 where
+pub record IsSameRecord (s t : CallRecord) : Type 0 where
   pub agent : agent_of t.agent ≡ agent_of s.agent
   pub sent : t.messages.sent ≡ s.messages.sent
   pub events : t.events ≡ s.events
@@ -111,8 +111,8 @@ CannotExecute old number s =
 
 abbrev pub IsExecuted : GatewayValue → GatewayValue → (call number : ℕ) → Option ChosenRefusal → CallRecord → CallRecord → Result (Unit {0}) Refusal → Type 0
 IsExecuted old new call number refusal s t (Ok _) = Executes old new call number refusal s t
-IsExecuted old new call number refusal s t (Err NotEnabled) = CannotExecute old number s × IsSame old new × IsSameSlot s t
-IsExecuted old new call number refusal s t (Err NoMemory) = IsSame old new × IsSameSlot s t
+IsExecuted old new call number refusal s t (Err NotEnabled) = CannotExecute old number s × IsSame old new × IsSameRecord s t
+IsExecuted old new call number refusal s t (Err NoMemory) = IsSame old new × IsSameRecord s t
 IsExecuted old new call number refusal s t (Err (Behind slot_count)) = ⊥
 
 -- ---- an event of a line
@@ -130,8 +130,8 @@ CannotHappenOn old call line event = (holder_in old line ≡ Some call → ⊥) 
 
 abbrev pub IsHappenedOn : GatewayValue → GatewayValue → (call line : ℕ) → LineEvent → CallRecord → CallRecord → Result (Unit {0}) Refusal → Type 0
 IsHappenedOn old new call line event s t (Ok _) = HappensOn old new call line event s t
-IsHappenedOn old new call line event s t (Err NotEnabled) = CannotHappenOn old call line event × IsSame old new × IsSameSlot s t
-IsHappenedOn old new call line event s t (Err NoMemory) = IsSame old new × IsSameSlot s t
+IsHappenedOn old new call line event s t (Err NotEnabled) = CannotHappenOn old call line event × IsSame old new × IsSameRecord s t
+IsHappenedOn old new call line event s t (Err NoMemory) = IsSame old new × IsSameRecord s t
 IsHappenedOn old new call line event s t (Err (Behind slot_count)) = ⊥
 
 -- ---- something reaches the agent
@@ -150,7 +150,7 @@ IsDelivered m (to_call.Execute number chosen) None = Unit {0}
 IsDelivered m (to_call.Begin old) None = Unit {0}
 IsDelivered m event brought = ⊥
 
--- the step of the slot and that of the call that is handed in
+-- the step of the record and that of the call that is handed in
 pub record Steps (script : Script) (old : Next) (event : CallEvent) (s t : CallRecord) (new : Next) : Type 0 where
   pub brought : Delivery
   pub delivered : IsDelivered s.messages.sent event (Some brought)
@@ -169,6 +169,6 @@ CannotStep script old event s =
 
 abbrev pub IsStepped : Script → Next → CallEvent → CallRecord → CallRecord → Next → Result (Unit {0}) Refusal → Type 0
 IsStepped script old event s t new (Ok _) = Steps script old event s t new
-IsStepped script old event s t new (Err NotEnabled) = CannotStep script old event s × IsSameSlot s t × (new ≡ old)
-IsStepped script old event s t new (Err NoMemory) = IsSameSlot s t × (new ≡ old)
+IsStepped script old event s t new (Err NotEnabled) = CannotStep script old event s × IsSameRecord s t × (new ≡ old)
+IsStepped script old event s t new (Err NoMemory) = IsSameRecord s t × (new ≡ old)
 IsStepped script old event s t new (Err (Behind slot_count)) = ⊥

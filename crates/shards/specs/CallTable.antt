@@ -1,4 +1,4 @@
--- Slots by the numbers of their calls. A reader should check that where a call is stepped no other slot changes, and that a call without a slot isn't
+-- Records by the numbers of their calls. A reader should check that where a call is stepped no other record changes, and that a call without a record isn't
 -- enabled.
 use Rattle.std.specs.Prelude.{◌≡◌, ℕ, nat_eq, ◌+◌, ◌<◌, length, List, Option, Some, None, Result, Err}
 use Rattle.std.specs.Map.{lookup}
@@ -10,23 +10,23 @@ use Rattle.gateway.specs.GatewayValue.{GatewayValue, gateway_of}
 use Rattle.agent.specs.declared.call.Next.{Next}
 use Rattle.agent.specs.declared.refusal.Refusal.{Refusal}
 use Rattle.agent.specs.declared.refusal.Refusal.TheVariants.{NotEnabled}
-use Rattle.shards.specs.Slots.{IsExecuted, IsHappenedOn, IsStepped, IsTied}
+use Rattle.shards.specs.CallRecords.{IsExecuted, IsHappenedOn, IsStepped, IsTied}
 use Rattle.shards.specs.declared.call_record.CallRecord.{CallRecord}
 
--- the slot of a call; none where no call of this number is open
-unfoldable pub slot_in : List (ℕ × CallRecord) → ℕ → Option CallRecord
-slot_in slots call = lookup (nat_eq call) slots
+-- the record of a call; none where no call of this number is open
+unfoldable pub record_in : List (ℕ × CallRecord) → ℕ → Option CallRecord
+record_in call_table call = lookup (nat_eq call) call_table
 
--- the slots of all calls but one stay
+-- the records of all calls but one stay
 abbrev pub OthersStay : List (ℕ × CallRecord) → ℕ → List (ℕ × CallRecord) → Type 0
-OthersStay old call new = (c : ℕ) → (c ≡ call → ⊥) → slot_in new c ≡ slot_in old c
+OthersStay old call new = (c : ℕ) → (c ≡ call → ⊥) → record_in new c ≡ record_in old c
 
 -- ---- a call is stepped
 
 abbrev pub events_bound : ℕ
 events_bound = 18446744073709551616
 
--- the slot, if there is one, is tied, and can count one event more
+-- the record, if there is one, is tied, and can count one event more
 abbrev pub IsReady : Option CallRecord → Type 0
 IsReady entry = (s : CallRecord) → entry ≡ Some s → IsTied s × (s.events + 1 < events_bound)
 

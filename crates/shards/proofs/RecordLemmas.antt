@@ -1,4 +1,4 @@
--- A slot's messages: which numbers were sent, and what a step of the agent sends.
+-- A record's messages: which numbers were sent, and what a step of the agent sends.
 use Rattle.std.proofs.Common.{◌≡◌, ◌∙◌, ◌+◌, ◌-◌, ◌<◌, ◌≤◌, ◌==◌, ◌++◌, ℕ, zero, suc, Bool, true, false, List, [], ◌∷◌, Bor, length, Option, Some, None, if◌then◌else◌, reverse, refl, sym, ap, arith}
 use Rattle.std.specs.Prelude.{Contains, nat_le, option_map, slice_get}
 use Rattle.std.specs.List.{find}
@@ -13,7 +13,7 @@ use Rattle.agent.specs.Steps.{outstanding}
 use Rattle.agent.specs.AgentValue.{agent_of}
 use Rattle.shards.proofs.NumberLemmas.{request_found}
 use Rattle.shards.specs.Messages.{IsNextOver, Messages, MessagesValue, WasSent, placed}
-use Rattle.shards.specs.Slots.{IsTied, request_in, requests_of}
+use Rattle.shards.specs.CallRecords.{IsTied, request_in, requests_of}
 use Rattle.shards.specs.declared.call_record.CallRecord.{CallRecord}
 
 -- what an agent awaits has the number after the requests that are awaited no more

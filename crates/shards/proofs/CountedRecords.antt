@@ -1,4 +1,4 @@
--- A slot whose agent stays shows its call after what the gateway sent: replies and notes are added, and no request.
+-- A record whose agent stays shows its call after what the gateway sent: replies and notes are added, and no request.
 use Rattle.std.proofs.Common.{◌≡◌, ◌∙◌, ◌+◌, ◌++◌, inl, inr, ℕ, List, length, Option, Some, reverse, sym, ap, subst, arith}
 use Rattle.std.specs.Prelude.{Contains}
 use Rattle.std.specs.List.{find}
@@ -10,7 +10,7 @@ use Rattle.agent.specs.AgentValue.{AgentValue, agent_of}
 use Rattle.shards.specs.Messages.{AreNumberedFrom, Messages, fits, reply_for, request_numbers}
 use Rattle.shards.specs.Shows.{ShowsCall}
 use Rattle.shards.proofs.SettledNotes.{settled_before}
-use Rattle.shards.specs.Slots.{AreSettled, IsCounted, IsTied, request_in}
+use Rattle.shards.specs.CallRecords.{AreSettled, IsCounted, IsTied, request_in}
 use Rattle.shards.specs.declared.call_record.CallRecord.{CallRecord}
 
 -- messages with the same requests, and places for as many replies, to which notes were added
@@ -58,7 +58,7 @@ module _ (s t : CallRecord) (agent : t.agent ≡ s.agent) (settled : t.settled �
         (settled_before (agent_of s.agent) s.messages.sent.notes same.more s.settled tied.settled)));
   }
 
--- notes of a call that are sent, in a world and in a slot
+-- notes of a call that are sent, in a world and in a record
 module _ (w : World) (call : ℕ) (s : CallRecord) (shows : ShowsCall w call s) (new : List SentNote) (of_call : (n : SentNote) → Contains new n → n.call ≡ call) where
   pub notes_in_world : (n : SentNote) → Contains (s.messages.sent.notes ++ new) n → Contains (new ++ w.notes) n × (n.call ≡ call)
   notes_in_world n among = elim (Contains-append_cases s.messages.sent.notes new n among) [
@@ -66,13 +66,13 @@ module _ (w : World) (call : ℕ) (s : CallRecord) (shows : ShowsCall w call s) 
     | inr added ↦ (Contains-append_left new w.notes n added, of_call n added)
   ]
 
-  pub notes_in_slot : (n : SentNote) → Contains (new ++ w.notes) n → n.call ≡ call → Contains (s.messages.sent.notes ++ new) n
-  notes_in_slot n among of_it = elim (Contains-append_cases new w.notes n among) [
+  pub notes_in_record : (n : SentNote) → Contains (new ++ w.notes) n → n.call ≡ call → Contains (s.messages.sent.notes ++ new) n
+  notes_in_record n among of_it = elim (Contains-append_cases new w.notes n among) [
     | inl added ↦ Contains-append_right s.messages.sent.notes new n added
     | inr old ↦ Contains-append_left s.messages.sent.notes new n (shows.notes_kept n old of_it)
   ]
 
--- what a slot has to be shown to hold where its agent stays and its messages become these
+-- what a record has to be shown to hold where its agent stays and its messages become these
 pub record HoldsAfter (w v : World) (call : ℕ) (s : CallRecord) (m : Messages) : Type 0 where
   pub agent : v.agent call ≡ w.agent call
   pub requests : v.requests ≡ w.requests
