@@ -190,3 +190,27 @@ name_kept = text_of (
     ∷ codes "name = \"lost\""
     ∷ []
     )
+
+-- `name_stays`
+abbrev pub name_stays : List ℕ
+name_stays = text_of (
+    codes "lines = [\"a\", \"b\"]"
+    ∷ codes "contexts = [\"c\", \"d\"]"
+    ∷ codes "start = \"idle\""
+    ∷ codes "restart = \"refused\""
+    ∷ codes "[[state]]"
+    ∷ codes "name = \"idle\""
+    ∷ codes "timer = \"first\""
+    ∷ codes "[[state]]"
+    ∷ codes "name = \"first\""
+    ∷ codes "do = [\"add $c a\", \"subtract c a\"]"
+    ∷ codes "ok = \"second\""
+    ∷ codes "fault = \"refused\""
+    ∷ codes "[[state]]"
+    ∷ codes "name = \"second\""
+    ∷ codes "do = [\"add $d a\", \"subtract c a\"]"
+    ∷ codes "fault = \"refused\""
+    ∷ codes "[[state]]"
+    ∷ codes "name = \"refused\""
+    ∷ []
+    )

@@ -6,6 +6,7 @@ ghost use Rattle.loaded_examples.specs.Scripts as scripts;
 ghost use Rattle.mg_examples.specs.Basic.{basic};
 ghost use Rattle.mg_examples.specs.BegunTalk.{renewing, renewing_entries};
 ghost use Rattle.mg_examples.specs.CreatedTwice.{created_twice, created_twice_entries};
+ghost use Rattle.mg_examples.specs.NameStays.{name_stays};
 ghost use Rattle.mg_examples.specs.NamesKept.{name_kept, name_kept_entries};
 ghost use Rattle.mg_examples.specs.TalkEntries.{after_a_restart, at_rest, in_idle, reachable};
 ghost use Rattle.mg_examples.specs.TwoLines.{calling, recovering};
@@ -17,6 +18,12 @@ ghost use Rattle.scriptreader.specs.Reading.{ReadsScript};
 /// `examples/basic/script.toml` are read as it, with its two lines marked.
 pub fn basic_is_read()
     ensures { ReadsScript scripts.basic (Ok (basic both_lines)) }
+{}
+
+/// Of the script of which a call can have two reports (`mg_examples::runs::reports_can_differ`): the bytes of the script in `name_stays.in` of `tests/cases` are
+/// read as it.
+pub fn name_stays_is_read()
+    ensures { ReadsScript scripts.name_stays (Ok name_stays) }
 {}
 
 /// Of the script and the entries under which two calls talk at once (`mg_examples::runs::two_calls_talk_at_once`): the bytes of

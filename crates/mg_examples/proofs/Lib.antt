@@ -39,3 +39,6 @@ pub mod NumberReused
 pub mod LiveNeeded
 pub mod EmptiedContext
 pub mod ReportsDiffer
+pub mod NumbersLeft
+pub mod FaultsNeeded
+pub mod LongRun

@@ -1,79 +1,46 @@
--- A script whose call has two reports. It has two lines and the contexts c and d. The timer leads to `first`, which puts line a into a new context c and takes
--- it out again, so that nobody stands in c and its name is still bound; then `second` puts line a into a new context d and takes it out of c. Where the
--- gateway gives d the number of c both commands are done, and the call rests in `second`; where it gives another one, c is no context, and the call is refused
--- and goes on to `refused`.
-use Rattle.std.proofs.Common.{◌≡◌, ℕ, true, List, [], ◌∷◌, length, Some, None, refl, ap, arith, inl}
+-- A call of the script `name_stays` has two reports.
+use Rattle.std.proofs.Common.{◌≡◌, ℕ, List, [], ◌∷◌, length, None, refl, ap, arith, inl}
 use Rattle.std.proofs.lemmas.List.Elements.{All-from_recursion}
 use Rattle.std.specs.Prelude.{◌≤◌, codes, unwrap_or}
 use Rattle.std.specs.List.{All}
-use Rattle.mg_examples.proofs.Words.{Command, AddLine, Subtract, ContextRef, Number, MadeAt, IsScript, Agent, replied, timed, Script, World, IsFirst}
+use Rattle.mg_examples.proofs.Words.{ContextRef, Number, MadeAt, IsScript, Agent, replied, timed, World, IsFirst}
 use Rattle.mg_examples.proofs.Words.{agent_steps, execute, reply, timer, State}
-use Rattle.mg_model.specs.declared.commands.Termination.TheVariants.{Line}
 use Rattle.mg_model.specs.declared.plans.PlanStep.{PlanStep}
 use Rattle.mg_model.specs.declared.plans.PlanStep.TheVariants.{Executes, TakesReply, TimesOut}
 use Rattle.mg_model.specs.Reports.{IsPlacing, IsReported, Progress, ReportLine, StepHappens, StepsRun, start_as}
 use Rattle.mg_model.proofs.Single.{first_in}
+use Rattle.mg_examples.specs.NameStays.{name_stays}
 use Rattle.mg_examples.specs.ReportsCanDiffer.{ReportsCanDiffer}
 use Rattle.mg_examples.specs.Talk.{call}
-use Rattle.mg_examples.specs.TwoLines.{idle}
 use Rattle.mg_examples.proofs.EmptiedContext.{IsEmpty, asks, both_done, emptied_null, emptied_world, empties, freed, freed_settled, is_refused, one_refused, one_taken_out, refused_world}
 use Rattle.mg_examples.proofs.TwoLinesOpening.{agent, all_null, board, one_call, opened_world, opening_settled, opens}
 use Rattle.mg_examples.proofs.QuietStates.{is_accepted}
 
 -- ---- the script
 
-abbrev waiting : State
-waiting = record (idle []) { timer = Some 1 }
+accepted : IsScript name_stays
+accepted = is_accepted name_stays (omega (arith)) (omega (arith)) (omega (arith)) refl
 
--- line a is put into a new context of the first name, and taken out of the context of the second
-abbrev puts_and_takes_out : ℕ → ℕ → List Command
-puts_and_takes_out new old = AddLine true new 0 record { mode = None; events = None; signals = None } ∷ Subtract old (Line 0) ∷ []
-
-abbrev first : State
-first = record (idle []) { name = codes "first"; commands = puts_and_takes_out 0 0; ok = Some 2; fault = Some 3 }
-
-abbrev second : State
-second = record (idle []) { name = codes "second"; commands = puts_and_takes_out 1 0; fault = Some 3 }
-
-abbrev refused : State
-refused = record (idle []) { name = codes "refused" }
-
-abbrev stale : Script
-stale = record {
-  lines = codes "a" ∷ codes "b" ∷ [];
-  contexts = codes "c" ∷ codes "d" ∷ [];
-  ephemerals = [];
-  lists = [];
-  signals = [];
-  maps = [];
-  states = waiting ∷ first ∷ second ∷ refused ∷ [];
-  start = 0;
-  restart = 3;
-}
-
-accepted : IsScript stale
-accepted = is_accepted stale (omega (arith)) (omega (arith)) (omega (arith)) refl
-
-few_commands : All (λ (state : State). length state.commands ≤ 16) stale.states
+few_commands : All (λ (state : State). length state.commands ≤ 16) name_stays.states
 few_commands =
-    All-from_recursion (λ (state : State). length state.commands ≤ 16) stale.states (omega (arith), (omega (arith), (omega (arith), (omega (arith), tt))))
+    All-from_recursion (λ (state : State). length state.commands ≤ 16) name_stays.states (omega (arith), (omega (arith), (omega (arith), (omega (arith), tt))))
 
 -- ---- the agents, and the worlds up to the second request
 
 abbrev opened : Agent
-opened = agent stale call
+opened = agent name_stays call
 
 abbrev in_first : Agent
-in_first = unwrap_or (timed stale opened) opened
+in_first = unwrap_or (timed name_stays opened) opened
 
 abbrev in_second : Agent
-in_second = unwrap_or (replied stale in_first (both_done 1)) in_first
+in_second = unwrap_or (replied name_stays in_first (both_done 1)) in_first
 
 abbrev at_rest : Agent
-at_rest = unwrap_or (replied stale in_second (both_done 2)) in_second
+at_rest = unwrap_or (replied name_stays in_second (both_done 2)) in_second
 
 abbrev in_refused : Agent
-in_refused = unwrap_or (replied stale in_second (one_refused 2)) in_second
+in_refused = unwrap_or (replied name_stays in_second (one_refused 2)) in_second
 
 abbrev created_here : ContextRef
 created_here = MadeAt 0
@@ -82,7 +49,7 @@ abbrev by_number : ContextRef
 by_number = Number (record { 0 = 1 })
 
 abbrev w0 : World
-w0 = opened_world stale (call ∷ [])
+w0 = opened_world name_stays (call ∷ [])
 
 abbrev w1 : World
 w1 = agent_steps w0 7 in_first
@@ -152,7 +119,7 @@ steps = TimesOut ∷ Executes None None ∷ TakesReply None ∷ last_steps
 abbrev by : World → ℕ → Progress
 by w count = record (start_as call w) { events = count }
 
-times_out : StepHappens stale 7 (by w0 0) TimesOut (by w1 1)
+times_out : StepHappens name_stays 7 (by w0 0) TimesOut (by w1 1)
 times_out = record {
   agent = opened;
   event = timer 7;
@@ -163,7 +130,7 @@ times_out = record {
   after_is = refl;
 }
 
-executes_first : StepHappens stale 7 (by w1 1) (Executes None None) (by w2 2)
+executes_first : StepHappens name_stays 7 (by w1 1) (Executes None None) (by w2 2)
 executes_first = record {
   agent = in_first;
   event = execute 7 1 None;
@@ -174,7 +141,7 @@ executes_first = record {
   after_is = refl;
 }
 
-takes_first : StepHappens stale 7 (by w2 2) (TakesReply None) (by w3 3)
+takes_first : StepHappens name_stays 7 (by w2 2) (TakesReply None) (by w3 3)
 takes_first = record {
   agent = in_first;
   event = reply 7 1;
@@ -189,7 +156,7 @@ takes_first = record {
   after_is = refl;
 }
 
-executes_second : (after : World) → IsFirst w3 (asks 2 by_number) None after → StepHappens stale 7 (by w3 3) (Executes None None) (by after 4)
+executes_second : (after : World) → IsFirst w3 (asks 2 by_number) None after → StepHappens name_stays 7 (by w3 3) (Executes None None) (by after 4)
 executes_second after executed = record {
   agent = in_second;
   event = execute 7 2 None;
@@ -200,7 +167,7 @@ executes_second after executed = record {
   after_is = refl;
 }
 
-takes_done : StepHappens stale 7 (by again 4) (TakesReply None) (by rests 5)
+takes_done : StepHappens name_stays 7 (by again 4) (TakesReply None) (by rests 5)
 takes_done = record {
   agent = in_second;
   event = reply 7 2;
@@ -215,7 +182,7 @@ takes_done = record {
   after_is = refl;
 }
 
-takes_refused : StepHappens stale 7 (by another 4) (TakesReply None) (by goes_on 5)
+takes_refused : StepHappens name_stays 7 (by another 4) (TakesReply None) (by goes_on 5)
 takes_refused = record {
   agent = in_second;
   event = reply 7 2;
@@ -232,8 +199,8 @@ takes_refused = record {
 
 -- ---- the two runs
 
-all_happen : (after end : World) → IsFirst w3 (asks 2 by_number) None after → StepHappens stale 7 (by after 4) (TakesReply None) (by end 5)
-    → StepsRun stale 7 steps (by w0 0) (by end 5)
+all_happen : (after end : World) → IsFirst w3 (asks 2 by_number) None after → StepHappens name_stays 7 (by after 4) (TakesReply None) (by end 5)
+    → StepsRun name_stays 7 steps (by w0 0) (by end 5)
 unfolding StepsRun
 all_happen after end executed taken = (
   by w1 1,
@@ -257,28 +224,28 @@ resting_line = record { state = codes "second"; phase = codes "resting"; events 
 abbrev refused_line : ReportLine
 refused_line = record { state = codes "refused"; phase = codes "waiting"; events = 5; idle = 0 }
 
-rests_there : IsReported stale call steps 0 (resting_line ∷ [])
+rests_there : IsReported name_stays call steps 0 (resting_line ∷ [])
 rests_there = record {
   placed = steps;
   placing = as_they_are;
   start = w0;
   end = by rests 5;
   agent = at_rest;
-  opens = opens stale refl (call ∷ []) (one_call stale refl);
+  opens = opens name_stays refl (call ∷ []) (one_call name_stays refl);
   every_number = λ n. refl;
   runs = all_happen again rests second_executed takes_done;
   stands = refl;
   lines_are = refl;
 }
 
-is_refused_there : IsReported stale call steps 0 (refused_line ∷ [])
+is_refused_there : IsReported name_stays call steps 0 (refused_line ∷ [])
 is_refused_there = record {
   placed = steps;
   placing = as_they_are;
   start = w0;
   end = by goes_on 5;
   agent = in_refused;
-  opens = opens stale refl (call ∷ []) (one_call stale refl);
+  opens = opens name_stays refl (call ∷ []) (one_call name_stays refl);
   every_number = λ n. refl;
   runs = all_happen another goes_on second_refused takes_refused;
   stands = refl;
@@ -290,9 +257,8 @@ abbrev length_of_name : List ReportLine → ℕ
 length_of_name [] = 0
 length_of_name (line ∷ more) = length line.state
 
-pub reports_differ : ReportsCanDiffer
+pub reports_differ : ReportsCanDiffer name_stays
 reports_differ = record {
-  script = stale;
   one = call;
   steps = steps;
   lines = resting_line ∷ [];

@@ -9,4 +9,7 @@ pub mod BegunTalk
 pub mod Unarmed
 pub mod CreatedTwice
 pub mod NamesKept
+pub mod NameStays
 pub mod ReportsCanDiffer
+pub mod LastsToTheLimit
+pub mod FaultsAreNeeded

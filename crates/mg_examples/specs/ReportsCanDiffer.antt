@@ -10,8 +10,7 @@ use Rattle.mg_model.specs.Reports.{IsReported, ReportLine}
 use Rattle.mg_model.specs.Script.{Script, State}
 use Rattle.mg_model.specs.World.{Opened}
 
-pub record ReportsCanDiffer : Type 0 where
-  pub script : Script
+pub record ReportsCanDiffer (script : Script) : Type 0 where
   pub one : Opened
   pub steps : List PlanStep
   pub lines : List ReportLine

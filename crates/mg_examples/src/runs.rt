@@ -6,6 +6,9 @@ ghost use Rattle.mg_names.specs.declared.kinds.Kind.TheVariants.{Of};
 ghost use Rattle.mg_names.specs.declared.obligations.Obligation.TheVariants as Obligation;
 ghost use Rattle.mg_examples.specs.BegunTalk.{BegunCallTalks};
 ghost use Rattle.mg_examples.specs.CreatedTwice.{created_twice, created_twice_entries};
+ghost use Rattle.mg_examples.specs.FaultsAreNeeded.{FaultsAreNeeded};
+ghost use Rattle.mg_examples.specs.LastsToTheLimit.{LastsToTheLimit};
+ghost use Rattle.mg_examples.specs.NameStays.{name_stays};
 ghost use Rattle.mg_examples.specs.NamesKept.{name_kept, name_kept_entries};
 ghost use Rattle.mg_examples.specs.Needed.{IsNeeded, fault_at, whole_fault};
 ghost use Rattle.mg_examples.specs.ReportsCanDiffer.{ReportsCanDiffer};
@@ -46,8 +49,20 @@ pub fn each_obligation_is_needed()
     ensures live { IsNeeded name_kept name_kept_entries (fault_at Obligation.NamesLive 5 0 None) }
 {}
 
-/// A call of a script that is accepted can have two reports: by the same steps it comes to one state where its gateway gives a number again, and
-/// to another state where it gives another number. So the law that a plan has one report needs its premise that no obligation is broken.
+/// A call of a script that is accepted, by the reader too (`loaded_examples`), can have two reports: by the same steps it comes to one state where its gateway
+/// gives a number again, and to another state where it gives another number. So the law that a plan has one report needs its premise that no obligation is
+/// broken.
 pub fn reports_can_differ()
-    ensures { ReportsCanDiffer }
+    ensures { ReportsCanDiffer name_stays }
+{}
+
+/// Runs in which identifiers are left before each event are as long as a plan may be: there is one with 10,000,000 executes, and one request.
+pub fn a_run_lasts_to_the_limit()
+    ensures { LastsToTheLimit }
+{}
+
+/// That a call which waits can be led on (`mg_safety::runs::calls_can_go_on`) needs its premise that each state with commands says where a failure leads: of
+/// the example's script without the `fault` of `talk`, which breaks no obligation, a call whose first request is refused can't go on.
+pub fn faults_are_needed()
+    ensures { FaultsAreNeeded }
 {}
