@@ -128,7 +128,7 @@ commands_same script e state next phase made place (command ∷ more) = one_more
 pub lines_still : (script : Script) (e : Agent) (line : ℕ → LineRow) (c : Configuration) (phase : Phase) (state next : ℕ) (accepted : ℕ → Bool)
     (link : phases.LinkPhase) → LinesShown script e line c
     → LinesShown script (record e { state = state; phase = phase; next = next; accepted = accepted }) line (record c { state = state; link = link })
-lines_still script e line c phase state next accepted link s = record { events = s.events; silent = s.silent; expected = s.expected }
+lines_still script e line c phase state next accepted link s = record { events = s.events; silent = s.silent; expected = s.expected; unnamed = s.unnamed }
 
 -- the agent enters a state where the configuration that the checker enters stands
 module _ (script : Script) (Among : Listed) (g : Gateway) (e : Agent) (c : Configuration) (state : ℕ) (between : IsBetween script g e c)
@@ -193,5 +193,10 @@ rests_current script Among g e c between state stands = record {
   state = state;
   at = inr (inr (inr (record { phase = refl; effective = refl; link_is = refl })));
   shown = seen_still script (owned_in g e.call) (naming e) g.board c c.state Resting between.shown;
-  lines_shown = record { events = between.lines_shown.events; silent = between.lines_shown.silent; expected = between.lines_shown.expected };
+  lines_shown = record {
+    events = between.lines_shown.events;
+    silent = between.lines_shown.silent;
+    expected = between.lines_shown.expected;
+    unnamed = between.lines_shown.unnamed;
+  };
 }

@@ -44,7 +44,8 @@ module _ (script : Script) (g : Gateway) (a : Agent) (lost : IsLost script g a)
   fresh_lines association = record {
     events = λ i within. lost.list i within ∙ sym (fresh_list i);
     silent = λ i within e. lost.playing i within;
-    expected = λ i q within e. absurd (none_is_some q e);
+    expected = λ i within. lost.request i within;
+    unnamed = λ i within none. lost.list i within;
   }
 
 -- ---- it hears

@@ -64,8 +64,12 @@ accepting_between script g a number c between = record {
   next = between.next;
   of_script = between.of_script;
   shown = between.shown;
-  lines_shown =
-      record { events = between.lines_shown.events; silent = between.lines_shown.silent; expected = between.lines_shown.expected };
+  lines_shown = record {
+    events = between.lines_shown.events;
+    silent = between.lines_shown.silent;
+    expected = between.lines_shown.expected;
+    unnamed = between.lines_shown.unnamed;
+  };
 }
 
 stays_current : (script : Script) (Among : Listed) (g : Gateway) (a : Agent) (number : ℕ) (k : IsCurrent script Among g a) → a.phase ≡ resting
@@ -89,7 +93,7 @@ note_leads script Among closed floor g a sent state k link between standing wher
     let i = where_to.i in
     let request : (g.line sent.line).request ≡ Some sent.note.request =
     subst (λ l. (g.line l).request ≡ Some sent.note.request) where_to.line_is
-    (between.lines_shown.expected i sent.note.request where_to.within where_to.expected) in
+    (between.lines_shown.expected i where_to.within ∙ where_to.expected) in
     let list : (g.line sent.line).list ≡ list_of script (k.c.events i) =
     subst (λ l. (g.line l).list ≡ list_of script (k.c.events i)) where_to.line_is (between.lines_shown.events i where_to.within) in
     let raised : raises (items_of script (k.c.events i)) sent.note.kind ≡ true =

@@ -71,11 +71,14 @@ module _ (script : Script) (Among : Listed) (closed : IsClosed script Among) (w 
   lines_shown = record {
     events = λ i within. may.list (a.lines i) (was.held i within) ∙ sym (ap (list_of script) (events_armed script i within));
     silent = λ i within still. may.playing (a.lines i) (was.held i within);
-    expected = λ i q within expects.
+    expected = λ i within.
         let k = current in
         let rest = at_rest script g a k.e k.c.link ended.at_rest k.at in
-        subst (λ (e : Agent). (g.line (e.lines i)).request ≡ Some q) rest.effective
-        (k.lines_shown.expected i q within (ap (λ (e : Agent). e.expected i) rest.effective ∙ expects));
+        subst (λ (e : Agent). (g.line (e.lines i)).request ≡ e.expected i) rest.effective (k.lines_shown.expected i within);
+    unnamed = λ i within.
+        let k = current in
+        let rest = at_rest script g a k.e k.c.link ended.at_rest k.at in
+        subst (λ (e : Agent). (g.line (e.lines i)).request ≡ None → (g.line (e.lines i)).list ≡ []) rest.effective (k.lines_shown.unnamed i within);
   }
 
   pub new_sound : CallIsSound script Among after new (begun script new a)

@@ -110,7 +110,9 @@ module _ (script : Script) (Among : Listed) (w : World) (request : Request) (end
         (stay script w.gateway end.board later request.call b.call (naming k.e) k.c changes (λ e. unlike (sym e)) k.shown) (record {
           events = λ i within. ap (λ (row : LineRow). row.list) (line_kept (k.e.lines i) (held i within)) ∙ k.lines_shown.events i within;
           silent = λ i within quiet. ap (λ (row : LineRow). row.playing) (line_kept (k.e.lines i) (held i within)) ∙ k.lines_shown.silent i within quiet;
-          expected = λ i q within is. ap (λ (row : LineRow). row.request) (line_kept (k.e.lines i) (held i within)) ∙ k.lines_shown.expected i q within is;
+          expected = λ i within. ap (λ (row : LineRow). row.request) (line_kept (k.e.lines i) (held i within)) ∙ k.lines_shown.expected i within;
+          unnamed = λ i within none. ap (λ (row : LineRow). row.list) (line_kept (k.e.lines i) (held i within))
+              ∙ k.lines_shown.unnamed i within (sym (ap (λ (row : LineRow). row.request) (line_kept (k.e.lines i) (held i within))) ∙ none);
         })
 
     other_lost : OtherLost → IsLost script w.gateway b → IsLost script later b

@@ -138,7 +138,8 @@ module _ (script : Script) (Among : Listed) (w : World) (sound : IsSound script 
   lines_kept e c shown = record {
     events = λ i within. (line_kept (e.lines i)).list ∙ shown.events i within;
     silent = λ i within still. (line_kept (e.lines i)).silence (shown.silent i within still);
-    expected = λ i q within expects. (line_kept (e.lines i)).request ∙ shown.expected i q within expects;
+    expected = λ i within. (line_kept (e.lines i)).request ∙ shown.expected i within;
+    unnamed = λ i within none. (line_kept (e.lines i)).list ∙ shown.unnamed i within (sym (line_kept (e.lines i)).request ∙ none);
   }
 
   part_kept : (a : Agent) → IsCurrent script Among g a ⊎ IsLost script g a → IsCurrent script Among later a ⊎ IsLost script later a

@@ -135,11 +135,12 @@ raises_kind _ _ = false
 abbrev pub list_raises : List ListItem → Kind → Bool
 list_raises list what = list_any (raises_kind what) list
 
--- the lines show the configuration, and an expected RequestID is that of the descriptor that stands
+-- the lines show the configuration, the RequestID of the descriptor that stands is the expected one, and a descriptor without one is empty
 pub record LinesShown (script : Script) (e : Agent) (line : ℕ → LineRow) (c : Configuration) : Type 0 where
   pub events : (i : ℕ) → i < length script.lines → (line (e.lines i)).list ≡ list_of script (c.events i)
   pub silent : (i : ℕ) → i < length script.lines → c.plays i ≡ false → (line (e.lines i)).playing ≡ silent
-  pub expected : (i q : ℕ) → i < length script.lines → e.expected i ≡ Some q → (line (e.lines i)).request ≡ Some q
+  pub expected : (i : ℕ) → i < length script.lines → (line (e.lines i)).request ≡ e.expected i
+  pub unnamed : (i : ℕ) → i < length script.lines → (line (e.lines i)).request ≡ None → (line (e.lines i)).list ≡ []
 
 -- ---- a request that runs
 

@@ -13,11 +13,11 @@ use Rattle.mg_safety.proofs.Shared.Components.{and_true, listed_test}
 
 from_shown : (script : Script) (e : Agent) (line : ℕ → LineRow) (c : Configuration) → LinesShown script e line c
     → AreShown script e.lines e.expected line c.events c.plays
-from_shown script e line c s = record { events = s.events; silent = s.silent; expected = s.expected }
+from_shown script e line c s = record { events = s.events; silent = s.silent; expected = s.expected; unnamed = s.unnamed }
 
 to_shown : (script : Script) (e : Agent) (line : ℕ → LineRow) (c : Configuration) → AreShown script e.lines e.expected line c.events c.plays
     → LinesShown script e line c
-to_shown script e line c s = record { events = s.events; silent = s.silent; expected = s.expected }
+to_shown script e line c s = record { events = s.events; silent = s.silent; expected = s.expected; unnamed = s.unnamed }
 
 module _ (script : Script) (own : Owner) (e a : Agent) (made : Made) (r : Running) (c : Configuration) (number : ℕ)
     (shown : Shown script (owned_at own r.board) (naming e) r.board c) (built : AreBuilt (naming e) (naming_at a made r.results) r.board)

@@ -5,7 +5,7 @@ use Rattle.mg_safety.proofs.Words.{eqb-true, eq-eqb, ◌==◌, not, if◌then◌
 use Rattle.mg_safety.proofs.Words.{DialTone, RingingTone, BusyTone, CongestionTone, all, EventsName, Empty, Spot, In, SignalSet, expected_if, list_of}
 use Rattle.mg_safety.proofs.Words.{names_signal, set_of, Board, place_of, with_at, Configuration, is_in, is_live, is_free, plays_after, ListItem, LineRow}
 use Rattle.mg_safety.proofs.Words.{Outcome, armed, cleared, silent, is_standing, with_signals, with_events, Script, signals_of, is_empty, by_test, same_test}
-use Rattle.mg_safety.proofs.Words.{some_of, the_some, different, false_not_true}
+use Rattle.mg_safety.proofs.Words.{some_of, the_some, different, false_not_true, none_is_some}
 use Rattle.mg_names.specs.declared.identifiers.TermId.TheVariants as term
 use Rattle.mg_model.specs.declared.commands.Termination.TheVariants as termination
 use Rattle.mg_model.specs.declared.commands.SignalsName.{SignalsName}
@@ -16,7 +16,8 @@ use Rattle.mg_safety.proofs.InvariantWords.{Naming, Shown, AreBuilt, number_at, 
 pub record AreShown (script : Script) (lines : ℕ → ℕ) (expects : ℕ → Option ℕ) (line : ℕ → LineRow) (lists : ℕ → EventsName) (plays : ℕ → Bool) : Type 0 where
   pub events : (i : ℕ) → i < length script.lines → (line (lines i)).list ≡ list_of script (lists i)
   pub silent : (i : ℕ) → i < length script.lines → plays i ≡ false → (line (lines i)).playing ≡ silent
-  pub expected : (i q : ℕ) → i < length script.lines → expects i ≡ Some q → (line (lines i)).request ≡ Some q
+  pub expected : (i : ℕ) → i < length script.lines → (line (lines i)).request ≡ expects i
+  pub unnamed : (i : ℕ) → i < length script.lines → (line (lines i)).request ≡ None → (line (lines i)).list ≡ []
 
 -- ---- a command's descriptors
 
@@ -70,11 +71,19 @@ module _ (script : Script) (row : LineRow) (signals : Option SignalsName) (numbe
   new_playing (Some name) was before e = armed_silent (with_signals row (option_map (set_of script) signals)) (list_of script name) number
       (signals_silent script row signals was before e)
 
-  new_request : (events : Option EventsName) (was : Option ℕ) → ((q : ℕ) → was ≡ Some q → row.request ≡ Some q)
-      → (q : ℕ) → (if is_some events then Some number else was) ≡ Some q
-      → (with_events (with_signals row (option_map (set_of script) signals)) (option_map (list_of script) events) number).row.request ≡ Some q
-  new_request None was before q e = set_request row (option_map (set_of script) signals) ∙ before q e
-  new_request (Some name) was before q e = armed_request (with_signals row (option_map (set_of script) signals)) (list_of script name) number ∙ e
+  new_request : (events : Option EventsName) (was : Option ℕ) → row.request ≡ was
+      → (with_events (with_signals row (option_map (set_of script) signals)) (option_map (list_of script) events) number).row.request
+      ≡ (if is_some events then Some number else was)
+  new_request None was before = set_request row (option_map (set_of script) signals) ∙ before
+  new_request (Some name) was before = armed_request (with_signals row (option_map (set_of script) signals)) (list_of script name) number
+
+  new_unnamed : (events : Option EventsName) → (row.request ≡ None → row.list ≡ [])
+      → (with_events (with_signals row (option_map (set_of script) signals)) (option_map (list_of script) events) number).row.request ≡ None
+      → (with_events (with_signals row (option_map (set_of script) signals)) (option_map (list_of script) events) number).row.list ≡ []
+  new_unnamed None before e =
+      set_list row (option_map (set_of script) signals) ∙ before (sym (set_request row (option_map (set_of script) signals)) ∙ e)
+  new_unnamed (Some name) before e =
+      absurd (none_is_some number (sym e ∙ armed_request (with_signals row (option_map (set_of script) signals)) (list_of script name) number))
 
 -- ---- a command for a line
 
@@ -110,11 +119,17 @@ module _ (script : Script) (lines : ℕ → ℕ) (expects : ℕ → Option ℕ) 
       (λ was. shown.silent i within (ap plays (eqb-true i x e) ∙ was)) may
   playing_at i within false e may = shown.silent i within may
 
-  request_at : (i q : ℕ) (within : i < length script.lines) (same : Bool) → (i == x) ≡ same
-      → (if same then (if is_some events then Some number else expects i) else expects i) ≡ Some q
-      → (if same then row_by script events signals (line (lines i)) number else line (lines i)).request ≡ Some q
-  request_at i q within true e is = new_request script (line (lines i)) signals number events (expects i) (λ p. shown.expected i p within) q is
-  request_at i q within false e is = shown.expected i q within is
+  request_at : (i : ℕ) (within : i < length script.lines) (same : Bool)
+      → (if same then row_by script events signals (line (lines i)) number else line (lines i)).request
+      ≡ (if same then (if is_some events then Some number else expects i) else expects i)
+  request_at i within true = new_request script (line (lines i)) signals number events (expects i) (shown.expected i within)
+  request_at i within false = shown.expected i within
+
+  unnamed_at : (i : ℕ) (within : i < length script.lines) (same : Bool)
+      → (if same then row_by script events signals (line (lines i)) number else line (lines i)).request ≡ None
+      → (if same then row_by script events signals (line (lines i)) number else line (lines i)).list ≡ []
+  unnamed_at i within true e = new_unnamed script (line (lines i)) signals number events (shown.unnamed i within) e
+  unnamed_at i within false e = shown.unnamed i within e
 
   -- the lines after a command's descriptors for the line at x
   pub described_lines : ((i : ℕ) → i < length script.lines → lines x ≡ lines i → x ≡ i)
@@ -124,8 +139,9 @@ module _ (script : Script) (lines : ℕ → ℕ) (expects : ℕ → Option ℕ) 
   described_lines once = record {
     events = λ i within. rw (line_test lines x i (once i within)) (list_at i within (i == x) refl);
     silent = λ i within may. rw (line_test lines x i (once i within)) (playing_at i within (i == x) refl may);
-    expected = λ i q within is. rw (line_test lines x i (once i within))
-        (request_at i q within (i == x) refl (sym (expects_at (is_some events) expects x number i) ∙ is));
+    expected = λ i within. rw (line_test lines x i (once i within))
+        (request_at i within (i == x) ∙ sym (expects_at (is_some events) expects x number i));
+    unnamed = λ i within. rw (line_test lines x i (once i within)) (unnamed_at i within (i == x));
   }
 
 -- ---- a command that takes lines out of their context
@@ -142,10 +158,16 @@ module _ (script : Script) (lines : ℕ → ℕ) (expects after : ℕ → Option
   cleared_playing i within true e = refl
   cleared_playing i within false e = shown.silent i within e
 
-  cleared_request : (i q : ℕ) (within : i < length script.lines) (leaves : Bool) → (if leaves then None else expects i) ≡ Some q
-      → (if leaves then cleared (line (lines i)) else line (lines i)).request ≡ Some q
-  cleared_request i q within true e = e
-  cleared_request i q within false e = shown.expected i q within e
+  cleared_request : (i : ℕ) (within : i < length script.lines) (leaves : Bool)
+      → (if leaves then cleared (line (lines i)) else line (lines i)).request ≡ (if leaves then None else expects i)
+  cleared_request i within true = refl
+  cleared_request i within false = shown.expected i within
+
+  cleared_unnamed : (i : ℕ) (within : i < length script.lines) (leaves : Bool)
+      → (if leaves then cleared (line (lines i)) else line (lines i)).request ≡ None
+      → (if leaves then cleared (line (lines i)) else line (lines i)).list ≡ []
+  cleared_unnamed i within true e = refl
+  cleared_unnamed i within false e = shown.unnamed i within e
 
   pub cleared_lines : ((i : ℕ) → i < length script.lines → out (lines i) ≡ gone i)
       → ((i : ℕ) → i < length script.lines → after i ≡ (if gone i then None else expects i))
@@ -154,7 +176,8 @@ module _ (script : Script) (lines : ℕ → ℕ) (expects after : ℕ → Option
   cleared_lines agree expected = record {
     events = λ i within. rw (agree i within) (cleared_list i within (gone i));
     silent = λ i within may. rw (agree i within) (cleared_playing i within (gone i) may);
-    expected = λ i q within is. rw (agree i within) (cleared_request i q within (gone i) (sym (expected i within) ∙ is));
+    expected = λ i within. rw (agree i within) (cleared_request i within (gone i) ∙ sym (expected i within));
+    unnamed = λ i within. rw (agree i within) (cleared_unnamed i within (gone i));
   }
 
 -- ---- who leaves with `subtract *`

@@ -181,7 +181,7 @@ shown_still script owned n b c state link s = shown_with script owned owned n b 
 
 pub lines_with_link : (script : Script) (e : Agent) (line : ℕ → LineRow) (c : Configuration) (link : phases.LinkPhase)
     → LinesShown script e line c → LinesShown script e line (with_link c link)
-lines_with_link script e line c link s = record { events = s.events; silent = s.silent; expected = s.expected }
+lines_with_link script e line c link s = record { events = s.events; silent = s.silent; expected = s.expected; unnamed = s.unnamed }
 
 pub seen_still : (script : Script) (owned : TermId → Bool) (n : Naming) (b : Board) (c : Configuration) (state : ℕ) (link : phases.LinkPhase)
     → Seen script owned n b c → Seen script owned n b (record c { state = state; link = link })
