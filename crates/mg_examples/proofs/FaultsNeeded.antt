@@ -1,23 +1,20 @@
 -- A call whose request was refused, in a state that says nowhere where a failure leads, can't go on: its request is known to the gateway, which sends the same reply
 -- again, and the agent takes no reply with a failure.
-use Rattle.std.proofs.Common.{◌≡◌, ◌∙◌, ◌+◌, ◌<◌, ◌≤◌, [], ◌∷◌, length, Option, Some, None, refl, sym, ap, subst, arith, inl, inr}
+use Rattle.std.proofs.Common.{◌≡◌, ◌∙◌, ◌<◌, [], ◌∷◌, Option, Some, None, refl, sym, ap, subst, arith, inl, inr}
 use Rattle.std.specs.Prelude.{Contains, unwrap_or}
 use Rattle.mg_names.specs.declared.codes.Code.{Code}
 use Rattle.mg_model.specs.declared.events.CallEvent.TheVariants as to_call
 use Rattle.mg_model.specs.declared.failures.Failure.{Failure}
-use Rattle.mg_model.specs.Agent.{Phase, awaits_reply, awaits_pass, resting}
 use Rattle.mg_model.specs.Delivery.{Offer, discard, fresh, kept}
 use Rattle.mg_model.specs.Items.{Applies}
-use Rattle.mg_model.specs.Numbers.{last_number}
 use Rattle.mg_model.specs.RequestRun.{MayRefuse, RunsFrom, chosen_at}
 use Rattle.mg_model.specs.Shards.{AreLeft, IsContextLeft, IsEphemeralLeft}
 use Rattle.mg_model.specs.World.{Executes, OccursTo, Runs}
 use Rattle.mg_model.proofs.Cases.{none_is_some, the_some}
 use Rattle.mg_model.proofs.Single.{first_in, only_one}
-use Rattle.mg_safety.specs.GoingOn.{CanGoOn, NumbersAreLeft}
-use Rattle.mg_examples.proofs.Words.{Agent, AgentSteps, Answered, Armed, Empty, Gateway, InternalFailure, IsFirst, IsScript}
+use Rattle.mg_examples.proofs.Words.{Agent, AgentSteps, Answered, Armed, Empty, Gateway, InternalFailure, IsFirst, IsScript, execute}
 use Rattle.mg_examples.proofs.Words.{NoneBroken, Reply, Request, Resting, SendReceive, World, after_request, agent_steps, item_at, line_places, noted, opening, rank}
-use Rattle.mg_examples.proofs.Words.{replied, reset, start_of, with_gateway}
+use Rattle.mg_examples.proofs.Words.{replied, reply, reset, start_of, with_gateway}
 use Rattle.mg_examples.specs.FaultsAreNeeded.{FaultsAreNeeded, refused_at_once, to_a_refusal, without_fault}
 use Rattle.mg_examples.specs.Talk.{call, off_hook}
 use Rattle.mg_examples.specs.TalkEntries.{reachable}
@@ -148,28 +145,11 @@ run = (
 
 -- ---- numbers are left
 
--- the request that a call waits for
-abbrev request_in : Phase → Request
-request_in (awaits_reply request) = request
-request_in awaits_pass = asked
-request_in resting = asked
-
-of_asked : (P : Request → Type 0) → P asked → (request : Request) → asking.phase ≡ awaits_reply request → P request
-of_asked P here request waits = subst P (ap request_in waits) here
-
 contexts_left : AreLeft (IsContextLeft w3.gateway.board) 2
 contexts_left = two_left (IsContextLeft w3.gateway.board) ((omega (arith), omega (arith)), (refl, refl)) ((omega (arith), omega (arith)), (refl, refl))
 
 ephemerals_left : AreLeft (IsEphemeralLeft w3.gateway.board) 2
 ephemerals_left = two_left (IsEphemeralLeft w3.gateway.board) ((omega (arith), omega (arith)), (refl, refl)) ((omega (arith), omega (arith)), (refl, refl))
-
-numbers : NumbersAreLeft w3 7 asking
-numbers = record {
-  contexts = of_asked (λ r. AreLeft (IsContextLeft w3.gateway.board) (length r.commands)) contexts_left;
-  ephemerals = of_asked (λ r. AreLeft (IsEphemeralLeft w3.gateway.board) (length r.commands)) ephemerals_left;
-  notes = of_asked (λ r. (w3.gateway.link 7).notes + length r.commands ≤ last_number) (omega (arith));
-  next = omega (arith);
-}
 
 -- ---- it can't go on
 
@@ -207,10 +187,9 @@ not_taken w still answer among after steps =
     (subst (λ r. replied without_fault asking r ≡ Some steps.agent) (sym (still.1 answer among))
     (subst (λ a. replied without_fault a answer ≡ Some steps.agent) (sym is_agent) steps.steps))
 
-stands_still : CanGoOn without_fault w3 7 asking → ⊥
+stands_still : (later : World) → Runs without_fault (execute 7 1 None ∷ reply 7 1 ∷ []) w3 later → ⊥
 unfolding Runs
-stands_still can =
-    let runs = can.runs in
+stands_still later runs =
     let still = after_execute runs.0 runs.1.0 in
     let taken = runs.1.1.1.0 in
     not_taken runs.0 still taken.0 taken.1.0 runs.1.1.0 taken.2
@@ -223,10 +202,15 @@ faults_needed = record {
   opening = w0;
   end = w3;
   agent = asking;
+  request = asked;
   opens = opens without_fault refl (call ∷ []) (one_call without_fault refl);
   runs = run;
   open_call = refl;
   current = refl;
-  numbers = numbers;
+  waits = refl;
+  contexts = contexts_left;
+  ephemerals = ephemerals_left;
+  notes = omega (arith);
+  next = omega (arith);
   stands_still = stands_still;
 }

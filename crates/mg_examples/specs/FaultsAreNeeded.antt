@@ -1,7 +1,7 @@
--- That the law that a call can be led on needs its premise of `fault`: a script whose state `talk` has commands and says nowhere where a failure leads. It is a
--- script by `IsScript`, and its entries break no obligation; the reader refuses it. A reader should check that the law's other premises are here, and that the
--- events say what they seem to say: the gateway refuses the first command, and no reply that there is leads the call on.
-use Rattle.std.specs.Prelude.{◌≡◌, List, [], ◌∷◌, Option, Some, None}
+-- That the law that a call which waits can be led on (`CallsCanGoOn` of `mg_safety`) needs its premise of `fault`: a script whose state `talk` has commands and says
+-- nowhere where a failure leads. It is a script by `IsScript`, and its entries break no obligation; the reader refuses it. A reader should check that the law's
+-- other premises are here, and that the events say what they seem to say: the gateway refuses the first command, and then no reply leads the call on.
+use Rattle.std.specs.Prelude.{◌≡◌, ◌+◌, ◌≤◌, List, [], ◌∷◌, length, Option, Some, None}
 use Rattle.std.specs.List.{All}
 use Rattle.mg_model.specs.declared.events.Event.{Event}
 use Rattle.mg_model.specs.declared.failures.ChosenRefusal.{ChosenRefusal}
@@ -9,11 +9,13 @@ use Rattle.mg_model.specs.declared.failures.Refusal.TheVariants.{InternalFailure
 use Rattle.mg_model.specs.declared.line_events.Hook.TheVariants as hooks
 use Rattle.mg_model.specs.declared.line_events.LineEvent.TheVariants as event
 use Rattle.mg_model.specs.Accepted.{IsScript, IsEntryOf}
-use Rattle.mg_model.specs.Agent.{Agent}
+use Rattle.mg_model.specs.Agent.{Agent, awaits_reply}
+use Rattle.mg_model.specs.Messages.{Request}
+use Rattle.mg_model.specs.Numbers.{last_number}
 use Rattle.mg_model.specs.Obligations.{NoneBroken}
 use Rattle.mg_model.specs.Script.{Script}
-use Rattle.mg_model.specs.World.{World, IsOpening, Runs, on_a_line, note, execute}
-use Rattle.mg_safety.specs.GoingOn.{CanGoOn, NumbersAreLeft}
+use Rattle.mg_model.specs.Shards.{AreLeft, IsContextLeft, IsEphemeralLeft}
+use Rattle.mg_model.specs.World.{World, IsOpening, Runs, on_a_line, note, execute, reply}
 use Rattle.mg_examples.specs.Talk.{call}
 use Rattle.mg_examples.specs.TalkEntries.{reachable}
 use Rattle.mg_examples.specs.TwoLines.{calling, idle, stopped, talk, to_talk_off_hook}
@@ -30,7 +32,8 @@ refused_at_once = Some (record { place = 0; refusal = InternalFailure })
 abbrev pub to_a_refusal : List Event
 to_a_refusal = on_a_line 7 1 (event.Hook hooks.Off) ∷ note 7 1 ∷ execute 7 1 refused_at_once ∷ []
 
--- these events are a run from an opening with the call alone, and at its end the call can't go on, though numbers are left
+-- these events are a run from an opening with the call alone. At its end the call waits for the reply to its request, numbers are left for that request and for
+-- another, and the request can't reach the gateway once more and its reply the call
 pub record FaultsAreNeeded : Type 0 where
   pub accepted : IsScript without_fault
   pub listed : All (IsEntryOf without_fault) reachable
@@ -38,9 +41,14 @@ pub record FaultsAreNeeded : Type 0 where
   pub opening : World
   pub end : World
   pub agent : Agent
+  pub request : Request
   pub opens : IsOpening without_fault (call ∷ []) opening
   pub runs : Runs without_fault to_a_refusal opening end
   pub open_call : end.agent 7 ≡ Some agent
   pub current : agent.association ≡ end.gateway.association
-  pub numbers : NumbersAreLeft end 7 agent
-  pub stands_still : CanGoOn without_fault end 7 agent → ⊥
+  pub waits : agent.phase ≡ awaits_reply request
+  pub contexts : AreLeft (IsContextLeft end.gateway.board) (length request.commands)
+  pub ephemerals : AreLeft (IsEphemeralLeft end.gateway.board) (length request.commands)
+  pub notes : (end.gateway.link 7).notes + length request.commands ≤ last_number
+  pub next : agent.next ≤ last_number
+  pub stands_still : (later : World) → Runs without_fault (execute 7 request.number None ∷ reply 7 request.number ∷ []) end later → ⊥

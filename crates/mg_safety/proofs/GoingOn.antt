@@ -1,4 +1,4 @@
--- A call that waits can be led on.
+-- A call that waits can be led on, and one that rests moved.
 pub mod SentCommands
 pub mod InOrder
 pub mod Searching
@@ -7,3 +7,5 @@ pub mod OneCommand
 pub mod Running
 pub mod Settling
 pub mod LedOn
+pub mod AcceptedNotes
+pub mod Moved

@@ -4,4 +4,5 @@ pub mod Beginnings
 pub mod MessageNumbers
 pub mod Others
 pub mod GoingOn
+pub mod MovingOn
 pub mod Followed

@@ -2,6 +2,7 @@
 ghost use Rattle.mg_safety.specs.Beginnings.{EndedCallsMayBegin, LostCallsMayNotBegin};
 ghost use Rattle.mg_safety.specs.GoingOn.{CallsCanGoOn};
 ghost use Rattle.mg_safety.specs.Headline.{EveryRunIsGood, EveryRunOfOneCallIsGood};
+ghost use Rattle.mg_safety.specs.MovingOn.{CallsCanBeMoved};
 ghost use Rattle.mg_safety.specs.Others.{OthersAreKept, OthersAreLeftAlone};
 
 /// Where no obligation of a script and its certificate is broken, every world of every run of any number of calls, on lines distinct at each moment, is
@@ -43,4 +44,11 @@ pub fn others_are_kept()
 /// in every world of every run, as long as numbers are left: the gateway executes its request, choosing no refusal, and a reply to it comes, or it passes.
 pub fn calls_can_go_on()
     ensures { CallsCanGoOn }
+{}
+
+/// Where no obligation is broken, a call of the gateway's association that rests in a state that isn't an end can be moved in every world of every run, where its
+/// state has a timer, or a line's list names a receiver that is lifted or put down and the state says where the note of it leads: at most three events of
+/// this call lead it into the state that is named there, as long as numbers are left.
+pub fn calls_can_be_moved()
+    ensures { CallsCanBeMoved }
 {}

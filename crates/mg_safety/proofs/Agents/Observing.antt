@@ -12,7 +12,7 @@ use Rattle.mg_safety.proofs.InvariantWords.{raises_kind, list_raises}
 
 -- ---- lists
 
-below_less : (n : ℕ) (xs : List ℕ) (i : ℕ) → Contains (below n xs) i → i < n
+pub below_less : (n : ℕ) (xs : List ℕ) (i : ℕ) → Contains (below n xs) i → i < n
 below_less n [] i among = absurd (none_in i among)
 below_less n (x ∷ xs) i there = by_first (below_less n xs i) (nat_lt x n) refl there
   where
