@@ -168,7 +168,7 @@ def wrongs(programs, data, refused):
     report, text = page["report"], told_words.view(page, data)
     if not text.startswith(output) or output and text == output:
         yield f"words that don't stand under the report: {text[:80]!r}"
-    if "".join(f"{line['line']}\n" for line in report) != output:
+    if "".join(f"{line['line']}\n" for line in report) != output or "".join(f"{line}\n" for line in page["lines"]) != output:
         yield "another report"
     for line in report:
         yield from counted(line)
@@ -188,7 +188,7 @@ def of_one(mgexplain, data, report, count):
     for number in {max(count - 1, 0), count}:
         page = told_words.facts(mgexplain, data, "--call", str(number))[1]
         alone = [{key: value for key, value in line.items() if key != "steps" or line["call"] == number} for line in report]
-        if page["report"] != alone or ("untold" in page) != (number >= count):
+        if page["report"] != alone or page["lines"] != [line["line"] for line in report] or ("untold" in page) != (number >= count):
             yield f"another call {number}"
 
 

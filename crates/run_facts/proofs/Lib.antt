@@ -1,2 +1,3 @@
 pub mod ReportTexts
 pub mod RunSaying
+pub mod QuotedLines

@@ -18,18 +18,12 @@ use Rattle.check_facts.specs.Saying.{IsSaid, IsUnder}
 use Rattle.check_facts.specs.declared.form.Form.{Form}
 use Rattle.check_facts.specs.declared.form.Form.TheVariants as form
 use Rattle.check_facts.specs.declared.said.Said.{Said}
-use Rattle.run_facts.specs.Saying.{IsPlanTold, IsReportValue, IsRunOfPlanTold, IsRunTold, IsTold, IsUnderOutput, report_value_text}
+use Rattle.run_facts.specs.Saying.{IsPlanTold, IsRunOfPlanTold, IsRunTold, IsTold, IsUnderOutput}
 
 -- a text that begins with a line begins with that line as an output
 under_output : (f : Form) (l : Line) (said : Said) → IsUnder f l said → IsUnderOutput f (line l) said
 under_output form.Text l said ((rest, is), status) = ((rest, is ∙ sym (append_assoc (text_of l) (10 ∷ []) rest)), status)
 under_output form.Json l said told = told
-
--- a value that is written with lines and members is one of a report
-pub of_report_value : (lines more : Text) (result : Result (String Global) AllocError)
-    → IfOk result (λ text. string_bytes text ≡ report_value_text lines more) → IfOk result (λ text. IsReportValue (string_bytes text))
-of_report_value lines more (Ok text) is = (lines, (more, is))
-of_report_value lines more (Err error) is = search rules
 
 pub told_line : (Is : Output → Type 0) (f : Form) (l : Line) → Is (line l) → (result : Result Said AllocError) → IfOk result (IsUnder f l) → IfOk result (IsTold Is f)
 told_line Is f l is (Ok said) under = (line l, is, under_output f l said under)

@@ -1,6 +1,7 @@
 -- What is told of an input with a plan: what `mgcall run` writes for it on one worker, with the status of that. This profile's own.
-use Rattle.std.specs.Prelude.{◌≡◌, List, ◌++◌, Ok, codes, string_bytes}
-use Rattle.check_lines.specs.Output.{Text, Output, line, report, written, status_of, line_status}
+use Rattle.std.specs.Prelude.{◌≡◌, List, [], ◌∷◌, ◌++◌, Ok, codes, string_bytes}
+use Rattle.std.specs.Fmt.{decimal}
+use Rattle.check_lines.specs.Output.{Text, CallLine, Output, line, report, written, status_of, line_status, number_text, place_text}
 use Rattle.mg_model.specs.Script.{Script}
 use Rattle.mg_model.specs.Plans.{Plan}
 use Rattle.plans.specs.Reading.{ReadsPlan}
@@ -16,19 +17,31 @@ use Rattle.check_facts.specs.declared.said.Said.{Said}
 abbrev pub Begins : Output → Said → Type 0
 Begins out said = ((rest : Text) × (string_bytes said.text ≡ written out ++ rest)) × (code_of said.status ≡ status_of out)
 
+-- a line of a report without its end, behind a text and in quotation marks; a reader should check that it is `call_text`, but for the end
+abbrev pub quoted_line : (gap : Text) → CallLine → Text
+quoted_line gap c =
+    gap ++ (codes "\"" ++ (number_text c.call c.begun
+    ++ (place_text c.told.state c.told.phase ++ ((codes " events=" ++ decimal c.told.events) ++ ((codes " idle=" ++ decimal c.told.idle) ++ codes "\"")))))
+
+-- the lines of a report, each in quotation marks and behind a comma but for the first
+unfoldable pub quoted_from : (gap : Text) → List CallLine → Text
+quoted_from gap [] = []
+quoted_from gap (c ∷ more) = quoted_line gap c ++ quoted_from (codes ",") more
+
 -- a JSON value with the lines of a report, and with members behind them
 abbrev pub report_value_text : (lines more : Text) → Text
-report_value_text lines more = codes "{\"format\":2,\"status\":0,\"report\":[" ++ (lines ++ (codes "]" ++ (more ++ codes "}\n")))
+report_value_text lines more = codes "{\"format\":2,\"status\":0,\"lines\":[" ++ (lines ++ (codes "]" ++ (more ++ codes "}\n")))
 
--- the text is such a value
-abbrev pub IsReportValue : Text → Type 0
-IsReportValue text = (lines : Text) × ((more : Text) × (text ≡ report_value_text lines more))
+-- the text is such a value of these lines
+abbrev pub IsReportValue : List CallLine → Text → Type 0
+IsReportValue calls text = (more : Text) × (text ≡ report_value_text (quoted_from [] calls) more)
 
--- the output stands before the line on words; as JSON a line stands in a value beside its status, and a report's value has the status of a report
+-- the output stands before the line on words; as JSON a line stands in a value beside its status, and the lines of a report stand in a value with the status of
+-- a report
 abbrev pub IsUnderOutput : Form → Output → Said → Type 0
 IsUnderOutput form.Text out said = Begins out said
 IsUnderOutput form.Json (line l) said = IsInValue l (code_of said.status) (string_bytes said.text) × (code_of said.status ≡ line_status l)
-IsUnderOutput form.Json (report lines) said = IsReportValue (string_bytes said.text) × (code_of said.status ≡ status_of (report lines))
+IsUnderOutput form.Json (report lines) said = IsReportValue lines (string_bytes said.text) × (code_of said.status ≡ status_of (report lines))
 
 -- under an output of this kind
 abbrev pub IsTold : (Output → Type 0) → Form → Said → Type 0

@@ -2,9 +2,9 @@
 //! the facts are those of `run_steps` and of the scenes of `taken_steps`.
 //!
 //! The way of a run: a plan is read and run on one worker, or why not is told (`told_run`). Each line of the report is written as `mgcall run` writes it
-//! (`line_text`), and behind it the steps of its call (`calls`): each in the words of its plan (`plan_words`), with what it came to (`steps`), the requests
-//! and the replies (`request_facts`), the numbers that the gateway gave (`numbers`), and the notes and what plays (`notes`). Lines have the names of the script
-//! (`names`). This profile's own.
+//! (`line_text`, `quoted_lines`), and behind it the steps of its call (`calls`): each in the words of its plan (`plan_words`), with what it came to (`steps`),
+//! the requests and the replies (`request_facts`), the numbers that the gateway gave (`numbers`), and the notes and what plays (`notes`). Lines have the names
+//! of the script (`names`). This profile's own.
 #![tactic(auto)]
 
 mod calls;
@@ -13,6 +13,7 @@ mod names;
 mod notes;
 mod numbers;
 mod plan_words;
+mod quoted_lines;
 mod request_facts;
 mod steps;
 pub mod told_run;

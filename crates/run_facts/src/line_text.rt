@@ -19,7 +19,7 @@ pub struct LineText<'a> {
 
 /// The number of a call that began within one of the plan, behind a point; nothing of that one itself.
 #[derive(Clone, Copy)]
-struct Begun(usize);
+pub(crate) struct Begun(pub(crate) usize);
 
 impl fmt::Display for Begun {
     ghost use Rattle.std.specs.Prelude.{Some};

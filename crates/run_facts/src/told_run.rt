@@ -2,13 +2,14 @@
 //! each step.
 ghost use Rattle.std.specs.Prelude.{◌≡◌, IfOk, string_bytes};
 ghost use Rattle.check_lines.specs.Replies.{line_of};
-ghost use Rattle.run_reports.specs.RunAnswers.{TellsPlanFault, TellsRunFault};
+ghost use Rattle.run_reports.specs.RunAnswers.{TellsPlanFault, TellsRunFault, call_lines};
 ghost use Rattle.plans.specs.Accepted.{IsPlanFor};
 ghost use Rattle.program_rim.specs.Statuses.{code_of};
 ghost use Rattle.run_facts.specs.Saying.{IsPlanTold, IsReportValue, IsRunOfPlanTold, IsRunTold, IsUnderReport, report_value_text};
 
 use crate::calls::{lines_alone, marks_of, report_facts};
 use crate::line_text::report_text;
+use crate::quoted_lines::quoted_lines;
 use check_facts::form::Form;
 use check_facts::said::{IN_WORDS, Said};
 use check_facts::told::{fault_told, no_told, unread};
@@ -69,35 +70,35 @@ fn unknown_call(alloc: Global, plan: &Plan, only: Option<u32>) -> Result<String,
 fn value_of(alloc: Global, lines: &str, more: &str) -> Result<String, AllocError>
     ensures { IfOk result (λ text. string_bytes text ≡ report_value_text lines.now more.now) }
 {
-    format!(in alloc; "{{\"format\":2,\"status\":0,\"report\":[{lines}]{more}}}\n")
+    format!(in alloc; "{{\"format\":2,\"status\":0,\"lines\":[{lines}]{more}}}\n")
 }
 
-/// The same, as a value of some report.
-fn report_value(alloc: Global, lines: &str, more: &str) -> Result<String, AllocError>
-    ensures { IfOk result (λ text. IsReportValue (string_bytes text)) }
-{
-    value_of(alloc, lines, more)
+/// The lines of the report with the steps of their calls, and why steps aren't told, as members of a JSON object behind a comma.
+fn step_members(
+    alloc: Global,
+    only: Option<u32>,
+    ran: &Ran<'_, '_>,
+) -> Result<String, AllocError> {
+    match report_facts(alloc, ran, only) {
+        Ok(told) => {
+            let untold = unknown_call(alloc, ran.plan, only)?;
+            format!(in alloc; r#","report":[{told}]{untold}"#)
+        }
+        Err(RunFault::NoMemory) => Err(AllocError),
+        Err(_) => {
+            let told = lines_alone(alloc, ran)?;
+            format!(in alloc; r#","report":[{told}],"untold":{{"because":"steps_disagree"}}"#)
+        }
+    }
 }
 
 /// What is told of a run as a JSON value.
 fn run_value(alloc: Global, only: Option<u32>, ran: &Ran<'_, '_>) -> Result<String, AllocError>
-    ensures { IfOk result (λ text. IsReportValue (string_bytes text)) }
+    ensures { IfOk result (λ text. IsReportValue (call_lines ran.now.checked.now.table ran.now.outcome.now.lines) (string_bytes text)) }
 {
-    match report_facts(alloc, ran, only) {
-        Ok(lines) => {
-            let more = unknown_call(alloc, ran.plan, only)?;
-            report_value(alloc, lines.as_str(), more.as_str())
-        }
-        Err(RunFault::NoMemory) => Err(AllocError),
-        Err(_) => {
-            let lines = lines_alone(alloc, ran)?;
-            report_value(
-                alloc,
-                lines.as_str(),
-                r#","untold":{"because":"steps_disagree"}"#,
-            )
-        }
-    }
+    let lines = quoted_lines(alloc, ran.checked.script(), ran.outcome.lines())?;
+    let more = step_members(alloc, only, ran)?;
+    value_of(alloc, lines.as_str(), more.as_str())
 }
 
 /// A text with the status of a report.
