@@ -1,5 +1,5 @@
 -- What stands in a list: first or later, or in a list of two; and what is found in it by a test.
-use Rattle.std.proofs.Common.{◌≡◌, ◌∙◌, ◌<◌, ℕ, zero, suc, get_or, Bool, true, false, List, [], ◌∷◌, length, Some, refl, sym, ap, subst, arith, true≢false, inl, inr}
+use Rattle.std.proofs.Common.{◌≡◌, ◌∙◌, ◌<◌, suc, Bool, true, false, List, [], ◌∷◌, length, Some, refl, sym, ap, subst, arith, true≢false, inl, inr}
 use Rattle.std.specs.Prelude.{◌⊎◌, Contains, find}
 use Rattle.mg_model.proofs.Cases.{none_is_some, the_some, where_true, where_false}
 use Rattle.mg_model.proofs.Single.{none_in, only_one, first_in, first_or_later}

@@ -60,10 +60,10 @@ second_formed = plain_formed after_second is_second_settled (record { mode = λ 
 -- ---- steps
 
 -- a refusal of the second command, and the whole request
-refused_second : IsCovered reachable (with_link after_first Failed)
+pub refused_second : IsCovered reachable (with_link after_first Failed)
 refused_second = covered_by reachable reads 3 0 refl (with_link after_first Failed) refl (still_formed after_first 1 Failed first_formed)
 
-executed_both : IsCovered reachable (with_link after_second Answered)
+pub executed_both : IsCovered reachable (with_link after_second Answered)
 executed_both = covered_by reachable reads 4 0 refl (with_link after_second Answered) refl (still_formed after_second 1 Answered second_formed)
 
 -- where no request is sent, no created name is asked about

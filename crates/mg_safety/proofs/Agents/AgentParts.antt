@@ -1,7 +1,7 @@
 -- Parts of the steps of an agent: the configuration that it is shown by where a target is entered, and what stays of a lost call.
 use Rattle.mg_safety.proofs.Invariant.Sound.{Listed}
-use Rattle.mg_safety.proofs.Words.{◌≡◌, ◌∙◌, ◌<◌, ◌≤◌, ℕ, List, Option, Some, None, sym, subst, arith, inl, inr, Contains, ◌⊎◌, Failure, Resting, StepName}
-use Rattle.mg_safety.proofs.Words.{Agent, awaits_reply, resting, entered_or_rests, entered_if, leads_on, Configuration, Entry, Gateway, last_executed, Request}
+use Rattle.mg_safety.proofs.Words.{◌≡◌, ◌∙◌, ◌<◌, ◌≤◌, ℕ, Option, Some, None, sym, subst, arith, inl, inr, Contains, ◌⊎◌, Failure, Resting, StepName}
+use Rattle.mg_safety.proofs.Words.{Agent, awaits_reply, resting, entered_or_rests, entered_if, leads_on, Configuration, Gateway, last_executed, Request}
 use Rattle.mg_safety.proofs.Words.{Script, Step, entering, reply_step, steps_by_link, state_of, only_here, none_is_some, the_some, subst₂}
 use Rattle.mg_names.specs.declared.phases.LinkPhase as phases
 use Rattle.mg_model.specs.declared.steps.StepName.TheVariants as names

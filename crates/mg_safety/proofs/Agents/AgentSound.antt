@@ -1,8 +1,8 @@
 -- What an agent does of itself keeps the world sound: an empty request passes, and its timer ends.
 use Rattle.mg_safety.proofs.Invariant.Sound.{Listed}
-use Rattle.mg_safety.proofs.Words.{◌≡◌, ◌∙◌, ◌<◌, ℕ, List, Some, None, refl, sym, subst, arith, inl, inr, Contains-append_right, Contains, ◌⊎◌, Answered}
+use Rattle.mg_safety.proofs.Words.{◌≡◌, ◌∙◌, ◌<◌, ℕ, Some, None, refl, sym, subst, arith, inl, inr, Contains-append_right, Contains, ◌⊎◌, Answered}
 use Rattle.mg_safety.proofs.Words.{Resting, Agent, Phase, awaits_reply, awaits_pass, resting, entered_or_rests, entered_if, passed_in, passed, is_resting}
-use Rattle.mg_safety.proofs.Words.{timed, Entry, Gateway, last_executed, Request, Script, entering, observations, flat_map, state_of, line_places, World}
+use Rattle.mg_safety.proofs.Words.{timed, Gateway, last_executed, Request, Script, entering, observations, flat_map, state_of, line_places, World}
 use Rattle.mg_safety.proofs.Words.{AgentSteps, none_is_some, is_resting_is, by_test, Option}
 use Rattle.mg_names.specs.declared.phases.LinkPhase as phases
 use Rattle.mg_model.specs.declared.steps.StepName.TheVariants as names

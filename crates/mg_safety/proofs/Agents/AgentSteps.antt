@@ -1,7 +1,7 @@
 -- A step of one agent keeps the world sound, where the agent after it goes on from the one before.
 use Rattle.mg_safety.proofs.Invariant.Sound.{Listed}
-use Rattle.mg_safety.proofs.Words.{◌≡◌, ◌∙◌, ◌<◌, ◌≤◌, ℕ, false, List, Option, Some, refl, sym, ap, subst, arith, inl, inr, eqb-true, Contains-append_cases}
-use Rattle.mg_safety.proofs.Words.{◌==◌, Contains, ◌⊎◌, Agent, Phase, awaits_reply, Entry, Gateway, last_executed, Request, Script, World, AgentSteps}
+use Rattle.mg_safety.proofs.Words.{◌≡◌, ◌∙◌, ◌<◌, ◌≤◌, ℕ, false, Option, Some, refl, sym, ap, subst, arith, inl, inr, eqb-true, Contains-append_cases}
+use Rattle.mg_safety.proofs.Words.{◌==◌, Contains, ◌⊎◌, Agent, Phase, awaits_reply, Gateway, last_executed, Request, Script, World, AgentSteps}
 use Rattle.mg_safety.proofs.Words.{agent_steps, sent_in, none_in, only_one, the_some, cases_eq, by_test, at_one, at_another}
 use Rattle.mg_safety.proofs.InvariantWords.{IsSentBy, IsCurrent, IsLost, CallIsSound, IsKnown, IsOpen, IsAboveFloor, GatewayIsSound, IsSound}
 

@@ -2,7 +2,7 @@
 use Rattle.mg_safety.proofs.Invariant.Sound.{Listed}
 use Rattle.mg_safety.proofs.Words.{◌≡◌, ◌∙◌, ◌+◌, ◌<◌, ◌≤◌, ℕ, Bool, true, false, List, [], ◌∷◌, Some, None, refl, sym, ap, subst, arith, inl, inr}
 use Rattle.mg_safety.proofs.Words.{if◌then◌else◌, nat_le, Sent, Answered, Resting, Command, SubtractAll, Agent, Made, Phase, awaits_reply, awaits_pass, resting}
-use Rattle.mg_safety.proofs.Words.{entered_with, entered, built_by, command_of, commands_of, made_after, none_made, request_of, Configuration, Entry}
+use Rattle.mg_safety.proofs.Words.{entered_with, entered, built_by, command_of, commands_of, made_after, none_made, request_of, Configuration}
 use Rattle.mg_safety.proofs.Words.{last_number, Gateway, last_executed, LineRow, Request, RequestCommand, Names, built, Script, request_in, state_of, is_empty}
 use Rattle.mg_safety.proofs.Words.{none_is_some, the_some, by_test, ◌⊎◌, Option}
 use Rattle.mg_names.specs.declared.phases.LinkPhase as phases

@@ -1,8 +1,8 @@
 -- An agent that hears of a newer association keeps the world sound: it was lost, so it owns nothing, and of the gateway's own association the
 -- gateway shows the configuration in which nothing is used.
 use Rattle.mg_safety.proofs.Invariant.Sound.{Listed}
-use Rattle.mg_safety.proofs.Words.{◌≡◌, ◌∙◌, ◌<◌, ◌≤◌, ℕ, List, [], length, Option, Some, None, refl, sym, ap, subst, arith, inl, inr, eq-or-lt_of_le, nat_lt}
-use Rattle.mg_safety.proofs.Words.{◌⊎◌, Answered, Empty, Agent, entered, forgotten, heard, list_of, Configuration, Entry, Gateway, last_executed, Script, World}
+use Rattle.mg_safety.proofs.Words.{◌≡◌, ◌∙◌, ◌<◌, ◌≤◌, ℕ, [], length, Option, Some, None, refl, sym, ap, subst, arith, inl, inr, eq-or-lt_of_le, nat_lt}
+use Rattle.mg_safety.proofs.Words.{◌⊎◌, Answered, Empty, Agent, entered, forgotten, heard, list_of, Configuration, Gateway, last_executed, Script, World}
 use Rattle.mg_safety.proofs.Words.{AgentSteps, none_is_some, by_test, EventsName, same_itself, ltb-true}
 use Rattle.mg_model.specs.Steps as steps
 use Rattle.mg_safety.proofs.InvariantWords.{Seen, LinesShown, IsOfScript, is_call, owned_in, IsCurrent, IsLost, CallIsSound, IsClosed, KeepsSound}

@@ -1,9 +1,9 @@
 -- An agent that accepts a note keeps the world sound: the note that leads on is raised by the list that stands, so where it leads is an
 -- observation of the configuration.
 use Rattle.mg_safety.proofs.Invariant.Sound.{Listed}
-use Rattle.mg_safety.proofs.Words.{◌≡◌, ◌∙◌, ◌<◌, ℕ, true, List, Option, Some, None, refl, sym, ap, subst, arith, inl, inr, Contains, eqb-true, ◌==◌, not}
+use Rattle.mg_safety.proofs.Words.{◌≡◌, ◌∙◌, ◌<◌, ℕ, true, Option, Some, None, refl, sym, ap, subst, arith, inl, inr, Contains, eqb-true, ◌==◌, not}
 use Rattle.mg_safety.proofs.Words.{if◌then◌else◌, ◌⊎◌, Resting, Inbox, arrival, is_new, arrives_new, was_seen, is_old, Agent, inbox_of, resting}
-use Rattle.mg_safety.proofs.Words.{entered_or_stays, is_resting, line_in, may_accept, noted, target_of, list_of, with_at, Configuration, Entry, Gateway}
+use Rattle.mg_safety.proofs.Words.{entered_or_stays, is_resting, line_in, may_accept, noted, target_of, list_of, with_at, Configuration, Gateway}
 use Rattle.mg_safety.proofs.Words.{last_executed, SentNote, Script, state_of, items_of, raises, target_in, line_places, World, AgentSteps, none_is_some}
 use Rattle.mg_safety.proofs.Words.{the_some, and_second, is_resting_is, three_parts, by_test, false_not_true}
 use Rattle.mg_model.specs.declared.steps.StepName.TheVariants as names

@@ -1,9 +1,9 @@
 -- An agent that takes a reply keeps the world sound: it is the reply that the gateway keeps, so the agent's names are then those by which the
 -- board shows the configuration.
 use Rattle.mg_safety.proofs.Invariant.Sound.{Listed}
-use Rattle.mg_safety.proofs.Words.{◌≡◌, ◌∙◌, ◌<◌, ◌≤◌, Bool, true, false, List, Option, Some, None, refl, sym, ap, subst, arith, inl, inr, Contains, and_parts}
+use Rattle.mg_safety.proofs.Words.{◌≡◌, ◌∙◌, ◌<◌, ◌≤◌, Bool, true, false, Option, Some, None, refl, sym, ap, subst, arith, inl, inr, Contains, and_parts}
 use Rattle.mg_safety.proofs.Words.{eqb-true, ◌==◌, ◌&&◌, if◌then◌else◌, ◌⊎◌, Failure, Answered, Failed, answers, Agent, Phase, awaits_reply, built_by}
-use Rattle.mg_safety.proofs.Words.{after_results, leads_on, replied_to, replied, Configuration, Entry, Gateway, last_executed, number_of, Request, Reply}
+use Rattle.mg_safety.proofs.Words.{after_results, leads_on, replied_to, replied, Configuration, Gateway, last_executed, number_of, Request, Reply}
 use Rattle.mg_safety.proofs.Words.{Script, state_of, World, AgentSteps, none_is_some, the_some}
 use Rattle.mg_model.specs.declared.steps.StepName.TheVariants as names
 use Rattle.mg_model.specs.Steps as steps

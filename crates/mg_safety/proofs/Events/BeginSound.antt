@@ -1,6 +1,6 @@
 -- A call that begins on the lines of one that has ended keeps the world sound.
 use Rattle.mg_safety.proofs.Invariant.Sound.{Listed}
-use Rattle.mg_safety.proofs.Words.{◌≡◌, ◌∙◌, ℕ, true, false, List, Some, None, length, sym, ap, subst, arith, inl, inr, ◌<◌, ◌≤◌, Agent, begun, Entry, Gateway}
+use Rattle.mg_safety.proofs.Words.{◌≡◌, ◌∙◌, ℕ, true, false, Some, None, length, sym, ap, subst, arith, inl, inr, ◌<◌, ◌≤◌, Agent, begun, Gateway}
 use Rattle.mg_safety.proofs.Words.{CallLink, last_executed, Reply, SentNote, Script, World, Begins, HasEnded, MayBegin, the_some, at_another}
 use Rattle.mg_model.specs.Gateway as gateway
 use Rattle.mg_safety.proofs.InvariantWords.{IsKnown, IsOpen, IsReached, IsReplySound, IsNoteSound, IsAboveFloor, CallIsSound, GatewayIsSound, IsSound, IsClosed}

@@ -1,7 +1,7 @@
 -- Where a call begins on the lines of one that has ended, the new call is shown the opening configuration, and each other call what it was shown.
 use Rattle.mg_safety.proofs.Invariant.Sound.{Listed}
-use Rattle.mg_safety.proofs.Words.{◌≡◌, ◌∙◌, ℕ, false, List, Option, Some, None, length, refl, sym, ap, subst, arith, inl, inr, true≢false, ◌<◌, ◌⊎◌, IsTrue}
-use Rattle.mg_safety.proofs.Words.{false_from_ne_true, TermId, Line, Spot, Null, Agent, begun, is_in, Entry, Gateway, CallLink, MayBegin, list_of, Script}
+use Rattle.mg_safety.proofs.Words.{[], ◌≡◌, ◌∙◌, ℕ, false, Option, Some, None, length, refl, sym, ap, subst, arith, inl, inr, true≢false, ◌<◌, ◌⊎◌, IsTrue}
+use Rattle.mg_safety.proofs.Words.{false_from_ne_true, TermId, Line, Spot, Null, Agent, begun, is_in, Gateway, CallLink, MayBegin, list_of, Script}
 use Rattle.mg_safety.proofs.Words.{opening, state_of, World, HasEnded, the_some, same_itself}
 use Rattle.mg_model.specs.declared.commands.Termination.TheVariants as termination
 use Rattle.mg_model.specs.Gateway as gateway

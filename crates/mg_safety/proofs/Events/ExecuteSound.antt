@@ -1,7 +1,7 @@
 -- A request that reaches the gateway keeps the world sound: it is executed, or its reply is sent once more, or nothing happens.
 use Rattle.mg_safety.proofs.Invariant.Sound.{Listed}
 use Rattle.mg_safety.proofs.Words.{◌≡◌, ◌∙◌, ◌++◌, ℕ, false, true≢false, List, [], ◌∷◌, refl, sym, ap, subst, arith, inl, inr, Option, Contains-append_cases}
-use Rattle.mg_safety.proofs.Words.{Contains, ChosenRefusal, Entry, Gateway, reply_of, after_request, sent_notes, IsExecutedBy, Request, Reply, SentNote, Script}
+use Rattle.mg_safety.proofs.Words.{Contains, ChosenRefusal, Gateway, reply_of, after_request, sent_notes, IsExecutedBy, Request, Reply, SentNote, Script}
 use Rattle.mg_safety.proofs.Words.{World, with_gateway, Executes, IsFirst, IsRepeat, IsScript, only_one, fresh_at, fresh_is_open, kept_at}
 use Rattle.mg_safety.proofs.InvariantWords.{IsReplySound, IsKnown, IsOpen, IsSound, IsClosed, RequestsRun, OthersStayShown, OwnersAgree, KeepsSound}
 use Rattle.mg_safety.proofs.Events.Executing.{HasRun, is_due, due_runs}

@@ -1,7 +1,7 @@
 -- The calls after a request was executed: the request's own call is answered, and each other call is as it was.
 use Rattle.mg_safety.proofs.Invariant.Sound.{Listed}
-use Rattle.mg_safety.proofs.Words.{◌≡◌, ◌∙◌, ◌<◌, ◌++◌, ℕ, false, List, ◌∷◌, length, Option, Some, refl, sym, ap, subst, arith, inl, inr, Failure, Agent}
-use Rattle.mg_safety.proofs.Words.{after_results, built_by, Board, IsSettled, Entry, Gateway, CallLink, last_executed, reply_of, after_request, sent_notes}
+use Rattle.mg_safety.proofs.Words.{◌≡◌, ◌∙◌, ◌<◌, ◌++◌, ℕ, false, ◌∷◌, length, Option, Some, refl, sym, ap, subst, arith, inl, inr, Failure, Agent}
+use Rattle.mg_safety.proofs.Words.{after_results, built_by, Board, IsSettled, Gateway, CallLink, last_executed, reply_of, after_request, sent_notes}
 use Rattle.mg_safety.proofs.Words.{LineRow, Request, Running, Script, World, with_gateway, cases_eq, the_some}
 use Rattle.mg_safety.proofs.InvariantWords.{naming, owned_at, is_call, owner_of, owned_in, IsCurrent, IsLost, IsSentBy, CallIsSound, IsSound, IsOwnChange}
 use Rattle.mg_safety.proofs.InvariantWords.{OthersStayShown, OwnersAgree}

@@ -3,7 +3,7 @@
 use Rattle.mg_safety.proofs.Invariant.Sound.{Listed}
 use Rattle.mg_safety.proofs.Words.{◌≡◌, ◌∙◌, ◌+◌, ◌<◌, ◌≤◌, ℕ, Bool, true, false, List, [], ◌∷◌, Option, Some, None, is_some, refl, sym, ap, subst, arith, inl}
 use Rattle.mg_safety.proofs.Words.{inr, Contains-append_cases, if◌then◌else◌, Contains, Failure, TermId, Line, Eph, Row, Agent, after_results, built_by, Board}
-use Rattle.mg_safety.proofs.Words.{exists, place_of, place_in, remote_of, remote_in, IsSettled, Entry, CallLink, last_executed, reply_of, after_request}
+use Rattle.mg_safety.proofs.Words.{exists, place_of, place_in, remote_of, remote_in, IsSettled, CallLink, last_executed, reply_of, after_request}
 use Rattle.mg_safety.proofs.Words.{creator_after, sent_notes, number_of, LineRow, Request, Reply, SentNote, Running, RaisedNote, note_on, Script, World}
 use Rattle.mg_safety.proofs.Words.{only_one, none_is_some, cases_eq, the_some, none_in, Gateway, first_or_later, first_in, later_in}
 use Rattle.mg_safety.proofs.InvariantWords.{naming, IsAccounted, list_raises, is_call, IsKnown, IsOpen, IsReached, IsReplySound, IsNoteSound, GatewayIsSound}

@@ -1,7 +1,7 @@
 -- A request that is executed: it is the outstanding one of a current call, and what the gateway is after it, link by link and owner by owner.
 use Rattle.mg_safety.proofs.Invariant.Sound.{Listed}
 use Rattle.mg_safety.proofs.Words.{◌≡◌, ◌∙◌, ◌<◌, ◌≤◌, ℕ, Bool, true, false, List, Option, Some, None, refl, sym, ap, subst, arith, inl, inr, true≢false, ◌+◌}
-use Rattle.mg_safety.proofs.Words.{if◌then◌else◌, length, ◌⊎◌, Eph, ChosenRefusal, Failure, Sent, Agent, awaits_reply, Board, IsSettled, exists, Entry, Gateway}
+use Rattle.mg_safety.proofs.Words.{if◌then◌else◌, length, ◌⊎◌, Eph, ChosenRefusal, Failure, Sent, Agent, awaits_reply, Board, IsSettled, exists, Gateway}
 use Rattle.mg_safety.proofs.Words.{CallLink, last_executed, start_of, reply_of, after_request, number_of, Request, RequestCommand, Running, Script, World}
 use Rattle.mg_safety.proofs.Words.{IsScript, at_another, at_one, cases_eq, different}
 use Rattle.mg_model.specs.RequestRun.{RunsFrom}

@@ -2,7 +2,7 @@
 -- is raised is one of the descriptor that stands.
 use Rattle.mg_safety.proofs.Invariant.Sound.{Listed}
 use Rattle.mg_safety.proofs.Words.{◌≡◌, ◌∙◌, ◌+◌, ◌++◌, ℕ, List, length, Option, Some, None, refl, sym, ap, subst, arith, ◌<◌, ◌≤◌, ◌⊎◌, inl, inr, ◌==◌}
-use Rattle.mg_safety.proofs.Words.{Contains, eqb-true, Contains-append_cases, Agent, Configuration, Entry, LineEvent, Gateway, last_executed, with_line}
+use Rattle.mg_safety.proofs.Words.{Contains, eqb-true, Contains-append_cases, Agent, Configuration, LineEvent, Gateway, last_executed, with_line}
 use Rattle.mg_safety.proofs.Words.{with_notes, notes_from, number_of, LineRow, Note, Outcome, silent, Reply, SentNote, Script, World, LineOccurs, with_gateway}
 use Rattle.mg_safety.proofs.Words.{by_test, only_one, none_in, CallLink}
 use Rattle.mg_safety.proofs.InvariantWords.{LinesShown, list_raises, IsCurrent, IsLost, IsKnown, IsOpen, IsReached, CallIsSound, IsReplySound, IsNoteStanding}

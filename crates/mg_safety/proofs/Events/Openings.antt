@@ -1,7 +1,7 @@
 -- Openings are sound: every call stands in the opening configuration, which the certificate has, and nothing was sent.
 use Rattle.mg_safety.proofs.Invariant.Sound.{Listed}
 use Rattle.mg_safety.proofs.Words.{◌≡◌, ◌∙◌, ℕ, Bool, true, false, List, length, Option, Some, None, is_some, refl, sym, ap, subst, arith, true≢false, ◌<◌, inl}
-use Rattle.mg_safety.proofs.Words.{inr, Contains, if◌then◌else◌, nat_lt, eq-eqb, TermId, Line, Row, Agent, opened, list_of, Entry, CallLink}
+use Rattle.mg_safety.proofs.Words.{inr, Contains, if◌then◌else◌, nat_lt, unwrap_or, eq-eqb, TermId, Line, Row, Agent, opened, list_of, CallLink}
 use Rattle.mg_safety.proofs.Words.{last_executed, number_of, LineRow, Reply, Script, opening, World, Opened, IsOpening, armed_line, none_is_some, line_armed, lt-ltb}
 use Rattle.mg_safety.proofs.Words.{line_held, line_stands, nothing_in}
 use Rattle.mg_safety.proofs.InvariantWords.{LinesShown, IsReached, IsCurrent, CallIsSound, GatewayIsSound, is_call, owned_in, IsClosed, OpeningsAreSound}
@@ -26,16 +26,16 @@ module _ (script : Script) (Among : Listed) (closed : IsClosed script Among) (ca
     armed : (i : ℕ) → i < length script.lines → w.gateway.line (one.lines i) ≡ armed_line
     armed i within = line_armed script calls w.gateway o.lines one there i within
 
-    expects_zero : (test : Bool) → test ≡ true → Some 0 ≡ (if test then Some 0 else None)
-    expects_zero true e = refl
-    expects_zero false e = absurd (true≢false (sym e))
+    expects_number : (n : ℕ) (test : Bool) → test ≡ true → Some n ≡ (if test then Some n else None)
+    expects_number n true e = refl
+    expects_number n false e = absurd (true≢false (sym e))
 
     lines_shown : LinesShown script (opened script one.call one.lines) w.gateway.line (opening script)
     lines_shown = record {
       events = λ i within. ap (λ (row : LineRow). row.list) (armed i within) ∙ sym (ap (list_of script) (events_armed script i within));
       silent = λ i within still. ap (λ (row : LineRow). row.playing) (armed i within);
       expected = λ i within. ap (λ (row : LineRow). row.request) (armed i within)
-          ∙ expects_zero (nat_lt i (length script.lines)) (lt-ltb i (length script.lines) within);
+          ∙ expects_number 0 (nat_lt i (length script.lines)) (lt-ltb i (length script.lines) within);
       unnamed = λ i within none. absurd (none_is_some 0 (sym none ∙ ap (λ (row : LineRow). row.request) (armed i within)));
     }
 

@@ -1,7 +1,7 @@
 -- A restart keeps the world sound: every call is lost, and nothing of the association before counts any more.
 use Rattle.mg_safety.proofs.Invariant.Sound.{Listed}
-use Rattle.mg_safety.proofs.Words.{◌≡◌, ◌∙◌, ◌+◌, ℕ, true, List, length, Option, Some, None, is_some, refl, sym, ap, subst, arith, true≢false, ◌<◌, ◌≤◌}
-use Rattle.mg_safety.proofs.Words.{◌⊎◌, inl, inr, Contains, Line, Eph, Row, Agent, exists, place_in, Entry, restarted, row_restarted, board_restarted, Request}
+use Rattle.mg_safety.proofs.Words.{◌≡◌, ◌∙◌, ◌+◌, ℕ, true, length, Option, Some, None, is_some, refl, sym, ap, subst, arith, true≢false, ◌<◌, ◌≤◌}
+use Rattle.mg_safety.proofs.Words.{◌⊎◌, inl, inr, Contains, Line, Eph, Row, Agent, exists, place_in, restarted, row_restarted, board_restarted, Request}
 use Rattle.mg_safety.proofs.Words.{Reply, SentNote, Script, Restart, World, with_gateway, Occurs, null_row, none_is_some}
 use Rattle.mg_model.proofs.Settled.{restarted_gone, restarted_in_null}
 use Rattle.mg_safety.proofs.InvariantWords.{IsAccounted, IsCurrent, IsLost, IsSentBy, IsOpen, CallIsSound, IsReplySound, IsNoteSound, GatewayIsSound, IsSound}

@@ -1,6 +1,6 @@
 -- A call of which neither the agent nor the kept reply changes: what is known of it stays so, where the gateway still shows what it shows.
 use Rattle.mg_safety.proofs.Invariant.Sound.{Listed}
-use Rattle.mg_safety.proofs.Words.{◌≡◌, Script, Gateway, Agent, last_executed, ap, number_of, ◌∙◌, sym, subst, inl, inr, ◌<◌, ◌≤◌, List, Entry, Request, World}
+use Rattle.mg_safety.proofs.Words.{◌≡◌, Script, Gateway, Agent, last_executed, ap, number_of, ◌∙◌, sym, subst, inl, inr, ◌<◌, ◌≤◌, Request, World}
 use Rattle.mg_safety.proofs.Words.{length, Contains, ℕ, Some, ◌⊎◌}
 use Rattle.mg_names.specs.declared.phases.LinkPhase as phases
 use Rattle.mg_safety.proofs.InvariantWords.{IsAt, IsCurrent, Seen, owned_in, naming, LinesShown, IsSentBy, CallIsSound, IsLost}

@@ -1,6 +1,6 @@
 -- A note that an agent accepted is one that its gateway counted, so the number of the next note is new to it.
-use Rattle.std.proofs.Common.{◌≡◌, ◌∙◌, ◌+◌, ◌≤◌, ◌==◌, ℕ, Bool, true, false, List, [], ◌∷◌, length, Option, Some, None, refl, sym, ap, subst, arith}
-use Rattle.std.specs.Prelude.{if◌then◌else◌, inl, inr, nat_lt}
+use Rattle.std.proofs.Common.{◌≡◌, ◌∙◌, ◌+◌, ◌≤◌, ◌==◌, ℕ, Bool, true, false, List, [], ◌∷◌, length, Option, Some, None, refl, sym, ap, subst, arith, inl, inr}
+use Rattle.std.specs.Prelude.{if◌then◌else◌, nat_lt}
 use Rattle.std.proofs.lemmas.Bool.{eqb-true}
 use Rattle.mg_model.specs.declared.commands.Command.{Command}
 use Rattle.mg_model.specs.declared.commands.Command.TheVariants.{Subtract}
@@ -11,7 +11,7 @@ use Rattle.mg_model.specs.declared.events.Event.{Event}
 use Rattle.mg_model.specs.declared.events.Event.TheVariants.{OfCall, Restart}
 use Rattle.mg_model.specs.declared.failures.ChosenRefusal.{ChosenRefusal}
 use Rattle.mg_model.specs.declared.failures.Failure.{Failure}
-use Rattle.mg_model.specs.Agent.{Agent, Phase, answers, awaits_reply, awaits_pass, resting, after_result, after_results, begun, built_by, entered, entered_if}
+use Rattle.mg_model.specs.Agent.{Agent, Phase, answers, awaits_reply, awaits_pass, resting, after_result, after_results, built_by, entered, entered_if}
 use Rattle.mg_model.specs.Agent.{entered_or_rests, entered_or_stays, forgotten, heard, is_resting, leads_on, line_in, may_accept, noted, opened, passed, passed_in}
 use Rattle.mg_model.specs.Agent.{replied, replied_to, target_of, timed}
 use Rattle.mg_model.specs.declared.line_events.LineEvent.{LineEvent}
@@ -113,7 +113,7 @@ heard_accepts script a association = newer (nat_lt a.association association)
   where
     newer : (is_newer : Bool) → Accepts a.accepted (if is_newer then entered script (forgotten a association) script.restart else None)
     newer true b is n e = absurd (false_not_true (entered_accepts script (forgotten a association) script.restart b is n e))
-    newer false = accepts_none a.accepted
+    newer false b is n e = absurd (none_is_some b is)
 
 noted_accepts : (script : Script) (a : Agent) (slots : List ℕ) (sent : SentNote) → Accepts (with_at a.accepted sent.number true) (noted script a slots sent)
 noted_accepts script a slots sent = accepted (may_accept script a sent)

@@ -1,12 +1,10 @@
 -- A call at rest is moved: by its timer, or by a receiver that is turned until its line's list names what it does, and the note of it.
-use Rattle.std.proofs.Common.{◌≡◌, ◌∙◌, ◌+◌, ◌<◌, ◌≤◌, ◌++◌, ◌==◌, ℕ, zero, suc, Bool, true, false, List, [], ◌∷◌, length, Option, Some, None, option_map, refl, sym, ap, subst, arith}
-use Rattle.std.specs.Prelude.{◌⊎◌, ◌&&◌, Contains, IsTrue, if◌then◌else◌, inl, inr, nat_le, nat_lt, not}
-use Rattle.std.specs.List.{All, list_any}
+use Rattle.std.proofs.Common.{◌≡◌, ◌∙◌, ◌+◌, ◌<◌, ◌≤◌, ◌++◌, ◌==◌, ℕ, zero, suc, Bool, true, false, List, [], ◌∷◌, length, Option, Some, None, option_map, refl, sym, ap, subst, arith, inl, inr}
+use Rattle.std.specs.Prelude.{◌&&◌, Contains, if◌then◌else◌, nat_le, nat_lt, not}
+use Rattle.std.specs.List.{list_any}
 use Rattle.std.proofs.lemmas.Bool.{and_from, eq-eqb, eqb-true, lt-ltb}
 use Rattle.std.proofs.lemmas.Bool.Decides.{nat_tests}
 use Rattle.std.proofs.lemmas.List.Elements.{All-cons, All-nil}
-use Rattle.mg_names.specs.declared.kinds.Kind.{Kind}
-use Rattle.mg_model.specs.declared.events.CallEvent.TheVariants as to_call
 use Rattle.mg_model.specs.declared.events.Event.{Event}
 use Rattle.mg_model.specs.declared.line_events.Hook.{Hook}
 use Rattle.mg_model.specs.declared.line_events.Hook.TheVariants.{On, Off}
@@ -14,17 +12,17 @@ use Rattle.mg_model.specs.declared.line_events.LineEvent.TheVariants as event
 use Rattle.mg_model.specs.Accepted.{IsScript}
 use Rattle.mg_model.specs.Agent.{Agent, Phase, resting, awaits_pass, awaits_reply, built_by, entered, entered_if, entered_or_stays, entered_with, inbox_of, is_resting, line_in}
 use Rattle.mg_model.specs.Agent.{may_accept, noted, request_of, same_number, target_of, timed}
-use Rattle.mg_model.specs.Delivery.{Arrival, arrival, arrives_new, is_new, is_old, was_seen}
+use Rattle.mg_model.specs.Delivery.{arrival, arrives_new, is_new, is_old, was_seen}
 use Rattle.mg_model.specs.Entries.{IsCovered}
-use Rattle.mg_model.specs.Gateway.{CallLink, Gateway, Happens, notes_from, outcome_of, with_line, with_notes}
-use Rattle.mg_model.specs.LineEvents.{LineRow, ListItem, Note, Outcome, detected, hooked, is_hook, kind_of, same_hook, stays}
+use Rattle.mg_model.specs.Gateway.{CallLink, Gateway, notes_from, with_line, with_notes}
+use Rattle.mg_model.specs.LineEvents.{LineRow, Note, Outcome, detected, hooked, is_hook, kind_of, same_hook, stays}
 use Rattle.mg_model.specs.Messages.{SentNote}
-use Rattle.mg_model.specs.Numbers.{last_number, the_line}
+use Rattle.mg_model.specs.Numbers.{last_number}
 use Rattle.mg_model.specs.Script.{Script}
 use Rattle.mg_model.specs.Tables.{below, is_empty, line_places, state_of, target_in}
 use Rattle.mg_model.specs.Updates.{with_at}
-use Rattle.mg_model.specs.World.{World, LineOccurs, OccursTo, Runs, agent_steps, is_of_call, note, on_a_line, timer, with_gateway}
-use Rattle.mg_model.proofs.Cases.{at_one, false_not_true, none_is_some, some_of, the_some, where_false, where_true}
+use Rattle.mg_model.specs.World.{World, LineOccurs, Runs, agent_steps, is_of_call, note, on_a_line, timer, with_gateway}
+use Rattle.mg_model.proofs.Cases.{at_one, false_not_true, where_false, where_true}
 use Rattle.mg_model.proofs.Single.{first_in, first_or_later, later_in, none_in}
 use Rattle.mg_safety.specs.MovingOn.{CallsCanBeMoved, CanBeMoved, IsLedTo, Lead, by_hook, by_timer}
 use Rattle.mg_safety.proofs.Agents.AgentSound.{at_rest}

@@ -1,5 +1,5 @@
 -- The promise over runs: openings are sound, every event keeps a world sound, and sound worlds are good.
-use Rattle.mg_safety.proofs.Words.{ℕ, List, [], ◌∷◌, sym, subst, Entry, Script, CallEvent, Event, OfCall, Restart, replied, noted, line_places, World, IsCovered}
+use Rattle.mg_safety.proofs.Words.{ℕ, List, [], ◌∷◌, sym, subst, Script, CallEvent, Event, OfCall, Restart, replied, noted, line_places, World, IsCovered}
 use Rattle.mg_safety.proofs.Words.{AgentSteps, OccursTo, Occurs, IsScript, AddLine, AddEphemeral, ModifyLine, ModifyEphemeral, MoveLine, MoveEphemeral}
 use Rattle.mg_safety.proofs.Words.{Subtract, SubtractAll, SetTopology}
 use Rattle.mg_model.specs.declared.events.CallEvent.TheVariants as to_call

@@ -3,7 +3,7 @@
 use Rattle.mg_safety.proofs.Invariant.Sound.{Listed}
 use Rattle.mg_safety.proofs.Words.{◌≡◌, ◌∙◌, ℕ, true, false, List, [], ◌∷◌, length, Option, Some, None, is_some, refl, sym, ap, subst, arith, true≢false, ◌<◌}
 use Rattle.mg_safety.proofs.Words.{◌⊎◌, inl, inr, map, not, ◌&&◌, ◌||◌, IsTrue, eq-eqb, false_from_ne_true, TermId, Line, Eph, Exact, Termination, Row}
-use Rattle.mg_safety.proofs.Words.{EventItem, Agent, list_item, exists, place_in, Configuration, is_present, Entry, OffHook, silent, Script, state_of, items_of}
+use Rattle.mg_safety.proofs.Words.{EventItem, Agent, list_item, exists, place_in, Configuration, is_present, OffHook, silent, Script, state_of, items_of}
 use Rattle.mg_safety.proofs.Words.{is_armed_list, is_marked, World, IsMarkedPair, HasEnded, IsReleased, none_is_some, the_some, false_not_true, some_of}
 use Rattle.mg_model.specs.declared.commands.Termination.TheVariants as termination
 use Rattle.mg_model.specs.declared.transitions.EventItem.TheVariants as item

@@ -1,6 +1,6 @@
 -- What an event of one call leaves alone: it changes rows and cuts by a request alone, and that changes what its call owns.
-use Rattle.mg_safety.proofs.Words.{◌≡◌, ◌∙◌, ℕ, Bool, true, false, List, Option, inl, inr, refl, sym, ap, eq-eqb, TermId, Line, Eph, CallEvent, ChosenRefusal, IsCovered}
-use Rattle.mg_safety.proofs.Words.{Row, IsScript, Agent, Board, Entry, Gateway, after_request, Request, Script, World, AgentSteps, Executes, IsFirst}
+use Rattle.mg_safety.proofs.Words.{◌≡◌, ◌∙◌, ℕ, Bool, true, false, Option, inl, inr, refl, sym, ap, eq-eqb, TermId, Line, Eph, CallEvent, ChosenRefusal, IsCovered}
+use Rattle.mg_safety.proofs.Words.{Row, IsScript, Agent, Board, Gateway, after_request, Request, Script, World, AgentSteps, Executes, IsFirst}
 use Rattle.mg_safety.proofs.Words.{IsRequestOf, OccursTo}
 use Rattle.mg_model.specs.declared.events.CallEvent.TheVariants as to_call
 use Rattle.mg_safety.proofs.Invariant.Sound.{Listed}

@@ -1,6 +1,6 @@
 -- What it is for a gateway to show a configuration of a call: each component of the configuration is what the gateway's rows are,
 -- read through the call's names; and the names are one to one with what the call owns.
-use Rattle.mg_safety.proofs.Words.{◌≡◌, ℕ, ◌<◌, Bool, true, false, not, ◌&&◌, ◌||◌, if◌then◌else◌, List, length, Option, Some, None, is_some, unwrap_or}
+use Rattle.mg_safety.proofs.Words.{◌≡◌, ℕ, ◌<◌, Bool, true, false, not, ◌&&◌, ◌||◌, if◌then◌else◌, List, [], length, Option, Some, None, is_some, unwrap_or}
 use Rattle.mg_safety.proofs.Words.{option_map, slice_get, option_and_then, ◌⊎◌, list_any, TermId, Line, Eph, Kind, Command, AddLine, AddEphemeral, ModifyLine}
 use Rattle.mg_safety.proofs.Words.{ModifyEphemeral, MoveLine, MoveEphemeral, Subtract, SubtractAll, SetTopology, EphemeralOptions, LineOptions, Place}
 use Rattle.mg_safety.proofs.Words.{NullContext, Context, RemoteOption, NoneGiven, Peer, Termination, Remote, Unset, Gone, To, Spot, Absent, Null, In, Item}

@@ -1,8 +1,8 @@
 -- What holds of every world of a run whose script and certificate have no broken obligation: each call is shown by a configuration of the
 -- certificate, or it is lost; and what a call owns is named by it alone.
-use Rattle.mg_safety.proofs.Words.{◌≡◌, ℕ, ◌<◌, ◌≤◌, ◌==◌, Bool, true, false, List, [], length, Contains, Option, Some, None, ◌⊎◌, Failure, TermId, Line, Eph, IsWellFormed}
+use Rattle.mg_safety.proofs.Words.{◌≡◌, ℕ, ◌<◌, ◌≤◌, ◌==◌, Bool, true, false, [], length, Contains, Option, Some, None, ◌⊎◌, Failure, TermId, Line, Eph, IsWellFormed}
 use Rattle.mg_safety.proofs.Words.{Sent, Answered, Failed, Resting, Row, Agent, awaits_reply, awaits_pass, resting, after_results, built_by, commands_of}
-use Rattle.mg_safety.proofs.Words.{none_made, exists, remote_of, Configuration, Entry, IsCovered, Gateway, last_executed, silent, Request, Reply, SentNote}
+use Rattle.mg_safety.proofs.Words.{none_made, exists, remote_of, Configuration, Gateway, last_executed, silent, Request, Reply, SentNote}
 use Rattle.mg_safety.proofs.Words.{Script, World, null_row, IsSlot, Termination, Empty, Unset, Absent, Free, Inactive, is_same}
 use Rattle.mg_names.specs.declared.phases.LinkPhase as phases
 use Rattle.mg_safety.proofs.Invariant.Shown.{naming, Seen, LinesShown, IsAccounted, Owner, owned_at, list_raises}

@@ -4,7 +4,7 @@ use Rattle.mg_safety.proofs.Invariant.Sound.{Listed}
 use Rattle.mg_safety.proofs.Words.{◌≡◌, ◌∙◌, ◌+◌, ℕ, Bool, true, false, List, [], ◌∷◌, ◌++◌, length, Option, is_some, refl, sym, ap, subst, true≢false, inl}
 use Rattle.mg_safety.proofs.Words.{inr, length-append, append_assoc, Contains-append_right, All-head, All-tail, Contains, if◌then◌else◌, All, list_all}
 use Rattle.mg_safety.proofs.Words.{ChosenRefusal, Failure, Line, Sent, Answered, Failed, Command, Refuse, Execute, Agent, Made, after_result, after_results}
-use Rattle.mg_safety.proofs.Words.{bound_by, built_by, command_of, commands_of, made_after, none_made, Board, Configuration, is_legal, effect, Entry, Gateway}
+use Rattle.mg_safety.proofs.Words.{bound_by, built_by, command_of, commands_of, made_after, none_made, Board, Configuration, is_legal, effect, Gateway}
 use Rattle.mg_safety.proofs.Words.{start_of, Done, IsExecuted, Names, built, Running, Succeeds, after_command, line_after, descriptors_for, is_line, Script}
 use Rattle.mg_safety.proofs.Words.{Step, creates_unbound, executed, execution, refusals, steps_by_link, with_link, names_unbound, bound_names, state_of}
 use Rattle.mg_safety.proofs.Words.{IsScript, IsCommandOf, create_once, first_in, and_first, and_second, no_results}
