@@ -160,8 +160,10 @@ execute_accepted w after request chosen was (inl first) =
     grown_accepted w after (ap (λ (x : World). x.agent) first.after_is)
     (λ c. subst (λ (g : Gateway). (w.gateway.link c).notes ≤ (g.link c).notes)
     (sym (ap (λ (x : World). x.gateway) first.after_is ∙ first.executed.after_is))
-    (one_grows w.gateway request.call c (record { last = Some (reply_of request first.executed.end first.executed.failure);
-      notes = (w.gateway.link request.call).notes + length first.executed.end.notes }) (omega (arith)))) was
+    (one_grows w.gateway request.call c (record {
+      last = Some (reply_of request first.executed.end first.executed.failure);
+      notes = (w.gateway.link request.call).notes + length first.executed.end.notes;
+    }) (omega (arith)))) was
 execute_accepted w after request chosen was (inr (inl again)) =
     grown_accepted w after (ap (λ (x : World). x.agent) again.after_is)
     (λ c. subst (λ (g : Gateway). (w.gateway.link c).notes ≤ (g.link c).notes) (sym (ap (λ (x : World). x.gateway) again.after_is)) (omega (arith))) was
@@ -179,7 +181,7 @@ begin_accepted script w after new old was x = subst AcceptedAreCounted (sym x.af
   | inl here ↦ absurd (false_not_true (ap (λ (b : Agent). b.accepted n) here.1 ∙ e))
   | inr other ↦ subst (λ (link : CallLink). n ≤ link.notes)
       (sym (at_another old c _ (if c == new then record { last = None; notes = 0 } else w.gateway.link c) other.1
-          ∙ at_another new c (record { last = None; notes = 0 }) (w.gateway.link c) other.0)) (was c a n other.2 e)
+      ∙ at_another new c (record { last = None; notes = 0 }) (w.gateway.link c) other.0)) (was c a n other.2 e)
 ])
 
 -- ---- events

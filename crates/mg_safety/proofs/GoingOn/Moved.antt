@@ -121,7 +121,7 @@ is_place n (suc (suc (suc (suc i)))) few within = absurd (omega (arith, few, wit
 abbrev turned : World → (call l : ℕ) → Outcome → World
 turned w call l o =
     record (with_gateway w (with_notes (with_line w.gateway l o.row) call (length (notes_from w.gateway call l o.note)))) {
-      notes = notes_from w.gateway call l o.note ++ w.notes
+      notes = notes_from w.gateway call l o.note ++ w.notes;
     }
 
 raised_few : (g : Gateway) (call l : ℕ) (o : Option Note) → length (notes_from g call l o) ≤ 1
@@ -338,7 +338,7 @@ module _ (script : Script) (w : World) (call i target q : ℕ) (a : Agent) (hook
       let count : (back.gateway.link call).notes ≡ (w.gateway.link call).notes + length (notes_from w.gateway call (a.lines i) turn.outcome.note) =
       ap (λ (x : CallLink). x.notes) (at_one call (record {
         last = (w.gateway.link call).last;
-        notes = (w.gateway.link call).notes + length (notes_from w.gateway call (a.lines i) turn.outcome.note)
+        notes = (w.gateway.link call).notes + length (notes_from w.gateway call (a.lines i) turn.outcome.note);
       }) (w.gateway.link call)) in
       let few = raised_few w.gateway call (a.lines i) turn.outcome.note in
       let room : (back.gateway.link call).notes + 1 ≤ last_number = omega (arith, count, few, space) in
