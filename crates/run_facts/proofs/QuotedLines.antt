@@ -1,7 +1,6 @@
 -- The lines of a report as the members of a JSON list, one more at a time.
-use Rattle.std.proofs.Common.{◌≡◌, ◌∙◌, ◌+◌, ◌<◌, ◌≤◌, ℕ, List, [], ◌∷◌, ◌++◌, length, drop, get_or, sym, ap}
+use Rattle.std.proofs.Common.{◌≡◌, ◌∙◌, ◌+◌, ◌<◌, ◌≤◌, ℕ, Bool, true, List, ◌++◌, length, drop, get_or, sym, ap, append-nil, append_assoc}
 use Rattle.std.proofs.lemmas.List.{drop_all, drop_more}
-use Rattle.std.specs.Prelude.{codes}
 use Rattle.mg_model.specs.Script.{Script}
 use Rattle.run_reports.specs.Line.{Line}
 use Rattle.check_lines.specs.Output.{Text}
@@ -9,16 +8,23 @@ use Rattle.run_reports.specs.RunAnswers.{call_line, call_lines}
 use Rattle.run_facts.specs.Saying.{quoted_from, quoted_line}
 
 -- those from a place on
-abbrev pub quoted_rest : Script → (gap : Text) → List Line → ℕ → Text
-quoted_rest script gap lines i = quoted_from gap (call_lines script (drop i lines))
+abbrev pub quoted_rest : Script → (is_next : Bool) → List Line → ℕ → Text
+quoted_rest script is_next lines i = quoted_from is_next (call_lines script (drop i lines))
 
-pub one_more_quoted : (script : Script) (gap : Text) (lines : List Line) (i : ℕ) (l : Line) → i < length lines → l ≡ get_or lines i l
-    → quoted_rest script gap lines i ≡ quoted_line gap (call_line script l) ++ quoted_rest script (codes ",") lines (i + 1)
-unfolding quoted_from
-one_more_quoted script gap lines i l within is =
-    ap (λ (rest : List Line). quoted_from gap (call_lines script rest))
-    (drop_more lines i l within ∙ ap (λ (one : Line). one ∷ drop (i + 1) lines) (sym is))
+module _ (script : Script) (is_next : Bool) (lines : List Line) (i : ℕ) (before all : Text) (is : before ++ quoted_rest script is_next lines i ≡ all) where
+  -- one more stands behind those before
+  pub one_more_quoted : (l : Line) (after : Text) → i < length lines → after ≡ before ++ quoted_line is_next (call_line script (get_or lines i l))
+      → after ++ quoted_rest script true lines (i + 1) ≡ all
+  unfolding quoted_from
+  one_more_quoted l after within written =
+      ap (λ (text : Text). text ++ quoted_rest script true lines (i + 1)) written
+      ∙ append_assoc before (quoted_line is_next (call_line script (get_or lines i l))) (quoted_rest script true lines (i + 1))
+      ∙ ap (λ (rest : List Line). before ++ quoted_from is_next (call_lines script rest)) (sym (drop_more lines i l within))
+      ∙ is
 
-pub none_quoted : (script : Script) (gap : Text) (lines : List Line) (i : ℕ) → length lines ≤ i → quoted_rest script gap lines i ≡ []
-unfolding quoted_from
-none_quoted script gap lines i past = ap (λ (rest : List Line). quoted_from gap (call_lines script rest)) (drop_all lines i past)
+  pub all_quoted : length lines ≤ i → before ≡ all
+  unfolding quoted_from
+  all_quoted past =
+      sym (append-nil before)
+      ∙ ap (λ (rest : List Line). before ++ quoted_from is_next (call_lines script rest)) (sym (drop_all i lines past))
+      ∙ is

@@ -1,5 +1,5 @@
 -- What is told of an input with a plan: what `mgcall run` writes for it on one worker, with the status of that. This profile's own.
-use Rattle.std.specs.Prelude.{◌≡◌, List, [], ◌∷◌, ◌++◌, Ok, codes, string_bytes}
+use Rattle.std.specs.Prelude.{◌≡◌, Bool, true, false, if◌then◌else◌, List, [], ◌∷◌, ◌++◌, Ok, codes, string_bytes}
 use Rattle.std.specs.Fmt.{decimal}
 use Rattle.check_lines.specs.Output.{Text, CallLine, Output, line, report, written, status_of, line_status, number_text, place_text}
 use Rattle.mg_model.specs.Script.{Script}
@@ -17,16 +17,20 @@ use Rattle.check_facts.specs.declared.said.Said.{Said}
 abbrev pub Begins : Output → Said → Type 0
 Begins out said = ((rest : Text) × (string_bytes said.text ≡ written out ++ rest)) × (code_of said.status ≡ status_of out)
 
--- a line of a report without its end, behind a text and in quotation marks; a reader should check that it is `call_text`, but for the end
-abbrev pub quoted_line : (gap : Text) → CallLine → Text
-quoted_line gap c =
-    gap ++ (codes "\"" ++ (number_text c.call c.begun
+-- a comma stands before each line but the first
+abbrev pub gap_text : (is_next : Bool) → Text
+gap_text is_next = if is_next then codes "," else []
+
+-- a line of a report without its end, in quotation marks; a reader should check that it is `call_text`, but for the end
+abbrev pub quoted_line : (is_next : Bool) → CallLine → Text
+quoted_line is_next c =
+    gap_text is_next ++ (codes "\"" ++ (number_text c.call c.begun
     ++ (place_text c.told.state c.told.phase ++ ((codes " events=" ++ decimal c.told.events) ++ ((codes " idle=" ++ decimal c.told.idle) ++ codes "\"")))))
 
--- the lines of a report, each in quotation marks and behind a comma but for the first
-unfoldable pub quoted_from : (gap : Text) → List CallLine → Text
-quoted_from gap [] = []
-quoted_from gap (c ∷ more) = quoted_line gap c ++ quoted_from (codes ",") more
+-- the lines of a report
+unfoldable pub quoted_from : (is_next : Bool) → List CallLine → Text
+quoted_from is_next [] = []
+quoted_from is_next (c ∷ more) = quoted_line is_next c ++ quoted_from true more
 
 -- a JSON value with the lines of a report, and with members behind them
 abbrev pub report_value_text : (lines more : Text) → Text
@@ -34,7 +38,7 @@ report_value_text lines more = codes "{\"format\":2,\"status\":0,\"lines\":[" ++
 
 -- the text is such a value of these lines
 abbrev pub IsReportValue : List CallLine → Text → Type 0
-IsReportValue calls text = (more : Text) × (text ≡ report_value_text (quoted_from [] calls) more)
+IsReportValue calls text = (more : Text) × (text ≡ report_value_text (quoted_from false calls) more)
 
 -- the output stands before the line on words; as JSON a line stands in a value beside its status, and the lines of a report stand in a value with the status of
 -- a report

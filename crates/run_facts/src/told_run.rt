@@ -74,11 +74,7 @@ fn value_of(alloc: Global, lines: &str, more: &str) -> Result<String, AllocError
 }
 
 /// The lines of the report with the steps of their calls, and why steps aren't told, as members of a JSON object behind a comma.
-fn step_members(
-    alloc: Global,
-    only: Option<u32>,
-    ran: &Ran<'_, '_>,
-) -> Result<String, AllocError> {
+fn step_members(alloc: Global, only: Option<u32>, ran: &Ran<'_, '_>) -> Result<String, AllocError> {
     match report_facts(alloc, ran, only) {
         Ok(told) => {
             let untold = unknown_call(alloc, ran.plan, only)?;
