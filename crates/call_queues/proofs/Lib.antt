@@ -1,4 +1,7 @@
 pub mod AccountLemmas
 pub mod BeginLemmas
-pub mod WorkerQueueLemmas
+pub mod FillLemmas
+pub mod PassLemmas
+pub mod SeatLemmas
 pub mod ServedLemmas
+pub mod WorkerQueueLemmas

@@ -1,6 +1,7 @@
 -- How calls pass through the workers of an epoch. A reader should check that each that went into a queue comes back from it once: the numbers of those that
 -- come back are those of the ones that were begun.
-use Rattle.std.specs.Prelude.{◌≡◌, ℕ, ◌+◌, List, [], Some, slice_get}
+use Rattle.std.specs.Prelude.{◌≡◌, ℕ, ◌+◌, Bool, true, List, [], Some, slice_get}
+use Rattle.std.specs.List.{All}
 use Rattle.handover.specs.Hands.{all_parts, numbers_of, times}
 use Rattle.handover.specs.Queues.{IsShareOf, hand_of}
 use Rattle.handover.specs.declared.hand.NumberedItem.{NumberedItem}
@@ -42,3 +43,27 @@ module _ {T : Type 0} where
     pub share : IsShareOf queue owner.worker_queue.share
     pub parts : (hand_of owner.worker_queue.share).parts + owner.away ≡ all_parts
     pub accounts : Accounts (hand_of owner.worker_queue.share) owner.worker_queue.done.items
+
+-- all that were begun in its queue are back, each once
+abbrev pub IsAllBack : {T : Type 0} → QueueOwner T → Type 0
+IsAllBack owner = HaveBegun (hand_of owner.worker_queue.share).begun owner.worker_queue.done.items
+
+-- each that is done with at this place passes a test
+abbrev pub AllPass : {T : Type 0} → (NumberedItem T → Bool) → WorkerQueue T → Type 0
+AllPass test worker_queue = All (λ item. test item ≡ true) worker_queue.done.items
+
+-- at the places of all these workers
+abbrev pub WorkersPass : {T : Type 0} → (NumberedItem T → Bool) → List (WorkerQueue T) → Type 0
+WorkersPass test worker_queues = All (AllPass test) worker_queues
+
+-- and at the run's own places
+abbrev pub OwnersPass : {T : Type 0} → (NumberedItem T → Bool) → List (QueueOwner T) → Type 0
+OwnersPass test owners = All (λ owner. AllPass test owner.worker_queue) owners
+
+-- whatever test passed what the owners had back passes what they have back
+abbrev pub OwnersKeep : {T : Type 0} → (old new : List (QueueOwner T)) → Type 0
+OwnersKeep {T} old new = (test : NumberedItem T → Bool) → OwnersPass test old → OwnersPass test new
+
+-- the same where it passed what these workers were done with too
+abbrev pub OwnersGet : {T : Type 0} → (old : List (QueueOwner T)) → List (WorkerQueue T) → (new : List (QueueOwner T)) → Type 0
+OwnersGet {T} old worker_queues new = (test : NumberedItem T → Bool) → OwnersPass test old → WorkersPass test worker_queues → OwnersPass test new

@@ -3,8 +3,8 @@
 //!
 //! The way of a call: the calls of a shard go into a queue of their own, of which the run has the first share (`filling`, `queue_owner`). Each worker gets a
 //! place at each queue, with a share of it (`owners`); by that it takes calls out and hands them back, or is done with them (`worker_queue`). When
-//! it ends its places come back with the calls that it was done with, and once none is away what stands in a queue still is taken out: the calls are those that
-//! went in, and go back to their places (`queue_owner`, `settling`).
+//! it ends its places come back with the calls that it was done with, and once none is away and nothing stands in a queue, the calls are those that went in,
+//! and go back to their places (`queue_owner`, `settling`).
 #![tactic(auto)]
 
 mod fault;

@@ -1,14 +1,12 @@
 //! The run's own place at the queue of a shard: workers' places come from it, and come back to it.
-ghost use Rattle.std.specs.Prelude.{◌≡◌, IfOk, OnOk};
-ghost use Rattle.handover.specs.Hands.{all_parts};
-ghost use Rattle.handover.specs.Queues.{IsShareOf, hand_of};
-ghost use Rattle.call_queues.specs.Passing.{Accounts, HaveBegun, IsOwner, IsWorkersAt};
+ghost use Rattle.std.specs.Prelude.{◌≡◌, ◌++◌, [], IfOk, OnOk};
+ghost use Rattle.handover.specs.Queues.{hand_of};
+ghost use Rattle.call_queues.specs.Passing.{IsOwner, IsWorkersAt};
 
 use crate::fault::QueueFault;
 use crate::worker_queue::WorkerQueue;
 use handover::Queue;
-use std::alloc::{AllocError, Global};
-use std::sync::Wait;
+use std::alloc::Global;
 
 /// How many places may come from one: a share has parts for more.
 const MOST_AWAY: usize = 64;
@@ -31,7 +29,9 @@ impl<T: Drop> QueueOwner<T> {
         requires { IsOwner queues.now self.old }
         ensures own { IsOwner queues.now self.new }
         ensures begun { (hand_of self.new.worker_queue.share).begun ≡ (hand_of self.old.worker_queue.share).begun }
+        ensures done { self.new.worker_queue.done.items ≡ self.old.worker_queue.done.items }
         ensures new { IfOk result (λ s. IsWorkersAt queues.now s) }
+        ensures none { IfOk result (λ s. s.done.items ≡ []) }
     {
         if self.away >= MOST_AWAY {
             return Err(QueueFault::Disagree);
@@ -58,6 +58,7 @@ impl<T: Drop> QueueOwner<T> {
         requires theirs { IsWorkersAt queues.now worker_queue }
         ensures own { OnOk result (IsOwner queues.now self.new) }
         ensures begun { OnOk result ((hand_of self.new.worker_queue.share).begun ≡ (hand_of self.old.worker_queue.share).begun) }
+        ensures done { OnOk result (self.new.worker_queue.done.items ≡ self.old.worker_queue.done.items ++ worker_queue.done.items) }
     {
         let shard = worker_queue.shard;
         if shard != self.worker_queue.shard {
@@ -77,24 +78,4 @@ impl<T: Drop> QueueOwner<T> {
         self.worker_queue.done.append(&mut done)?;
         Ok(())
     }
-}
-
-/// Takes out what stands in a queue still, where a worker stopped early.
-pub(crate) fn drain<T: Drop, R: Wait>(
-    rt: &R,
-    queue: &Queue<T>,
-    worker_queue: &mut WorkerQueue<T>,
-) -> Result<(), AllocError>
-    requires share { IsShareOf queue.now worker_queue.old.share }
-    requires whole { (hand_of worker_queue.old.share).parts ≡ all_parts }
-    requires accounts { Accounts (hand_of worker_queue.old.share) worker_queue.old.done.items }
-    ensures same { OnOk result (HaveBegun (hand_of worker_queue.old.share).begun worker_queue.new.done.items) }
-{
-    for _ in rt.forever() {
-        let Some(item) = queue.take(rt, &mut worker_queue.share) else {
-            return Ok(());
-        };
-        worker_queue.done.push(item)?;
-    }
-    Ok(())
 }
