@@ -1,7 +1,7 @@
 -- What is counted of a shard is what a log counts: of one in which nothing happened, and after a step, a restart or the end of an epoch.
-use Rattle.std.proofs.Common.{◌≡◌, ◌∙◌, ◌+◌, ◌≤◌, ◌++◌, ◌⊎◌, inl, inr, ℕ, zero, suc, Bool, true, false, List, [], ◌∷◌, length, map, Option, Some, None, refl, sym, ap, subst, arith}
+use Rattle.std.proofs.Common.{◌≡◌, ◌∙◌, ◌+◌, ◌≤◌, ◌++◌, ℕ, zero, suc, Bool, true, false, List, [], ◌∷◌, length, map, Some, refl, sym, ap, subst, arith}
 use Rattle.std.specs.Prelude.{◌%◌, ◌==◌, if◌then◌else◌, slice_get, slice_index_or}
-use Rattle.std.proofs.lemmas.Bool.{eqb-true, eqb-false, eq-eqb}
+use Rattle.std.proofs.lemmas.Bool.{eqb-true, eqb-false}
 use Rattle.std.proofs.lemmas.List.{append-nil}
 use Rattle.identifiers.specs.Class.{is_of_class}
 use Rattle.mg_model.specs.declared.events.Event.{Event}
@@ -10,9 +10,8 @@ use Rattle.mg_model.specs.declared.plans.PlanStep.{PlanStep}
 use Rattle.mg_model.specs.declared.plans.PlanStep.TheVariants.{Restarts}
 use Rattle.mg_model.specs.Plans.{PlanCall}
 use Rattle.mg_model.specs.Script.{Script}
-use Rattle.mg_model.specs.Shards.{HasIdentifiersLeft}
 use Rattle.mg_model.specs.World.{World, IsOpening, Occurs, Opened, Runs}
-use Rattle.mg_merge.specs.Identifiers.{executes_in, executes_of, most_executes}
+use Rattle.mg_merge.specs.Identifiers.{executes_in, most_executes}
 use Rattle.mg_reports.specs.Logs.{Counted, LogEntry, LogRuns, StepTaken, count_step, counted, epoch_ended, none_counted, restarted, steps_logged, took}
 use Rattle.planned_calls.specs.Lasting.{IdentifiersAreLeft}
 use Rattle.planned_calls.specs.Shards.{HasHappened, HasSameOpening, IsShard, IsWorldOf, ShardValue, opened_as}
@@ -21,12 +20,11 @@ use Rattle.planned_calls.specs.Parts.{opened_in}
 use Rattle.planned_calls.specs.RunShards.{IsOfRun}
 use Rattle.planned_calls.specs.Taking.{happened}
 use Rattle.planned_calls.specs.declared.call_count.CallCount.{CallCount}
-use Rattle.planned_calls.specs.declared.planned_call.TakenStep.{TakenStep}
 use Rattle.run_shards.proofs.CountedPlaces.{all_at}
 use Rattle.run_shards.proofs.EpochSteps.{call_advances, end_taken, entry_taken}
 use Rattle.run_shards.proofs.LogLemmas.{counted_more, ends_more, epochs_more, events_more, restarts_more, runs_more, steps_more}
 use Rattle.run_shards.proofs.StepLemmas.{at_call, steps_advance, steps_ended}
-use Rattle.run_shards.specs.Counting.{AreNoneCounted, AsksForRestart, IsAskedOf, IsCounted, IsLogged, IsNextCount, RaisesOne, TakesEnd, TakesRestart, TakesStep, all_restarts_logged, ends_logged, epochs_logged, events_logged, place_of, steps_so_far, steps_taken, taken_so_far}
+use Rattle.run_shards.specs.Counting.{AreNoneCounted, IsAskedOf, IsCounted, IsLogged, IsNextCount, TakesEnd, TakesRestart, TakesStep, all_restarts_logged, ends_logged, epochs_logged, events_logged, place_of, steps_so_far, steps_taken, taken_so_far}
 use Rattle.run_shards.specs.PlanSteps.{step_at}
 use Rattle.run_shards.specs.declared.shard_count.ShardCount.{ShardCount}
 

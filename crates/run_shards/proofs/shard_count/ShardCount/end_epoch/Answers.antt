@@ -1,5 +1,5 @@
 -- The log is one end of an epoch longer.
-use Rattle.std.proofs.Common.{◌≡◌, ◌∙◌, length, ap, sym}
+use Rattle.std.proofs.Common.{◌∙◌, length, ap, sym}
 use Rattle.run_shards.proofs.CountedLogs.{end_logged, still_of_run}
 use Rattle.run_shards.proofs.shard_count.ShardCount.end_epoch.Goals as goal
 

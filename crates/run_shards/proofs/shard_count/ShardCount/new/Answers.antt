@@ -1,5 +1,5 @@
 -- Nothing is counted of any call, and no place is anything but 0.
-use Rattle.std.proofs.Common.{◌≡◌, ◌∙◌, ℕ, List, length, refl, sym, ap}
+use Rattle.std.proofs.Common.{◌∙◌, ℕ, List, length, refl, sym, ap}
 use Rattle.std.specs.Prelude.{slice_index_or}
 use Rattle.run_shards.proofs.CountedLogs.{new_counted}
 use Rattle.run_shards.proofs.CountedPlaces.{none_yet, zeros}

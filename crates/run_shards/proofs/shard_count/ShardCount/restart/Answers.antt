@@ -1,5 +1,5 @@
 -- The log is one restart longer.
-use Rattle.std.proofs.Common.{◌≡◌, ◌∙◌, length, ap, sym}
+use Rattle.std.proofs.Common.{◌∙◌, length, ap, sym}
 use Rattle.run_shards.proofs.CountedLogs.{restart_logged, still_of_run}
 use Rattle.run_shards.proofs.shard_count.ShardCount.restart.Goals as goal
 
