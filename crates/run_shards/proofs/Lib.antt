@@ -3,6 +3,7 @@ pub mod CountedLogs
 pub mod CountedPlaces
 pub mod EpochSteps
 pub mod LogLemmas
+pub mod OpenLemmas
 pub mod StepLemmas
 pub mod TakenCounts
 pub use Rattle.planned_calls.proofs.Faults

@@ -1,6 +1,6 @@
 -- What a shard of a run counts of its calls, step after step. A reader should check that the steps that were taken in it make a log, by the plan's steps in their
 -- order, and that what is counted of a call is what the log counts. This profile's own.
-use Rattle.std.specs.Prelude.{◌≡◌, ℕ, zero, suc, ◌+◌, ◌≤◌, ◌%◌, ◌==◌, if◌then◌else◌, Bool, true, false, List, [], ◌∷◌, ◌++◌, length, take, Option, Some, None, slice_get, slice_index_or}
+use Rattle.std.specs.Prelude.{◌≡◌, ℕ, zero, suc, ◌+◌, ◌≤◌, ◌%◌, ◌==◌, if◌then◌else◌, Bool, true, false, List, [], ◌∷◌, ◌++◌, length, take, Some, None, slice_get, slice_index_or}
 use Rattle.std.specs.List.{All}
 use Rattle.identifiers.specs.Class.{is_of_class}
 use Rattle.mg_model.specs.declared.events.Event.{Event}

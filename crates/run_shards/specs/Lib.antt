@@ -1,4 +1,5 @@
 pub mod Counting
+pub mod Opening
 pub mod PlanSteps
 pub use Rattle.planned_calls.specs.Counts
 pub use Rattle.planned_calls.specs.Disagreements

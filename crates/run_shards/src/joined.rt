@@ -1,5 +1,5 @@
 //! What comes back once all workers are joined: the shards out of their locks, what is counted of their calls, and all calls.
-ghost use Rattle.std.specs.Prelude.{◌≡◌, IfOk, vec_len};
+ghost use Rattle.std.specs.Prelude.{◌≡◌, IfOk, map, vec_len};
 ghost use Rattle.planned_calls.specs.RunShards.{AreOfRun};
 ghost use Rattle.run_shards.specs.Counting.{AreCounted};
 
@@ -47,9 +47,11 @@ pub fn unlocked<'s, B: Running>(
     Ok(PlayedShards { shards, counts })
 }
 
-/// The calls of the plan, all of them. `Disagree` where one is away still, and `NoMemory` where memory ran out. This profile's own.
+/// The calls of the plan, all of them, in the order of their places. `Disagree` where one is away still, and `NoMemory` where memory ran out. This profile's
+/// own.
 pub fn all_planned<'s>(alloc: Global, places: Places<'s>) -> Result<Vec<PlannedCall<'s>>, RunFault>
-    ensures { IfOk result (λ planned_calls. vec_len planned_calls ≡ vec_len places.entry) }
+    ensures len { IfOk result (λ planned_calls. vec_len planned_calls ≡ vec_len places.entry) }
+    ensures same { IfOk result (λ planned_calls. map (λ planned. Some planned) planned_calls.items ≡ places.entry.items) }
 {
     let mut planned_calls = Vec::new(alloc);
     for place in places {

@@ -1,10 +1,11 @@
 //! A shard under its lock, with what is counted of its calls: all that is known of it, once the lock is let go, is that it is one of this run, and counted.
-ghost use Rattle.std.specs.Prelude.{◌≡◌, ◌%◌, ◌==◌, ◌<◌, [], OnOk, length};
+ghost use Rattle.std.specs.Prelude.{◌≡◌, ◌+◌, ◌%◌, ◌==◌, ◌<◌, [], OnOk, length};
 ghost use Rattle.mg_model.specs.declared.events.Event.TheVariants.{Restart};
 ghost use Rattle.planned_calls.specs.RunShards.{IsOfRun};
 ghost use Rattle.planned_calls.specs.Shards.{HasHappened};
 ghost use Rattle.run_shards.specs.Counting.{IsCounted};
 
+use crate::restarted::RestartedShards;
 use crate::run_plan::RunPlan;
 use crate::running::Running;
 use crate::shard_count::ShardCount;
@@ -79,8 +80,8 @@ impl<'s, B: Running> LockedShard<'s, B> {
         (shard, count, number)
     }
 
-    /// The next step of a call of the plan, which is no restart, is taken in its shard, and is counted: of its error is known what `PlannedCall::step` says, and
-    /// `Disagree` comes too where the plan has no such step of it.
+    /// The next step of a call of the plan, which is no restart, is taken in its shard, and is counted: of its error is known what `PlannedCall::step` says,
+    /// and `Disagree` comes too where the plan has no such step of it.
     pub fn step(
         &mut self,
         plan: &RunPlan<'_, B>,
@@ -92,21 +93,39 @@ impl<'s, B: Running> LockedShard<'s, B> {
         self.count.step(plan.plan(), &mut self.shard, planned)
     }
 
-    /// The gateway restarts (H.248.1 v1, 7.2.8: ServiceChange of method Restart), for a step of a call of the plan, of this shard or of another one. The error is
-    /// that of `Shard::restart`, and `Disagree` comes too where it isn't the next step of a call of this shard.
-    pub fn restart(&mut self, plan: &RunPlan<'_, B>, by: u32) -> Result<(), RunFault>
-        ensures { OnOk result (HasHappened self.old self.new Restart) }
+    /// The gateway restarts (H.248.1 v1, 7.2.8: ServiceChange of method Restart), for a step of a call of the plan, of this shard or of another one, and counts
+    /// itself among those that did. The error is that of `Shard::restart`, and `Disagree` comes too where it isn't the next step of a call of this shard, or
+    /// not the turn of this shard.
+    pub fn restart(
+        &mut self,
+        plan: &RunPlan<'_, B>,
+        by: u32,
+        restarted: &mut RestartedShards,
+    ) -> Result<(), RunFault>
+        ensures happened { OnOk result (HasHappened self.old self.new Restart) }
+        ensures turn { OnOk result (self.old.first ≡ restarted.old) }
+        ensures counted { OnOk result (restarted.new ≡ restarted.old + 1) }
     {
+        restarted.add(self.number)?;
         self.shard.keeps_its_run();
         let plan = plan.plan();
         let is_own = is_own(by, u32::from(plan.shards()), self.number);
         self.count.restart(plan, &mut self.shard, by, is_own)
     }
 
-    /// An epoch of all calls ends, and the gateway restarts. `Disagree` where a call of the shard has a step of it left.
-    pub fn end_epoch(&mut self, alloc: Global, plan: &RunPlan<'_, B>) -> Result<(), RunFault>
-        ensures { OnOk result (HasHappened self.old self.new Restart) }
+    /// An epoch of all calls ends, and the gateway restarts and counts itself among those that did. `Disagree` where a call of the shard has a step of it left,
+    /// or where it isn't the turn of this shard, and `NoMemory` where memory ran out.
+    pub fn end_epoch(
+        &mut self,
+        alloc: Global,
+        plan: &RunPlan<'_, B>,
+        restarted: &mut RestartedShards,
+    ) -> Result<(), RunFault>
+        ensures happened { OnOk result (HasHappened self.old self.new Restart) }
+        ensures turn { OnOk result (self.old.first ≡ restarted.old) }
+        ensures counted { OnOk result (restarted.new ≡ restarted.old + 1) }
     {
+        restarted.add(self.number)?;
         self.shard.keeps_its_run();
         let plan = plan.plan();
         let count = u32::from(plan.shards());

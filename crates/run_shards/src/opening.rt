@@ -4,14 +4,14 @@ ghost use Rattle.mg_model.specs.Numbers.{plan_calls};
 ghost use Rattle.mg_model.specs.Plans as plans;
 ghost use Rattle.planned_calls.specs.Shards.{opened_as};
 ghost use Rattle.planned_calls.specs.Parts.{one_in, opened_in};
+ghost use Rattle.run_shards.specs.Opening.{AreHandedOut, AreOpened, AreSeated, Begins};
 
 use crate::locked_shard::LockedShard;
 use crate::places::{self, Places};
 use crate::running::Running;
 use agent::Next;
 use composition::Checked;
-use mg_names::identifiers::CallNo;
-use planned_calls::{OpenFault, OpenedCall, PlannedCall, RunFault, Shard, opened_call};
+use planned_calls::{CallLog, OpenFault, OpenedCall, PlannedCall, RunFault, Shard, opened_call};
 use plans::{Plan, PlanCall};
 use std::alloc::{AllocError, Global};
 use std::sync::Mutex;
@@ -68,6 +68,7 @@ fn open_shard<'s, B: Running>(
     requires script { B.script ≡ checked.now.table }
     requires calls { B.calls ≡ plan.now.calls }
     requires count { B.count ≡ count }
+    ensures { IfOk result (λ opened. AreHandedOut checked.now.table (opened_in count number 0 plan.now.calls) opened.1.items) }
 {
     let calls = calls_of(alloc, plan.calls(), number, count)?;
     match Shard::open(alloc, checked, calls, number, count) {
@@ -80,32 +81,39 @@ fn open_shard<'s, B: Running>(
     }
 }
 
-/// Puts the calls of a shard, one of so many, at their numbers in the plan.
-fn seat<'s>(
-    alloc: Global,
-    nexts: Vec<Next<'s>>,
-    shard: u32,
-    count: u32,
-    places: &mut Places<'s>,
-) -> Result<(), RunFault>
-    ensures { vec_len places.new ≡ vec_len places.old }
+/// A call on its way, of which no step is begun.
+fn started<'s>(alloc: Global, call: Next<'s>) -> PlannedCall<'s>
+    ensures { Begins call.entry result }
 {
-    let mut number = shard;
+    let standing = call.call();
+    PlannedCall {
+        next: call,
+        standing,
+        log: CallLog {
+            trail: Vec::new(alloc),
+            begun: 0,
+            place: 0,
+        },
+    }
+}
+
+/// Puts calls at their numbers in the plan. `Disagree` where one has no place.
+fn seat<'s>(alloc: Global, nexts: Vec<Next<'s>>, places: &mut Places<'s>) -> Result<(), RunFault>
+    ensures len { vec_len places.new ≡ vec_len places.old }
+    ensures seated { OnOk result (AreSeated nexts.entry.items places.old.items places.new.items) }
+{
     for next in nexts {
-        let Some(place) = places.get_mut(number as usize) else {
+        let planned = started(alloc, next);
+        let Some(place) = places.get_mut(planned.standing.0 as usize) else {
             return Err(RunFault::Disagree);
         };
-        *place = Some(PlannedCall::new(alloc, next, CallNo(number)));
-        let Some(after) = number.checked_add(count) else {
-            return Err(RunFault::Disagree);
-        };
-        number = after;
+        *place = Some(planned);
     }
     Ok(())
 }
 
-/// All shards of a run, at most 16, each under its lock, and the calls of the plan at their numbers. `Disagree` where a shard can't open with its calls, and
-/// `NoMemory` where memory ran out. This profile's own.
+/// All shards of a run, at most 16, each under its lock, and the calls of the plan, each at its number, where it is opened and no step of it is begun.
+/// `Disagree` where a shard can't open with its calls, and `NoMemory` where memory ran out. This profile's own.
 pub fn open_all<'s, B: Running>(
     alloc: Global,
     checked: &'s Checked,
@@ -116,7 +124,9 @@ pub fn open_all<'s, B: Running>(
     requires script { B.script ≡ checked.now.table }
     requires calls { B.calls ≡ plan.now.calls }
     requires count { B.count ≡ plan.now.shards }
-    ensures { IfOk result (λ opened. vec_len opened.1 ≡ length plan.now.calls) }
+    ensures shards { IfOk result (λ opened. vec_len opened.0 ≡ plan.now.shards) }
+    ensures places { IfOk result (λ opened. vec_len opened.1 ≡ length plan.now.calls) }
+    ensures opened { IfOk result (λ opened. 0 < plan.now.shards → AreOpened checked.now.table plan.now.calls opened.1.items) }
 {
     let count = u32::from(plan.shards());
     let mut shards = Vec::new(alloc);
@@ -124,7 +134,7 @@ pub fn open_all<'s, B: Running>(
     for number in 0..count {
         let (kept, nexts) = open_shard(alloc, checked, plan, number, count)?;
         shards.push(Mutex::new(kept))?;
-        seat(alloc, nexts, number, count, &mut places)?;
+        seat(alloc, nexts, &mut places)?;
     }
     Ok((shards, places))
 }
