@@ -1,4 +1,5 @@
 mod Below
+mod OneWay
 mod Picked
 mod Reaching
 mod Seeing

@@ -1,5 +1,5 @@
 -- What calls tell of each warning.
-use Rattle.std.proofs.Common.{◌≡◌, ◌↔◌, ℕ, ◌<◌, Bool, true, false, not, IsTrue, List, length, Option, Result, IfOk, IfSome, IfNone, is_some, sym, subst}
+use Rattle.std.proofs.Common.{◌≡◌, ◌↔◌, ℕ, ◌<◌, Bool, true, false, not, IsTrue, List, length, Option, None, Result, IfOk, IfSome, IfNone, is_some, sym, subst}
 use Rattle.mg_names.specs.declared.kinds.Kind.{Kind}
 use Rattle.mg_model.specs.Script.{Script}
 use Rattle.mg_model.specs.Tables.{state_of, target_in}
@@ -11,7 +11,7 @@ use Rattle.call_ways.specs.declared.warning.Warning.{Warning}
 use Rattle.call_ways.specs.declared.warning.Warning.TheVariants as warning
 use Rattle.call_ways.specs.Points.{HasPoint}
 use Rattle.call_ways.specs.Seen.{IsSeen}
-use Rattle.call_ways.specs.Told.{Tells, TellsWithout}
+use Rattle.call_ways.specs.Told.{Tells, TellsShown, TellsWithout}
 use Rattle.call_ways.specs.Warnings.{IsHeldBy, IsWarning}
 use Rattle.call_ways.proofs.Below.{found_some, none_then, not_says}
 use Rattle.call_ways.proofs.Reaching.{seen_is_shown}
@@ -43,6 +43,15 @@ module _ {E : Type 0} (script : Script) (configs : List Words) (r : Result Bool 
       (λ holds tells entries all.
       let says = tells entries all in
       ((λ yes. let is = says.0 yes in (arrow, is.0, is.1)), (λ is. says.1 (is.1, is.2)))) told
+
+  pub note_swallowed : (s i : ℕ) (kind : Kind) → (state_of script s).is_end ≡ false → target_in (state_of script s).on i kind ≡ None
+      → IfOk r (λ holds. TellsShown script configs holds (sight.Raises s i kind))
+      → IfOk r (λ holds. Tells script configs holds (warning.NoteSwallowed s i kind))
+  note_swallowed s i kind no_end none told =
+      if_ok r (λ holds. TellsShown script configs holds (sight.Raises s i kind)) (λ holds. Tells script configs holds (warning.NoteSwallowed s i kind))
+      (λ holds tells entries all.
+      let says = tells entries all in
+      ((λ yes. (no_end, none, says.0 yes)), (λ is. says.1 is.2))) told
 
   pub line_deaf : (s i : ℕ) → i < length script.lines → IfOk r (λ holds. IsTrue holds ↔ IsSeen script configs (sight.Deafens s i))
       → IfOk r (λ holds. Tells script configs holds (warning.LineDeaf s i))

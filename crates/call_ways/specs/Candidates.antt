@@ -13,10 +13,19 @@ abbrev pub numbers : ℕ → List ℕ
 numbers zero = []
 numbers (suc n) = numbers n ++ n ∷ []
 
-abbrev pub of_line : ℕ → ℕ → List Warning
-of_line s i =
+-- of the arrows for a line, and of its lists
+abbrev pub of_arrows : ℕ → ℕ → List Warning
+of_arrows s i =
     warning.ArrowUnused s i On ∷ warning.ArrowUnused s i Of ∷ warning.ArrowUnused s i Fl ∷ warning.ArrowUnused s i Full
-    ∷ warning.ArrowUnused s i Part ∷ warning.LineDeaf s i ∷ []
+    ∷ warning.ArrowUnused s i Part ∷ []
+
+abbrev pub of_lists : ℕ → ℕ → List Warning
+of_lists s i =
+    warning.NoteSwallowed s i On ∷ warning.NoteSwallowed s i Of ∷ warning.NoteSwallowed s i Fl ∷ warning.NoteSwallowed s i Full
+    ∷ warning.NoteSwallowed s i Part ∷ warning.LineDeaf s i ∷ []
+
+abbrev pub of_line : ℕ → ℕ → List Warning
+of_line s i = of_arrows s i ++ of_lists s i
 
 abbrev pub of_state : Script → ℕ → List Warning
 of_state script s =

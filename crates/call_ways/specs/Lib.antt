@@ -1,5 +1,6 @@
 pub mod Warnings
 pub mod Candidates
+pub mod Hearing
 pub mod Seen
 pub mod Points
 pub mod Told

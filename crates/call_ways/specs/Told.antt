@@ -17,5 +17,10 @@ abbrev pub TellsWithout : Script → List Words → Bool → Sight → Sight →
 TellsWithout script configs holds one other =
     (entries : List Entry) → AreAll script entries configs → IsTrue holds ↔ IsShownWithout script entries one other
 
+-- the answer is yes exactly where some of them shows it
+abbrev pub TellsShown : Script → List Words → Bool → Sight → Type 0
+TellsShown script configs holds what =
+    (entries : List Entry) → AreAll script entries configs → IsTrue holds ↔ IsShown script entries what
+
 abbrev pub Tells : Script → List Words → Bool → Warning → Type 0
 Tells script configs holds what = (entries : List Entry) → AreAll script entries configs → IsTrue holds ↔ IsWarning script entries what

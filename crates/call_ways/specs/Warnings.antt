@@ -1,11 +1,12 @@
--- What a certificate that is a yes says without need, what of its script no call uses, and the lines that no call hears. A reader should check that each
--- warning is about the configurations that calls come to through listed ones, and that all that is so is warned of. This profile's own.
-use Rattle.std.specs.Prelude.{◌≡◌, ◌⊎◌, ℕ, ◌<◌, false, IsTrue, List, [], ◌∷◌, length, Some, is_some, slice_get}
+-- What a certificate that is a yes says without need, what of its script no call uses, the lines that no call hears, and the notes that no state takes. A
+-- reader should check that each warning is about the configurations that calls come to through listed ones, and that all that is so is warned of. This
+-- profile's own.
+use Rattle.std.specs.Prelude.{◌≡◌, ◌⊎◌, ℕ, ◌<◌, false, IsTrue, List, [], ◌∷◌, length, Some, None, is_some, slice_get}
 use Rattle.mg_names.specs.declared.phases.LinkPhase.TheVariants.{Resting}
 use Rattle.mg_model.specs.Script.{Script}
 use Rattle.mg_model.specs.Tables.{state_of, items_of, raises, target_in}
 use Rattle.mg_model.specs.Configuration.{Configuration}
-use Rattle.mg_model.specs.Paths.{AreJoined}
+use Rattle.mg_model.specs.Paths.{AreJoined, HasPath}
 use Rattle.mg_model.specs.Steps.{Step, steps_of}
 use Rattle.mg_model.specs.Entries.{Entry, IsPointOf, Includes}
 use Rattle.entry_table.specs.Index.{places_of}
@@ -15,7 +16,7 @@ use Rattle.call_ways.specs.declared.warning.Warning.TheVariants as warning
 use Rattle.call_ways.specs.declared.sights.Sight.{Sight}
 use Rattle.call_ways.specs.declared.sights.Sight.TheVariants as sight
 
--- ---- what a configuration shows
+-- ---- what a configuration shows; where there is a path of media from line i to line j, j hears i
 
 abbrev pub RestsIn : Configuration → ℕ → Type 0
 RestsIn c s = (c.state ≡ s) × (c.link ≡ Resting)
@@ -27,6 +28,10 @@ Shows script c (sight.Leaves s) =
 Shows script c (sight.Raises s i kind) = RestsIn c s × IsTrue (raises (items_of script (c.events i)) kind)
 Shows script c (sight.Joins s pair) = (c.state ≡ s) × AreJoined c pair.first pair.second
 Shows script c (sight.Deafens s i) = RestsIn c s × (items_of script (c.events i) ≡ [])
+Shows script c (sight.Rests s) = RestsIn c s
+Shows script c (sight.Hears s i j) = RestsIn c s × HasPath c i j
+Shows script c (sight.Misses s i j) = RestsIn c s × (HasPath c i j → ⊥)
+Shows script c (sight.JoinsAt s link pair) = (c.state ≡ s) × (c.link ≡ link) × AreJoined c pair.first pair.second
 
 -- some configuration that calls come to shows it
 abbrev pub IsShown : Script → List Entry → Sight → Type 0
@@ -74,6 +79,8 @@ IsWarning script entries (warning.StateNeverLeft s) =
 IsWarning script entries (warning.ArrowUnused s i kind) =
     IsTrue (is_some (target_in (state_of script s).on i kind)) × IsShown script entries (sight.Stands s)
     × (IsShown script entries (sight.Raises s i kind) → ⊥)
+IsWarning script entries (warning.NoteSwallowed s i kind) =
+    ((state_of script s).is_end ≡ false) × (target_in (state_of script s).on i kind ≡ None) × IsShown script entries (sight.Raises s i kind)
 IsWarning script entries (warning.MarkUnneeded s pair) =
     IsShown script entries (sight.Stands s) × (IsShown script entries (sight.Joins s pair) → ⊥)
 IsWarning script entries (warning.LineDeaf s i) = (i < length script.lines) × IsShown script entries (sight.Deafens s i)

@@ -3,7 +3,7 @@ ghost use Rattle.std.specs.Prelude.{◌≡◌, ◌∷◌, ◌++◌, [], IfOk, On
 ghost use Rattle.std.specs.List.{flat_map};
 ghost use Rattle.mg_model.specs.Tables.{state_of};
 ghost use Rattle.call_ways.specs.declared.warning.Warning.TheVariants as Warning;
-ghost use Rattle.call_ways.specs.Candidates.{candidates_of, numbers, of_entry, of_line, of_state};
+ghost use Rattle.call_ways.specs.Candidates.{candidates_of, numbers, of_arrows, of_entry, of_line, of_lists, of_state};
 
 use crate::warning::Warning;
 use entry_table::Cert;
@@ -13,9 +13,9 @@ use mg_names::slots::Slot;
 use script_table::Script;
 use std::alloc::{AllocError, Global};
 
-/// Adds what can be warned of a line in a state.
-fn add_line(list: &mut Vec<Warning>, state: u8, line: Slot) -> Result<(), AllocError>
-    ensures { OnOk result (list.new.items ≡ list.old.items ++ of_line state line) }
+/// Adds what can be warned of the arrows that a state has for a line.
+fn add_arrows(list: &mut Vec<Warning>, state: u8, line: Slot) -> Result<(), AllocError>
+    ensures { OnOk result (list.new.items ≡ list.old.items ++ of_arrows state line) }
 {
     list.extend_from_slice(&[
         Warning::ArrowUnused(state, line, Kind::On),
@@ -23,8 +23,29 @@ fn add_line(list: &mut Vec<Warning>, state: u8, line: Slot) -> Result<(), AllocE
         Warning::ArrowUnused(state, line, Kind::Fl),
         Warning::ArrowUnused(state, line, Kind::Full),
         Warning::ArrowUnused(state, line, Kind::Part),
+    ])
+}
+
+/// Adds what can be warned of the lists that a line has in a state.
+fn add_lists(list: &mut Vec<Warning>, state: u8, line: Slot) -> Result<(), AllocError>
+    ensures { OnOk result (list.new.items ≡ list.old.items ++ of_lists state line) }
+{
+    list.extend_from_slice(&[
+        Warning::NoteSwallowed(state, line, Kind::On),
+        Warning::NoteSwallowed(state, line, Kind::Of),
+        Warning::NoteSwallowed(state, line, Kind::Fl),
+        Warning::NoteSwallowed(state, line, Kind::Full),
+        Warning::NoteSwallowed(state, line, Kind::Part),
         Warning::LineDeaf(state, line),
     ])
+}
+
+/// Adds what can be warned of a line in a state.
+fn add_line(list: &mut Vec<Warning>, state: u8, line: Slot) -> Result<(), AllocError>
+    ensures { OnOk result (list.new.items ≡ list.old.items ++ of_line state line) }
+{
+    add_arrows(list, state, line)?;
+    add_lists(list, state, line)
 }
 
 /// Adds what can be warned of the lines in a state.

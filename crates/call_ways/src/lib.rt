@@ -4,15 +4,17 @@
 //! `trace`), and so are all that calls come to (`reached`). Two configurations have one key exactly where they are equal (`key`), so a table of
 //! keys tells which were found.
 //!
-//! What a yes is worth: it says that nothing bad can happen; a warning tells a place at which it says so of nothing, or of a telephone that nobody
-//! can use. All that can be warned of is listed (`candidates`), each is held against the configurations that calls come to (`sights`), against the
-//! points of its entry (`points`) or against the other entries (`holders`), and what is so is kept (`warnings`). That no call of the
-//! gateway's association comes to anything else, in any run, is a law over the model (`laws`). This profile's own.
+//! What a yes is worth: it says that nothing bad can happen; a warning tells a place at which it says so of nothing, of a telephone that nobody
+//! can use, or of a note that nothing comes of (`swallowed`). All that can be warned of is listed (`candidates`), each is held against the
+//! configurations that calls come to (`sights`, with who hears whom by `hearing`), against the points of its entry (`points`) or against the other
+//! entries (`holders`), and what is so is kept (`warnings`). That no call of the gateway's association comes to anything else, in any run, is a law
+//! over the model (`laws`). This profile's own.
 #![tactic(auto)]
 
 mod candidates;
 pub mod find;
 mod found;
+mod hearing;
 mod holders;
 pub mod key;
 pub mod laws;
@@ -20,6 +22,7 @@ mod points;
 pub mod reached;
 mod search;
 mod sights;
+mod swallowed;
 mod trace;
 mod warning;
 mod warnings;
@@ -27,5 +30,6 @@ pub mod way;
 
 pub use holders::find_holder;
 pub use points::find_unreached;
+pub use sights::{Sight, is_shown};
 pub use warning::Warning;
 pub use warnings::find_warnings;

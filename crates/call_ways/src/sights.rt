@@ -1,12 +1,16 @@
 //! What configurations that calls come to show.
-ghost use Rattle.std.specs.Prelude.{◌↔◌, IsTrue, IfOk};
+ghost use Rattle.std.specs.Prelude.{◌↔◌, IsTrue, IfOk, List};
 ghost use Rattle.mg_model.specs.Script.{Script as Table};
+ghost use Rattle.mg_model.specs.Entries.{Entry as Listed};
 ghost use Rattle.configuration.specs.Config.{configuration_of};
 ghost use Rattle.closure.specs.Shown.{shown};
-ghost use Rattle.call_ways.specs.Warnings.{RestsIn, Shows};
+ghost use Rattle.call_ways.specs.Ways.{AreAll};
+ghost use Rattle.call_ways.specs.Warnings.{IsShown, RestsIn, Shows};
 ghost use Rattle.call_ways.specs.Seen.{IsSeen, LeadAway};
 ghost use Rattle.call_ways.specs.declared.sights.Sight.TheVariants as Sight;
 
+use crate::hearing::has_path;
+use crate::reached::Reached;
 use closure::steps::steps;
 use configuration::config::Config;
 use configuration::config::paths::Ways;
@@ -18,9 +22,9 @@ use mg_names::slots::Slot;
 use script_table::Script;
 use std::alloc::{AllocError, Global};
 
-/// What a configuration may show. States go by their places, from 0.
+/// What a configuration may show. States go by their places, from 0. This profile's own.
 #[derive(Clone, Copy, Debug, PartialEq, Eq)]
-pub(crate) enum Sight {
+pub enum Sight {
     /// It is of this state.
     Stands(u8),
     /// It is of this state, and a step leads from it to another one.
@@ -31,6 +35,14 @@ pub(crate) enum Sight {
     Joins(u8, Pair),
     /// It rests in this state, with a list for this line that has no events.
     Deafens(u8, Slot),
+    /// It rests in this state.
+    Rests(u8),
+    /// It rests in this state, and media goes from the one line to the other: the second hears the first.
+    Hears(u8, Slot, Slot),
+    /// It rests in this state, and no media goes from the one line to the other.
+    Misses(u8, Slot, Slot),
+    /// It is of this state, its request has come so far, and these two lines are joined.
+    JoinsAt(u8, LinkPhase, Pair),
 }
 
 /// Whether a configuration rests in a state.
@@ -97,6 +109,36 @@ fn deafens(script: &Script, config: &Config, state: u8, line: Slot) -> bool
     script.list(config.events(line)).is_empty()
 }
 
+/// Whether a configuration rests in a state, and media goes from one line to another.
+fn hears(config: &Config, state: u8, from: Slot, to: Slot) -> bool
+    ensures { (script : Table) → IsTrue result ↔ Shows script (configuration_of config.now) (Sight.Hears state from to) }
+{
+    if !rests_in(config, state) {
+        return false;
+    }
+    has_path(config, from, to)
+}
+
+/// Whether a configuration rests in a state, and no media goes from one line to another.
+fn misses(config: &Config, state: u8, from: Slot, to: Slot) -> bool
+    ensures { (script : Table) → IsTrue result ↔ Shows script (configuration_of config.now) (Sight.Misses state from to) }
+{
+    if !rests_in(config, state) {
+        return false;
+    }
+    !has_path(config, from, to)
+}
+
+/// Whether a configuration is of a state, its request has come so far, and it joins two lines.
+fn joins_at(config: &Config, state: u8, link: LinkPhase, pair: Pair) -> bool
+    ensures { (script : Table) → IsTrue result ↔ Shows script (configuration_of config.now) (Sight.JoinsAt state link pair) }
+{
+    if config.link() != link {
+        return false;
+    }
+    joins(config, state, pair)
+}
+
 /// Whether a configuration shows something. The only error is running out of memory.
 fn shows(alloc: Global, script: &Script, config: &Config, sight: &Sight) -> Result<bool, AllocError>
     ensures { IfOk result (λ holds. IsTrue holds ↔ Shows script.now (configuration_of config.now) sight.now) }
@@ -107,6 +149,10 @@ fn shows(alloc: Global, script: &Script, config: &Config, sight: &Sight) -> Resu
         Sight::Raises(state, line, kind) => Ok(raises(script, config, state, line, kind)),
         Sight::Joins(state, pair) => Ok(joins(config, state, pair)),
         Sight::Deafens(state, line) => Ok(deafens(script, config, state, line)),
+        Sight::Rests(state) => Ok(rests_in(config, state)),
+        Sight::Hears(state, from, to) => Ok(hears(config, state, from, to)),
+        Sight::Misses(state, from, to) => Ok(misses(config, state, from, to)),
+        Sight::JoinsAt(state, link, pair) => Ok(joins_at(config, state, link, pair)),
     }
 }
 
@@ -125,4 +171,17 @@ pub(crate) fn is_seen(
         }
     }
     Ok(false)
+}
+
+/// Whether some configuration that calls come to shows something, where these are those. The only error is running out of memory.
+pub fn is_shown(
+    alloc: Global,
+    script: &Script,
+    reached: &Reached,
+    sight: &Sight,
+) -> Result<bool, AllocError>
+    ensures { IfOk result (λ holds. (entries : List Listed) → AreAll script.now entries reached.now
+        → IsTrue holds ↔ IsShown script.now entries sight.now) }
+{
+    is_seen(alloc, script, reached.configs(), sight)
 }

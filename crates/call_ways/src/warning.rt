@@ -3,8 +3,8 @@ use mg_model::transitions::Pair;
 use mg_names::kinds::Kind;
 use mg_names::slots::Slot;
 
-/// Something of a script or of its certificate that no call uses, or a line that no call hears. States and entries go by their places, from 0. This
-/// profile's own.
+/// Something of a script or of its certificate that no call uses, a line that no call hears, or a note that no state takes. States and entries go by their
+/// places, from 0. This profile's own.
 #[derive(Clone, Copy, Debug, PartialEq, Eq)]
 pub enum Warning {
     /// No entry is of this state.
@@ -13,6 +13,9 @@ pub enum Warning {
     StateNeverLeft(u8),
     /// This state says where a note of this line and kind leads. Calls come to it, and none rests in it with a list for that line that raises one.
     ArrowUnused(u8, Slot, Kind),
+    /// A call rests in this state, which isn't an end, with a list for this line that raises a note of this kind, and the state doesn't say where that leads:
+    /// the note is used up, and nothing happens.
+    NoteSwallowed(u8, Slot, Kind),
     /// Calls come to this state, and in none are the lines of this pair joined, which it marks as talking.
     MarkUnneeded(u8, Pair),
     /// A call rests in this state while this line has a list without events: nothing that its user does is heard.

@@ -13,6 +13,7 @@ use crate::holders::find_holder;
 use crate::points::first_point;
 use crate::reached::Reached;
 use crate::sights::{Sight, is_seen};
+use crate::swallowed::is_note_swallowed;
 use crate::warning::Warning;
 use entry_table::Cert;
 use mg_names::kinds::Kind;
@@ -115,6 +116,9 @@ fn is_warning(
         Warning::StateNeverLeft(state) => is_never_left(alloc, script, reached, state),
         Warning::ArrowUnused(state, line, kind) => {
             is_arrow_unused(alloc, script, reached, state, line, kind)
+        }
+        Warning::NoteSwallowed(state, line, kind) => {
+            is_note_swallowed(alloc, script, reached, state, line, kind)
         }
         Warning::MarkUnneeded(state, pair) => {
             let joined = Sight::Joins(state, pair);

@@ -17,6 +17,12 @@ returns-in-ArrowUnused c =
     told_of c.args.script.now c.args.cert.now c.args.reached.now c.requires c.is_arrow_unused.result
     (warning.ArrowUnused arrow.state arrow.line arrow.kind) c.args.warning.now arrow.is c.is_arrow_unused.ensures
 
+pub returns-in-NoteSwallowed : goal.returns-in-NoteSwallowed
+returns-in-NoteSwallowed c =
+    let note = c.in-NoteSwallowed in
+    told_of c.args.script.now c.args.cert.now c.args.reached.now c.requires c.is_note_swallowed.result
+    (warning.NoteSwallowed note.state note.line note.kind) c.args.warning.now note.is c.is_note_swallowed.ensures
+
 pub returns-in-MarkUnneeded : goal.returns-in-MarkUnneeded
 returns-in-MarkUnneeded c =
     let mark = c.in-MarkUnneeded in
