@@ -1,5 +1,12 @@
 mod Below
 mod OneWay
+mod Executed
+mod FateSets
+mod Members
+mod Telling
+mod OneMore
+mod Over
+mod Passing
 mod Picked
 mod Reaching
 mod Seeing
@@ -19,3 +26,6 @@ pub mod Shown
 pub mod Steps
 pub mod Tracing
 pub mod Followed
+pub mod GoneOver
+pub mod SameCommands
+pub mod Sending

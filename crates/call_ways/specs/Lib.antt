@@ -1,3 +1,10 @@
+pub mod Numbers
+pub mod Arrows
+pub mod Fates
+pub mod Sending
+pub mod Crossed
+pub mod Passing
+pub mod Meeting
 pub mod Warnings
 pub mod Candidates
 pub mod Hearing
@@ -9,3 +16,4 @@ pub mod Ways
 pub mod Search
 pub mod Reached
 pub mod Followed
+pub mod Executed

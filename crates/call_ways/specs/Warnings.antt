@@ -10,7 +10,12 @@ use Rattle.mg_model.specs.Paths.{AreJoined, HasPath}
 use Rattle.mg_model.specs.Steps.{Step, steps_of}
 use Rattle.mg_model.specs.Entries.{Entry, IsPointOf, Includes}
 use Rattle.entry_table.specs.Index.{places_of}
+use Rattle.call_ways.specs.Arrows.{IsEnteredEmpty, IsEnteredSending, arrows_of}
+use Rattle.call_ways.specs.Fates.{HasFate}
 use Rattle.call_ways.specs.Ways.{ComesTo}
+use Rattle.call_ways.specs.declared.arrows.Arrow.{Arrow}
+use Rattle.call_ways.specs.declared.fates.Fate.{Fate}
+use Rattle.call_ways.specs.declared.fates.Fate.TheVariants as fate
 use Rattle.call_ways.specs.declared.warning.Warning.{Warning}
 use Rattle.call_ways.specs.declared.warning.Warning.TheVariants as warning
 use Rattle.call_ways.specs.declared.sights.Sight.{Sight}
@@ -70,6 +75,28 @@ pub record IsHeldBy (entries : List Entry) (e o : ℕ) : Type 0 where
   pub held : AllPointsIn entry other
   pub earlier : AllPointsIn other entry → o < e
 
+-- ---- commands
+
+-- on some arrow of the script that leads to a state, this becomes of the state's command at a place
+abbrev pub IsMet : Script → List Entry → ℕ → ℕ → Fate → Type 0
+IsMet script entries s place it =
+    (a : ℕ) × ((arrow : Arrow) × ((slice_get (arrows_of script) a ≡ Some arrow) × ((arrow.to ≡ s) × HasFate script entries arrow place it)))
+
+-- on the arrow at a place its command is refused, and never done
+pub record IsNeverDone (script : Script) (entries : List Entry) (a place : ℕ) : Type 0 where
+  pub arrow : Arrow
+  pub at_place : slice_get (arrows_of script) a ≡ Some arrow
+  pub refused : HasFate script entries arrow place fate.Refused
+  pub never_done : HasFate script entries arrow place fate.Done → ⊥
+
+-- the arrow at a place leads to a state that has commands, and each request of a call that enters over it is empty
+pub record IsEmptyEachTime (script : Script) (entries : List Entry) (a : ℕ) : Type 0 where
+  pub arrow : Arrow
+  pub at_place : slice_get (arrows_of script) a ≡ Some arrow
+  pub has_commands : (state_of script arrow.to).commands ≡ [] → ⊥
+  pub empty : IsEnteredEmpty script entries arrow
+  pub never_sent : IsEnteredSending script entries arrow → ⊥
+
 -- ---- warnings
 
 abbrev pub IsWarning : Script → List Entry → Warning → Type 0
@@ -84,6 +111,10 @@ IsWarning script entries (warning.NoteSwallowed s i kind) =
 IsWarning script entries (warning.MarkUnneeded s pair) =
     IsShown script entries (sight.Stands s) × (IsShown script entries (sight.Joins s pair) → ⊥)
 IsWarning script entries (warning.LineDeaf s i) = (i < length script.lines) × IsShown script entries (sight.Deafens s i)
+IsWarning script entries (warning.CommandUnsent s place) =
+    IsMet script entries s place fate.LeftOut × ((it : Fate) → (it ≡ fate.LeftOut → ⊥) → IsMet script entries s place it → ⊥)
+IsWarning script entries (warning.CommandRefused a place) = IsNeverDone script entries a place
+IsWarning script entries (warning.RequestEmpty a) = IsEmptyEachTime script entries a
 IsWarning script entries (warning.EntryUnreached e) = (p : ℕ) → IsReached script entries e p → ⊥
 IsWarning script entries (warning.EntryHeld e) = (o : ℕ) × IsHeldBy entries e o
 IsWarning script entries (warning.PointUnreached e) =

@@ -1,4 +1,5 @@
-//! That runs follow ways.
+//! That runs follow ways, and that what is told of commands goes with the steps of the check.
+ghost use Rattle.call_ways.specs.Executed.{FatesGoWithSteps};
 ghost use Rattle.call_ways.specs.Followed.{RunsFollowWays};
 
 /// Where no obligation is broken, a world of a run shows of each call of the gateway's association a configuration that calls come to, with its state: for any
@@ -6,4 +7,9 @@ ghost use Rattle.call_ways.specs.Followed.{RunsFollowWays};
 /// any run.
 pub fn runs_follow_ways()
     ensures { RunsFollowWays }
+{}
+
+/// Where a command of a request that is sent is refused, no step of the check executes the request; where none is, one does.
+pub fn fates_go_with_steps()
+    ensures { FatesGoWithSteps }
 {}

@@ -3,8 +3,8 @@ use mg_model::transitions::Pair;
 use mg_names::kinds::Kind;
 use mg_names::slots::Slot;
 
-/// Something of a script or of its certificate that no call uses, a line that no call hears, or a note that no state takes. States and entries go by their
-/// places, from 0. This profile's own.
+/// Something of a script or of its certificate that no call uses, a line that no call hears, a note that no state takes, or a command that no call gets done.
+/// States, their commands, arrows (`arrows`) and entries go by their places, from 0. This profile's own.
 #[derive(Clone, Copy, Debug, PartialEq, Eq)]
 pub enum Warning {
     /// No entry is of this state.
@@ -20,6 +20,12 @@ pub enum Warning {
     MarkUnneeded(u8, Pair),
     /// A call rests in this state while this line has a list without events: nothing that its user does is heard.
     LineDeaf(u8, Slot),
+    /// Calls enter this state, and the command at this place is left out of each of its requests.
+    CommandUnsent(u8, usize),
+    /// On this arrow the command at this place of the state that it leads to is refused, and never done.
+    CommandRefused(usize, usize),
+    /// This arrow leads to a state that has commands, calls go over it, and each time the request is empty.
+    RequestEmpty(usize),
     /// No call comes to a point of this entry.
     EntryUnreached(usize),
     /// Each point of this entry is in another one of its state too.

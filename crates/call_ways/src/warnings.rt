@@ -3,12 +3,15 @@ ghost use Rattle.std.specs.Prelude.{◌≡◌, ◌↔◌, ◌++◌, ◌∷◌, [
 ghost use Rattle.mg_model.specs.Script.{Script as Table};
 ghost use Rattle.call_ways.specs.Ways.{AreAll};
 ghost use Rattle.call_ways.specs.Candidates.{candidates_of};
+ghost use Rattle.call_ways.specs.Fates.{AreCrossings};
 ghost use Rattle.call_ways.specs.Points.{HasPoint};
 ghost use Rattle.call_ways.specs.Told.{Tells, TellsWithout};
 ghost use Rattle.call_ways.specs.Warnings.{ArePicked, IsWarning};
 ghost use Rattle.call_ways.specs.declared.warning.Warning.TheVariants as Warning;
 
 use crate::candidates::{candidates, push};
+use crate::commands::{is_refused, is_request_empty, is_unsent};
+use crate::crossings::Crossing;
 use crate::holders::find_holder;
 use crate::points::first_point;
 use crate::reached::Reached;
@@ -106,9 +109,11 @@ fn is_warning(
     script: &Script,
     cert: &Cert,
     reached: &Reached,
+    crossings: &[Crossing],
     warning: &Warning,
 ) -> Result<bool, AllocError>
-    requires { AreAll script.now cert.now reached.now }
+    requires all { AreAll script.now cert.now reached.now }
+    requires crossings { AreCrossings script.now cert.now crossings.now }
     ensures { IfOk result (λ holds. IsTrue holds ↔ IsWarning script.now cert.now warning.now) }
 {
     match *warning {
@@ -125,6 +130,9 @@ fn is_warning(
             is_shown_without(alloc, script, reached, &Sight::Stands(state), &joined)
         }
         Warning::LineDeaf(state, line) => is_line_deaf(alloc, script, reached, state, line),
+        Warning::CommandUnsent(state, place) => Ok(is_unsent(crossings, state, place)),
+        Warning::CommandRefused(arrow, place) => Ok(is_refused(crossings, arrow, place)),
+        Warning::RequestEmpty(arrow) => Ok(is_request_empty(script, crossings, arrow)),
         Warning::EntryUnreached(place) => Ok(!has_point(cert, reached, place, true)),
         Warning::EntryHeld(place) => Ok(find_holder(cert, place).is_some()),
         Warning::PointUnreached(place) => {
@@ -146,21 +154,23 @@ fn add_if(found: &mut Vec<Warning>, holds: bool, warning: &Warning) -> Result<()
     Ok(())
 }
 
-/// All warnings of a script and a certificate that is a yes, state by state and entry by entry, where these are the configurations that calls come to. The
-/// only error is running out of memory.
+/// All warnings of a script and a certificate that is a yes, state by state, arrow by arrow and entry by entry, where these are the configurations that calls
+/// come to, and what they tell of the arrows. The only error is running out of memory.
 pub fn find_warnings(
     alloc: Global,
     script: &Script,
     cert: &Cert,
     reached: &Reached,
+    crossings: &[Crossing],
 ) -> Result<Vec<Warning>, AllocError>
-    requires { AreAll script.now cert.now reached.now }
+    requires all { AreAll script.now cert.now reached.now }
+    requires crossings { AreCrossings script.now cert.now crossings.now }
     ensures { IfOk result (λ found. ArePicked script.now cert.now (candidates_of script.now cert.now) found.items) }
 {
     let all = candidates(alloc, script, cert)?;
     let mut found = Vec::new(alloc);
     for warning in all.as_slice() {
-        let holds = is_warning(alloc, script, cert, reached, warning)?;
+        let holds = is_warning(alloc, script, cert, reached, crossings, warning)?;
         add_if(&mut found, holds, warning)?;
     }
     Ok(found)

@@ -1,7 +1,8 @@
 -- What can be warned of the entries so far was added.
 use Rattle.std.proofs.Common.{◌≡◌, ◌++◌}
 use Rattle.std.specs.List.{flat_map}
-use Rattle.call_ways.specs.Candidates.{numbers, of_entry}
+use Rattle.call_ways.specs.Candidates.{of_entry}
+use Rattle.call_ways.specs.Numbers.{numbers}
 use Rattle.call_ways.proofs.candidates.add_entries.Given as goal
 
 abbrev pub invariant-loop-place : goal.invariant-loop-place

@@ -3,7 +3,8 @@ use Rattle.std.proofs.Common.{◌≡◌, ◌∙◌, ◌∷◌, [], ◌+◌, ◌+
 use Rattle.std.specs.List.{flat_map}
 use Rattle.std.proofs.lemmas.List.{flat_map_more}
 use Rattle.call_ways.specs.declared.warning.Warning.{Warning}
-use Rattle.call_ways.specs.Candidates.{numbers, of_state}
+use Rattle.call_ways.specs.Candidates.{of_state}
+use Rattle.call_ways.specs.Numbers.{numbers}
 use Rattle.call_ways.proofs.candidates.add_states.Goals as goal
 
 one_more : (n : ℕ) → numbers (n + 1) ≡ numbers n ++ n ∷ []

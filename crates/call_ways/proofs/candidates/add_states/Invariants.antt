@@ -1,7 +1,8 @@
 -- What can be warned of the states so far was added.
 use Rattle.std.proofs.Common.{◌≡◌, ◌++◌}
 use Rattle.std.specs.List.{flat_map}
-use Rattle.call_ways.specs.Candidates.{numbers, of_state}
+use Rattle.call_ways.specs.Candidates.{of_state}
+use Rattle.call_ways.specs.Numbers.{numbers}
 use Rattle.call_ways.proofs.candidates.add_states.Given as goal
 
 abbrev pub invariant-loop-state : goal.invariant-loop-state
