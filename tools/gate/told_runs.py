@@ -18,21 +18,106 @@ DIVIDER = b"%%\n"
 FILES = ("script.toml", "certificate.json", "plan.toml")
 # What is told beside the steps of a call: no step of it, and the step that another call has.
 BESIDE = ("end of an epoch", "restart of another call")
-# Steps of a call of examples/watch on one gateway with nobody else, with what each comes to: an event, a restart, or the reason for which it is idle. In the
-# first row the note of the first step is lost, so that the call never leaves its first state; in the second it comes late.
+# What the reasons name that name something, each in one of these ways.
+NAMES = {
+    "lost": ({"call_association", "gateway_association"},),
+    "not_awaited": ({"expected", "came"}, {"expected"}, {"came"}),
+    "not_new": ({"note_number"},),
+    "other_association": ({"note_number"},),
+    "not_begun": ({"association"},),
+    "not_of_call": ({"on_line"},),
+    "not_on_line": ({"on_line"},),
+    "numbers_end": ({"which"},),
+}
+# Steps of a call of an example on one gateway with nobody else, with what each comes to: an event, a restart, or the reason for which it is idle; the lines of
+# the report; and what is said of each idle step. In the first row the note of the first step is lost, so that the call never leaves its first state; in the
+# second it comes late; in the third it comes again, to a call at rest; in the fourth an older association sent it; and in the last a reply of an older
+# association comes.
 ROWS = (
     (
         "the note is lost",
+        "watch",
         "off a=event execute=nothing_sent reply=nothing_sent pass=rests timer=no_timer off a=not_on_line on a=event note 2=nothing_sent "
         "hear=nothing_to_hear begin=rests end a cg/bt=not_on_line flash a=not_on_line digit a 5=not_on_line pause a=not_on_line",
         ("call 0 idle resting events=2 idle=12",),
+        (
+            "the call has sent no request",
+            "the gateway has sent the call no reply",
+            "the call rests, and has no empty request to go on from",
+            "the state has no timer",
+            "line a is off hook already",
+            "the gateway has sent the call no note with this number",
+            "the call is in the association of its gateway already",
+            "the call rests in a state that is no end, and another begins only where it has ended",
+            "that signal doesn't play on line a",
+            "line a is on hook, and only one that is off hook is flashed",
+            "line a is on hook, and only one that is off hook dials",
+            "no digit map of line a is collecting symbols",
+        ),
     ),
     (
         "the note comes late",
+        "watch",
         "off a=event note 1=event execute 2=nothing_sent note=no_note_waits note 1=waits timer=waits begin=waits pass=not_awaited "
         "execute refuse 0=event reply=event reply 1=not_awaited reply=not_awaited execute=event reply=event pass=event reply=has_ended note 1=has_ended "
         "timer=has_ended pass=has_ended restart=restart begin=lost hear=event execute=event reply=event pass=event begin=event note=no_note_waits",
         ("call 0 done retired events=11 idle=13", "call 0.1 idle resting events=1 idle=1"),
+        (
+            "the call has sent no request with this number",
+            "no note of its association waits for the call",
+            "the call waits, and takes a note only at rest",
+            "the call waits, and its timer ends only at rest",
+            "the call waits, and another begins only where it has ended",
+            "the call waits for the reply to request 1",
+            "the call waits for the reply to request 2, and one to request 1 came",
+            "the call waits for the reply to request 2, and one to request 1 came",
+            "the call has ended, and waits for no reply",
+            "the call has ended, and takes no note",
+            "the call has ended, and an end has no timer",
+            "the call has ended, and has no empty request to go on from",
+            "the call is of association 1, and its gateway of 2, so that no other begins on its lines",
+            "no note of its association waits for the call",
+        ),
+    ),
+    (
+        "the note comes again",
+        "talks",
+        "off a=event note 1=event note 1=waits execute=event reply=event note 1=not_new pass=rests timer=no_timer",
+        ("call 0 talk resting events=4 idle=4",),
+        (
+            "the call waits, and takes a note only at rest",
+            "note 1 reached the call before",
+            "the call rests, and has no empty request to go on from",
+            "the state has no timer",
+        ),
+    ),
+    (
+        "the note is of an older association",
+        "talks",
+        "off a=event restart=restart hear=event execute=nothing_sent note 1=waits pass=event note 1=other_association note=no_note_waits "
+        "hear=nothing_to_hear flash b=not_on_line off b=event on b=event",
+        ("call 0 idle resting events=5 idle=6",),
+        (
+            "the call has sent no request",
+            "the call waits, and takes a note only at rest",
+            "note 1 is of another association than the call",
+            "no note of its association waits for the call",
+            "the call is in the association of its gateway already",
+            "line b is on hook, and only one that is off hook is flashed",
+        ),
+    ),
+    (
+        "the reply is of an older association",
+        "talks",
+        "off a=event note=event execute=event reply=event restart=restart begin=rests hear=event reply=not_awaited reply 1=not_awaited pass=event "
+        "note 1=not_new",
+        ("call 0 idle resting events=6 idle=4",),
+        (
+            "the call rests in a state that is no end, and another begins only where it has ended",
+            "the call waits for its pass, and a reply to request 1 came",
+            "the call waits for its pass, and a reply to request 1 came",
+            "note 1 reached the call before",
+        ),
     ),
 )
 
@@ -77,6 +162,8 @@ def counted(line):
     for step in line["steps"]:
         if ("reason" in step) != (step["came"] == "idle") or step["came"] == "idle" and step["before"] != step["after"]:
             yield f"{line['line']}: {step}"
+        if {*step.get("named", {})} not in NAMES.get(step.get("reason"), ({*()},)):
+            yield f"{line['line']}: other names in {step}"
         if ("step_place" in step) == (step["came"] in BESIDE):
             yield f"{line['line']}: a place in {step}"
 
@@ -192,23 +279,31 @@ def of_one(mgexplain, data, report, count):
             yield f"another call {number}"
 
 
+def words_of(row):
+    """The steps of a row, and what each comes to."""
+    steps = [one.strip() for one in row.replace("=", "\0").split("\0")]
+    words, wanted = [steps[0]], []
+    for each in steps[1:]:
+        came, _, step = each.partition(" ")
+        wanted.append(came)
+        words += [step] if step else []
+    return words, wanted
+
+
 def by_hand(mgexplain):
     """The rows, each with what is wrong with what is said of it."""
-    folder = TOP / "examples" / "watch"
-    for name, row, lines in ROWS:
-        steps = [one.strip() for one in row.replace("=", "\0").split("\0")]
-        words, wanted = [steps[0]], []
-        for each in steps[1:]:
-            came, _, step = each.partition(" ")
-            wanted.append(came)
-            words += [step] if step else []
+    for name, example, row, lines, sentences in ROWS:
+        folder = TOP / "examples" / example
+        words, wanted = words_of(row)
         plan = f"[[call]]\nlines = [1, 2]\nepochs = [{json.dumps(words)}]\n"
         data = DIVIDER.join([*(ended((folder / part).read_bytes()) for part in FILES[:2]), plan.encode()])
         status, page = told_words.facts(mgexplain, data)
         report = page["report"]
-        told = [step.get("reason", step["came"]) for line in report for step in line["steps"]]
-        right = status == 0 and told == wanted and tuple(line["line"] for line in report) == lines
-        yield name, [] if right else [f"{told}, {[line['line'] for line in report]}"]
+        steps = [step for line in report for step in line["steps"]]
+        told = [step.get("reason", step["came"]) for step in steps]
+        said = [run_words.says(step) for step in steps if step["came"] == "idle"]
+        right = status == 0 and told == wanted and tuple(line["line"] for line in report) == lines and tuple(said) == sentences
+        yield name, [] if right else [f"{told}, {[line['line'] for line in report]}, {said}"]
 
 
 def words_are_refused(mgexplain):

@@ -25,7 +25,7 @@ TO_CALL = {
     "hear": "the call hears of the association of its gateway, and enters the state for a restart",
     "begin": "the call begins on the lines of the one before it, which is retired",
 }
-# Why a step is idle: by the reason, and by the first word of the step where that says more; under `None` for all other steps.
+# Why a step is idle: by the reason, and by the first word of the step where that says more; under `None` for all other steps. What a reason names stands in it.
 IDLE = {
     "no_note_waits": {None: "no note of its association waits for the call"},
     "waits": {
@@ -44,24 +44,29 @@ IDLE = {
         "timer": "the call has ended, and an end has no timer",
         None: "the call has ended, and takes no note",
     },
-    "lost": {None: "the call is of another association than its gateway, so that no other begins on its lines"},
-    "not_awaited": {
-        "pass": "the call waits for a reply",
-        None: "the call waits for the reply to another request, or for its pass",
-    },
-    "not_new": {None: "the call accepted that note before, or the note is of another association"},
+    "lost": {None: "the call is of association {call_association}, and its gateway of {gateway_association}, so that no other begins on its lines"},
+    "not_new": {None: "note {note_number} reached the call before"},
+    "other_association": {None: "note {note_number} is of another association than the call"},
     "no_timer": {None: "the state has no timer"},
     "nothing_to_hear": {None: "the call is in the association of its gateway already"},
+    "not_begun": {None: "the gateway hasn't begun association {association}"},
+    "not_of_call": {None: "the call doesn't hold line {on_line}"},
     "not_on_line": {
-        "off": "the line is off hook already",
-        "on": "the line is on hook already",
-        "flash": "the line is on hook, and only one that is off hook is flashed",
-        "digit": "the line is on hook, and only one that is off hook dials",
-        "pause": "no digit map of the line is collecting symbols",
-        None: "that signal doesn't play on the line",
+        "off": "line {on_line} is off hook already",
+        "on": "line {on_line} is on hook already",
+        "flash": "line {on_line} is on hook, and only one that is off hook is flashed",
+        "digit": "line {on_line} is on hook, and only one that is off hook dials",
+        "pause": "no digit map of line {on_line} is collecting symbols",
+        None: "that signal doesn't play on line {on_line}",
     },
     "not_released": {None: "a line of the call isn't released, or an ephemeral stands that it created"},
-    "numbers_end": {None: "no number is left for a message"},
+    "numbers_end": {None: "no number is left for more {which}"},
+}
+# What a call waits for and what came instead, by whether the one and the other are replies.
+NOT_AWAITED = {
+    (True, True): "the call waits for the reply to request {expected}, and one to request {came} came",
+    (True, False): "the call waits for the reply to request {expected}",
+    (False, True): "the call waits for its pass, and a reply to request {came} came",
 }
 # Which message wasn't sent, by the first word of the step and whether it has a number.
 UNSENT = {
@@ -76,10 +81,13 @@ UNSENT = {
 def idle(step):
     """Why a step is idle."""
     word, *more = step["step"].split()
+    named = step.get("named", {})
     if step["reason"] == "nothing_sent":
         return UNSENT[word, bool(more) and more[0].isdigit()]
+    if step["reason"] == "not_awaited":
+        return NOT_AWAITED["expected" in named, "came" in named].format(**named)
     of_reason = IDLE[step["reason"]]
-    return of_reason.get(word, of_reason[None])
+    return of_reason.get(word, of_reason[None]).format(**named)
 
 
 def refused(told):

@@ -1,10 +1,11 @@
 //! A step of a call: what it came to, where the call is before and behind it, its messages and what plays.
+use crate::idle_reason::write_reason;
 use crate::notes::{write_note, write_notes, write_plays};
 use crate::plan_words::PlanWords;
 use crate::request_facts::{write_executed, write_reply, write_sent};
 use check_facts::names::state_name;
 use mg_names::identifiers::LineNo;
-use run_steps::{Came, Idle, Position, ToldStep};
+use run_steps::{Came, Position, ToldStep};
 use script_table::Script;
 use std::alloc::AllocError;
 use taken_steps::Shown;
@@ -20,40 +21,12 @@ fn came_word(came: Came) -> &'static str {
     }
 }
 
-/// The word of a reason for which a step is idle.
-fn idle_word(why: Idle) -> &'static str {
-    match why {
-        Idle::NothingSent => "nothing_sent",
-        Idle::NoNoteWaits => "no_note_waits",
-        Idle::Waits => "waits",
-        Idle::Rests => "rests",
-        Idle::HasEnded => "has_ended",
-        Idle::Lost => "lost",
-        Idle::NotAwaited => "not_awaited",
-        Idle::NotNew => "not_new",
-        Idle::NoTimer => "no_timer",
-        Idle::NothingToHear => "nothing_to_hear",
-        Idle::NotOnLine => "not_on_line",
-        Idle::NotReleased => "not_released",
-        Idle::NumbersEnd => "numbers_end",
-    }
-}
-
 /// Adds the place of a step of the call; nothing of what is no step of it.
 fn write_place(out: &mut String, came: Came, place: usize) -> Result<(), AllocError> {
     match came {
         Came::EpochEnded | Came::OtherRestarted => Ok(()),
         _ => write!(out, r#""step_place":{place},"#),
     }
-}
-
-/// Adds the reason for which a step is idle, where it is.
-fn write_reason(out: &mut String, came: Came) -> Result<(), AllocError> {
-    let Came::Idle(why) = came else {
-        return Ok(());
-    };
-    let why = idle_word(why);
-    write!(out, r#","reason":"{why}""#)
 }
 
 /// Adds where a call is, with a key.
@@ -118,7 +91,7 @@ pub(crate) fn write_step(
     out.push_str("{")?;
     write_place(out, told.came, place)?;
     write!(out, r#""step":"{words}","came":"{came}""#)?;
-    write_reason(out, told.came)?;
+    write_reason(out, script, lines, told.came)?;
     write_position(out, script, "before", told.before)?;
     write_position(out, script, "after", told.after)?;
     write_shown(out, script, lines, &told.shown)?;

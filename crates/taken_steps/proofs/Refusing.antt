@@ -1,35 +1,40 @@
 -- A step whose event is refused is idle, for the reason that was found before.
-use Rattle.std.proofs.Common.{◌≡◌, ℕ, ◌+◌, Some, Result, Err, refl, subst}
+use Rattle.std.proofs.Common.{◌≡◌, ℕ, ◌+◌, Option, Some, None, Result, Err, refl, sym, subst}
+use Rattle.std.specs.Prelude.{IfSome}
 use Rattle.mg_names.specs.declared.identifiers.CallNo.{CallNo}
 use Rattle.mg_model.specs.declared.events.CallEvent.{CallEvent}
 use Rattle.mg_model.specs.declared.events.Event.{Event}
 use Rattle.mg_model.specs.declared.events.Event.TheVariants.{OfCall}
 use Rattle.mg_model.specs.declared.plans.PlanStep.{PlanStep}
 use Rattle.mg_model.specs.Numbers.{plan_calls}
-use Rattle.mg_model.specs.Script.{Script}
 use Rattle.agent.specs.declared.call.Next.{Next}
 use Rattle.agent.specs.declared.refusal.Refusal.{Refusal}
-use Rattle.agent.specs.declared.refusal.Refusal.TheVariants.{NotEnabled}
 use Rattle.planned_calls.specs.Meaning.{IsMeant}
 use Rattle.planned_calls.specs.Shards.{IsUnchanged, ShardValue}
 use Rattle.planned_calls.specs.Stepping.{IsStep}
 use Rattle.planned_calls.specs.Stepped.{Stepped}
+use Rattle.taken_steps.specs.Findings.{ComesToIdle}
 use Rattle.taken_steps.specs.Reasons.{IsRefusedFor}
-use Rattle.taken_steps.specs.Taking.{IsIdle, is_refused}
+use Rattle.taken_steps.specs.Taking.{Comes, IsIdle, is_refused}
+use Rattle.taken_steps.specs.declared.came.Came.{Came}
 use Rattle.taken_steps.specs.declared.idle.Idle.{Idle}
 
-pub refused : (v same w : ShardValue) (a b : Next) (number : ℕ) (step : PlanStep) (begins : CallNo) (event : Event) (call : CallNo) (happens : CallEvent)
-    (script : Script) (current : ℕ) (why : Idle) (result : Result Stepped Refusal) (fault : Refusal)
-    → begins.0 ≡ number + plan_calls → IsMeant v number begins.0 step (Some event) → IsUnchanged v same → event ≡ OfCall call happens
-    → script ≡ same.script → current ≡ same.gateway.association → IsRefusedFor script a current happens why
-    → IsStep same w a b (OfCall call happens) result → result ≡ Err fault → fault ≡ NotEnabled → IsIdle v a number step why w b
-refused v same w a b number step begins event call happens script current why result fault is_next means unchanged is is_script is_current because stepped failed fault_is =
-    let at_fault : IsStep same w a b (OfCall call happens) (Err fault) =
-    subst (λ (r : Result Stepped Refusal). IsStep same w a b (OfCall call happens) r) failed stepped in
-    let at_event : IsStep same w a b (OfCall call happens) (Err NotEnabled) =
-    subst (λ (f : Refusal). IsStep same w a b (OfCall call happens) (Err f)) fault_is at_fault in
-    let at_script : IsRefusedFor same.script a current happens why = subst (λ (s : Script). IsRefusedFor s a current happens why) is_script because in
-    let at_current : IsRefusedFor same.script a same.gateway.association happens why =
-    subst (λ (n : ℕ). IsRefusedFor same.script a n happens why) is_current at_script in
-    is_refused begins is_next call happens (subst (λ (e : Event). IsMeant v number begins.0 step (Some e)) is means) same unchanged at_event.0 at_current
-    at_event.1.0 at_event.1.1
+module _ (v same w : ShardValue) (a b : Next) (number : ℕ) (step : PlanStep) (begins : CallNo) (event : Event) (call : CallNo) (happens : CallEvent)
+    (is_next : begins.0 ≡ number + plan_calls) (means : IsMeant v number begins.0 step (Some event)) (unchanged : IsUnchanged v same)
+    (is : event ≡ OfCall call happens) where
+  abbrev stays : Result Stepped Refusal → Type 0
+  stays result = IsStep same w a b (OfCall call happens) result
+
+  pub refused : (result : Result Stepped Refusal) (fault : Refusal) (why : Idle) → stays result → result ≡ Err fault → IsRefusedFor same a call.0 happens why
+      → IsIdle v a number step why w b
+  refused result fault why stepped failed because =
+      let at_fault : stays (Err fault) = subst stays failed stepped in
+      is_refused begins is_next call happens (subst (λ (e : Event). IsMeant v number begins.0 step (Some e)) is means) same unchanged because
+      at_fault.1.0 at_fault.1.1
+
+  -- where a reason was found
+  pub told_idle : (result : Result Stepped Refusal) (fault : Refusal) (found : Option Idle) (told : Came) → stays result → result ≡ Err fault
+      → IfSome found (λ why. IsRefusedFor same a call.0 happens why) → ComesToIdle found told → Comes v a number step told w b number
+  told_idle result fault None told stepped failed because comes = absurd comes
+  told_idle result fault (Some why) told stepped failed because comes =
+      subst (λ (t : Came). Comes v a number step t w b number) (sym comes) (refused result fault why stepped failed because, refl)

@@ -1,3 +1,4 @@
+pub mod Findings
 pub mod Positions
 pub mod Reasons
 pub mod Taking

@@ -1,5 +1,5 @@
 -- A step of a plan that a call takes on a gateway: what it came to. A reader should check that an event that is told is what the step means, and happened to the
--- call and to its gateway; and that an idle step means no event or one that can't happen, for the reason that is told. This profile's own.
+-- call and to its gateway; and that an idle step means no event, or one that can't happen in the gateway, for the reason that is told. This profile's own.
 use Rattle.std.specs.Prelude.{◌≡◌, ℕ, ◌+◌, None, Some}
 use Rattle.mg_names.specs.declared.identifiers.CallNo.{CallNo}
 use Rattle.mg_model.specs.declared.events.CallEvent.{CallEvent}
@@ -11,7 +11,7 @@ use Rattle.mg_model.specs.Numbers.{plan_calls}
 use Rattle.agent.specs.declared.call.Next.{Next}
 use Rattle.planned_calls.specs.Meaning.{IsMeant}
 use Rattle.planned_calls.specs.Shards.{HasHappened, IsUnchanged, ShardValue}
-use Rattle.planned_calls.specs.Stepping.{IsNotEnabled, IsSameNext, IsTakenStep}
+use Rattle.planned_calls.specs.Stepping.{IsSameNext, IsTakenStep}
 use Rattle.planned_calls.specs.Stepped.{Stepped}
 use Rattle.planned_calls.specs.Stepped.TheVariants.{Done, Begun}
 use Rattle.taken_steps.specs.Reasons.{IsRefusedFor, IsUnmeant}
@@ -43,9 +43,8 @@ pub data IsIdle (v : ShardValue) (a : Next) (number : ℕ) (step : PlanStep) (wh
   means_nothing : (begins : CallNo) → begins.0 ≡ number + plan_calls → IsMeant v number begins.0 step None → IsUnmeant step why
       → IsUnchanged v w → b ≡ a → IsIdle v a number step why w b
   is_refused : (begins : CallNo) → begins.0 ≡ number + plan_calls → (call : CallNo) → (happens : CallEvent) → IsMeant v number begins.0 step (Some (OfCall call happens))
-      → (same : ShardValue) → IsUnchanged v same → IsNotEnabled same a (OfCall call happens)
-      → IsRefusedFor same.script a same.gateway.association happens why
-      → IsUnchanged same w → IsSameNext a b → IsIdle v a number step why w b
+      → (same : ShardValue) → IsUnchanged v same → IsRefusedFor same a call.0 happens why → IsUnchanged same w → IsSameNext a b
+      → IsIdle v a number step why w b
 
 -- ---- any step
 

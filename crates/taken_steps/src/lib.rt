@@ -1,7 +1,8 @@
 //! A step of a plan, taken with a call on its gateway: what it came to, where the call is, and what the two sent each other.
 //!
-//! The way of a step: where it means an event that can happen, that happens to the call and to the gateway (`taking`), and it `came` to that event. Else it is idle,
-//! for a reason (`idle`), which is read off the call as it was before (`reasons`). Where the call is then is its `position`.
+//! The way of a step: where it means an event that can happen, that happens to the call and to the gateway (`taking`), and it `came` to that event. Else it is
+//! idle, for a reason (`idle`) that is found out of the call and of its gateway as they were before (`reasons`, `causes`). Where the call is then is its
+//! `position`.
 //!
 //! The way of what is sent: a second gateway goes along, and each event of the call happens to it too (`scene`); nothing of that decides what happens. A
 //! request is known by its number from when it is sent until it reaches the gateway; its commands are those of the script, by the names that were
@@ -10,6 +11,7 @@
 #![tactic(auto)]
 
 mod came;
+mod causes;
 mod fault;
 mod idle;
 mod names_bound;
@@ -22,7 +24,7 @@ mod taking;
 
 pub use came::Came;
 pub use fault::SceneFault;
-pub use idle::Idle;
+pub use idle::{Idle, Numbers};
 pub use names_bound::NamesBound;
 pub use planned_calls::{OpenFault, Shard};
 pub use position::{Position, position_of};

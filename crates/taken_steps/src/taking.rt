@@ -2,8 +2,8 @@
 ghost use Rattle.std.specs.Prelude.{◌≡◌, ◌+◌, IfOk, IfSome};
 ghost use Rattle.mg_model.specs.Numbers.{plan_calls};
 ghost use Rattle.agent.specs.declared.refusal.Refusal.TheVariants.{NotEnabled};
+ghost use Rattle.taken_steps.specs.Findings.{ComesToIdle};
 ghost use Rattle.taken_steps.specs.Taking.{Comes};
-ghost use Rattle.taken_steps.specs.declared.came.Came.TheVariants as cames;
 
 use crate::came::Came;
 use crate::idle::Idle;
@@ -32,19 +32,20 @@ fn number_behind(number: CallNo) -> Option<CallNo>
     Some(CallNo(number.0.checked_add(PLAN_CALLS)?))
 }
 
-/// What a step comes to whose event was refused, with the reason that it has where it can't happen.
-fn came_of(fault: Refusal, why: Idle) -> Result<Came, RunFault>
-    ensures { IfOk result (λ came. (fault ≡ NotEnabled) × (came ≡ cames.Idle why)) }
+/// What a step comes to whose event was refused, where that can't happen for this reason.
+fn came_of(fault: Refusal, why: Option<Idle>) -> Result<Came, RunFault>
+    ensures { IfOk result (λ came. (fault ≡ NotEnabled) × ComesToIdle why came) }
 {
-    match fault {
-        Refusal::NotEnabled => Ok(Came::Idle(why)),
-        Refusal::Behind { .. } => Err(RunFault::Disagree),
-        Refusal::NoMemory => Err(RunFault::NoMemory),
+    match (fault, why) {
+        (Refusal::NotEnabled, Some(why)) => Ok(Came::Idle(why)),
+        (Refusal::NoMemory, _) => Err(RunFault::NoMemory),
+        _ => Err(RunFault::Disagree),
     }
 }
 
 /// A call takes a step of the plan, other than a restart, on its gateway. `Disagree` where the numbers of calls end, where the step means what no call of a
-/// plan is asked for, or where its transcript has another number of events than the gateway counts; `NoMemory` where memory ran out. This profile's own.
+/// plan is asked for, where the gateway has the call elsewhere or counts another number of its events, or where a request is refused whose state has no target
+/// for that; `NoMemory` where memory ran out. This profile's own.
 pub fn take<'s>(
     shard: &mut Shard<'s>,
     next: Next<'s>,
@@ -63,10 +64,14 @@ pub fn take<'s>(
         let came = Came::Idle(why);
         return Ok(Taken { next, number, came });
     };
-    let Event::OfCall { event: happens, .. } = event else {
+    let Event::OfCall {
+        call,
+        event: happens,
+    } = event
+    else {
         return Err(RunFault::Disagree);
     };
-    let why = refused(shard.script(), &next, shard.association(), &happens);
+    let why = refused(shard, &next, call, happens);
     let (next, done) = shard.step(next, event);
     match done {
         Ok(Stepped::Done) => {
