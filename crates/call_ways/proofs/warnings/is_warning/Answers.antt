@@ -20,7 +20,7 @@ returns-in-ArrowUnused c =
 pub returns-in-NoteSwallowed : goal.returns-in-NoteSwallowed
 returns-in-NoteSwallowed c =
     let note = c.in-NoteSwallowed in
-    told_of c.args.script.now c.args.cert.now c.args.reached.now c.requires c.is_note_swallowed.result
+    told_of c.args.script.now c.args.cert.now c.args.reached.now c.requires.all c.is_note_swallowed.result
     (warning.NoteSwallowed note.state note.line note.kind) c.args.warning.now note.is c.is_note_swallowed.ensures
 
 pub returns-in-MarkUnneeded : goal.returns-in-MarkUnneeded
