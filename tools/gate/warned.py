@@ -34,7 +34,9 @@ fault = "rearm"
 name = "done"
 end = true
 """
-# Scripts: the name, what takes the place of what in the story's, and what is warned of, as its word and the state.
+# Scripts: the name, what takes the place of what in the story's, and what is warned of, as its word and the state. In each of them a call opens in `idle`
+# with both lines armed, and one of them leads on: lifting the other one comes to nothing.
+IDLE_NOTE = ("note_swallowed", "idle")
 STORIES = (
     ("the story", "", "", []),
     ("a state more", 'name = "done"\nend = true', 'name = "done"\nend = true\n\n[[state]]\nname = "spare"\nend = true', [("state_unlisted", "spare")]),
@@ -42,12 +44,15 @@ STORIES = (
     ("a transition more", 'on.guard.of = "answer"', 'on.guard.of = "answer"\non.guard.on = "part"', [("arrow_unused", "ring")]),
     ("two transitions more", 'on.guard.on = "part"', 'on.guard.on = "part"\non.guard.fl = "part"\non.gate.of = "part"', [("arrow_unused", "answer")] * 2),
 )
+# The same of what stands in the middle, where a line that is still armed leads nowhere.
+MIDDLE_NOTE = ("note_swallowed", "middle")
 MIDDLES = (
-    ("nothing leads out", "", [("state_never_left", "middle")]),
-    ("a dead telephone", 'do = ["modify - a events=none"]\nfault = "rearm"\ntimer = "rearm"', [("line_deaf", "middle")]),
+    ("nothing leads out", "", [("state_never_left", "middle"), MIDDLE_NOTE, MIDDLE_NOTE]),
+    ("a dead telephone", 'do = ["modify - a events=none"]\nfault = "rearm"\ntimer = "rearm"', [("line_deaf", "middle"), MIDDLE_NOTE]),
     ("two dead telephones", 'do = ["modify - a events=none", "modify - b events=none"]\nfault = "rearm"\ntimer = "rearm"', [("line_deaf", "middle")] * 2),
-    ("both", 'do = ["modify - a events=none"]\nfault = "middle"', [("line_deaf", "middle"), ("state_never_left", "middle")]),
-    ("a way out", 'timer = "rearm"', []),
+    ("both", 'do = ["modify - a events=none"]\nfault = "middle"', [("line_deaf", "middle"), ("state_never_left", "middle"), MIDDLE_NOTE]),
+    ("a way out", 'timer = "rearm"', [MIDDLE_NOTE, MIDDLE_NOTE]),
+    ("a way out by each line", 'timer = "rearm"\non.a.of = "rearm"\non.b.of = "rearm"', []),
 )
 # Certificates: the name, the entries with which the story's own begin and end, and what is warned of: its word, the entry, its point and the other entry.
 IDLE = {"state": "idle", "link": ["rest"], "lines": {"gate": {"events": ["none"]}}}
@@ -63,8 +68,13 @@ ENTRIES = (
     ("held where no call comes", [], [IDLE, WIDE_IDLE],
      [("entry_held", 0, None, 16), ("entry_held", 15, None, 16), ("entry_unreached", 15, None, None), ("point_unreached", 16, 0, None)]),
 )
-# Patterns of gallery/patterns: what is warned of in states where they aren't followed; where they are, nothing is.
-PATTERNS = {"end_marked": {"state_never_left"}, "armed_for": {"arrow_unused", "state_unlisted"}, "no_dead_line": {"arrow_unused", "line_deaf"}}
+# Patterns of gallery/patterns: what is warned of in states where they aren't followed, notes that come to nothing apart; where they are, nothing is.
+PATTERNS = {
+    "end_marked": {"state_never_left"},
+    "armed_for": {"arrow_unused", "state_unlisted"},
+    "no_dead_line": {"arrow_unused", "line_deaf"},
+    "clearing": {"command_refused"},
+}
 
 
 def joined(script, entries):
@@ -111,7 +121,7 @@ def patterns(program):
         for folder in sorted((TOP / "gallery" / "patterns" / name).iterdir()):
             script, certificate = ((folder / file).read_bytes() for file in ("script.toml", "certificate.json"))
             page = told_words.facts(program, script + DIVIDER + certificate)[1]
-            told = {warning["warning"] for warning in page.get("warnings", []) if "state" in warning}
+            told = {warning["warning"] for warning in page.get("warnings", []) if "state" in warning} - {"note_swallowed"}
             wanted = unfollowed if folder.name == "without" else set()
             yield f"warnings: {name} {folder.name}", [] if told == wanted else [f"{told}, and not {wanted}"]
 
@@ -128,9 +138,9 @@ def scripts():
     """The name of each script, its text, and what is warned of."""
     story = (STORY / "script.toml").read_text()
     for name, old, new, wanted in STORIES:
-        yield name, story.replace(old, new, 1) if old else story, wanted
+        yield name, story.replace(old, new, 1) if old else story, [IDLE_NOTE, *wanted]
     for name, middle, wanted in MIDDLES:
-        yield name, SMALL.format(middle=middle), wanted
+        yield name, SMALL.format(middle=middle), [IDLE_NOTE, *wanted]
 
 
 def judged(program):
@@ -140,7 +150,7 @@ def judged(program):
         yield f"warnings: {name}", [*wrong(program, data, of_state, wanted)]
     script, own = (STORY / "script.toml").read_text(), json.loads((STORY / "certificate.json").read_text())["entries"]
     for name, first, last, wanted in ENTRIES:
-        yield f"warnings: {name}", [*wrong(program, joined(script, [*first, *own, *last]), of_entry, wanted)]
+        yield f"warnings: {name}", [*wrong(program, joined(script, [*first, *own, *last]), of_entry, [("note_swallowed", None, None, None), *wanted])]
     yield from patterns(program)
     for name, words, data in (
         ("of a plan", ("--strict",), joined(script, own) + DIVIDER + (STORY / "plan.toml").read_bytes()),
