@@ -4,8 +4,8 @@
 //! The way of an input: it is two sections, or its fault is told; these are checked, and the verdict or the fault is told (`told`), as a text with its
 //! status (`said`) in a `form`. A No has its facts (`no_facts`): the point with its configuration (`configurations`, `components`), the way there (`ways`),
 //! what of it breaks the obligation (`breaches`), its step (`requests`), and what no entry has (`uncovered`). A yes has its `worth`, which is its
-//! `warnings`. Each writes behind one text, in the names of the script (`names`, `command_text`) of the `documents`; no name and no word needs an escape.
-//! This profile's own.
+//! `warnings`, and what is so where calls rest (`rests`). Each writes behind one text, in the names of the script (`names`, `command_text`) of the
+//! `documents`; no name and no word needs an escape. This profile's own.
 #![tactic(auto)]
 
 mod breaches;
@@ -17,6 +17,7 @@ pub mod form;
 pub mod names;
 mod no_facts;
 mod requests;
+mod rests;
 pub mod said;
 pub mod told;
 mod uncovered;

@@ -11,6 +11,7 @@ ghost use Rattle.check_facts.specs.Worth.{IsYesStatus};
 use crate::documents::Documents;
 use crate::form::Form;
 use crate::no_facts::no_facts;
+use crate::rests::write_rests;
 use crate::said::{Said, said_of, text_of};
 use crate::warnings::warning_facts;
 use crate::worth::{Worth, find_worth, yes_status};
@@ -52,7 +53,8 @@ pub fn unread(alloc: Global, form: Form, reply: &Reply) -> Result<Said, AllocErr
     said_of(alloc, form, reply, members.as_str())
 }
 
-/// What a yes is worth as members of a JSON object, each behind a comma; an empty text where calls come to too many configurations to tell.
+/// What a yes is worth, and what is so where calls rest, as members of a JSON object, each behind a comma; an empty text where calls come to too many
+/// configurations to tell.
 fn worth_facts(
     alloc: Global,
     documents: Documents<'_>,
@@ -60,7 +62,10 @@ fn worth_facts(
 ) -> Result<String, AllocError> {
     match worth {
         Some(worth) => {
-            warning_facts(alloc, documents, &worth.reached, worth.warnings.as_slice())
+            let (reached, warnings) = (&worth.reached, worth.warnings.as_slice());
+            let mut out = warning_facts(alloc, documents, reached, warnings)?;
+            write_rests(alloc, &mut out, documents.script, reached)?;
+            Ok(out)
         }
         None => Ok(String::new(alloc)),
     }

@@ -1,9 +1,10 @@
-//! What a yes is worth: what of the script and of its certificate no call uses, and lines that no call hears. What there is to warn of is found by
-//! `call_ways`.
+//! What a yes is worth: what of the script and of its certificate no call uses, lines that no call hears, and notes that no state takes. What there is to
+//! warn of is found by `call_ways`.
 use crate::documents::Documents;
 use crate::names::{line_name, state_name};
 use call_ways::reached::Reached;
 use call_ways::{Warning, find_holder, find_unreached};
+use mg_names::kinds::Kind;
 use mg_names::slots::Slot;
 use script_table::Script;
 use std::alloc::{AllocError, Global};
@@ -25,6 +26,21 @@ fn write_line(out: &mut String, script: &Script, line: Slot) -> Result<(), Alloc
     write!(out, r#","names":["{name}"]"#)
 }
 
+/// Adds a warning of a note in a state.
+fn write_of_note(
+    out: &mut String,
+    script: &Script,
+    word: &str,
+    state: u8,
+    line: Slot,
+    kind: Kind,
+) -> Result<(), AllocError> {
+    write_of_state(out, script, word, state)?;
+    write_line(out, script, line)?;
+    let kind = kind.text();
+    write!(out, r#","note_kind":"{kind}""#)
+}
+
 /// Adds a warning of a state and of what of it.
 fn write_state_warning(
     out: &mut String,
@@ -35,10 +51,10 @@ fn write_state_warning(
         Warning::StateUnlisted(state) => write_of_state(out, script, "state_unlisted", state),
         Warning::StateNeverLeft(state) => write_of_state(out, script, "state_never_left", state),
         Warning::ArrowUnused(state, line, kind) => {
-            write_of_state(out, script, "arrow_unused", state)?;
-            write_line(out, script, line)?;
-            let kind = kind.text();
-            write!(out, r#","note_kind":"{kind}""#)
+            write_of_note(out, script, "arrow_unused", state, line, kind)
+        }
+        Warning::NoteSwallowed(state, line, kind) => {
+            write_of_note(out, script, "note_swallowed", state, line, kind)
         }
         Warning::MarkUnneeded(state, pair) => {
             write_of_state(out, script, "mark_unneeded", state)?;
