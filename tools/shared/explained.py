@@ -1,13 +1,13 @@
-"""What `mgexplain` tells, as whoever asks wants to see it: in words, as a ladder, as a picture for Graphviz, or as the JSON value of its facts. It is
-installed too, so it knows nothing of this repository."""
+"""What `mgexplain` tells, as whoever asks wants to see it: in words, as what a service does state by state, as a ladder, as a picture for Graphviz, or as the
+JSON value of its facts. It is installed too, so it knows nothing of this repository."""
 import json
 import re
 from collections import namedtuple
 
 from shared import asking, check_words, ladder_words, marked_pictures, run_words, scripts, unread_words
 
-JSON, DOT, LADDER, CALL, STRICT = "--json", "--dot", "--ladder", "--call", "--strict"
-USAGE = f"SCRIPT CERTIFICATE [PLAN] [{JSON} | {DOT} | {LADDER}] [{CALL} N] [{STRICT}]"
+JSON, DOT, COVERAGE, LADDER, CALL, STRICT = "--json", "--dot", "--coverage", "--ladder", "--call", "--strict"
+USAGE = f"SCRIPT CERTIFICATE [PLAN] [{JSON} | {DOT} | {COVERAGE} | {LADDER}] [{CALL} N] [{STRICT}]"
 MOST_WORDS = 6
 # The number of a call, in decimal digits without leading zeros.
 NUMBER = re.compile(r"0|[1-9][0-9]{0,9}")
@@ -19,7 +19,7 @@ def wanted(given, usage):
     """What the words of a tool ask for: files first, and behind them what goes with so many."""
     count = next((place for place, word in enumerate(given) if word.startswith("-")), len(given))
     names, words = given[:count], given[count:]
-    forms = [word for word in words if word in (JSON, DOT, LADDER)]
+    forms = [word for word in words if word in (JSON, DOT, COVERAGE, LADDER)]
     number = words[words.index(CALL) : words.index(CALL) + 2] if CALL in words else []
     has_plan, is_strict = count == 3, STRICT in words
     fit = (
@@ -29,7 +29,7 @@ def wanted(given, usage):
         sorted(words) == sorted([*forms, *number, *([STRICT] if is_strict else [])]),
         not number or has_plan and len(number) == 2 and NUMBER.fullmatch(number[1]),
         not is_strict or not has_plan and forms in ([], [JSON]),
-        has_plan if LADDER in forms else not has_plan if DOT in forms else True,
+        has_plan if LADDER in forms else not has_plan if DOT in forms or COVERAGE in forms else True,
     )
     if not all(fit):
         asking.stop(f"usage: {usage}", asking.WORDS)
@@ -55,6 +55,8 @@ def view(form, page, texts):
     """A page in a form."""
     if form == DOT:
         return text_of([[*marked_pictures.lines(page, texts)]])
+    if form == COVERAGE and page.get("line", "").startswith("yes "):
+        return text_of(check_words.covered(page, texts))
     if form == LADDER and "report" in page:
         return text_of([*ladder_words.paragraphs(page)])
     return text_of(words_of(page, texts))

@@ -7,6 +7,7 @@ complete -c mgcall-why -f -n 'test (count (commandline -opc)) -eq 1' -a '(__fish
 complete -c mgcall-why -f -n 'test (count (commandline -opc)) -eq 2' -a '(__fish_complete_suffix .json)' -d certificate
 complete -c mgcall-why -n 'test (count (commandline -opc)) -eq 3' -l json -d 'as one JSON value'
 complete -c mgcall-why -n 'test (count (commandline -opc)) -eq 3' -l dot -d 'as a text for Graphviz'
+complete -c mgcall-why -n 'test (count (commandline -opc)) -eq 3' -l coverage -d 'what the service does, state by state'
 complete -c mgcall-why -f -n 'test (count (commandline -opc)) -eq 3' -a '(__fish_complete_suffix .toml)' -d plan
 complete -c mgcall-why -n 'test (count (commandline -opc)) -ge 3' -l ladder -d 'the messages of a run'
 complete -c mgcall-why -n 'test (count (commandline -opc)) -ge 3' -l call -x -d 'one call of a plan'

@@ -43,7 +43,7 @@ _mgcall() {
     mgcall-run) _mgcall_over_files "$current" "$place" toml json toml ;;
     mgcall-why)
         if ((place > 3)) || [[ $place == 3 && $current == -* ]]; then
-            COMPREPLY=($(compgen -W '--json --dot --ladder --call --strict' -- "$current"))
+            COMPREPLY=($(compgen -W '--json --dot --coverage --ladder --call --strict' -- "$current"))
         else
             _mgcall_over_files "$current" "$place" toml json toml
         fi
