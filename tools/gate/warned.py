@@ -4,10 +4,9 @@ hand. With `--strict` a yes with a warning has status 1, and all else has the st
 import json
 import tomllib
 
-from gate import told_words
+from gate import plain_drafts, told_words
 from gate.told_runs import DIVIDER, TOP
 from gate.told_words import asked
-from shared import drafting
 
 STORY = TOP / "gallery" / "hotline"
 MOST = 200
@@ -89,7 +88,7 @@ def drafted(program, script):
         return told_words.facts(program, joined(script, entries))[1]
 
     table = tomllib.loads(script)
-    return drafting.followed(page_of, [], lambda entries, page: drafting.exactly(table, False, entries, page), MOST).entries
+    return plain_drafts.followed(page_of, [], lambda entries, page: plain_drafts.exactly(table, False, entries, page), MOST).entries
 
 
 def status_wrong(program, data, page):

@@ -71,10 +71,20 @@ def link(told):
     return next(part["value"] for part in told["parts"] if part["component"] == "link")
 
 
+def row(entry):
+    """An entry as a certificate has it in a line."""
+    return json.dumps(entry, separators=(",", ":"))
+
+
+def of_rows(rows):
+    """A certificate of entries that are written."""
+    written = ",\n".join(rows)
+    return f'{{"version":2,"entries":[\n{written}{chr(10) if written else ""}]}}\n'
+
+
 def text(entries):
     """A certificate of these entries, one a line."""
-    rows = ",\n".join(json.dumps(entry, separators=(",", ":")) for entry in entries)
-    return f'{{"version":2,"entries":[\n{rows}{chr(10) if rows else ""}]}}\n'
+    return of_rows(map(row, entries))
 
 
 def joined_in(path, order, rows):

@@ -1,71 +1,16 @@
 """A certificate that is made by doing what is said of a No, from No to No. An entry is put in so that it brings no configuration but the one that is lacking:
 a wider one where that holds of it, else the entry of one point. So, from nothing, every configuration of a draft is one that a call comes to by the check's
 own steps, and a No of K3, K4, K5 or K7 is about the script. It is installed too, so it knows nothing of this repository."""
-import functools
-import itertools
 import json
 import sys
 from collections import namedtuple
 
-from shared import asking, certificates, explained, scripts
+from shared import asking, certificates, explained, fronts, progress, scripts
 
 WIDE, TARGET = "--wide", "-o"
 USAGE = f"SCRIPT [CERTIFICATE] [{TARGET} FILE] [{WIDE}]"
 # What is asked for: the files' names, None where one isn't named, and whether entries are joined.
 Wanted = namedtuple("Wanted", "script certificate target is_wide")
-# What doing what is said comes to: the last page, the entries that it is about, how many were put in, and whether what the page says to put in was put in
-# before, or finds no room.
-Followed = namedtuple("Followed", "page entries count is_again is_full")
-
-
-def followed(page_of, entries, put, most=None):
-    """Does what is said from No to No, from these entries on: until a page says nothing to put in, or what was put in for that same configuration before,
-    or until `put` finds no room and gives None, or so many were put in."""
-    seen = set()
-    for count in itertools.count():
-        page = page_of(entries)
-        wanting = json.dumps(lacking(page))
-        is_again = "entry" in page and wanting in seen
-        if "entry" not in page or is_again or count == most:
-            return Followed(page, entries, count, is_again, False)
-        seen.add(wanting)
-        more = put(entries, page)
-        if more is None:
-            return Followed(page, entries, count, False, True)
-        entries = more
-
-
-def lacking(page):
-    """The configuration of a page that no entry has; nothing where it isn't about one."""
-    return page.get("uncovered", page.get("step", {}).get("result"))
-
-
-def alone(script, configuration):
-    """The entry that has this configuration and no other. A page shows it too, but not where the state has all the entries that it may have."""
-    return certificates.laid_out(script, configuration["state"], {part["component"]: [part["value"]] for part in configuration["parts"]})
-
-
-def exactly(script, is_wide, entries, page):
-    """Entries with the configuration of a page put in, and no other beside it: in the place of the entry that it widens where that gets no other one, else
-    behind the last. Where its state has all the entries that it may have, entries are joined if that is asked for; None where there is no room."""
-    place, wider = page.get("widens"), certificates.normal(script, certificates.of_facts(script, page["entry"]))
-    if place is not None and size(script, wider) == size(script, entries[place]) + 1:
-        return [*entries[:place], wider, *entries[place + 1 :]]
-    new = alone(script, lacking(page))
-    if has_room(entries, new["state"]):
-        return [*entries, new]
-    fewer = certificates.joined(script, entries) if is_wide else entries
-    return [*fewer, new] if has_room(fewer, new["state"]) else None
-
-
-def size(script, entry):
-    """How many points an entry has, well formed or not."""
-    return certificates.product(certificates.sets(script, entry))
-
-
-def has_room(entries, state):
-    """Whether a state may have another entry."""
-    return sum(entry["state"] == state for entry in entries) < certificates.ENTRIES
 
 
 def wanted(given, usage):
@@ -104,7 +49,7 @@ def became(end, is_wide):
     if end.page["status"] == 0:
         return f"yes {after}"
     if end.is_full:
-        most = f"state {end.page['entry']['state']} has {certificates.ENTRIES} entries, and may have no more"
+        most = f"state {fronts.lacking(end.page)['state']} has {certificates.ENTRIES} entries, and may have no more"
         return f"{end.page['line']} {after}: {most}{', and none can be joined' if is_wide else f'; {WIDE} joins entries'}"
     if end.is_again:
         return f"{end.page['line']} {after}: what there is to put in was put in before, and is refused again"
@@ -113,20 +58,23 @@ def became(end, is_wide):
     return f"{end.page['line']} {after}: {end.page['line'].split()[1]} asks for what no entry mends, and a person has to decide"
 
 
-def made(program, texts, asked):
-    """What drafting from a script and a certificate comes to. Where they can't be read, the tool ends with what is said of that."""
+def made(program, texts, asked, tell):
+    """What drafting from a script and a certificate comes to, as it is told on the way. Where they can't be read, the tool ends with what is said of that."""
     if page_of(program, texts)["status"] == 3:
         asking.stop(explained.in_words(program, [], texts)[1].rstrip("\n"), 1)
     script, entries = begun(asked[:2], texts)
 
-    def page_of_entries(entries):
-        return page_of(program, [texts[0], certificates.text(entries).encode()])
+    def page_of_text(text):
+        return page_of(program, [texts[0], text.encode()])
 
-    end = followed(page_of_entries, entries, functools.partial(exactly, script, asked.is_wide))
+    def told(entries, count):
+        tell(f"drafting: {entries} entries, {count} configurations put in")
+
+    end = fronts.Draft(script, entries, asked.is_wide, page_of_text, told).followed()
     if not asked.is_wide or end.page["status"]:
         return end
     fewer = certificates.joined(script, end.entries)
-    page = page_of_entries(fewer)
+    page = page_of_text(certificates.text(fewer))
     return end if page["status"] else end._replace(page=page, entries=fewer)
 
 
@@ -136,7 +84,8 @@ def drafted(asked, find):
     given = asking.read([asked.script, *([asked.certificate] if asked.certificate else [])])
     with asking.written(asked.target) as file:
         program = find("mgexplain")
-        end = made(program, [*given, certificates.text([]).encode()][:2], asked)
+        with progress.line() as tell:
+            end = made(program, [*given, certificates.text([]).encode()][:2], asked, tell)
         draft = certificates.text(end.entries)
         file.write(draft)
     print(became(end, asked.is_wide), file=sys.stderr)
