@@ -15,6 +15,18 @@ def program(name):
     return found
 
 
+def version():
+    """The version of this repository."""
+    return (programs.TOP / "VERSION").read_text().strip()
+
+
+def said_of(name):
+    """What is said of the program of this name: whether it is there, and proved."""
+    if programs.is_proved(name):
+        return "proved"
+    return "built without its proofs" if programs.is_kept(name) else "not built yet"
+
+
 def answered(name, asked, texts):
     """Gives the program of this name these words and texts, and says the status that it ends with."""
     return asking.ask(program(name), asked, texts)

@@ -76,7 +76,11 @@ def in_words(program, words, texts):
 
 def explained(asked, find):
     """Says what is asked for, with the program that `find` finds; gives the status."""
-    texts = asking.read(asked.names)
+    return answered(asked, asking.read(asked.names), find)
+
+
+def answered(asked, texts, find):
+    """The same of files that were read."""
     if asked.form == JSON:
         return asking.ask(find("mgexplain"), [JSON, *asked.words], texts)
     scripts.can_read()

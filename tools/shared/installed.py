@@ -15,11 +15,23 @@ def is_proved():
     return not (LIBRARY / "not-proved").exists()
 
 
+def version():
+    """The version that is installed here."""
+    [text] = asking.read([LIBRARY / "VERSION"])
+    return text.decode().strip()
+
+
+def said_of(name):
+    """What is said of the program of this name: whether it is there, and proved."""
+    if not os.access(PROGRAMS / name, os.X_OK):
+        return "not there"
+    return "proved" if is_proved() else "built without its proofs"
+
+
 def words(about, usage, least, most=None):
     """The words that a command was given, from so many to so many. With --help it says what it does, and with --version which it is, with status 0."""
     if "--version" in sys.argv[1:]:
-        [version] = asking.read([LIBRARY / "VERSION"])
-        print(usage.split()[0], version.decode().strip(), *([] if is_proved() else ["with programs that are not proved"]))
+        print(usage.split()[0], version(), *([] if is_proved() else ["with programs that are not proved"]))
         sys.exit(0)
     return asking.words(about, usage, least, most)
 

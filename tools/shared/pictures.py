@@ -56,7 +56,11 @@ def picture(script):
 def drawn(name, checker):
     """Tells the picture of the script in the file of this name. Where the file is no script, one line says which command says why."""
     scripts.can_read()
-    [written] = asking.read([name])
+    return told(name, *asking.read([name]), checker)
+
+
+def told(name, written, checker):
+    """The same of a script that was read."""
     try:
         lines = [*picture(scripts.read(written))]
     except (AttributeError, KeyError, RecursionError, TypeError, ValueError):

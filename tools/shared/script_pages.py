@@ -156,7 +156,11 @@ def laid_out(names, texts, verdict, run):
 
 def written(asked, find):
     """Writes the page that is asked for, with the program that `find` finds; gives the status."""
-    texts = asking.read(asked.names)
+    return made(asked, asking.read(asked.names), find)
+
+
+def made(asked, texts, find):
+    """The same of files that were read."""
     can_draw()
     program = find("mgexplain")
     verdict, run = verdict_of(program, texts[:2]), {}

@@ -94,21 +94,25 @@ def captured(sent):
         return asking.stop(f"no capture: {error}", asking.FILES)
 
 
-def told(wanted_of, find):
-    """The status, what `mgexplain` tells of what is asked for, and the texts of the files. Where there is no report, what is said of that is printed."""
+def told(wanted_of, texts, find):
+    """The status, and what `mgexplain` tells of what is asked for. Where there is no report, what is said of that is printed."""
     scripts.can_read()
-    texts = asking.read(wanted_of.names)
     program = find("mgexplain")
     words = [CALL, wanted_of.call] if wanted_of.call is not None else []
     status, page = explained.told(program, words, texts)
     if page and "report" not in page:
         print(explained.view(None, page, texts), end="")
-    return status, page or {}, texts
+    return status, page or {}
 
 
 def traced(asked, find):
     """Writes what is asked for, with the program that `find` finds; gives the status."""
-    status, page, texts = told(asked, find)
+    return written(asked, asking.read(asked.names), find)
+
+
+def written(asked, texts, find):
+    """The same of files that were read."""
+    status, page = told(asked, texts, find)
     if "report" not in page:
         return status
     scripts.look(asked.names[::2], texts[::2])
