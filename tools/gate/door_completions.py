@@ -1,0 +1,164 @@
+"""The completions of mgtool for bash, zsh and fish, made from the declarations of its words."""
+from shared.door import declarations
+
+TOOL = "mgtool"
+HEAD = "# Completions of mgtool for {}. Written by tools/gate/mgtool from tools/shared/door/declarations.py.\n"
+COMMANDS = declarations.COMMANDS
+EVERYWHERE = (declarations.HELP, declarations.VERSION)
+
+
+def options(command):
+    """The options of a command, with those that every command has."""
+    return (*command.options, *EVERYWHERE)
+
+
+def words(found):
+    """The words of options."""
+    return " ".join(option.word for option in found)
+
+
+def is_choice(option):
+    """Whether words stand for the value of an option."""
+    return isinstance(option.kind, tuple) and isinstance(option.kind[0], str)
+
+
+def brief(text):
+    """The first sentence of a text, without what a shell would take for its own."""
+    return text.partition(". ")[0].partition("; ")[0].rstrip(".").replace("`", "").replace("'", "").replace("[", "(").replace("]", ")").replace(":", ",")
+
+
+# ---- bash
+
+BASH = """
+# Files whose names end so, and folders.
+_mgtool_files() {{
+    local IFS=$'\\n'
+    compopt -o filenames 2>/dev/null
+    COMPREPLY=($(compgen -f -X "!*.$1" -- "$2") $(compgen -d -- "$2"))
+}}
+
+_mgtool() {{
+    local current=${{COMP_WORDS[COMP_CWORD]}} before=${{COMP_WORDS[COMP_CWORD - 1]}} command= at=1 files=0 options='{everywhere}' kinds=
+    COMPREPLY=()
+    while ((at < COMP_CWORD)); do
+        case ${{COMP_WORDS[at]}} in
+        {valued}) ((at++)) ;;
+        -?*) ;;
+        *) if [[ $command ]]; then ((files++)); else command=${{COMP_WORDS[at]}}; fi ;;
+        esac
+        ((at++))
+    done
+    case $command in
+    '') kinds=command ;;
+{commands}
+    esac
+    case $before in
+{values}
+    *)
+        kinds=($kinds)
+        if [[ $current == -* ]]; then
+            COMPREPLY=($(compgen -W "$options" -- "$current"))
+        elif [[ $kinds == command ]]; then
+            COMPREPLY=($(compgen -W '{names}' -- "$current"))
+        elif ((files < ${{#kinds[@]}})); then
+            _mgtool_files "${{kinds[files]}}" "$current"
+        fi
+        ;;
+    esac
+}}
+
+complete -F _mgtool mgtool
+"""
+
+
+def bash_value(option):
+    """What bash offers for the value of an option."""
+    front = f"    {option.word})"
+    if is_choice(option):
+        return f"""{front} COMPREPLY=($(compgen -W '{" ".join(option.kind)}' -- "$current")) ;;"""
+    if option.kind == "/":
+        return f'{front} COMPREPLY=($(compgen -d -- "$current")) ;;'
+    if isinstance(option.kind, tuple):
+        return f"{front} ;;"
+    return f'{front} _mgtool_files {option.kind} "$current" ;;'
+
+
+def bash():
+    """The file for bash."""
+    valued = {option.word: option for command in COMMANDS for option in command.options if option.value is not None}
+    kinds = {word: {option.kind for command in COMMANDS for option in command.options if option.word == word} for word in valued}
+    one_kind = {word: option for word, option in valued.items() if len(kinds[word]) == 1}
+    several = [word for word in valued if word not in one_kind]
+    values = [bash_value(option) for option in one_kind.values()]
+    for word in several:
+        pairs = ((command.name, option.kind) for command in COMMANDS for option in command.options if option.word == word)
+        cases = " ".join(f'{name}) _mgtool_files {kind} "$current" ;;' for name, kind in pairs)
+        values.append(f"    {word}) case $command in {cases} esac ;;")
+    return HEAD.format("bash") + BASH.format(
+        everywhere=words(EVERYWHERE),
+        valued=" | ".join(valued),
+        commands="\n".join(
+            f"    {one.name}) options='{words(options(one))}' kinds='{' '.join(operand.kind for operand in one.operands)}' ;;" for one in COMMANDS
+        ),
+        values="\n".join(values),
+        names=" ".join(one.name for one in COMMANDS),
+    )
+
+
+# ---- zsh
+
+
+def zsh_action(kind):
+    """What zsh offers for a value."""
+    if kind == "/":
+        return "_files -/"
+    if isinstance(kind, str):
+        return f'_files -g "*.{kind}"'
+    return f"({' '.join(kind)})" if isinstance(kind[0], str) else " "
+
+
+def zsh_option(option):
+    """An option for zsh."""
+    value = f":{option.value.lower()}:{zsh_action(option.kind)}" if option.value else ""
+    return f"'{option.word}[{brief(option.about)}]{value}'"
+
+
+def zsh():
+    """The file for zsh."""
+    lines = ["#compdef mgtool", HEAD.format("zsh").rstrip("\n"), "", "_mgtool() {", "    local -a commands=("]
+    lines += [f"        '{one.name}:{brief(one.about)}'" for one in COMMANDS]
+    lines += ["    )", "    if ((CURRENT == 2)); then", f"        _arguments {' '.join(map(zsh_option, EVERYWHERE))}", "        _describe command commands"]
+    lines += ["        return", "    fi", "    local command=$words[2]", "    shift words", "    ((CURRENT--))", "    case $command in"]
+    for one in COMMANDS:
+        files = [f"'{place}:{operand.shown.lower()}:{zsh_action(operand.kind)}'" for place, operand in enumerate(one.operands, 1)]
+        parts = [*files, *map(zsh_option, options(one))]
+        lines += [f"    {one.name})", "        _arguments \\", *(f"            {part} \\" for part in parts[:-1]), f"            {parts[-1]}", "        ;;"]
+    return "\n".join([*lines, "    esac", "}", "", '_mgtool "$@"', ""])
+
+
+# ---- fish
+
+
+def fish_option(condition, option):
+    """An option for fish."""
+    short = option.word.startswith("-") and not option.word.startswith("--")
+    word = f"-o {option.word[1:]}" if short and len(option.word) > 2 else f"-{'s' if short else 'l'} {option.word.lstrip('-')}"
+    value = "" if option.value is None else f" -x -a '{' '.join(option.kind)}'" if is_choice(option) else " -x" if isinstance(option.kind, tuple) else " -r"
+    return f"complete -c mgtool -n '{condition}' {word}{value} -d '{brief(option.about)}'"
+
+
+def fish():
+    """The file for fish."""
+    lines = [HEAD.format("fish"), "complete -c mgtool -f"]
+    lines += [f"complete -c mgtool -n __fish_use_subcommand -a {one.name} -d '{brief(one.about)}'" for one in COMMANDS]
+    lines += [fish_option("true", option) for option in EVERYWHERE]
+    for one in COMMANDS:
+        condition = f"__fish_seen_subcommand_from {one.name}"
+        kinds = dict.fromkeys(operand.kind for operand in one.operands)
+        lines += [f"complete -c mgtool -n '{condition}' -a '(__fish_complete_suffix .{kind})'" for kind in kinds]
+        lines += [fish_option(condition, option) for option in one.options]
+    return "\n".join([*lines, ""])
+
+
+# The name of each file, with what makes its text.
+FILES = {"mgtool.bash": bash, "_mgtool": zsh, "mgtool.fish": fish}

@@ -1,0 +1,53 @@
+# Completions of mgtool for bash. Written by tools/gate/mgtool from tools/shared/door/declarations.py.
+
+# Files whose names end so, and folders.
+_mgtool_files() {
+    local IFS=$'\n'
+    compopt -o filenames 2>/dev/null
+    COMPREPLY=($(compgen -f -X "!*.$1" -- "$2") $(compgen -d -- "$2"))
+}
+
+_mgtool() {
+    local current=${COMP_WORDS[COMP_CWORD]} before=${COMP_WORDS[COMP_CWORD - 1]} command= at=1 files=0 options='--help --version' kinds=
+    COMPREPLY=()
+    while ((at < COMP_CWORD)); do
+        case ${COMP_WORDS[at]} in
+        --certificate | --format | --pieces | --call | -o | --workers | --messages | --pcap) ((at++)) ;;
+        -?*) ;;
+        *) if [[ $command ]]; then ((files++)); else command=${COMP_WORDS[at]}; fi ;;
+        esac
+        ((at++))
+    done
+    case $command in
+    '') kinds=command ;;
+    check) options='--certificate --strict --format --pieces --help --version' kinds='toml' ;;
+    why) options='--certificate --json --dot --ladder --call --strict --help --version' kinds='toml toml' ;;
+    draft) options='--certificate -o --wide --help --version' kinds='toml' ;;
+    run) options='--certificate --workers --help --version' kinds='toml toml' ;;
+    trace) options='--certificate --call --messages --pcap --help --version' kinds='toml toml' ;;
+    page) options='--certificate -o --help --version' kinds='toml toml' ;;
+    picture) options='--help --version' kinds='toml' ;;
+    esac
+    case $before in
+    --certificate) _mgtool_files json "$current" ;;
+    --format) COMPREPLY=($(compgen -W 'text json sarif junit' -- "$current")) ;;
+    --pieces) ;;
+    --call) ;;
+    --workers) ;;
+    --messages) COMPREPLY=($(compgen -d -- "$current")) ;;
+    --pcap) _mgtool_files pcapng "$current" ;;
+    -o) case $command in draft) _mgtool_files json "$current" ;; page) _mgtool_files html "$current" ;; esac ;;
+    *)
+        kinds=($kinds)
+        if [[ $current == -* ]]; then
+            COMPREPLY=($(compgen -W "$options" -- "$current"))
+        elif [[ $kinds == command ]]; then
+            COMPREPLY=($(compgen -W 'check why draft run trace page picture' -- "$current"))
+        elif ((files < ${#kinds[@]})); then
+            _mgtool_files "${kinds[files]}" "$current"
+        fi
+        ;;
+    esac
+}
+
+complete -F _mgtool mgtool

@@ -1,0 +1,71 @@
+"""`mgtool check`: all that is wrong with a script by its place, and the line of `mgcall check` with its status. It is installed too, so it knows nothing of
+this repository."""
+from shared import asking, explained
+from shared.door import forms, inputs, kept, verdicts
+from shared.door.declarations import TEXT
+from shared.door.diagnostics import TOP, Place, Report, error
+from shared.door.inputs import CERTIFICATE, SCRIPT
+from shared.mistakes import told as mistakes
+from shared.unread_words import RULES
+
+YES, NO = 0, 1
+STRICT = "--strict"
+
+
+def mistaken(given):
+    """The mistakes of these files as errors, in the order of the files."""
+    names = {one.kind: one.name for one in given}
+    for one in mistakes.mistakes({one.kind: one.text for one in given}):
+        path = f"{one.path}: " if one.path else ""
+        meant = f" (did you mean `{one.meant}`?)" if one.meant is not None else ""
+        rule = f"{one.of} fault {one.fault_number} {one.fault_name}"
+        yield error(names[one.document], Place(one.at_line, one.at_column), rule, f"{path}{one.says}{meant}")
+
+
+def line_of(asked, script, certificate, find):
+    """The status of `mgcall check`, and its line."""
+    words = ["check", *(["--pieces", asked.pieces] if asked.pieces else [])]
+    status, output = asking.told(find("mgcall"), words, [script.text, certificate.text])
+    return status, output.rstrip("\n")
+
+
+def unread(page, script):
+    """What is told of a fault in which the view of all mistakes sees none."""
+    fault = page["fault"]
+    rule = f"{fault['of']} fault {fault['fault_number']} {fault['fault_name']}"
+    return [error(script.name, TOP, rule, RULES[fault["of"]][fault["fault_name"]])]
+
+
+def explanation(asked, script, certificate, find):
+    """The status that a yes has, and what is told of the answer."""
+    status, page = explained.told(find("mgexplain"), [STRICT] if asked.is_strict else [], [script.text, certificate.text])
+    if page is None or page["status"] not in (YES, NO, asking.FILES):
+        return status, []
+    return status, unread(page, script) if "fault" in page else verdicts.diagnostics(page, script, certificate)
+
+
+def report(asked, script, named, find):
+    """What the check comes to."""
+    given = [one for one in (script, named) if one is not None]
+    texts = {one.name: one.text for one in given}
+    if found := [*mistaken(given)]:
+        status, line = line_of(asked, script, named or kept.nothing(), find)
+        return Report(script.name, line, status, found, texts)
+    certificate = kept.of(script, named, find)
+    status, line = line_of(asked, script, certificate, find)
+    texts[certificate.name] = certificate.text
+    if status not in (YES, NO, asking.FILES):
+        return Report(script.name, line, status, [], texts)
+    strictly, found = explanation(asked, script, certificate, find)
+    return Report(script.name, line, strictly if status == YES else status, found, texts)
+
+
+def done(asked, find):
+    """Checks what is asked for, and tells of it in the form that is asked for; gives the status."""
+    given, refused = inputs.read_all({SCRIPT: asked.script, CERTIFICATE: asked.certificate})
+    if refused:
+        told = Report(asked.script, "", asking.FILES, refused, {})
+    else:
+        told = report(asked, given[SCRIPT], given.get(CERTIFICATE), find)
+    forms.write(asked.format or TEXT, told)
+    return told.status

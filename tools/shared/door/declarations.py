@@ -1,0 +1,145 @@
+"""The words of mgtool as data: its commands, and of each the files and the options that it takes. What reads the words, the help, the man page and the
+completions are made of these. It is installed too, so it knows nothing of this repository."""
+from collections import namedtuple
+
+TOOL = "mgtool"
+# A file that a command takes: under which key it is kept, how it is shown, what is said of it, whether it has to be there, and the end of such files' names.
+Operand = namedtuple("Operand", "key shown about is_needed kind")
+# An option: its key, its word, how its value is shown, which is None where it takes none, what is said of it, and what may stand there: words, the end of a
+# file's name, `/` for a folder, or the smallest and the largest number.
+Option = namedtuple("Option", "key word value about kind")
+# A command: its name, what it does in a line, what is said of it below that, its files, its options, and whether it takes a certificate.
+Command = namedtuple("Command", "name about more operands options")
+
+SCRIPT = Operand("script", "SCRIPT", "the script, a TOML document; `-` is standard input", True, "toml")
+PLAN = Operand("plan", "PLAN", "the plan of a run, a TOML document; `-` is standard input", False, "toml")
+CERTIFICATE = Option(
+    "certificate", "--certificate", "FILE",
+    "The certificate; `-` is standard input. Without it the one that is kept beside the script is taken, and one is drafted where none is kept, or where "
+    "the script is another one than that for which it was drafted.",
+    "json",
+)
+CALL = Option("call", "--call", "N", "Of a plan: tell the call with this number alone, from 0, with those that begin within it.", (0, 4_294_967_295))
+TEXT, JSON, SARIF, JUNIT = FORMATS = ("text", "json", "sarif", "junit")
+STANDARD = "-"
+
+ABOUT = "check call control scripts, say why, draft certificates, run plans and show what happens"
+RULE = (
+    "Where no certificate is named, the one that is kept beside the script is taken: of my.toml it is my.certificate.json. Where none is kept there it is "
+    "drafted, and kept with the checksums of both files in my.certificate.digest, as sha256sum writes them. Where the script is another one by its checksum, "
+    "it is drafted anew from where it stands, and from nothing where that comes to no yes or leaves entries that no call comes to. A certificate that was "
+    "written or changed by hand is taken as it stands and not written over."
+)
+FILES = (
+    "A file that can't be read, is empty, is no UTF-8, is longer than 16,777,216 bytes or is of another kind than its place asks for has one line with its "
+    "name and the reason, and status 3. One file at most may be standard input. What is written has its name once it is whole."
+)
+STATUSES = (
+    ("0", "the answer is yes; of draft: it came to a yes; of run, trace and page with a plan: the plan was run"),
+    ("1", "the answer is no, or with --strict a yes under which something is warned of"),
+    ("2", "the words ask for nothing; the line names the wrong one"),
+    ("3", "a file can't be taken, has mistakes, or can't be written"),
+    ("4", "there was no memory"),
+    ("5", "the plan has no report"),
+    ("6", "a read or a write of a program failed"),
+    ("127", "no program is there, or Jinja2 or Graphviz isn't, or Python is older than 3.11"),
+)
+
+COMMANDS = (
+    Command(
+        "check",
+        "check a script, and tell all that is wrong with it by its place",
+        "Each mistake of the script, and of a certificate that is named, stands in a line as compilers write it: FILE:LINE:COL: error: TEXT. A No has its "
+        "state, its command and the way of a call there as notes, a yes has what is warned of in the order of the files. Lines and columns count from 1, "
+        "columns in bytes. The last line is that of `mgcall check`, and the status is its status.",
+        (SCRIPT,),
+        (
+            CERTIFICATE,
+            Option("is_strict", "--strict", None, "Status 1 for a yes under which something is warned of.", None),
+            Option("format", "--format", "FORM", "How it is told: as text, one JSON value, SARIF 2.1.0, or JUnit XML. As text where none is named.", FORMATS),
+            Option("pieces", "--pieces", "N", "Check the certificate in so many pieces, 1 to 64, by as many threads. The answer is the same.", (1, 64)),
+        ),
+    ),
+    Command(
+        "why",
+        "say in words what the check comes to, or with a plan what each of its steps does",
+        "It says what `mgcall-why` says, by the facts that mgexplain tells.",
+        (SCRIPT, PLAN),
+        (
+            CERTIFICATE,
+            Option("is_json", "--json", None, "The facts as one JSON value.", None),
+            Option("is_dot", "--dot", None, "Without a plan: the state machine as a text for Graphviz, with what a No names in red.", None),
+            Option("is_ladder", "--ladder", None, "With a plan: the messages of the run, the call on the left and its gateway on the right.", None),
+            CALL,
+            Option("is_strict", "--strict", None, "Without a plan: status 1 for a yes under which something is warned of.", None),
+        ),
+    ),
+    Command(
+        "draft",
+        "write a certificate of a script",
+        "It puts in what a No says is lacking, from the certificate that is named or kept on, until a yes, or a No on which a person has to decide. Without "
+        "-o the certificate is kept beside the script, and that of standard input goes to standard output.",
+        (SCRIPT,),
+        (
+            CERTIFICATE,
+            Option("target", "-o", "FILE", "Write it into this file, and keep none; `-` is standard output.", "json"),
+            Option("is_wide", "--wide", None, "Join entries of a state that differ in one component alone, which adds no configuration.", None),
+        ),
+    ),
+    Command(
+        "run",
+        "run a plan of a script",
+        "It prints the report of `mgcall run`, and ends with its status.",
+        (SCRIPT, PLAN._replace(is_needed=True)),
+        (CERTIFICATE, Option("workers", "--workers", "N", "Run the plan on so many workers, 1 to 64; one where it isn't given.", (0, 65_535))),
+    ),
+    Command(
+        "trace",
+        "write the messages of a run in the text of H.248.1 Annex B",
+        "Each message stands behind a comment that says what it is and what became of it, as `mgcall-trace` writes it.",
+        (SCRIPT, PLAN._replace(is_needed=True)),
+        (
+            CERTIFICATE,
+            CALL,
+            Option("folder", "--messages", "DIR", "Write each message into a file of its own too, in a folder that isn't there yet or is empty.", "/"),
+            Option("capture", "--pcap", "FILE", "Write all of them into a capture for Wireshark too.", "pcapng"),
+        ),
+    ),
+    Command(
+        "page",
+        "write one HTML page for a script, and with a plan for its run",
+        "It has the verdict in words, the state machine, each state with its entries, and with a plan the messages. It is made with Jinja2 and Graphviz.",
+        (SCRIPT, PLAN),
+        (CERTIFICATE, Option("target", "-o", "FILE", "The page that is written. It has to be named.", "html")),
+    ),
+    Command(
+        "picture",
+        "write the state machine of a script as a text for Graphviz",
+        "It draws what the script says, and checks nothing: `mgtool picture my.toml | dot -Tsvg -o my.svg` makes a picture of it.",
+        (SCRIPT,),
+        (),
+    ),
+)
+# Options that have to be given.
+NEEDED = {"page": ("target",)}
+HELP = Option("help", "--help", None, "Say what it does and what its words are.", None)
+VERSION = Option("version", "--version", None, "Say which version it and the two programs are, and whether these are proved.", None)
+
+
+def command(name):
+    """The command of a name; none where there is none."""
+    return next((one for one in COMMANDS if one.name == name), None)
+
+
+def choice(option):
+    """The value of an option as a usage shows it; none where it takes none."""
+    return "|".join(option.kind) if isinstance(option.kind, tuple) and isinstance(option.kind[0], str) else option.value
+
+
+def usage(one):
+    """How a command is called, in a line, without the name of the tool."""
+    words = [operand.shown if operand.is_needed else f"[{operand.shown}]" for operand in one.operands]
+    for option in one.options:
+        word = option.word if option.value is None else f"{option.word} {choice(option)}"
+        words.append(word if option.key in NEEDED.get(one.name, ()) else f"[{word}]")
+    return " ".join([one.name, *words])

@@ -1,0 +1,79 @@
+"""The door itself: which command the words of mgtool name, what it says of itself and of the programs. It is installed too, so it knows nothing of this
+repository."""
+import functools
+import importlib
+import signal
+import sys
+import textwrap
+
+from shared import asking, scripts
+from shared.door import declarations, words
+
+COLUMN = 12
+
+
+def paragraph(text):
+    """A text in lines that are as wide as those of a command's help."""
+    return textwrap.wrap(words.plain(text), words.WIDTH)
+
+
+def rows(pairs):
+    """Rows of two columns."""
+    for first, second in pairs:
+        lines = textwrap.wrap(words.plain(second), words.WIDTH - COLUMN - 2)
+        yield f"  {first:{COLUMN}}{lines[0]}"
+        yield from (f"  {'':{COLUMN}}{line}" for line in lines[1:])
+
+
+def help_lines(name):
+    """What it says of itself."""
+    commands = declarations.COMMANDS
+    yield f"usage: {name} COMMAND [WORDS], and the commands are: {', '.join(one.name for one in commands)}"
+    yield from ("", *paragraph(f"{declarations.TOOL}: {declarations.ABOUT}. {name} COMMAND --help tells the words of a command."))
+    yield from ("", "commands:", *rows((one.name, one.about) for one in commands))
+    yield from ("", "options:", *rows((one.word, one.about) for one in (declarations.HELP, declarations.VERSION)))
+    yield from ("", *paragraph(declarations.RULE), "", *paragraph(declarations.FILES))
+    yield from ("", "statuses:", *rows(declarations.STATUSES))
+
+
+def version_lines(name, home):
+    """Which version it is, and which programs answer."""
+    yield f"{name} {home.version()}"
+    yield from (f"{program} {home.version()}, {home.said_of(program)}" for program in ("mgcall", "mgexplain"))
+
+
+def without_command(name, given):
+    """Ends the tool where its words name no command."""
+    names = [one.name for one in declarations.COMMANDS]
+    wrong = next((word for word in given if not word.startswith("-") or word == declarations.STANDARD), None)
+    if wrong is not None:
+        said = f"{wrong!r} isn't a command{words.meant(wrong, names)}"
+    else:
+        said = f"{given[0]!r} isn't a word of it" if given else "a command is missing"
+    asking.stop(f"{name}: {said}; the commands are {', '.join(names)}, and {name} --help tells of them", asking.WORDS)
+
+
+def ended(number, frame):
+    """Ends the tool as a signal would, with what is written by half taken away."""
+    del frame
+    sys.exit(128 + number)
+
+
+def main(name, home):
+    """Does what the words ask for. `name` is how the tool is called; `home` is the module that finds the programs (`program`), and says which version they are
+    (`version`) and whether they are proved (`said_of`). Gives the status."""
+    signal.signal(signal.SIGTERM, ended)
+    given = sys.argv[1:]
+    place = words.parted(given)
+    command = None if place is None else declarations.command(given[place])
+    if declarations.VERSION.word in given:
+        asking.tell(version_lines(name, home))
+        return 0
+    if place is None and {declarations.HELP.word, "-h"} & {*given}:
+        asking.tell(help_lines(name))
+        return 0
+    if command is None:
+        without_command(name, given)
+    asked = words.asked(name, command, given[:place] + given[place + 1 :])
+    scripts.can_read()
+    return importlib.import_module(f"shared.door.{command.name}").done(asked, functools.cache(home.program))

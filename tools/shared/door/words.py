@@ -1,0 +1,135 @@
+"""What the words of a command of mgtool ask for: a parser that is made of the declarations. Options may stand anywhere; a wrong word is named, with the word
+that may have been meant. It is installed too, so it knows nothing of this repository."""
+import argparse
+import re
+
+from shared import asking
+from shared.door import declarations
+from shared.mistakes.near import nearest
+
+WIDTH, COLUMN = 100, 26
+NUMBER = re.compile(r"0|[1-9][0-9]{0,9}")
+
+
+class Parser(argparse.ArgumentParser):
+    """A parser that says in one line what is wrong with the words."""
+
+    def error(self, message):
+        asking.stop(f"{self.prog}: {message}; {self.prog} --help tells its words", asking.WORDS)
+
+
+class Once(argparse.Action):
+    """Keeps the value of an option, which may be given once."""
+
+    def __call__(self, parser, namespace, values, option_string=None):
+        if getattr(namespace, self.dest, None) is not None:
+            raise argparse.ArgumentError(self, "it is given twice")
+        setattr(namespace, self.dest, values)
+
+
+def layout(prog):
+    """How help is laid out, whatever the terminal is."""
+    return argparse.HelpFormatter(prog, max_help_position=COLUMN, width=WIDTH)
+
+
+def plain(text):
+    """A text of the declarations without the backquotes of its words."""
+    return text.replace("`", "")
+
+
+def number(least, most):
+    """What reads a whole number from one to another."""
+
+    def read(word):
+        if not NUMBER.fullmatch(word) or not least <= int(word) <= most:
+            raise argparse.ArgumentTypeError(f"{word!r} is no whole number of {least} to {most}")
+        return word
+
+    return read
+
+
+def named(word):
+    """A name of a file, which isn't empty."""
+    if not word:
+        raise argparse.ArgumentTypeError("the name is empty")
+    return word
+
+
+def reading(option):
+    """How the value of an option is read."""
+    if option.value is None:
+        return {"action": "store_true"}
+    how = {"action": Once, "metavar": option.value}
+    if not isinstance(option.kind, tuple):
+        return {**how, "type": named}
+    if isinstance(option.kind[0], str):
+        return {**how, "choices": option.kind}
+    return {**how, "type": number(*option.kind)}
+
+
+def parser(tool, command):
+    """The parser of a command."""
+    name = f"{tool} {command.name}"
+    about = f"{plain(command.about)[0].upper()}{plain(command.about)[1:]}. {plain(command.more)}"
+    made = Parser(name, usage=f"{tool} {declarations.usage(command)}", description=about, formatter_class=layout, allow_abbrev=False, add_help=False)
+    files = made.add_argument_group("files")
+    for operand in command.operands:
+        files.add_argument(operand.key, metavar=operand.shown, help=plain(operand.about), type=named, nargs=None if operand.is_needed else "?")
+    options = made.add_argument_group("options")
+    for option in command.options:
+        is_needed = option.key in declarations.NEEDED.get(command.name, ())
+        more = {"required": True} if is_needed else {}
+        options.add_argument(option.word, dest=option.key, help=plain(option.about), **reading(option), **more)
+    options.add_argument(declarations.HELP.word, "-h", action="help", help=declarations.HELP.about)
+    return made
+
+
+def known(command):
+    """The options of a command, by their words."""
+    return (*(option.word for option in command.options), declarations.HELP.word, "-h")
+
+
+def unknown(command, given):
+    """The first word that looks like an option and is none of the command; none where there is none."""
+    looked_at = given[: given.index("--")] if "--" in given else given
+    options = (word for word in looked_at if word.startswith("-") and word != declarations.STANDARD)
+    return next((word for word in options if word.partition("=")[0] not in known(command)), None)
+
+
+def meant(word, words):
+    """What is said of the word that may have been meant."""
+    found = nearest(word, tuple(words))
+    return f" (did you mean {found}?)" if found else ""
+
+
+def asked(tool, command, given):
+    """What words ask of a command, by the keys of the declarations; `refuse` ends the tool where they don't go together, with what is said of that."""
+    made = parser(tool, command)
+    if (wrong := unknown(command, given)) is not None:
+        made.error(f"{wrong!r} isn't a word of it{meant(wrong.partition('=')[0], known(command))}")
+    found, more = made.parse_known_intermixed_args(given)
+    if more:
+        made.error(f"{more[0]!r} isn't a word of it")
+    inputs = [value for key in ("script", "plan", "certificate") if (value := getattr(found, key, None)) == declarations.STANDARD]
+    if len(inputs) > 1:
+        made.error("standard input can be one file alone, and - is given twice")
+    found.refuse = made.error
+    return found
+
+
+def valued():
+    """The words of all options that take a value."""
+    return {option.word for command in declarations.COMMANDS for option in command.options if option.value is not None}
+
+
+def parted(given):
+    """The place of the command among the words: the first that is neither an option nor the value of one; none where there is none."""
+    skips = False
+    for place, word in enumerate(given):
+        if skips:
+            skips = False
+        elif word.startswith("-") and word != declarations.STANDARD:
+            skips = word in valued()
+        else:
+            return place
+    return None
