@@ -15,7 +15,8 @@ from concurrent.futures import ThreadPoolExecutor
 
 from shared import certificates
 
-# How many entries a front has at most, how many are asked about side by side, and after how many seconds: short drafts are sooner done with fewer questions.
+# How many entries a front has at most, how many fronts are asked about side by side at most, and after how many seconds: questions about later entries may turn
+# out to have been asked for nothing, so a short draft and a busy machine do without.
 LENGTH, MOST_FRONTS, PATIENCE = 16, 4, 1
 # How the questions about an entry ended: all that its steps lead to is known, or a point of it breaks an obligation.
 CLOSED, BROKEN = "closed", "broken"
@@ -73,7 +74,7 @@ class Draft:
         self.orders = {path: order for path, _, order, _ in certificates.components(script, {})}
         self.targets = {state["name"]: targets(state) for state in script["state"]}
         self.count, self.first, self.begun = 0, None, time.monotonic()
-        self.most_fronts = min(MOST_FRONTS, len(os.sched_getaffinity(0)))
+        self.most_fronts = max(1, min(MOST_FRONTS, len(os.sched_getaffinity(0)) - round(os.getloadavg()[0])))
 
     # ---- questions
 
