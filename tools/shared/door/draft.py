@@ -6,27 +6,37 @@ from shared.door import check, declarations, diagnostics, inputs, kept
 from shared.door.inputs import CERTIFICATE, SCRIPT
 
 
-def started(asked, script, named, beside):
-    """The text of the certificate to begin with, where there is one. Where what is kept isn't to be written over the tool ends."""
-    if named is not None:
-        return named.text
+def started(asked, beside):
+    """The text of the certificate that is kept, where it was drafted. Where another one is there that would be written over the tool ends."""
     if beside is None or not beside.certificate.exists():
         return None
     found = inputs.needed({CERTIFICATE: str(beside.certificate)})[CERTIFICATE]
-    if asked.target is None and not beside.is_drafted(found.text):
+    if beside.is_drafted(found.text):
+        return found.text
+    if asked.target is None:
         asking.stop(f"{found.name}: it wasn't drafted here or was changed by hand, and isn't written over; -o names another file", asking.FILES)
-    return found.text if beside.is_drafted(found.text) else None
+    return None
 
 
-def write(asked, script, beside, draft):
-    """Writes a draft where it is asked for: beside its script, into a file, or to standard output; gives the name."""
+def made(asked, script, named, beside, find):
+    """The draft: from the certificate that is named, or from the one that is kept."""
+    start = named.text if named is not None else started(asked, beside)
+    if named is not None or start is not None and beside.is_for(script.text):
+        return kept.made(script, start, asked.is_wide, find)[1]
+    return kept.drafted_from(script, start, asked.is_wide, find)
+
+
+def written(asked, script, named, beside, find):
+    """Makes the draft and writes it where it is asked for: beside its script, into a file, or to standard output; gives it, with the name."""
     if beside is not None and asked.target is None:
+        draft = made(asked, script, named, beside, find)
         beside.keep(script.text, draft.text)
-        return beside.certificate
+        return draft, beside.certificate
     name = None if asked.target in (None, declarations.STANDARD) else asked.target
     with asking.written(name) as file:
+        draft = made(asked, script, named, beside, find)
         file.write(draft.text.decode())
-    return name or kept.NOWHERE
+    return draft, name or kept.NOWHERE
 
 
 def done(asked, find):
@@ -36,12 +46,8 @@ def done(asked, find):
     if found := [*check.mistaken(given.values())]:
         asking.stop("\n".join(map(diagnostics.line, found)), asking.FILES)
     beside = None if script.name == inputs.STANDARD_INPUT else kept.Beside(script.name)
-    start = started(asked, script, named, beside)
-    if named is not None:
-        draft = kept.made(script, start, asked.is_wide, find)[1]
-    else:
-        draft = kept.drafted_from(script, start, asked.is_wide, find)
-    kept.tell(draft, write(asked, script, beside, draft))
+    draft, name = written(asked, script, named, beside, find)
+    kept.tell(draft, name)
     if draft.status:
         words = explained.in_words(find("mgexplain"), [], [script.text, draft.text])[1]
         print(words.partition("\n")[2].strip("\n"), file=sys.stderr)
