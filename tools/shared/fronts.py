@@ -4,9 +4,9 @@ of its steps is in some entry; they stay so, whatever is put in later. So here a
 them the others of the states to which their steps may lead, and of those in which a call opens and restarts. At an entry of its front the answer is that of
 the whole certificate, so the draft is what asking about all of it each time comes to.
 
-A draft that takes long asks about several fronts side by side. What an entry lacks is kept until it is the first that isn't closed; all that the entries before it lack has been
-put in by then, so what they and it are known to lack stands behind its front too, and the answer is the next that it lacks. The last question is about the
-whole. It is installed too, so it knows nothing of this repository."""
+A draft that takes long asks about several fronts side by side. What an entry lacks is kept until it is the first that isn't closed; all that the entries
+before it lack has been put in by then, so what they and it are known to lack stands behind its front too, and the answer is the next that it lacks. The
+last question is about the whole. It is installed too, so it knows nothing of this repository."""
 import json
 import os
 import time
