@@ -1,1 +1,2 @@
 pub mod GivenValues
+pub mod OverLemmas

@@ -1,9 +1,10 @@
 //! An epoch: the calls of each shard go into a queue of their own, workers do their steps of it, and all come back.
-ghost use Rattle.std.specs.Prelude.{◌≡◌, ◌≤◌, IfOk, None, Ok, OnOk, length, option_map, vec_len};
+ghost use Rattle.std.specs.Prelude.{◌≡◌, ◌∷◌, ◌<◌, ◌≤◌, [], IfOk, None, Ok, OnOk, length, option_map, vec_len};
 ghost use Rattle.std.specs.List.{All};
 ghost use Rattle.mg_model.specs.Numbers.{plan_calls};
-ghost use Rattle.call_queues.specs.Passing.{IsOwner, IsWorkersAt};
-ghost use Rattle.workers.specs.PlanSteps.{at_first_step};
+ghost use Rattle.call_queues.specs.Passing.{IsOwner, IsWorkersAt, OwnersKeep};
+ghost use Rattle.workers.specs.PlanSteps.{AreOver, at_first_step};
+ghost use Rattle.workers.specs.Working.{LeavesOver, OwnersStayOver, PassesOn};
 
 use crate::gate::Gate;
 use crate::worker::{Job, Worked, work};
@@ -57,6 +58,9 @@ fn jobs<'a, 's, G, B: Running>(
     ensures owners { All (λ o. IsOwner queues.now o) owners.new.items }
     ensures ready { IfOk result (λ js. All (λ job. (job.queues.now ≡ queues.now) × All (λ s. IsWorkersAt queues.now s) job.worker_queues.items) js.items) }
     ensures len { IfOk result (λ js. vec_len js ≡ workers) }
+    ensures workplace { IfOk result (λ js. All (λ job. job.workplace.now ≡ workplace.now) js.items) }
+    ensures none { IfOk result (λ js. All (λ job. All (λ s. s.done.items ≡ []) job.worker_queues.items) js.items) }
+    ensures back { OnOk result (OwnersKeep owners.old.items owners.new.items) }
 {
     let count = owners.len();
     let mut jobs = Vec::new(alloc);
@@ -84,6 +88,7 @@ fn absorb<'s>(
     requires workers { All (λ s. IsWorkersAt queues.now s) worked.worker_queues.items }
     ensures owners { OnOk result (All (λ o. IsOwner queues.now o) owners.new.items) }
     ensures untroubled { OnOk result (worked.entry.trouble ≡ None) }
+    ensures back { OnOk result (PassesOn owners.old.items (worked.entry ∷ []) owners.new.items) }
 {
     let Worked {
         worker_queues,
@@ -104,7 +109,8 @@ fn gather<'s>(
 ) -> Result<(), RunFault>
     requires owners { All (λ o. IsOwner queues.now o) owners.old.items }
     requires workers { All (λ worked. All (λ s. IsWorkersAt queues.now s) worked.worker_queues.items) all.items }
-    ensures { OnOk result (All (λ o. IsOwner queues.now o) owners.new.items) }
+    ensures owners { OnOk result (All (λ o. IsOwner queues.now o) owners.new.items) }
+    ensures back { OnOk result (PassesOn owners.old.items all.entry.items owners.new.items) }
 {
     for worked in all {
         absorb(queues, owners, worked)?;
@@ -112,7 +118,8 @@ fn gather<'s>(
     Ok(())
 }
 
-/// So many workers serve the queues, until no call of them has a step left in the epoch. What they were done with is with the queues' owners then.
+/// So many workers serve the queues, until no call of them has a step left in the epoch. What they were done with, and has none, is with the queues' owners
+/// then.
 fn served<'a, 's, G: Gate, B: Running + Send + Sync, R: Threads + Wait + Sync>(
     rt: &R,
     alloc: Global,
@@ -122,7 +129,8 @@ fn served<'a, 's, G: Gate, B: Running + Send + Sync, R: Threads + Wait + Sync>(
     owners: &mut Vec<QueueOwner<PlannedCall<'s>>>,
 ) -> Result<(), RunFault>
     requires { All (λ o. IsOwner queues.now o) owners.old.items }
-    ensures { OnOk result (All (λ o. IsOwner queues.now o) owners.new.items) }
+    ensures owners { OnOk result (All (λ o. IsOwner queues.now o) owners.new.items) }
+    ensures over { OnOk result (OwnersStayOver workplace.now.plan.now.calls workplace.now.epoch owners.old.items owners.new.items) }
 {
     let jobs = jobs(alloc, queues, owners, workplace, workers)?;
     let all = thread::map_vec(
@@ -130,13 +138,14 @@ fn served<'a, 's, G: Gate, B: Running + Send + Sync, R: Threads + Wait + Sync>(
         jobs,
         &|job|
             requires { All (λ s. IsWorkersAt job.queues.now s) job.worker_queues.items }
-            ensures { All (λ s. IsWorkersAt job.entry.queues.now s) result.worker_queues.items }
+            ensures workers { All (λ s. IsWorkersAt job.entry.queues.now s) result.worker_queues.items }
+            ensures over { LeavesOver job.entry.workplace.now.plan.now.calls job.entry.workplace.now.epoch job.entry.worker_queues.items result }
         { work(rt, job) },
     )?;
     gather(queues, owners, all)
 }
 
-/// An epoch of all calls, which come back at their numbers.
+/// An epoch of all calls, which come back at their numbers, with no step of it left.
 pub(crate) fn pass<'a, 's, G: Gate, B: Running + Send + Sync, R: Threads + Wait + Sync>(
     rt: &R,
     alloc: Global,
@@ -145,7 +154,9 @@ pub(crate) fn pass<'a, 's, G: Gate, B: Running + Send + Sync, R: Threads + Wait 
     places: Places<'s>,
 ) -> Result<Places<'s>, RunFault>
     requires few { vec_len places ≤ plan_calls }
-    ensures { IfOk result (λ back. vec_len back ≡ vec_len places.entry) }
+    requires some { 0 < length workplace.now.shards.now }
+    ensures len { IfOk result (λ back. vec_len back ≡ vec_len places.entry) }
+    ensures over { IfOk result (λ back. AreOver workplace.now.plan.now.calls workplace.now.epoch back.items) }
 {
     let mut places = places;
     begin_calls(places.as_mut_slice());

@@ -1,16 +1,19 @@
 //! The calls of a plan moved on by workers, in all of its epochs.
-ghost use Rattle.std.specs.Prelude.{◌≡◌, ◌≤◌, IfOk, length, vec_len};
+ghost use Rattle.std.specs.Prelude.{◌≡◌, ℕ, ◌+◌, ◌-◌, ◌<◌, ◌≤◌, IfOk, OnOk, length, vec_len};
 ghost use Rattle.mg_model.specs.Numbers.{plan_calls};
+ghost use Rattle.mg_model.specs.Plans as plans;
 ghost use Rattle.plans.specs.Accepted.{IsPlanFor};
 ghost use Rattle.workers.specs.RunShards.{AreOfRun};
 ghost use Rattle.workers.specs.Counting.{AreCounted};
+ghost use Rattle.workers.specs.PlanSteps.{AreOver, HaveEnded};
 
 use crate::epoch::pass;
 use crate::gate::Gate;
+use crate::passed_epochs::PassedEpochs;
 use crate::workplace::Workplace;
 use crate::{
-    LockedShard, Places, PlannedCall, PlayedShards, RunFault, RunPlan, Running, all_planned,
-    epochs_of, open_all, unlocked,
+    LockedShard, Places, PlannedCall, PlayedShards, RestartedShards, RunFault, RunPlan, Running,
+    all_planned, epochs_of, open_all, unlocked,
 };
 use composition::Checked;
 use plans::Plan;
@@ -19,17 +22,29 @@ use std::marker::Brand;
 use std::sync::{Mutex, Wait};
 use std::thread::Threads;
 
-/// An epoch of all calls ends: each shard restarts, one after the other, each under its lock alone. `Disagree` where a call has a step left, and `NoMemory` where
-/// memory ran out; the shards before it are restarted then.
-fn end_epoch<'s, B: Running, R: Wait>(
+/// The epoch that was passed ends, if one was: each shard restarts, one after the other, each under its lock alone. `Disagree` where a call has a step left,
+/// and `NoMemory` where memory ran out; the shards before it are restarted then.
+fn end_epoch<B: Running, R: Wait>(
     rt: &R,
     alloc: Global,
-    shards: &[Mutex<LockedShard<'s, B>>],
+    shards: &[Mutex<LockedShard<'_, B>>],
     plan: &RunPlan<'_, B>,
-) -> Result<(), RunFault> {
-    for shard in shards {
-        shard.lock(rt).end_epoch(alloc, plan)?;
+    epochs: &mut PassedEpochs,
+) -> Result<(), RunFault>
+    requires ended { epochs.old.ended ≤ epochs.old.passed }
+    requires passed { epochs.old.passed ≤ epochs.old.ended + 1 }
+    ensures passed { epochs.new.passed ≡ epochs.old.passed }
+    ensures ended { OnOk result (epochs.new.ended ≡ epochs.new.passed) }
+{
+    if epochs.have_ended() {
+        return Ok(());
     }
+    let mut restarted = RestartedShards::none();
+    for shard in shards {
+        let mut locked = shard.lock(rt);
+        locked.end_epoch(alloc, plan, &mut restarted)?;
+    }
+    epochs.end(restarted, shards);
     Ok(())
 }
 
@@ -40,15 +55,18 @@ fn pass_all<'a, 's, G: Gate, B: Running + Send + Sync, R: Threads + Wait + Sync>
     first: &Workplace<'a, 's, G, B>,
     workers: usize,
     places: Places<'s>,
-) -> Result<Places<'s>, RunFault>
+) -> Result<(Places<'s>, PassedEpochs), RunFault>
     requires few { vec_len places ≤ plan_calls }
-    ensures { IfOk result (λ back. vec_len back ≡ vec_len places.entry) }
+    requires some { 0 < length first.now.shards.now }
+    ensures len { IfOk result (λ r. vec_len r.0 ≡ vec_len places.entry) }
+    ensures passed { IfOk result (λ r. r.1.passed ≡ plans.epochs_of first.now.plan.now.calls) }
+    ensures ended { IfOk result (λ r. r.1.ended ≡ plans.epochs_of first.now.plan.now.calls - 1) }
+    ensures over { IfOk result (λ r. (epoch : ℕ) → epoch + 1 ≡ plans.epochs_of first.now.plan.now.calls → AreOver first.now.plan.now.calls epoch r.0.items) }
 {
     let mut places = places;
+    let mut epochs = PassedEpochs::none();
     for epoch in 0..epochs_of(first.plan.plan()) {
-        if epoch > 0 {
-            end_epoch(rt, alloc, first.shards, first.plan)?;
-        }
+        end_epoch(rt, alloc, first.shards, first.plan, &mut epochs)?;
         let workplace = Workplace {
             shards: first.shards,
             plan: first.plan,
@@ -56,8 +74,9 @@ fn pass_all<'a, 's, G: Gate, B: Running + Send + Sync, R: Threads + Wait + Sync>
             gate: first.gate,
         };
         places = pass(rt, alloc, &workplace, workers, places)?;
+        epochs.pass(first.plan, &places);
     }
-    Ok(places)
+    Ok((places, epochs))
 }
 
 /// A run in which all shards are of this script, and have their parts of these calls.
@@ -77,6 +96,7 @@ fn go<'s, G: Gate, B: Running + Send + Sync, R: Threads + Wait + Sync>(
     ensures shards { IfOk result (λ r. AreOfRun checked.now.table plan.now.calls plan.now.shards 0 r.0.shards.items) }
     ensures counted { IfOk result (λ r. AreCounted checked.now.table plan.now.calls plan.now.shards 0 r.0.shards.items r.0.counts.items) }
     ensures all { IfOk result (λ r. vec_len r.1 ≡ length plan.now.calls) }
+    ensures ended { IfOk result (λ r. HaveEnded plan.now.calls r.1.items) }
 {
     let (shards, places) = open_all::<B>(alloc, checked, plan)?;
     let run_plan = RunPlan::<B>::new(plan);
@@ -86,14 +106,15 @@ fn go<'s, G: Gate, B: Running + Send + Sync, R: Threads + Wait + Sync>(
         epoch: 0,
         gate,
     };
-    let places = pass_all(rt, alloc, &first, workers, places)?;
+    let (places, _) = pass_all(rt, alloc, &first, workers, places)?;
     let played = unlocked(alloc, shards)?;
     let planned_calls = all_planned(alloc, places)?;
     Ok((played, planned_calls))
 }
 
 /// The shards of a plan and its calls, once so many workers have gone through all of its epochs. Each shard is of this script and this plan, whatever happened
-/// in it, what is counted of its calls is what a log of it counts, and each call is back. `Disagree` where a call is lost or a shard stands at another's number, and `NoMemory` where memory ran out.
+/// in it, what is counted of its calls is what a log of it counts, and each call is back, with no step of the last epoch left. `Disagree` where a call is lost
+/// or a shard stands at another's number, and `NoMemory` where memory ran out.
 pub fn run_calls<'s, G: Gate, R: Threads + Wait + Sync>(
     rt: &R,
     alloc: Global,
@@ -107,6 +128,7 @@ pub fn run_calls<'s, G: Gate, R: Threads + Wait + Sync>(
     ensures shards { IfOk result (λ r. AreOfRun checked.now.table plan.now.calls plan.now.shards 0 r.0.shards.items) }
     ensures counted { IfOk result (λ r. AreCounted checked.now.table plan.now.calls plan.now.shards 0 r.0.shards.items r.0.counts.items) }
     ensures all { IfOk result (λ r. vec_len r.1 ≡ length plan.now.calls) }
+    ensures ended { IfOk result (λ r. HaveEnded plan.now.calls r.1.items) }
 {
     go::<G, Brand, R>(rt, alloc, checked, plan, workers, gate)
 }

@@ -1,7 +1,9 @@
 //! A worker: it goes from queue to queue. From each it takes a call, does a few of its steps, and hands it back, until it finds none there.
-ghost use Rattle.std.specs.Prelude.{◌≡◌};
+ghost use Rattle.std.specs.Prelude.{◌≡◌, false, true, IfOk, OnOk};
 ghost use Rattle.std.specs.List.{All};
 ghost use Rattle.call_queues.specs.Passing.{IsWorkers, IsWorkersAt};
+ghost use Rattle.workers.specs.PlanSteps.{IsFurther, is_over, item_is_over};
+ghost use Rattle.workers.specs.Working.{LeavesOver, StayOver, StaysOver};
 
 use crate::gate::Gate;
 use crate::workplace::Workplace;
@@ -33,13 +35,16 @@ pub struct Worked<'s> {
     pub trouble: Option<RunFault>,
 }
 
-/// A few steps of a call in this epoch. It is done with where it has no step left, or where one met trouble.
+/// A few steps of a call in this epoch: eight, or as many as it has left. It is done with where it has no step left, or where one met trouble.
 fn turn<'a, 's, G: Gate, B: Running, R: Wait>(
     rt: &R,
     workplace: &Workplace<'a, 's, G, B>,
     number: u32,
     planned: PlannedCall<'s>,
-) -> (PlannedCall<'s>, Result<bool, RunFault>) {
+) -> (PlannedCall<'s>, Result<bool, RunFault>)
+    ensures over { IfOk result.1 (λ done. done ≡ true → is_over workplace.now.plan.now.calls number workplace.now.epoch result.0 ≡ true) }
+    ensures turn { IfOk result.1 (λ done. done ≡ false → IsFurther TURN planned.entry result.0) }
+{
     let mut planned = planned;
     for _ in 0..TURN {
         let Some(step) = workplace.step_of(number, &planned) else {
@@ -60,11 +65,20 @@ fn turned<'a, 's, G: Gate, B: Running, R: Wait>(
     workplace: &Workplace<'a, 's, G, B>,
     item: NumberedItem<PlannedCall<'s>>,
 ) -> (NumberedItem<PlannedCall<'s>>, Result<bool, RunFault>)
-    ensures { result.0.number ≡ item.entry.number }
+    ensures number { result.0.number ≡ item.entry.number }
+    ensures over { IfOk result.1 (λ done. done ≡ true → item_is_over workplace.now.plan.now.calls workplace.now.epoch result.0 ≡ true) }
 {
     let NumberedItem { number, load } = item;
     let (load, is_over) = turn(rt, workplace, number, load);
     (NumberedItem { number, load }, is_over)
+}
+
+/// Whether a call after a turn goes back into its queue.
+fn goes_on(is_over: &Result<bool, RunFault>) -> bool
+    ensures yes { result ≡ true → is_over.now ≡ Ok false }
+    ensures no { result ≡ false → is_over.now ≡ Ok false → ⊥ }
+{
+    matches!(is_over, Ok(false))
 }
 
 /// Takes a call from a queue, does a few of its steps, and hands it back or is done with it; so it is at want of memory too. No, where the queue has none.
@@ -77,13 +91,14 @@ fn serve_one<'a, 's, G: Gate, B: Running, R: Wait>(
     requires { IsWorkers queue.now worker_queue.old }
     ensures shard { worker_queue.new.shard ≡ worker_queue.old.shard }
     ensures workers { IsWorkers queue.now worker_queue.new }
+    ensures over { OnOk result (StaysOver workplace.now.plan.now.calls workplace.now.epoch worker_queue.old worker_queue.new) }
 {
     worker_queue.done.reserve(1)?;
     let Some(item) = queue.take(rt, &mut worker_queue.share) else {
         return Ok(false);
     };
     let (item, is_over) = turned(rt, workplace, item);
-    if let Ok(false) = is_over {
+    if goes_on(&is_over) {
         queue.put(rt, &mut worker_queue.share, item);
         return Ok(true);
     }
@@ -101,6 +116,7 @@ fn serve<'a, 's, G: Gate, B: Running, R: Wait>(
     requires { IsWorkers queue.now worker_queue.old }
     ensures shard { worker_queue.new.shard ≡ worker_queue.old.shard }
     ensures workers { IsWorkers queue.now worker_queue.new }
+    ensures over { OnOk result (StaysOver workplace.now.plan.now.calls workplace.now.epoch worker_queue.old worker_queue.new) }
 {
     for _ in rt.forever() {
         if !serve_one(rt, queue, worker_queue, workplace)? {
@@ -118,7 +134,8 @@ fn serve_all<'a, 's, G: Gate, B: Running, R: Wait>(
     workplace: &Workplace<'a, 's, G, B>,
 ) -> Result<(), RunFault>
     requires { All (λ s. IsWorkersAt queues.now s) worker_queues.old }
-    ensures { All (λ s. IsWorkersAt queues.now s) worker_queues.new }
+    ensures workers { All (λ s. IsWorkersAt queues.now s) worker_queues.new }
+    ensures over { OnOk result (StayOver workplace.now.plan.now.calls workplace.now.epoch worker_queues.old worker_queues.new) }
 {
     for worker_queue in worker_queues.iter_mut() {
         let Some(queue) = queues.get(worker_queue.shard) else {
@@ -129,10 +146,11 @@ fn serve_all<'a, 's, G: Gate, B: Running, R: Wait>(
     Ok(())
 }
 
-/// Works at all places.
+/// Works at all places. What is done with there has no step of the epoch left, unless there was trouble.
 pub fn work<'a, 's, G: Gate, B: Running, R: Wait>(rt: &R, job: Job<'a, 's, G, B>) -> Worked<'s>
     requires { All (λ s. IsWorkersAt job.queues.now s) job.worker_queues.items }
-    ensures { All (λ s. IsWorkersAt job.entry.queues.now s) result.worker_queues.items }
+    ensures workers { All (λ s. IsWorkersAt job.entry.queues.now s) result.worker_queues.items }
+    ensures over { LeavesOver job.entry.workplace.now.plan.now.calls job.entry.workplace.now.epoch job.entry.worker_queues.items result }
 {
     let Job {
         queues,

@@ -1,10 +1,12 @@
 //! Where calls are run: the shards, each under its lock, the plan, the epoch, and the gate.
-ghost use Rattle.std.specs.Prelude.{◌≡◌, ◌+◌, ◌<◌, ◌%◌, IfSome, length};
+ghost use Rattle.std.specs.Prelude.{◌≡◌, ◌+◌, ◌<◌, ◌%◌, IfOk, IfSome, length};
 ghost use Rattle.run_shards.specs.PlanSteps.{step_at};
 
 use crate::gate::Gate;
 use mg_model::plans::PlanStep;
-use run_shards::{CallLog, LockedShard, PlannedCall, RunFault, RunPlan, Running, is_restart};
+use run_shards::{
+    CallLog, LockedShard, PlannedCall, RestartedShards, RunFault, RunPlan, Running, is_restart,
+};
 use std::sync::{Mutex, Wait};
 
 /// Where calls are run, for all workers of an epoch.
@@ -62,14 +64,22 @@ impl<'a, 's, G: Gate, B: Running> Workplace<'a, 's, G, B> {
         (number as usize).checked_rem(self.shards.len())
     }
 
-    /// A restart that the gate let pass as this step of a call: of each shard, in rising order.
-    fn restart<R: Wait>(&self, rt: &R, number: u32, _step: usize) -> Result<(), RunFault>
+    /// A restart that the gate let pass as this step of a call: of each shard, in rising order. As many restarted as there are.
+    fn restart<R: Wait>(
+        &self,
+        rt: &R,
+        number: u32,
+        _step: usize,
+    ) -> Result<RestartedShards, RunFault>
         requires asked { G.was_asked number _step }
+        ensures { IfOk result (λ restarted. restarted ≡ length self.now.shards.now) }
     {
+        let mut restarted = RestartedShards::none();
         for shard in self.shards {
-            shard.lock(rt).restart(self.plan, number)?;
+            let mut locked = shard.lock(rt);
+            locked.restart(self.plan, number, &mut restarted)?;
         }
-        Ok(())
+        Ok(restarted)
     }
 
     /// A step other than a restart that the gate let pass as this one of a call, in the call's shard under its lock.
@@ -108,7 +118,7 @@ impl<'a, 's, G: Gate, B: Running> Workplace<'a, 's, G, B> {
         let planned = begin_step(planned);
         if is_restart(step) {
             let done = self.restart(rt, number, begun);
-            return (planned, done);
+            return (planned, done.and(Ok(())));
         }
         self.step_in_shard(rt, number, planned, begun)
     }
