@@ -8,6 +8,7 @@ ghost use Rattle.program_rim.specs.Statuses.{code_of};
 ghost use Rattle.check_facts.specs.Saying.{Begins, IsSaid, IsTold, IsUnder};
 ghost use Rattle.check_facts.specs.Worth.{IsYesStatus};
 
+use crate::arrows::write_arrows;
 use crate::documents::Documents;
 use crate::form::Form;
 use crate::no_facts::no_facts;
@@ -62,9 +63,9 @@ fn worth_facts(
 ) -> Result<String, AllocError> {
     match worth {
         Some(worth) => {
-            let (reached, warnings) = (&worth.reached, worth.warnings.as_slice());
-            let mut out = warning_facts(alloc, documents, reached, warnings)?;
-            write_rests(alloc, &mut out, documents.script, reached)?;
+            let mut out = warning_facts(alloc, documents, worth)?;
+            write_rests(alloc, &mut out, documents.script, &worth.reached)?;
+            write_arrows(&mut out, documents.script, worth.crossings.as_slice())?;
             Ok(out)
         }
         None => Ok(String::new(alloc)),

@@ -1,8 +1,9 @@
-//! What a yes is worth: what of the script and of its certificate no call uses, lines that no call hears, and notes that no state takes. What there is to
-//! warn of is found by `call_ways`.
+//! What a yes is worth: what of the script and of its certificate no call uses, lines that no call hears, notes that no state takes, and commands that no call
+//! gets done. What there is to warn of is found by `call_ways`.
 use crate::documents::Documents;
-use crate::names::{line_name, state_name};
-use call_ways::reached::Reached;
+use crate::names::{NO_NAME, line_name, state_name};
+use crate::worth::Worth;
+use call_ways::crossings::Crossing;
 use call_ways::{Warning, find_holder, find_unreached};
 use mg_names::kinds::Kind;
 use mg_names::slots::Slot;
@@ -41,6 +42,11 @@ fn write_of_note(
     write!(out, r#","note_kind":"{kind}""#)
 }
 
+/// Adds the place of the command that a warning is about.
+fn write_command(out: &mut String, place: usize) -> Result<(), AllocError> {
+    write!(out, r#","command_place":{place}"#)
+}
+
 /// Adds a warning of a state and of what of it.
 fn write_state_warning(
     out: &mut String,
@@ -68,7 +74,53 @@ fn write_state_warning(
             write_of_state(out, script, "line_deaf", state)?;
             write_line(out, script, line)
         }
+        Warning::CommandUnsent(state, place) => {
+            write_of_state(out, script, "command_unsent", state)?;
+            write_command(out, place)
+        }
         _ => Ok(()),
+    }
+}
+
+/// The name of the state that the arrow at a place leads to.
+fn state_over<'a>(script: &'a Script, crossings: &[Crossing], arrow: usize) -> &'a str {
+    match crossings.get(arrow) {
+        Some(crossing) => state_name(script, crossing.arrow.to),
+        None => NO_NAME,
+    }
+}
+
+/// Adds a warning of an arrow.
+fn write_of_arrow(
+    out: &mut String,
+    script: &Script,
+    crossings: &[Crossing],
+    word: &str,
+    arrow: usize,
+) -> Result<(), AllocError> {
+    let state = state_over(script, crossings, arrow);
+    write!(
+        out,
+        r#"{{"warning":"{word}","state":"{state}","arrow_place":{arrow}"#
+    )
+}
+
+/// Adds a warning of an arrow and of what of it.
+fn write_arrow_warning(
+    out: &mut String,
+    script: &Script,
+    crossings: &[Crossing],
+    warning: &Warning,
+) -> Result<(), AllocError> {
+    match *warning {
+        Warning::CommandRefused(arrow, place) => {
+            write_of_arrow(out, script, crossings, "command_refused", arrow)?;
+            write_command(out, place)
+        }
+        Warning::RequestEmpty(arrow) => {
+            write_of_arrow(out, script, crossings, "request_empty", arrow)
+        }
+        _ => write_state_warning(out, script, warning),
     }
 }
 
@@ -77,11 +129,11 @@ fn write_of_entry(out: &mut String, word: &str, place: usize) -> Result<(), Allo
     write!(out, r#"{{"warning":"{word}","entry_place":{place}"#)
 }
 
-/// Adds a warning, where what calls come to is this.
+/// Adds a warning of what a yes is worth.
 fn write_warning(
     out: &mut String,
     documents: Documents<'_>,
-    reached: &Reached,
+    worth: &Worth,
     warning: &Warning,
 ) -> Result<(), AllocError> {
     match *warning {
@@ -95,12 +147,12 @@ fn write_warning(
         }
         Warning::PointUnreached(place) => {
             write_of_entry(out, "point_unreached", place)?;
-            match find_unreached(documents.cert, reached, place) {
+            match find_unreached(documents.cert, &worth.reached, place) {
                 Some(number) => write!(out, r#","point_number":{number}"#),
                 None => Ok(()),
             }
         }
-        _ => write_state_warning(out, documents.script, warning),
+        _ => write_arrow_warning(out, documents.script, worth.crossings.as_slice(), warning),
     }
 }
 
@@ -108,15 +160,14 @@ fn write_warning(
 pub(crate) fn warning_facts(
     alloc: Global,
     documents: Documents<'_>,
-    reached: &Reached,
-    warnings: &[Warning],
+    worth: &Worth,
 ) -> Result<String, AllocError> {
     let mut out = String::new(alloc);
     out.push_str(r#","warnings":["#)?;
     let mut gap = "";
-    for warning in warnings {
+    for warning in worth.warnings.as_slice() {
         out.push_str(gap)?;
-        write_warning(&mut out, documents, reached, warning)?;
+        write_warning(&mut out, documents, worth, warning)?;
         out.push_str("}")?;
         gap = ",";
     }

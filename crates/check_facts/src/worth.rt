@@ -2,6 +2,7 @@
 ghost use Rattle.std.specs.Prelude.{◌≡◌, IfOk};
 ghost use Rattle.check_facts.specs.Worth.{IsWorth, yes_status};
 
+use call_ways::crossings::{Crossing, find_crossings};
 use call_ways::find::find_all;
 use call_ways::reached::Reached;
 use call_ways::{Warning, find_warnings};
@@ -15,7 +16,9 @@ use std::alloc::{AllocError, Global};
 pub(crate) struct Worth {
     /// The configurations that calls come to.
     pub(crate) reached: Reached,
-    /// What of the script and the certificate they don't use, and lines that none of them hears.
+    /// What they tell of each arrow.
+    pub(crate) crossings: Vec<Crossing>,
+    /// What of the script and the certificate they don't use, lines that none of them hears, and commands that none gets done.
     pub(crate) warnings: Vec<Warning>,
 }
 
@@ -31,8 +34,13 @@ pub(crate) fn find_worth(
     let Some(reached) = find_all(alloc, script, cert)? else {
         return Ok(None);
     };
-    let warnings = find_warnings(alloc, script, cert, &reached)?;
-    Ok(Some(Worth { reached, warnings }))
+    let crossings = find_crossings(alloc, script, &reached)?;
+    let warnings = find_warnings(alloc, script, cert, &reached, crossings.as_slice())?;
+    Ok(Some(Worth {
+        reached,
+        crossings,
+        warnings,
+    }))
 }
 
 /// The status of a yes: that of a no where warnings count and there are some, or where it can't be told whether there are.
