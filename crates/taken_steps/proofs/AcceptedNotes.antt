@@ -90,7 +90,8 @@ module _ (script : Script) (a : Agent) where
   replied_accepts reply = in_phase a.phase
     where
       bound_has : HasOnly no_note a (after_results a (built_by script a a.state) reply.results reply.number)
-      bound_has n accepted_so = inl (ap (λ (accepted : ℕ → Bool). accepted n) (sym (results_accept a (built_by script a a.state) reply.results reply.number)) ∙ accepted_so)
+      bound_has n accepted_so =
+          inl (ap (λ (accepted : ℕ → Bool). accepted n) (sym (results_accept a (built_by script a a.state) reply.results reply.number)) ∙ accepted_so)
 
       in_phase : (phase : Phase) → AcceptsOnly no_note a (replied_to script a phase reply)
       in_phase (awaits_reply request) = where_it_may no_note a (answers reply request)
