@@ -44,14 +44,14 @@ module _ {E : Type 0} (script : Script) (configs : List Words) (r : Result Bool 
       let says = tells entries all in
       ((λ yes. let is = says.0 yes in (arrow, is.0, is.1)), (λ is. says.1 (is.1, is.2)))) told
 
-  pub note_swallowed : (s i : ℕ) (kind : Kind) → (state_of script s).is_end ≡ false → target_in (state_of script s).on i kind ≡ None
+  pub note_swallowed : (s i : ℕ) (kind : Kind) → (s ≡ script.start → ⊥) → (state_of script s).is_end ≡ false → target_in (state_of script s).on i kind ≡ None
       → IfOk r (λ holds. TellsShown script configs holds (sight.Raises s i kind))
       → IfOk r (λ holds. Tells script configs holds (warning.NoteSwallowed s i kind))
-  note_swallowed s i kind no_end none told =
+  note_swallowed s i kind no_start no_end none told =
       if_ok r (λ holds. TellsShown script configs holds (sight.Raises s i kind)) (λ holds. Tells script configs holds (warning.NoteSwallowed s i kind))
       (λ holds tells entries all.
       let says = tells entries all in
-      ((λ yes. (no_end, none, says.0 yes)), (λ is. says.1 is.2))) told
+      ((λ yes. (no_start, no_end, none, says.0 yes)), (λ is. says.1 is.3))) told
 
   pub line_deaf : (s i : ℕ) → i < length script.lines → IfOk r (λ holds. IsTrue holds ↔ IsSeen script configs (sight.Deafens s i))
       → IfOk r (λ holds. Tells script configs holds (warning.LineDeaf s i))

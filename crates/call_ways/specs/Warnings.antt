@@ -107,7 +107,8 @@ IsWarning script entries (warning.ArrowUnused s i kind) =
     IsTrue (is_some (target_in (state_of script s).on i kind)) × IsShown script entries (sight.Stands s)
     × (IsShown script entries (sight.Raises s i kind) → ⊥)
 IsWarning script entries (warning.NoteSwallowed s i kind) =
-    ((state_of script s).is_end ≡ false) × (target_in (state_of script s).on i kind ≡ None) × IsShown script entries (sight.Raises s i kind)
+    (s ≡ script.start → ⊥) × ((state_of script s).is_end ≡ false) × (target_in (state_of script s).on i kind ≡ None)
+    × IsShown script entries (sight.Raises s i kind)
 IsWarning script entries (warning.MarkUnneeded s pair) =
     IsShown script entries (sight.Stands s) × (IsShown script entries (sight.Joins s pair) → ⊥)
 IsWarning script entries (warning.LineDeaf s i) = (i < length script.lines) × IsShown script entries (sight.Deafens s i)

@@ -10,8 +10,8 @@ use mg_names::slots::Slot;
 use script_table::Script;
 use std::alloc::{AllocError, Global};
 
-/// Whether a call rests in a state, which isn't an end, with a list for a line that raises a note of a kind, and the state doesn't say where that leads. The
-/// only error is running out of memory.
+/// Whether a call rests in a state, which is neither the start nor an end, with a list for a line that raises a note of a kind, and the state doesn't say where
+/// that leads. In the start state each line is armed as the call opens, whatever the script says. The only error is running out of memory.
 pub(crate) fn is_note_swallowed(
     alloc: Global,
     script: &Script,
@@ -22,6 +22,9 @@ pub(crate) fn is_note_swallowed(
 ) -> Result<bool, AllocError>
     ensures { IfOk result (λ holds. Tells script.now reached.now holds (Warning.NoteSwallowed state line kind)) }
 {
+    if state == script.start() {
+        return Ok(false);
+    }
     if script.ends_in(state) {
         return Ok(false);
     }

@@ -13,8 +13,8 @@ pub enum Warning {
     StateNeverLeft(u8),
     /// This state says where a note of this line and kind leads. Calls come to it, and none rests in it with a list for that line that raises one.
     ArrowUnused(u8, Slot, Kind),
-    /// A call rests in this state, which isn't an end, with a list for this line that raises a note of this kind, and the state doesn't say where that leads:
-    /// the note is used up, and nothing happens.
+    /// A call rests in this state, which is neither the start nor an end, with a list for this line that raises a note of this kind, and the state doesn't say
+    /// where that leads: the note is used up, and nothing happens.
     NoteSwallowed(u8, Slot, Kind),
     /// Calls come to this state, and in none are the lines of this pair joined, which it marks as talking.
     MarkUnneeded(u8, Pair),
