@@ -34,8 +34,7 @@ name = "done"
 end = true
 """
 # Scripts: the name, what takes the place of what in the story's, and what is warned of, as its word and the state. In each of them a call opens in `idle`
-# with both lines armed, and one of them leads on: lifting the other one comes to nothing.
-IDLE_NOTE = ("note_swallowed", "idle")
+# with both lines armed, and one of them leads on: of the other one nothing is said, since that is the start state.
 STORIES = (
     ("the story", "", "", []),
     ("a state more", 'name = "done"\nend = true', 'name = "done"\nend = true\n\n[[state]]\nname = "spare"\nend = true', [("state_unlisted", "spare")]),
@@ -137,9 +136,9 @@ def scripts():
     """The name of each script, its text, and what is warned of."""
     story = (STORY / "script.toml").read_text()
     for name, old, new, wanted in STORIES:
-        yield name, story.replace(old, new, 1) if old else story, [IDLE_NOTE, *wanted]
+        yield name, story.replace(old, new, 1) if old else story, wanted
     for name, middle, wanted in MIDDLES:
-        yield name, SMALL.format(middle=middle), [IDLE_NOTE, *wanted]
+        yield name, SMALL.format(middle=middle), wanted
 
 
 def judged(program):
@@ -149,7 +148,7 @@ def judged(program):
         yield f"warnings: {name}", [*wrong(program, data, of_state, wanted)]
     script, own = (STORY / "script.toml").read_text(), json.loads((STORY / "certificate.json").read_text())["entries"]
     for name, first, last, wanted in ENTRIES:
-        yield f"warnings: {name}", [*wrong(program, joined(script, [*first, *own, *last]), of_entry, [("note_swallowed", None, None, None), *wanted])]
+        yield f"warnings: {name}", [*wrong(program, joined(script, [*first, *own, *last]), of_entry, wanted)]
     yield from patterns(program)
     for name, words, data in (
         ("of a plan", ("--strict",), joined(script, own) + DIVIDER + (STORY / "plan.toml").read_bytes()),

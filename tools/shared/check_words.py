@@ -12,8 +12,8 @@ MEANT = "Whether the service is what you meant, `--coverage` shows: who hears wh
 MANY = "Calls come to a million configurations or more, so it isn't told what of this no call uses."
 WARNED = "What of it no call uses, the lines that no call hears, and the notes and commands that nothing comes of:"
 UNWARNED = (
-    "Calls come to each point and use each transition and mark, each line is heard wherever a call rests, no note is swallowed, and no command is left out or "
-    "refused each time."
+    "Calls come to each point and use each transition and mark, each line is heard wherever a call rests, no note is swallowed but in the start state, "
+    "and no command is left out or refused each time."
 )
 # What an obligation asks, and what may be done where it is broken, beside giving the entry that is wanted.
 RULES = {
