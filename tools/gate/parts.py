@@ -32,7 +32,7 @@ PARTS = {
         ),
     },
     "shards": {"messages": Part("messages Messages", "", "agent gateway composition systems")},
-    "workers": {"steps": Part("gate worker workplace", "", "plans composition")},
+    "workers": {"steps": Part("gate worker workplace PlanSteps Working", "", "plans composition")},
     "call_ways": {
         "keys": Part("key Key", "", "closure entry_table script_table"),
         "ways": Part("find found reached search trace way Reached Search Ways", "keys", "mg_names"),
@@ -46,7 +46,7 @@ PARTS = {
         "reach": Part("part narrowed Parts", "points", "built_request"),
     },
     "taken_steps": {
-        "steps": Part("came idle position reasons taking Positions Reasons Taking", "", "gateway built_request"),
+        "steps": Part("came causes idle position reasons taking Findings Positions Reasons Taking", "", "gateway built_request"),
         "scenes": Part("fault scene shown results names_bound", "", "planned_calls"),
     },
 }
