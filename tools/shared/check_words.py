@@ -101,7 +101,6 @@ WARNINGS = {
 
 # What may be done about a warning, each in its case.
 HEAR = "Let `on.{0}.{kind}` lead somewhere, or give {0} a list without that event before a call rests here."
-HEAR_AS_OPENED = "A call opens here with each line armed: let `on.{0}.{kind}` lead somewhere if lifting {0} is to do something."
 BIND = "Let a state on the way here create {used}, or leave the command out."
 LEAD = "Let that arrow lead to a state that has other commands or none, or let one before create what they name."
 STAND = "{needed} Over that arrow this isn't so: let it lead to a state without the command, or see to it before."
@@ -122,12 +121,11 @@ def used(script, command):
     return [f"`{word}`" for word in dict.fromkeys(words) if word in names]
 
 
-def advice(told, script, more):
+def advice(told, more):
     """What may be done about a warning of what nothing comes of; nothing of any other one."""
     kind = told["warning"]
     if kind == "note_swallowed":
-        is_opened_so = told["state"] == script["start"] and told["note_kind"] == "of"
-        return (HEAR_AS_OPENED if is_opened_so else HEAR).format(*told["names"], **more)
+        return HEAR.format(*told["names"], **more)
     if kind == "command_refused":
         return STAND.format(needed=NEEDS[more["command"].split(" ")[0]])
     return {"command_unsent": BIND, "request_empty": LEAD}.get(kind, "").format(**more)
@@ -179,7 +177,7 @@ def warned(told, page, script):
     names = used(script, command)
     more = {"kind": told.get("note_kind"), "holder": told.get("held_by"), "point": told.get("point_number"), "place": told.get("command_place")}
     more |= {"command": command, "used": " and ".join(names), "lacking": " or ".join(names), "arrow": of_arrow(told, page)}
-    return WARNINGS[told["warning"]].format(*told.get("names", []), **more, advice=advice(told, script, more))
+    return WARNINGS[told["warning"]].format(*told.get("names", []), **more, advice=advice(told, more))
 
 
 def warning(told, page, script, lines):

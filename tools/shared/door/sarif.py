@@ -3,7 +3,7 @@ there. It is installed too, so it knows nothing of this repository."""
 import json
 from urllib.parse import quote
 
-from shared.check_words import RULES, WARNINGS
+from shared.check_words import RULES
 from shared.door.diagnostics import NOTE
 
 SCHEMA, VERSION = "https://json.schemastore.org/sarif-2.1.0.json", "2.1.0"
@@ -55,7 +55,7 @@ def results(report):
 def rules(diagnostics):
     """The rules that are broken, each once, with what it asks where that is known."""
     for name in dict.fromkeys(told.rule for told in diagnostics if told.rule):
-        says = RULES.get(name) or WARNINGS.get(name, name)
+        says = RULES.get(name) or name.replace("_", " ")
         yield {"id": name, "shortDescription": {"text": says}}
 
 

@@ -41,7 +41,7 @@ class Verdict:
 
     def warned(self, told):
         """The warning that is told."""
-        says = check_words.warned(told).rstrip(".")
+        says = check_words.warned(told, self.page, self.table).rstrip(". ")
         if "state" not in told:
             return warning(self.certificate.name, self.entries.entry(told["entry_place"]), told["warning"], f"entry {told['entry_place']}: {says}")
         state, names = told["state"], told.get("names", [])
@@ -49,6 +49,8 @@ class Verdict:
             place = self.parts.way_out(state, f"{names[0]}.{told['note_kind']}")
         elif told["warning"] == "mark_unneeded":
             place = self.parts.mark(state, names)
+        elif "command_place" in told:
+            place = self.parts.command(state, told["command_place"])
         else:
             place = self.parts.state(state)
         return warning(self.script.name, place, told["warning"], f"state {state}: {says}")
