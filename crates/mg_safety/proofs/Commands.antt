@@ -1,4 +1,5 @@
--- One command: where it is executed on the board, it is legal in the configuration and leads to its effect.
+-- One command: where it is executed on the board, it is legal in the configuration and leads to its effect; and where it is legal there, no
+-- code refuses it on the board, but where no number is left.
 pub mod OneRow
 pub mod Placing
 pub mod InForce
@@ -19,3 +20,5 @@ pub mod Leaving
 pub mod LeavingChanges
 pub mod SubtractCarried
 pub mod TopologyCarried
+pub mod LegalNames
+pub mod Allowed

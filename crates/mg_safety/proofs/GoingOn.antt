@@ -1,4 +1,4 @@
--- A call that waits can be led on, and one that rests moved.
+-- A call that waits can be led on, one that rests moved, and each brought to its end where its configuration has a way there.
 pub mod SentCommands
 pub mod InOrder
 pub mod Searching
@@ -6,6 +6,15 @@ pub mod Taking
 pub mod OneCommand
 pub mod Running
 pub mod Settling
+pub mod Entered
+pub mod Executed
 pub mod LedOn
 pub mod AcceptedNotes
+pub mod Turned
+pub mod TakenNotes
 pub mod Moved
+pub mod Moves
+pub mod NextSteps
+pub mod WaitingMoves
+pub mod RestingMoves
+pub mod Ended

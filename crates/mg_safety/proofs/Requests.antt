@@ -8,3 +8,4 @@ pub mod RunSteps
 pub mod Starting
 pub mod Ending
 pub mod Run
+pub mod FewNotes

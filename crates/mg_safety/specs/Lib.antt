@@ -6,3 +6,4 @@ pub mod Others
 pub mod GoingOn
 pub mod MovingOn
 pub mod Followed
+pub mod Ending

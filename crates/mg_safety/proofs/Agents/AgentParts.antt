@@ -6,7 +6,7 @@ use Rattle.mg_safety.proofs.Words.{Script, Step, entering, reply_step, steps_by_
 use Rattle.mg_names.specs.declared.phases.LinkPhase as phases
 use Rattle.mg_model.specs.declared.steps.StepName.TheVariants as names
 use Rattle.mg_model.specs.Steps as steps
-use Rattle.mg_safety.proofs.InvariantWords.{Stands, IsCurrent, IsLost, IsSentBy, IsClosed}
+use Rattle.mg_safety.proofs.InvariantWords.{Stands, IsCurrent, IsCurrentAt, IsLost, IsSentBy, IsClosed}
 use Rattle.mg_safety.proofs.Agents.Entering.{Follows, follows_resting, enters_follows, IsBetween, enters_current, rests_current}
 use Rattle.mg_safety.proofs.Agents.AgentSteps.{Goes}
 
@@ -18,10 +18,15 @@ pub step_of : (script : Script) (Among : Listed) → IsClosed script Among → (
 step_of script Among closed c link step stands is among =
     closed.steps c step stands (subst (λ (l : phases.LinkPhase). Contains (steps_by_link script c l) step) (sym is) among)
 
+-- where a target leads: the state is entered, or the call rests
+abbrev pub led_to : Script → Configuration → Option ℕ → Configuration
+led_to script c None = steps.with_link c Resting
+led_to script c (Some state) = steps.with_state script c state
+
 -- a target is entered, where the checker enters it
 pub target_entered : (script : Script) (Among : Listed) (g : Gateway) (e : Agent) (c : Configuration) (name : StepName) (target : Option ℕ) (b : Agent)
     → IsBetween script g e c → ((step : Step) → Contains (entering script c name target) step → Stands script Among step.1)
-    → entered_if script e target ≡ Some b → IsCurrent script Among g b
+    → entered_if script e target ≡ Some b → IsCurrentAt script Among g b (led_to script c target)
 target_entered script Among g e c name None b between stands is = absurd (none_is_some b is)
 target_entered script Among g e c name (Some state) b between stands is =
     enters_current script Among g e c state b between (stands (name, steps.with_state script c state) (only_here (name, steps.with_state script c state))) is
@@ -29,8 +34,9 @@ target_entered script Among g e c name (Some state) b between stands is =
 -- after a reply without a failure the target is entered, or the call rests
 pub answer_led : (script : Script) (Among : Listed) (g : Gateway) (e : Agent) (c : Configuration) (target : Option ℕ) (b : Agent)
     → IsBetween script g e c → c.state ≡ e.state → ((step : Step) → Contains (reply_step script c target) step → Stands script Among step.1)
-    → entered_or_rests script e target ≡ Some b → IsCurrent script Among g b
-answer_led script Among g e c None b between state stands is = subst (IsCurrent script Among g) (the_some (record e { phase = resting }) b is)
+    → entered_or_rests script e target ≡ Some b → IsCurrentAt script Among g b (led_to script c target)
+answer_led script Among g e c None b between state stands is =
+    subst (λ (x : Agent). IsCurrentAt script Among g x (steps.with_link c Resting)) (the_some (record e { phase = resting }) b is)
     (rests_current script Among g e c between state (stands (names.Reply, steps.with_link c Resting) (only_here (names.Reply, steps.with_link c Resting))))
 answer_led script Among g e c (Some target) b between state stands is =
     enters_current script Among g e c target b between

@@ -15,6 +15,11 @@ use Rattle.mg_safety.proofs.Agents.AgentParts.{step_of, target_entered, answer_l
 
 -- ---- a current call between two steps
 
+-- the number of its next request is above those that were executed
+pub not_executed : (script : Script) (Among : Listed) (w : World) (call : ℕ) (a : Agent) → CallIsSound script Among w call a
+    → last_executed w.gateway a.call < a.next
+not_executed script Among w call a sound = subst (λ n. last_executed w.gateway n < a.next) (sym sound.numbered) sound.next
+
 -- the agent e has all of the present one that a configuration is shown by
 pub between_of : (script : Script) (Among : Listed) (g : Gateway) (a e : Agent) (k : IsCurrent script Among g a)
     → k.e ≡ e → e.call ≡ a.call → e.association ≡ a.association → e.next ≡ a.next → last_executed g a.call < a.next → IsBetween script g e k.c
@@ -29,7 +34,7 @@ between_of script Among g a e k effective call association next above = record {
 
 -- ---- an empty request passes
 
-passes : (script : Script) (a b : Agent) (phase : Phase) → passed_in script a phase ≡ Some b
+pub passes : (script : Script) (a b : Agent) (phase : Phase) → passed_in script a phase ≡ Some b
     → (phase ≡ awaits_pass) × (entered_or_rests script a (state_of script a.state).ok ≡ Some b)
 passes script a b awaits_pass is = (refl, is)
 passes script a b phase is = absurd (none_is_some b is)
@@ -62,13 +67,12 @@ pass_goes script Among closed w call a b sound is = by_part sound.part
     by_part (inl k) =
         let taken = passes script a b a.phase is in
         let passing = at_pass script w.gateway a k.e k.c.link taken.0 k.at in
-        let above : last_executed w.gateway a.call < a.next = subst (λ n. last_executed w.gateway n < a.next) (sym sound.numbered) sound.next in
         goes_on script Among w.gateway a a b refl refl (omega arith) refl (rests_follows script a (state_of script a.state).ok b taken.1)
         (quiet w.gateway a (pass_quiet a.phase taken.0))
         (inl (answer_led script Among w.gateway a k.c (state_of script a.state).ok b
-        (between_of script Among w.gateway a a k passing.effective refl refl refl above) k.state
+        (between_of script Among w.gateway a a k passing.effective refl refl refl (not_executed script Among w call a sound)) k.state
         (λ step among. step_of script Among closed k.c Answered step k.stands passing.link_is
-        (subst (λ n. Contains (steps.reply_step script k.c (state_of script n).ok) step) (sym k.state) among)) taken.1))
+        (subst (λ n. Contains (steps.reply_step script k.c (state_of script n).ok) step) (sym k.state) among)) taken.1).current)
     by_part (inr lost) =
         let taken = passes script a b a.phase is in
         lost_goes script Among w.gateway a a b lost refl refl refl refl (rests_follows script a (state_of script a.state).ok b taken.1)
@@ -79,7 +83,7 @@ pass_sound call script Among is_script closed w after sound s = agent_goes scrip
 
 -- ---- the timer ends
 
-times : (script : Script) (a b : Agent) → timed script a ≡ Some b → (a.phase ≡ resting) × (entered_if script a (state_of script a.state).timer ≡ Some b)
+pub times : (script : Script) (a b : Agent) → timed script a ≡ Some b → (a.phase ≡ resting) × (entered_if script a (state_of script a.state).timer ≡ Some b)
 times script a b =
     let led = entered_if script a (state_of script a.state).timer in
     by_test (λ (o : Option Agent). o ≡ Some b → (a.phase ≡ resting) × (led ≡ Some b)) led None (is_resting a.phase)
@@ -93,15 +97,14 @@ timer_goes script Among closed w call a b sound is = by_part sound.part
     by_part (inl k) =
         let taken = times script a b is in
         let rest = at_rest script w.gateway a k.e k.c.link taken.0 k.at in
-        let above : last_executed w.gateway a.call < a.next = subst (λ n. last_executed w.gateway n < a.next) (sym sound.numbered) sound.next in
         goes_on script Among w.gateway a a b refl refl (omega arith) refl (if_follows script a (state_of script a.state).timer b taken.1)
         (quiet w.gateway a (rest_quiet a.phase taken.0))
         (inl (target_entered script Among w.gateway a k.c names.Timer (state_of script a.state).timer b
-        (between_of script Among w.gateway a a k rest.effective refl refl refl above)
+        (between_of script Among w.gateway a a k rest.effective refl refl refl (not_executed script Among w call a sound))
         (λ step among. step_of script Among closed k.c Resting step k.stands rest.link_is
         (Contains-append_right (flat_map (observations script k.c) (line_places script))
         (entering script k.c names.Timer (state_of script k.c.state).timer) step
-        (subst (λ n. Contains (entering script k.c names.Timer (state_of script n).timer) step) (sym k.state) among))) taken.1))
+        (subst (λ n. Contains (entering script k.c names.Timer (state_of script n).timer) step) (sym k.state) among))) taken.1).current)
     by_part (inr lost) =
         let taken = times script a b is in
         lost_goes script Among w.gateway a a b lost refl refl refl refl (if_follows script a (state_of script a.state).timer b taken.1)

@@ -7,7 +7,7 @@ use Rattle.mg_safety.proofs.Words.{last_number, Gateway, last_executed, LineRow,
 use Rattle.mg_safety.proofs.Words.{none_is_some, the_some, by_test, ◌⊎◌, Option}
 use Rattle.mg_names.specs.declared.phases.LinkPhase as phases
 use Rattle.mg_model.specs.Steps as steps
-use Rattle.mg_safety.proofs.InvariantWords.{naming, Seen, LinesShown, Stands, IsOfScript, owned_in, IsCurrent}
+use Rattle.mg_safety.proofs.InvariantWords.{naming, Seen, LinesShown, Stands, IsOfScript, owned_in, IsCurrentAt}
 use Rattle.mg_safety.proofs.Requests.RunKnown.{bound_agree}
 use Rattle.mg_safety.proofs.Requests.RunSteps.{seen_still}
 
@@ -139,64 +139,76 @@ module _ (script : Script) (Among : Listed) (g : Gateway) (e : Agent) (c : Confi
   link_as : (empty : Bool) → is_empty (built_by script e state) ≡ empty → next.link ≡ (if empty then Answered else Sent)
   link_as empty is = ap (λ (p : Bool). if p then Answered else Sent) (sym (ap is_empty (built_same script g e c state between)) ∙ is)
 
-  passes_on : is_empty (built_by script e state) ≡ true → IsCurrent script Among g (passing e state)
+  passes_on : is_empty (built_by script e state) ≡ true → IsCurrentAt script Among g (passing e state) next
   passes_on empty = record {
-    association = between.association;
-    c = next;
-    e = passing e state;
-    stands = stands;
-    state = refl;
-    at = inr (inr (inl (record { phase = refl; effective = refl; link_is = link_as true empty })));
-    shown = seen_still script (owned_in g e.call) (naming e) g.board c state next.link between.shown;
-    lines_shown = lines_still script e g.line c awaits_pass state e.next e.accepted next.link between.lines_shown;
+    current = record {
+      association = between.association;
+      c = next;
+      e = passing e state;
+      stands = stands;
+      state = refl;
+      at = inr (inr (inl (record { phase = refl; effective = refl; link_is = link_as true empty })));
+      shown = seen_still script (owned_in g e.call) (naming e) g.board c state next.link between.shown;
+      lines_shown = lines_still script e g.line c awaits_pass state e.next e.accepted next.link between.lines_shown;
+    };
+    is = refl;
   }
 
-  asks_on : is_empty (built_by script e state) ≡ false → IsCurrent script Among g (asking script e state)
+  asks_on : is_empty (built_by script e state) ≡ false → IsCurrentAt script Among g (asking script e state) next
   asks_on not_empty = record {
-    association = between.association;
-    c = next;
-    e = asking script e state;
-    stands = stands;
-    state = refl;
-    at = inl (record {
-      request = request_of script e state;
-      outstanding = record {
-        phase = refl;
-        call = refl;
-        association = refl;
-        commands = commands_same script e state (e.next + 1) (awaits_reply (request_of script e state)) none_made 0 (built_by script e state);
-      };
-      above = between.next;
-      effective = refl;
-      link_is = link_as false not_empty;
-    });
-    shown = seen_still script (owned_in g e.call) (naming e) g.board c state next.link between.shown;
-    lines_shown = lines_still script e g.line c (awaits_reply (request_of script e state)) state (e.next + 1) e.accepted next.link between.lines_shown;
+    current = record {
+      association = between.association;
+      c = next;
+      e = asking script e state;
+      stands = stands;
+      state = refl;
+      at = inl (record {
+        request = request_of script e state;
+        outstanding = record {
+          phase = refl;
+          call = refl;
+          association = refl;
+          commands = commands_same script e state (e.next + 1) (awaits_reply (request_of script e state)) none_made 0 (built_by script e state);
+        };
+        above = between.next;
+        effective = refl;
+        link_is = link_as false not_empty;
+      });
+      shown = seen_still script (owned_in g e.call) (naming e) g.board c state next.link between.shown;
+      lines_shown = lines_still script e g.line c (awaits_reply (request_of script e state)) state (e.next + 1) e.accepted next.link between.lines_shown;
+    };
+    is = refl;
   }
 
 pub enters_current : (script : Script) (Among : Listed) (g : Gateway) (e : Agent) (c : Configuration) (state : ℕ) (b : Agent)
-    → IsBetween script g e c → Stands script Among (steps.with_state script c state) → entered script e state ≡ Some b → IsCurrent script Among g b
+    → IsBetween script g e c → Stands script Among (steps.with_state script c state) → entered script e state ≡ Some b
+    → IsCurrentAt script Among g b (steps.with_state script c state)
 enters_current script Among g e c state b between stands is = elim (enters script e state b is) [
-  | inl passes ↦ subst (IsCurrent script Among g) passes.1 (passes_on script Among g e c state between stands passes.0)
-  | inr asks ↦ subst (IsCurrent script Among g) asks.1 (asks_on script Among g e c state between stands asks.0)
+  | inl passes ↦ subst (λ (x : Agent). IsCurrentAt script Among g x (steps.with_state script c state)) passes.1
+      (passes_on script Among g e c state between stands passes.0)
+  | inr asks ↦ subst (λ (x : Agent). IsCurrentAt script Among g x (steps.with_state script c state)) asks.1
+      (asks_on script Among g e c state between stands asks.0)
 ]
 
 -- the agent rests
 pub rests_current : (script : Script) (Among : Listed) (g : Gateway) (e : Agent) (c : Configuration)
     → IsBetween script g e c → c.state ≡ e.state → Stands script Among (record c { link = Resting })
-    → IsCurrent script Among g (record e { phase = resting })
+    → IsCurrentAt script Among g (record e { phase = resting }) (record c { link = Resting })
 rests_current script Among g e c between state stands = record {
-  association = between.association;
-  c = record c { link = Resting };
-  e = record e { phase = resting };
-  stands = stands;
-  state = state;
-  at = inr (inr (inr (record { phase = refl; effective = refl; link_is = refl })));
-  shown = seen_still script (owned_in g e.call) (naming e) g.board c c.state Resting between.shown;
-  lines_shown = record {
-    events = between.lines_shown.events;
-    silent = between.lines_shown.silent;
-    expected = between.lines_shown.expected;
-    unnamed = between.lines_shown.unnamed;
+  current = record {
+    association = between.association;
+    c = record c { link = Resting };
+    e = record e { phase = resting };
+    stands = stands;
+    state = state;
+    at = inr (inr (inr (record { phase = refl; effective = refl; link_is = refl })));
+    shown = seen_still script (owned_in g e.call) (naming e) g.board c c.state Resting between.shown;
+    lines_shown = record {
+      events = between.lines_shown.events;
+      silent = between.lines_shown.silent;
+      expected = between.lines_shown.expected;
+      unnamed = between.lines_shown.unnamed;
+    };
   };
+  is = refl;
 }

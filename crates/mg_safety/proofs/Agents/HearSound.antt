@@ -5,7 +5,7 @@ use Rattle.mg_safety.proofs.Words.{◌≡◌, ◌∙◌, ◌<◌, ◌≤◌, ℕ
 use Rattle.mg_safety.proofs.Words.{◌⊎◌, Answered, Empty, Agent, entered, forgotten, heard, list_of, Configuration, Gateway, last_executed, Script, World}
 use Rattle.mg_safety.proofs.Words.{AgentSteps, none_is_some, by_test, EventsName, same_itself, ltb-true}
 use Rattle.mg_model.specs.Steps as steps
-use Rattle.mg_safety.proofs.InvariantWords.{Seen, LinesShown, IsOfScript, is_call, owned_in, IsCurrent, IsLost, CallIsSound, IsClosed, KeepsSound}
+use Rattle.mg_safety.proofs.InvariantWords.{Seen, LinesShown, IsOfScript, is_call, owned_in, IsCurrent, IsCurrentAt, IsLost, CallIsSound, IsClosed, KeepsSound}
 use Rattle.mg_safety.proofs.Agents.Entering.{enters_follows, enters_current}
 use Rattle.mg_safety.proofs.Agents.AgentSteps.{Goes, agent_goes}
 use Rattle.mg_safety.proofs.Agents.AgentParts.{none_settles, goes_on, lost_still}
@@ -57,9 +57,9 @@ hears script a b association =
     by_test (λ (o : Option Agent). o ≡ Some b → (a.association < association) × (led ≡ Some b)) led None (nat_lt a.association association)
     (λ newer is. (ltb-true a.association association newer, is)) (λ older is. absurd (none_is_some b is))
 
-hear_current : (script : Script) (Among : Listed) → IsClosed script Among → (w : World) (call association : ℕ) (a b : Agent)
+pub hear_current : (script : Script) (Among : Listed) → IsClosed script Among → (w : World) (call association : ℕ) (a b : Agent)
     → CallIsSound script Among w call a → IsLost script w.gateway a → association ≡ w.gateway.association
-    → entered script (forgotten a association) script.restart ≡ Some b → IsCurrent script Among w.gateway b
+    → entered script (forgotten a association) script.restart ≡ Some b → IsCurrentAt script Among w.gateway b (steps.reset script)
 hear_current script Among closed w call association a b sound lost present is =
     let held : (i : ℕ) → i < length script.lines → w.gateway.holder (a.lines i) ≡ Some a.call =
     λ i within. sound.held i within ∙ ap Some (sym sound.numbered) in
@@ -80,7 +80,7 @@ hear_goes script Among closed w call association a b sound known is = by_part so
     by_age lost (inr older) = let f = enters_follows script (forgotten a association) script.restart b (hears script a b association is).1 in
         let same : b.association ≡ association = f.association in
         inr (lost_still script w.gateway a b lost f.call (omega (arith, older, same)) f.lines)
-    by_age lost (inl present) = inl (hear_current script Among closed w call association a b sound lost present (hears script a b association is).1)
+    by_age lost (inl present) = inl (hear_current script Among closed w call association a b sound lost present (hears script a b association is).1).current
 
     by_part : IsCurrent script Among w.gateway a ⊎ IsLost script w.gateway a → Goes script Among w.gateway a b
     by_part (inl k) =

@@ -1,10 +1,10 @@
 -- An agent that accepts a note keeps the world sound: the note that leads on is raised by the list that stands, so where it leads is an
 -- observation of the configuration.
 use Rattle.mg_safety.proofs.Invariant.Sound.{Listed}
-use Rattle.mg_safety.proofs.Words.{◌≡◌, ◌∙◌, ◌<◌, ℕ, true, Option, Some, None, refl, sym, ap, subst, arith, inl, inr, Contains, eqb-true, ◌==◌, not}
+use Rattle.mg_safety.proofs.Words.{◌≡◌, ◌∙◌, ℕ, true, Option, Some, None, refl, sym, ap, subst, arith, inl, inr, Contains, eqb-true, ◌==◌, not}
 use Rattle.mg_safety.proofs.Words.{if◌then◌else◌, ◌⊎◌, Resting, Inbox, arrival, is_new, arrives_new, was_seen, is_old, Agent, inbox_of, resting}
 use Rattle.mg_safety.proofs.Words.{entered_or_stays, is_resting, line_in, may_accept, noted, target_of, list_of, with_at, Configuration, Gateway}
-use Rattle.mg_safety.proofs.Words.{last_executed, SentNote, Script, state_of, items_of, raises, target_in, line_places, World, AgentSteps, none_is_some}
+use Rattle.mg_safety.proofs.Words.{SentNote, Script, state_of, items_of, raises, target_in, line_places, World, AgentSteps, none_is_some}
 use Rattle.mg_safety.proofs.Words.{the_some, and_second, is_resting_is, three_parts, by_test, false_not_true}
 use Rattle.mg_model.specs.declared.steps.StepName.TheVariants as names
 use Rattle.mg_model.specs.Steps as steps
@@ -12,11 +12,11 @@ use Rattle.mg_safety.proofs.InvariantWords.{Stands, IsCurrent, IsLost, IsNoteSou
 use Rattle.mg_safety.proofs.Agents.Entering.{Follows, not_resting, enters_follows, IsBetween, enters_current}
 use Rattle.mg_safety.proofs.Agents.AgentSteps.{Goes, agent_goes}
 use Rattle.mg_safety.proofs.Agents.AgentParts.{step_of, quiet, goes_on, lost_goes}
-use Rattle.mg_safety.proofs.Agents.AgentSound.{between_of, rest_quiet, at_rest}
+use Rattle.mg_safety.proofs.Agents.AgentSound.{between_of, not_executed, rest_quiet, at_rest}
 use Rattle.mg_safety.proofs.Agents.Observing.{LeadsOn, leads_where, observed, list_says}
 
 -- the agent that has accepted a note
-abbrev accepting : Agent → ℕ → Agent
+abbrev pub accepting : Agent → ℕ → Agent
 accepting a number = record a { accepted = with_at a.accepted number true }
 
 -- the note is of the agent's association, the agent is at rest, and it goes on where the note leads
@@ -57,7 +57,7 @@ stay_follows script a b None phase is = subst (Follows a) (the_some a b is) (fol
 stay_follows script a b (Some state) phase is = enters_follows script a state b is
 
 -- nothing that a configuration is shown by reads what was accepted
-accepting_between : (script : Script) (g : Gateway) (a : Agent) (number : ℕ) (c : Configuration) → IsBetween script g a c
+pub accepting_between : (script : Script) (g : Gateway) (a : Agent) (number : ℕ) (c : Configuration) → IsBetween script g a c
     → IsBetween script g (accepting a number) c
 accepting_between script g a number c between = record {
   association = between.association;
@@ -110,8 +110,8 @@ note_current : (script : Script) (Among : Listed) → IsClosed script Among → 
 note_current script Among closed floor g a b sent k phase link between standing None where_to is =
     subst (IsCurrent script Among g) (the_some (accepting a sent.number) b is) (stays_current script Among g a sent.number k phase link between)
 note_current script Among closed floor g a b sent k phase link between standing (Some state) where_to is =
-    enters_current script Among g (accepting a sent.number) k.c state b (accepting_between script g a sent.number k.c between)
-    (note_leads script Among closed floor g a sent state k link between standing (leads_where script a sent.line sent.note state where_to)) is
+    (enters_current script Among g (accepting a sent.number) k.c state b (accepting_between script g a sent.number k.c between)
+    (note_leads script Among closed floor g a sent state k link between standing (leads_where script a sent.line sent.note state where_to)) is).current
 
 note_goes : (script : Script) (Among : Listed) → IsClosed script Among → (floor : ℕ → ℕ) (w : World) (sent : SentNote) (a b : Agent)
     → IsNoteSound floor w.gateway sent → CallIsSound script Among w sent.call a → IsAccepted script a b sent → Goes script Among w.gateway a b
@@ -120,8 +120,7 @@ note_goes script Among closed floor w sent a b known sound t = by_part sound.par
     by_part : IsCurrent script Among w.gateway a ⊎ IsLost script w.gateway a → Goes script Among w.gateway a b
     by_part (inl k) =
         let rest = at_rest script w.gateway a k.e k.c.link t.phase k.at in
-        let above : last_executed w.gateway a.call < a.next = subst (λ n. last_executed w.gateway n < a.next) (sym sound.numbered) sound.next in
-        let between = between_of script Among w.gateway a a k rest.effective refl refl refl above in
+        let between = between_of script Among w.gateway a a k rest.effective refl refl refl (not_executed script Among w sent.call a sound) in
         goes_on script Among w.gateway a (accepting a sent.number) b refl refl (omega arith) refl
         (stay_follows script (accepting a sent.number) b (target_of script a (line_in a sent.line (line_places script)) sent.note) t.phase t.leads)
         (quiet w.gateway a (rest_quiet a.phase t.phase))

@@ -33,7 +33,7 @@ item_same script kind.Full item.Flash = refl
 item_same script kind.Part item.Flash = refl
 item_same script what one = refl
 
-raises_same : (script : Script) (what : Kind) (items : List (EventItem ℕ)) → list_raises (map (list_item script) items) what ≡ raises items what
+pub raises_same : (script : Script) (what : Kind) (items : List (EventItem ℕ)) → list_raises (map (list_item script) items) what ≡ raises items what
 raises_same script what [] = refl
 raises_same script what (one ∷ more) = either (raises_kind what (list_item script one)) (item_raises what one)
     (list_raises (map (list_item script) more) what) (raises more what) (item_same script what one) (raises_same script what more)

@@ -1,32 +1,32 @@
 -- An agent that takes a reply keeps the world sound: it is the reply that the gateway keeps, so the agent's names are then those by which the
 -- board shows the configuration.
 use Rattle.mg_safety.proofs.Invariant.Sound.{Listed}
-use Rattle.mg_safety.proofs.Words.{◌≡◌, ◌∙◌, ◌<◌, ◌≤◌, Bool, true, false, Option, Some, None, refl, sym, ap, subst, arith, inl, inr, Contains, and_parts}
+use Rattle.mg_safety.proofs.Words.{◌≡◌, ◌∙◌, ◌<◌, ◌≤◌, ℕ, Bool, true, false, Option, Some, None, refl, sym, ap, subst, arith, inl, inr, Contains, and_parts}
 use Rattle.mg_safety.proofs.Words.{eqb-true, ◌==◌, ◌&&◌, if◌then◌else◌, ◌⊎◌, Failure, Answered, Failed, answers, Agent, Phase, awaits_reply, built_by}
 use Rattle.mg_safety.proofs.Words.{after_results, leads_on, replied_to, replied, Configuration, Gateway, last_executed, number_of, Request, Reply}
 use Rattle.mg_safety.proofs.Words.{Script, state_of, World, AgentSteps, none_is_some, the_some}
 use Rattle.mg_model.specs.declared.steps.StepName.TheVariants as names
 use Rattle.mg_model.specs.Steps as steps
-use Rattle.mg_safety.proofs.InvariantWords.{Stands, link_of, IsAnswered, IsAt, IsCurrent, IsLost, IsReplySound, CallIsSound, IsClosed, KeepsSound}
+use Rattle.mg_safety.proofs.InvariantWords.{Stands, link_of, IsAnswered, IsAt, IsCurrent, IsCurrentAt, IsLost, IsReplySound, CallIsSound, IsClosed, KeepsSound}
 use Rattle.mg_safety.proofs.Agents.Entering.{same_request, IsBetween}
 use Rattle.mg_safety.proofs.Agents.AgentSteps.{Goes, agent_goes}
-use Rattle.mg_safety.proofs.Agents.AgentParts.{step_of, target_entered, answer_led, leads_follows, goes_on, lost_goes}
+use Rattle.mg_safety.proofs.Agents.AgentParts.{step_of, led_to, target_entered, answer_led, leads_follows, goes_on, lost_goes}
 use Rattle.mg_safety.proofs.Agents.EffectiveAgent.{results_keep}
-use Rattle.mg_safety.proofs.Agents.AgentSound.{between_of, pass_quiet, rest_quiet}
+use Rattle.mg_safety.proofs.Agents.AgentSound.{between_of, not_executed, pass_quiet, rest_quiet}
 
 -- the agent with what a reply binds
-abbrev bound : Script → Agent → Reply → Agent
+abbrev pub bound : Script → Agent → Reply → Agent
 bound script a answer = after_results a (built_by script a a.state) answer.results answer.number
 
 -- the reply answers the outstanding request, and the agent goes on with what it binds
-record IsTaken (script : Script) (a b : Agent) (answer : Reply) : Type 0 where
-  request : Request
-  phase : a.phase ≡ awaits_reply request
-  association : answer.association ≡ request.association
-  number : answer.number ≡ request.number
-  leads : leads_on script a (bound script a answer) answer.failure ≡ Some b
+pub record IsTaken (script : Script) (a b : Agent) (answer : Reply) : Type 0 where
+  pub request : Request
+  pub phase : a.phase ≡ awaits_reply request
+  pub association : answer.association ≡ request.association
+  pub number : answer.number ≡ request.number
+  pub leads : leads_on script a (bound script a answer) answer.failure ≡ Some b
 
-takes : (script : Script) (a b : Agent) (answer : Reply) → replied script a answer ≡ Some b → IsTaken script a b answer
+pub takes : (script : Script) (a b : Agent) (answer : Reply) → replied script a answer ≡ Some b → IsTaken script a b answer
 takes script a b answer is = in_phase a.phase refl is
   where
     fits : (request : Request) → a.phase ≡ awaits_reply request → (fit : Bool)
@@ -68,9 +68,14 @@ is_kept g answer kept sound present last same = elim (sound.kept present) [
 
 -- ---- the agent goes on
 
-led_current : (script : Script) (Among : Listed) → IsClosed script Among → (g : Gateway) (a e : Agent) (c : Configuration) (failure : Option Failure)
+-- where a reply leads
+abbrev pub target_after : Script → ℕ → Option Failure → Option ℕ
+target_after script state None = (state_of script state).ok
+target_after script state (Some failure) = (state_of script state).fault
+
+pub led_current : (script : Script) (Among : Listed) → IsClosed script Among → (g : Gateway) (a e : Agent) (c : Configuration) (failure : Option Failure)
     (b : Agent) → IsBetween script g e c → Stands script Among c → c.link ≡ link_of failure → c.state ≡ a.state → e.state ≡ a.state
-    → leads_on script a e failure ≡ Some b → IsCurrent script Among g b
+    → leads_on script a e failure ≡ Some b → IsCurrentAt script Among g b (led_to script c (target_after script a.state failure))
 led_current script Among closed g a e c None b between stands link state same is =
     answer_led script Among g e c (state_of script a.state).ok b between (state ∙ sym same)
     (λ step among. step_of script Among closed c Answered step stands link
@@ -95,7 +100,6 @@ answered_goes script Among closed w answer a b known sound t k s =
     let effective : k.e ≡ bound script a answer = s.effective ∙ ap (bound script a) the_answer in
     let link : k.c.link ≡ link_of answer.failure = s.link_is ∙ ap (λ (r : Reply). link_of r.failure) the_answer in
     let executed : last_executed w.gateway a.call ≡ s.answer.number = ap number_of s.kept in
-    let above : last_executed w.gateway a.call < a.next = subst (λ n. last_executed w.gateway n < a.next) (sym sound.numbered) sound.next in
     let answered : s.answer.number ≡ s.request.number = s.number in
     goes_on script Among w.gateway a (bound script a answer) b keep.call keep.lines (let is = keep.association in omega (arith, is)) keep.next
     (leads_follows script a (bound script a answer) answer.failure b t.leads)
@@ -106,8 +110,8 @@ answered_goes script Among closed w answer a b known sound t k s =
       | inr settled ↦ settled
     ])
     (inl (led_current script Among closed w.gateway a (bound script a answer) k.c answer.failure b
-    (between_of script Among w.gateway a (bound script a answer) k effective keep.call keep.association keep.next above)
-    k.stands link k.state keep.state t.leads))
+    (between_of script Among w.gateway a (bound script a answer) k effective keep.call keep.association keep.next (not_executed script Among w answer.call a sound))
+    k.stands link k.state keep.state t.leads).current)
 
 reply_goes : (script : Script) (Among : Listed) → IsClosed script Among → (w : World) (answer : Reply) (a b : Agent)
     → IsReplySound w.gateway answer → CallIsSound script Among w answer.call a → IsTaken script a b answer → Goes script Among w.gateway a b

@@ -17,7 +17,7 @@ use Rattle.mg_safety.proofs.Commands.Carrying.{owned_given}
 -- ---- the pair
 
 -- names are one where they stand for one termination
-same_name : (script : Script) (owned : TermId → Bool) (n : Naming) (b : Board) (c : Configuration) → Shown script owned n b c
+pub same_name : (script : Script) (owned : TermId → Bool) (n : Naming) (b : Board) (c : Configuration) → Shown script owned n b c
     → (t u : Termination) → IsSlot script t → IsSlot script u → (v w : TermId) → term_of n t ≡ Some v → term_of n u ≡ Some w
     → is_same t u ≡ same_term v w
 same_name script owned n b c shown t u slot also v w e f = same_test (is_same t u) (same_term v w)

@@ -119,9 +119,9 @@ module _ (script : Script) (Among : Listed) (closed : IsClosed script Among) (w 
     owns = subst (λ n. (t : TermId) → owned_in later n t ≡ owned_in g n t) (sym its.numbered) (still_owns g old new other not_old not_new)
 
     part_still : IsCurrent script Among g one ⊎ IsLost script g one → IsCurrent script Among later one ⊎ IsLost script later one
-    part_still (inl k) = inl (current_still script Among w after one refl last k
+    part_still (inl k) = inl ((current_still script Among w after one refl last k
         (seen_with script (owned_in g one.call) (owned_in later one.call) (naming k.e) g.board k.c owns g.board.cut k.c.state k.c.link k.c.context k.c.cut
-        (λ j. refl) k.shown.cut k.shown) k.lines_shown)
+        (λ j. refl) k.shown.cut k.shown) k.lines_shown).current)
     part_still (inr lost) = inr (record {
       association = lost.association;
       rows = lost.rows;

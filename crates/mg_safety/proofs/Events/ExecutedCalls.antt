@@ -3,7 +3,8 @@ use Rattle.mg_safety.proofs.Invariant.Sound.{Listed}
 use Rattle.mg_safety.proofs.Words.{◌≡◌, ◌∙◌, ◌<◌, ◌++◌, ℕ, false, ◌∷◌, length, Option, Some, refl, sym, ap, subst, arith, inl, inr, Failure, Agent}
 use Rattle.mg_safety.proofs.Words.{after_results, built_by, Board, IsSettled, Gateway, CallLink, last_executed, reply_of, after_request, sent_notes}
 use Rattle.mg_safety.proofs.Words.{LineRow, Request, Running, Script, World, with_gateway, cases_eq, the_some}
-use Rattle.mg_safety.proofs.InvariantWords.{naming, owned_at, is_call, owner_of, owned_in, IsCurrent, IsLost, IsSentBy, CallIsSound, IsSound, IsOwnChange}
+use Rattle.mg_safety.proofs.InvariantWords.{naming, owned_at, is_call, owner_of, owned_in, IsCurrent, IsCurrentAt, IsLost, IsSentBy, CallIsSound, IsSound}
+use Rattle.mg_safety.proofs.InvariantWords.{IsOwnChange}
 use Rattle.mg_safety.proofs.InvariantWords.{OthersStayShown, OwnersAgree}
 use Rattle.mg_safety.proofs.Agents.EffectiveAgent.{same_lines}
 use Rattle.mg_safety.proofs.Requests.Ending.{seen_at_end}
@@ -37,28 +38,31 @@ module _ (script : Script) (Among : Listed) (w : World) (request : Request) (end
 
   -- ---- the call itself
 
-  own_current : OwnersAgree → IsCurrent script Among later h.agent
+  pub own_current : OwnersAgree → IsCurrentAt script Among later h.agent h.run.c
   own_current agree =
       let run = h.run in
       record {
-        association = sym h.outstanding.association ∙ h.association;
-        c = run.c;
-        e = after_results h.agent (built_by script h.agent h.agent.state) end.results request.number;
-        stands = run.stands;
-        state = run.state;
-        at = inr (inl (record {
-          request = request;
-          outstanding = h.outstanding;
-          answer = reply_of request end failure;
-          kept = ap (λ n. (later.link n).last) h.call ∙ link_own w.gateway request end settled failure;
-          number = refl;
-          effective = refl;
-          link_is = run.link;
-        }));
-        shown = seen_at_end script (owned_at (owner_of w.gateway h.agent.call) end.board) (owned_in later h.agent.call)
-            (naming (after_results h.agent (built_by script h.agent h.agent.state) end.results request.number)) end.board settled run.c run.shown is_settled
-            (agree w.gateway end.board later h.agent.call run.accounted (subst (IsOwnChange w.gateway end.board later) (sym h.call) changes));
-        lines_shown = run.lines_shown;
+        current = record {
+          association = sym h.outstanding.association ∙ h.association;
+          c = run.c;
+          e = after_results h.agent (built_by script h.agent h.agent.state) end.results request.number;
+          stands = run.stands;
+          state = run.state;
+          at = inr (inl (record {
+            request = request;
+            outstanding = h.outstanding;
+            answer = reply_of request end failure;
+            kept = ap (λ n. (later.link n).last) h.call ∙ link_own w.gateway request end settled failure;
+            number = refl;
+            effective = refl;
+            link_is = run.link;
+          }));
+          shown = seen_at_end script (owned_at (owner_of w.gateway h.agent.call) end.board) (owned_in later h.agent.call)
+              (naming (after_results h.agent (built_by script h.agent h.agent.state) end.results request.number)) end.board settled run.c run.shown is_settled
+              (agree w.gateway end.board later h.agent.call run.accounted (subst (IsOwnChange w.gateway end.board later) (sym h.call) changes));
+          lines_shown = run.lines_shown;
+        };
+        is = refl;
       }
 
   own_sent : (one : Request) → IsSentBy w.gateway h.agent one → IsSentBy later h.agent one
@@ -83,7 +87,7 @@ module _ (script : Script) (Among : Listed) (w : World) (request : Request) (end
     once = old.once;
     requests = λ one there of. own_sent one (old.requests one there of);
     outstanding = old.outstanding;
-    part = inl (own_current agree);
+    part = inl (own_current agree).current;
   }
 
   -- ---- another call
@@ -106,14 +110,14 @@ module _ (script : Script) (Among : Listed) (w : World) (request : Request) (end
         let held : (i : ℕ) → i < length script.lines → w.gateway.holder (k.e.lines i) ≡ Some b.call = λ i within.
         ap (λ (lines : ℕ → ℕ). w.gateway.holder (lines i)) (same_lines script w.gateway b k.e k.c.link k.at)
         ∙ (sound.calls other b there).held i within ∙ ap Some (sym numbered) in
-        current_still script Among w after b refl last k
+        (current_still script Among w after b refl last k
         (stay script w.gateway end.board later request.call b.call (naming k.e) k.c changes (λ e. unlike (sym e)) k.shown) (record {
           events = λ i within. ap (λ (row : LineRow). row.list) (line_kept (k.e.lines i) (held i within)) ∙ k.lines_shown.events i within;
           silent = λ i within quiet. ap (λ (row : LineRow). row.playing) (line_kept (k.e.lines i) (held i within)) ∙ k.lines_shown.silent i within quiet;
           expected = λ i within. ap (λ (row : LineRow). row.request) (line_kept (k.e.lines i) (held i within)) ∙ k.lines_shown.expected i within;
           unnamed = λ i within none. ap (λ (row : LineRow). row.list) (line_kept (k.e.lines i) (held i within))
               ∙ k.lines_shown.unnamed i within (sym (ap (λ (row : LineRow). row.request) (line_kept (k.e.lines i) (held i within))) ∙ none);
-        })
+        })).current
 
     other_lost : OtherLost → IsLost script w.gateway b → IsLost script later b
     other_lost stay lost = stay script w.gateway end.board later request.call b lost changes (λ e. unlike (sym e)) refl

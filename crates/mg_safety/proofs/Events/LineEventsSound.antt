@@ -5,7 +5,8 @@ use Rattle.mg_safety.proofs.Words.{◌≡◌, ◌∙◌, ◌+◌, ◌++◌, ℕ,
 use Rattle.mg_safety.proofs.Words.{Contains, eqb-true, Contains-append_cases, Agent, Configuration, LineEvent, Gateway, last_executed, with_line}
 use Rattle.mg_safety.proofs.Words.{with_notes, notes_from, number_of, LineRow, Note, Outcome, silent, Reply, SentNote, Script, World, LineOccurs, with_gateway}
 use Rattle.mg_safety.proofs.Words.{by_test, only_one, none_in, CallLink}
-use Rattle.mg_safety.proofs.InvariantWords.{LinesShown, list_raises, IsCurrent, IsLost, IsKnown, IsOpen, IsReached, CallIsSound, IsReplySound, IsNoteStanding}
+use Rattle.mg_safety.proofs.InvariantWords.{LinesShown, list_raises, IsCurrent, IsCurrentAt, IsLost, IsKnown, IsOpen, IsReached, CallIsSound, IsReplySound}
+use Rattle.mg_safety.proofs.InvariantWords.{IsNoteStanding}
 use Rattle.mg_safety.proofs.InvariantWords.{IsNoteSound, GatewayIsSound, IsSound, KeepsSound}
 use Rattle.mg_safety.proofs.Events.RowAfterEvent.{IsRowAfter, row_after}
 use Rattle.mg_safety.proofs.Events.StillSound.{current_still, call_still}
@@ -142,8 +143,11 @@ module _ (script : Script) (Among : Listed) (w : World) (sound : IsSound script 
     unnamed = λ i within none. (line_kept (e.lines i)).list ∙ shown.unnamed i within (sym (line_kept (e.lines i)).request ∙ none);
   }
 
+  pub current_kept : (a : Agent) (k : IsCurrent script Among g a) → IsCurrentAt script Among later a k.c
+  current_kept a k = current_still script Among w after a refl (last_kept a.call) k k.shown (lines_kept k.e k.c k.lines_shown)
+
   part_kept : (a : Agent) → IsCurrent script Among g a ⊎ IsLost script g a → IsCurrent script Among later a ⊎ IsLost script later a
-  part_kept a (inl k) = inl (current_still script Among w after a refl (last_kept a.call) k k.shown (lines_kept k.e k.c k.lines_shown))
+  part_kept a (inl k) = inl (current_kept a k).current
   part_kept a (inr lost) = inr (record {
     association = lost.association;
     rows = lost.rows;
@@ -167,13 +171,26 @@ module _ (script : Script) (Among : Listed) (w : World) (sound : IsSound script 
     calls = call_sound;
   }
 
-pub line_sound : (l : ℕ) (event : LineEvent) → KeepsSound (λ script w after. LineOccurs w l event after)
-line_sound l event script Among is_script closed w after sound occurs =
+-- what the world is after it
+after_event : (w later_on : World) (l : ℕ) (event : LineEvent) (occurs : LineOccurs w l event later_on)
+    → later_on ≡ world_after w l occurs.happens.call (length occurs.sent) occurs.happens.outcome
+after_event w later_on l event occurs =
     let h = occurs.happens in
-    let is : after ≡ world_after w l h.call (length occurs.sent) h.outcome =
     occurs.after_is ∙ ap (λ (g : Gateway). record (with_gateway w g) { notes = occurs.sent ++ w.notes }) h.after_is
     ∙ ap (λ (sent : List SentNote). record (with_gateway w (with_notes (with_line w.gateway l h.outcome.row) h.call (length occurs.sent))) {
       notes = sent ++ w.notes;
-    }) h.notes_are in
-    subst (IsSound script Among) (sym is)
+    }) h.notes_are
+
+pub line_sound : (l : ℕ) (event : LineEvent) → KeepsSound (λ script w after. LineOccurs w l event after)
+line_sound l event script Among is_script closed w after sound occurs =
+    let h = occurs.happens in
+    subst (IsSound script Among) (sym (after_event w after l event occurs))
     (after_sound script Among w sound l h.call (length occurs.sent) h.outcome h.held (row_after (w.gateway.line l) event h.outcome h.happens))
+
+-- a call is shown by the same configuration
+pub line_current : (l : ℕ) (event : LineEvent) (script : Script) (Among : Listed) (w after : World) → IsSound script Among w → LineOccurs w l event after
+    → (a : Agent) (k : IsCurrent script Among w.gateway a) → IsCurrentAt script Among after.gateway a k.c
+line_current l event script Among w after sound occurs a k =
+    let h = occurs.happens in
+    subst (λ (x : World). IsCurrentAt script Among x.gateway a k.c) (sym (after_event w after l event occurs))
+    (current_kept script Among w sound l h.call (length occurs.sent) h.outcome h.held (row_after (w.gateway.line l) event h.outcome h.happens) a k)

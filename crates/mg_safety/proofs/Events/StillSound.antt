@@ -1,9 +1,9 @@
 -- A call of which neither the agent nor the kept reply changes: what is known of it stays so, where the gateway still shows what it shows.
 use Rattle.mg_safety.proofs.Invariant.Sound.{Listed}
-use Rattle.mg_safety.proofs.Words.{◌≡◌, Script, Gateway, Agent, last_executed, ap, number_of, ◌∙◌, sym, subst, inl, inr, ◌<◌, ◌≤◌, Request, World}
+use Rattle.mg_safety.proofs.Words.{◌≡◌, Script, Gateway, Agent, last_executed, refl, ap, number_of, ◌∙◌, sym, subst, inl, inr, ◌<◌, ◌≤◌, Request, World}
 use Rattle.mg_safety.proofs.Words.{length, Contains, ℕ, Some, ◌⊎◌}
 use Rattle.mg_names.specs.declared.phases.LinkPhase as phases
-use Rattle.mg_safety.proofs.InvariantWords.{IsAt, IsCurrent, Seen, owned_in, naming, LinesShown, IsSentBy, CallIsSound, IsLost}
+use Rattle.mg_safety.proofs.InvariantWords.{IsAt, IsCurrent, IsCurrentAt, Seen, owned_in, naming, LinesShown, IsSentBy, CallIsSound, IsLost}
 
 module _ (script : Script) (Among : Listed) (w after : World) (a : Agent) (association : after.gateway.association ≡ w.gateway.association)
     (last : (after.gateway.link a.call).last ≡ (w.gateway.link a.call).last) where
@@ -36,16 +36,19 @@ module _ (script : Script) (Among : Listed) (w after : World) (a : Agent) (assoc
   at_still e link (inr (inr rests)) = inr (inr rests)
 
   pub current_still : (k : IsCurrent script Among g a) → Seen script (owned_in later a.call) (naming k.e) later.board k.c
-      → LinesShown script k.e later.line k.c → IsCurrent script Among later a
+      → LinesShown script k.e later.line k.c → IsCurrentAt script Among later a k.c
   current_still k shown lines_shown = record {
-    association = k.association ∙ sym association;
-    c = k.c;
-    e = k.e;
-    stands = k.stands;
-    state = k.state;
-    at = at_still k.e k.c.link k.at;
-    shown = shown;
-    lines_shown = lines_shown;
+    current = record {
+      association = k.association ∙ sym association;
+      c = k.c;
+      e = k.e;
+      stands = k.stands;
+      state = k.state;
+      at = at_still k.e k.c.link k.at;
+      shown = shown;
+      lines_shown = lines_shown;
+    };
+    is = refl;
   }
 
   sent_still : (request : Request) → IsSentBy g a request → IsSentBy later a request

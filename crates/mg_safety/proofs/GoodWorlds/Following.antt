@@ -34,28 +34,29 @@ link_at script g a e link (inr (inr (inr rests))) = subst (λ (p : Phase). IsLin
 -- ---- a call of the gateway's association
 
 module _ (script : Script) (Among : Listed) (closes : IsClosed script Among) (w : World) (sound : IsSound script Among w) (call : ℕ) (a : Agent)
-    (there : w.agent call ≡ Some a) (now : a.association ≡ w.gateway.association) where
-  current : IsCurrent script Among w.gateway a
-  current = by_part (sound.calls call a there).part
+    (there : w.agent call ≡ Some a) where
+  pub current_part : a.association ≡ w.gateway.association → IsCurrent script Among w.gateway a
+  current_part now = by_part (sound.calls call a there).part
     where
       by_part : IsCurrent script Among w.gateway a ⊎ IsLost script w.gateway a → IsCurrent script Among w.gateway a
       by_part (inl is) = is
       by_part (inr lost) = let older = lost.association in absurd (omega (arith, older, now))
 
-  lines : current.e.lines ≡ a.lines
-  lines = same_lines script w.gateway a current.e current.c.link current.at
-
-  shown : IsShownBy script w a current.c
-  shown = record {
+  -- by the configuration that the gateway shows of it
+  pub shown_by : (current : IsCurrent script Among w.gateway a) → IsShownBy script w a current.c
+  shown_by current = record {
     state = current.state;
     link = link_at script w.gateway a current.e current.c.link current.at;
     lists = λ i within. ap (λ (own : ℕ → ℕ). (w.gateway.line (own i)).list) (sym lines) ∙ current.lines_shown.events i within;
     silent = λ i within plays. ap (λ (own : ℕ → ℕ). (w.gateway.line (own i)).playing) (sym lines) ∙ current.lines_shown.silent i within plays;
     hears = λ i j first second path. path_between script Among closes w sound call a there current i j first second path;
   }
+    where
+      lines : current.e.lines ≡ a.lines
+      lines = same_lines script w.gateway a current.e current.c.link current.at
 
-  pub followed_by : (c : Configuration) × (Stands script Among c × IsShownBy script w a c)
-  followed_by = (current.c, (current.stands, shown))
+  pub followed_by : a.association ≡ w.gateway.association → (c : Configuration) × (Stands script Among c × IsShownBy script w a c)
+  followed_by now = let current = current_part now in (current.c, (current.stands, shown_by current))
 
 -- ---- runs
 

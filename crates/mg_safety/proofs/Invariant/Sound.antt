@@ -1,6 +1,7 @@
 -- What holds of every world of a run whose script and certificate have no broken obligation: each call is shown by a configuration of the
 -- certificate, or it is lost; and what a call owns is named by it alone.
-use Rattle.mg_safety.proofs.Words.{◌≡◌, ℕ, ◌<◌, ◌≤◌, ◌==◌, Bool, true, false, [], length, Contains, Option, Some, None, ◌⊎◌, Failure, TermId, Line, Eph, IsWellFormed}
+use Rattle.mg_safety.proofs.Words.{◌≡◌, ℕ, ◌<◌, ◌≤◌, ◌==◌, Bool, true, false, [], length, Contains, Option, Some, None, ◌⊎◌, Failure, TermId, Line, Eph}
+use Rattle.mg_safety.proofs.Words.{IsWellFormed}
 use Rattle.mg_safety.proofs.Words.{Sent, Answered, Failed, Resting, Row, Agent, awaits_reply, awaits_pass, resting, after_results, built_by, commands_of}
 use Rattle.mg_safety.proofs.Words.{none_made, exists, remote_of, Configuration, Gateway, last_executed, silent, Request, Reply, SentNote}
 use Rattle.mg_safety.proofs.Words.{Script, World, null_row, IsSlot, Termination, Empty, Unset, Absent, Free, Inactive, is_same}
@@ -97,6 +98,11 @@ pub record IsCurrent (script : Script) (Among : Listed) (g : Gateway) (a : Agent
   pub at : IsAt script g a e c.link
   pub shown : Seen script (owned_in g a.call) (naming e) g.board c
   pub lines_shown : LinesShown script e g.line c
+
+-- by this very configuration
+pub record IsCurrentAt (script : Script) (Among : Listed) (g : Gateway) (a : Agent) (c : Configuration) : Type 0 where
+  pub current : IsCurrent script Among g a
+  pub is : current.c ≡ c
 
 -- the call is of an older association: it owns nothing
 pub record IsLost (script : Script) (g : Gateway) (a : Agent) : Type 0 where

@@ -28,7 +28,7 @@ gives_none call next lines b e = absurd (none_is_some b e)
 gives : (call next : ℕ) (lines : ℕ → ℕ) (c : Agent) → GoesOn call next lines c → GivesNext call next lines (Some c)
 gives call next lines c goes b e = subst (GoesOn call next lines) (the_some c b e) goes
 
-enters_next : (script : Script) (a : Agent) (state : ℕ) → GivesNext a.call a.next a.lines (entered script a state)
+pub enters_next : (script : Script) (a : Agent) (state : ℕ) → GivesNext a.call a.next a.lines (entered script a state)
 enters_next script a state b is = elim (enters script a state b is) [
   | inl passes ↦ subst (GoesOn a.call a.next a.lines) passes.1
       (record { call_is = refl; lines_are = refl; next_is = omega arith; sent = λ request among. absurd (none_in request among) })

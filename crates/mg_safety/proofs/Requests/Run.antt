@@ -1,7 +1,8 @@
 -- A request runs: by induction over its commands the present configuration is shown and stands in the certificate with the link Failed, and
--- at the end with the link Answered.
+-- at the end with the link Answered. Where the gateway chooses no refusal it comes to the configuration that the request makes of its own accord.
 use Rattle.mg_safety.proofs.Invariant.Sound.{Listed}
-use Rattle.mg_safety.proofs.Words.{◌≡◌, ◌∙◌, ◌+◌, ℕ, Bool, true, false, List, [], ◌∷◌, ◌++◌, length, Option, is_some, refl, sym, ap, subst, true≢false, inl}
+use Rattle.mg_safety.proofs.Words.{◌≡◌, ◌∙◌, ◌+◌, ℕ, suc, Some, None, arith, option_map, false_from_ne_true, none_is_some, Bool, true, false, List, [], ◌∷◌}
+use Rattle.mg_safety.proofs.Words.{◌++◌, length, Option, is_some, refl, sym, ap, subst, true≢false, inl}
 use Rattle.mg_safety.proofs.Words.{inr, length-append, append_assoc, Contains-append_right, All-head, All-tail, Contains, if◌then◌else◌, All, list_all}
 use Rattle.mg_safety.proofs.Words.{ChosenRefusal, Failure, Line, Sent, Answered, Failed, Command, Refuse, Execute, Agent, Made, after_result, after_results}
 use Rattle.mg_safety.proofs.Words.{bound_by, built_by, command_of, commands_of, made_after, none_made, Board, Configuration, is_legal, effect, Gateway}
@@ -10,7 +11,14 @@ use Rattle.mg_safety.proofs.Words.{Step, creates_unbound, executed, execution, r
 use Rattle.mg_safety.proofs.Words.{IsScript, IsCommandOf, create_once, first_in, and_first, and_second, no_results}
 use Rattle.mg_names.specs.declared.phases.LinkPhase as phases
 use Rattle.std.proofs.lemmas.List.{append-nil}
-use Rattle.mg_model.specs.RequestRun.{RunsFrom}
+use Rattle.mg_names.specs.declared.codes.Code.{Code}
+use Rattle.mg_model.specs.Failures.{code_of}
+use Rattle.mg_model.specs.Items.{Applies}
+use Rattle.mg_model.specs.RequestRun.{Fails, MayRefuse, RunsFrom, chosen_at, item_at}
+use Rattle.mg_model.proofs.Cases.{where_false, where_true}
+use Rattle.mg_safety.specs.Ending.{undisturbed}
+use Rattle.mg_safety.proofs.Commands.Allowed.{LegalIsAllowed}
+use Rattle.mg_safety.proofs.GoingOn.Taking.{Remain, fewer_remain, left_after, not_used_up}
 use Rattle.mg_safety.proofs.InvariantWords.{IsReady, IsCarried, IsCarriedOver, Naming, naming, naming_at, Shown, Seen, LinesShown, IsAccounted, owned_at}
 use Rattle.mg_safety.proofs.InvariantWords.{AreBuilt, known_by, item_for, built_after, ChangesOwned, Stands, owner_of, owned_in, link_of, IsClosed, IsRunOf}
 use Rattle.mg_safety.proofs.InvariantWords.{LineGoes, RequestsRun}
@@ -18,12 +26,21 @@ use Rattle.mg_safety.proofs.Requests.RunCarried.{lines_carried}
 use Rattle.mg_safety.proofs.Requests.RunKnown.{AreKnown, binds, bound_agree, built_all, built_known, built_once, built_pass, known_on, state_is}
 use Rattle.mg_safety.proofs.Requests.RunNames.{IsMadeBelow, built_on, item_is, made_below_next, named_on, none_below}
 use Rattle.mg_safety.proofs.Requests.RunNotes.{AreNotes, described_held, goes_on, line_goes, no_notes, notes_carried, other_line}
-use Rattle.mg_safety.proofs.Requests.RunSteps.{all_unbound, changes_on, effect_state, formed_with_link, lines_with_link, shown_still, unchanged}
+use Rattle.mg_safety.proofs.Requests.RunSteps.{all_unbound, changes_on, effect_state, formed_with_link, lines_with_link, of_script_with_link, shown_still}
+use Rattle.mg_safety.proofs.Requests.RunSteps.{unchanged}
 use Rattle.mg_safety.proofs.Requests.Starting.{shown_at_start}
 
 -- each command is carried over
 abbrev pub CommandsCarry : Type 0
 CommandsCarry = (command : Command) → IsCarriedOver command
+
+-- a request was run on from a configuration. Where no refusal is chosen and identifiers are left for its commands and to spare, it came to what is made of
+-- the configuration undisturbed, and those to spare are left
+pub record IsRunFrom (script : Script) (Among : Listed) (g : Gateway) (a : Agent) (number : ℕ) (refusal : Option ChosenRefusal) (b : Board) (c : Configuration)
+    (left : List Command) (end : Running) (failure : Option Failure) : Type 0 where
+  pub run : IsRunOf script Among g a number end failure
+  pub comes_to : LegalIsAllowed → refusal ≡ None → (spare : ℕ) → Remain b (length left + spare)
+      → (run.c ≡ undisturbed script c left) × Remain end.board spare
 
 -- the steps of the commands that are left
 abbrev steps_left : Script → Configuration → ℕ → List Command → List Step
@@ -59,24 +76,27 @@ module _ (script : Script) (is_script : IsScript script) (Among : Listed) (g : G
   -- the request ends at this place
   ended : (r : Running) (place : ℕ) (left : List Command) (made : Made) (e : Agent) (c : Configuration) (link : phases.LinkPhase) (failure : Option Failure)
       → IsUnderway script Among g a number r place left made e c → Stands script Among (with_link c link) → link ≡ link_of failure
-      → IsRunOf script Among g a number r failure
+      → (run : IsRunOf script Among g a number r failure) × (run.c ≡ with_link c link)
   ended r place left made e c link failure u stands is =
       let taken : e ≡ after_results a (built_by script a a.state) r.results number =
-      sym (ap (λ results. after_results a (built_by script a a.state) results number) (sym (append-nil r.results)) ∙ u.follows [] ∙ no_results e left number) in
-      record {
-        c = with_link c link;
-        stands = stands;
-        link = is;
-        state = u.state;
-        shown = subst (λ (x : Agent). Shown script (owned_at (owner_of g a.call) r.board) (naming x) r.board (with_link c link)) taken
-            (shown_still script (owned_at (owner_of g a.call) r.board) (naming e) r.board c c.state link u.shown);
-        lines_shown = subst (λ (x : Agent). LinesShown script x r.line (with_link c link)) taken (lines_with_link script e r.line c link u.lines_shown);
-        accounted = u.accounted;
-        changes = u.changes;
-        other_lines = u.other_lines;
-        own_lines = u.own_lines;
-        notes = λ l note among. let is = u.notes l note among in (is.0, is.1.0, is.1.1);
-      }
+      sym (ap (λ results. after_results a (built_by script a a.state) results number) (sym (append-nil r.results))
+      ∙ u.follows [] ∙ no_results e left number) in (
+        record {
+          c = with_link c link;
+          stands = stands;
+          link = is;
+          state = u.state;
+          shown = subst (λ (x : Agent). Shown script (owned_at (owner_of g a.call) r.board) (naming x) r.board (with_link c link)) taken
+              (shown_still script (owned_at (owner_of g a.call) r.board) (naming e) r.board c c.state link u.shown);
+          lines_shown = subst (λ (x : Agent). LinesShown script x r.line (with_link c link)) taken (lines_with_link script e r.line c link u.lines_shown);
+          accounted = u.accounted;
+          changes = u.changes;
+          other_lines = u.other_lines;
+          own_lines = u.own_lines;
+          notes = λ l note among. let is = u.notes l note among in (is.0, is.1.0, is.1.1);
+        },
+        refl,
+      )
 
   -- what a command that is next asks
   ready : (r : Running) (place : ℕ) (command : Command) (more : List Command) (made : Made) (e : Agent) (c : Configuration)
@@ -153,35 +173,100 @@ module _ (script : Script) (is_script : IsScript script) (Among : Listed) (g : G
     }
 
   -- a command that was executed
-  went : CommandsCarry → (r next : Running) (place : ℕ) (refusal : Option ChosenRefusal) (command : Command) (more : List Command) (made : Made)
-      (e : Agent) (c : Configuration)
-      → IsUnderway script Among g a number r place (command ∷ more) made e c → (x : Succeeds r (command_of script a made command) place refusal number next)
-      → IsUnderway script Among g a number next (place + 1) more (made_after made command place) (after_result e command x.done number)
-      (effect script c command)
-  went carry r next place refusal command more made e c u x =
-      let m = naming_at a made r.results in
-      let same = item_is script a made r.results command in
-      let ran : IsExecuted r.board (item_for m command) x.board x.done = subst (λ item. IsExecuted r.board item x.board x.done) same x.executed in
-      let carried = carry command script is_script (owner_of g a.call) (naming e) m r.board c x.board x.done (ready r place command more made e c u) ran in
-      subst (λ (then_running : Running). IsUnderway script Among g a number then_running (place + 1) more (made_after made command place)
-      (after_result e command x.done number) (effect script c command))
-      (ap (λ item. after_command r (command_of script a made command) item x.board x.done number) (sym same) ∙ sym x.next_is)
-      (next_underway r place command more made e c u x.board x.done ran carried)
+  module _ (carry : CommandsCarry) (r next : Running) (place : ℕ) (refusal : Option ChosenRefusal) (command : Command) (more : List Command) (made : Made)
+      (e : Agent) (c : Configuration) (u : IsUnderway script Among g a number r place (command ∷ more) made e c)
+      (x : Succeeds r (command_of script a made command) place refusal number next) where
+    same_item : item_at r.results (command_of script a made command) ≡ item_for (naming_at a made r.results) command
+    same_item = item_is script a made r.results command
+
+    ran : IsExecuted r.board (item_for (naming_at a made r.results) command) x.board x.done
+    ran = subst (λ item. IsExecuted r.board item x.board x.done) same_item x.executed
+
+    carried : IsCarried script (owner_of g a.call) (naming e) (naming_at a made r.results) r.board c command x.board x.done
+    carried = carry command script is_script (owner_of g a.call) (naming e) (naming_at a made r.results) r.board c x.board x.done
+        (ready r place command more made e c u) ran
+
+    went : IsUnderway script Among g a number next (place + 1) more (made_after made command place) (after_result e command x.done number)
+        (effect script c command)
+    went = subst (λ (then_running : Running). IsUnderway script Among g a number then_running (place + 1) more (made_after made command place)
+        (after_result e command x.done number) (effect script c command))
+        (ap (λ item. after_command r (command_of script a made command) item x.board x.done number) (sym same_item) ∙ sym x.next_is)
+        (next_underway r place command more made e c u x.board x.done ran carried)
+
+    -- it took what it created
+    left_then : (spare : ℕ) → Remain r.board (length (command ∷ more) + spare) → Remain next.board (length more + spare)
+    left_then spare left = subst (λ (b : Board). Remain b (length more + spare))
+        (sym (ap (λ (later : Running). later.board) x.next_is ∙ x.executed.effect_is))
+        (left_after r.board (item_at r.results (command_of script a made command)) (length more + spare) x.executed.chosen
+        (fewer_remain r.board (length (command ∷ more) + spare) (suc (length more + spare)) (omega arith) left))
+
+    comes_on : (end : Running) (failure : Option Failure)
+        → IsRunFrom script Among g a number refusal next.board (effect script c command) more end failure
+        → IsRunFrom script Among g a number refusal r.board c (command ∷ more) end failure
+    comes_on end failure rest = record {
+      run = rest.run;
+      comes_to = λ allowed none spare left.
+          let it = rest.comes_to allowed none spare (left_then spare left) in (
+            it.0 ∙ sym (where_true (is_legal c command) (undisturbed script (effect script c command) more) (with_link c Failed) carried.legal),
+            it.1,
+          );
+    }
+
+  -- a command that was refused, though no refusal was chosen, is illegal
+  module _ (r : Running) (place : ℕ) (refusal : Option ChosenRefusal) (command : Command) (more : List Command) (made : Made) (e : Agent) (c : Configuration)
+      (u : IsUnderway script Among g a number r place (command ∷ more) made e c) (code : Code)
+      (fails : Fails r (command_of script a made command) place refusal code) where
+    applies : refusal ≡ None → Applies r.board (item_for (naming_at a made r.results) command) code
+    applies none = subst (λ item. Applies r.board item code) (item_is script a made r.results command) (of_itself fails.may)
+      where
+        of_itself : MayRefuse r.board (item_at r.results (command_of script a made command)) (chosen_at refusal place) code
+            → Applies r.board (item_at r.results (command_of script a made command)) code
+        of_itself (inl is) = is
+        of_itself (inr chosen) = absurd (none_is_some code
+            (sym (ap (λ (o : Option ChosenRefusal). option_map code_of (chosen_at o place)) none) ∙ chosen))
+
+    stands_there : Stands script Among (with_link c Failed)
+    stands_there = u.steps (Refuse place, with_link c Failed) (first_in _ _)
+
+    illegal : LegalIsAllowed → refusal ≡ None → (spare : ℕ) → Remain r.board (length (command ∷ more) + spare) → is_legal c command ≡ false
+    illegal allowed none spare left = false_from_ne_true (is_legal c command) (λ legal.
+        allowed command script is_script (owner_of g a.call) (naming e) (naming_at a made r.results) r.board c
+        (ready r place command more made e c u) (of_script_with_link script c Failed stands_there.of_script)
+        (not_used_up r.board (length more + spare) (fewer_remain r.board (length (command ∷ more) + spare) (suc (length more + spare)) (omega arith) left)
+        (item_for (naming_at a made r.results) command)) legal code (applies none))
+
+    stops : (failure : Option Failure) → failure ≡ Some (record { place = place; code = code })
+        → IsRunFrom script Among g a number refusal r.board c (command ∷ more) r failure
+    stops failure is =
+        let done = ended r place (command ∷ more) made e c Failed failure u stands_there (ap link_of (sym is)) in
+        record {
+          run = done.0;
+          comes_to = λ allowed none spare left. (
+            done.1 ∙ sym (where_false (is_legal c command) (undisturbed script (effect script c command) more) (with_link c Failed)
+                (illegal allowed none spare left)),
+            fewer_remain r.board (length (command ∷ more) + spare) spare (omega arith) left,
+          );
+        }
 
   -- the commands that are left run
   runs_on : CommandsCarry → (refusal : Option ChosenRefusal) (end : Running) (failure : Option Failure) (left : List Command) (r : Running) (place : ℕ)
       (made : Made) (e : Agent) (c : Configuration) → IsUnderway script Among g a number r place left made e c
-      → RunsFrom number refusal r place (commands_of script a made place left) end failure → IsRunOf script Among g a number end failure
+      → RunsFrom number refusal r place (commands_of script a made place left) end failure
+      → IsRunFrom script Among g a number refusal r.board c left end failure
   unfolding RunsFrom
   runs_on carry refusal end failure [] r place made e c u runs =
-      subst (λ (last : Running). IsRunOf script Among g a number last failure) (sym runs.0)
-      (ended r place [] made e c Answered failure u (u.steps (Execute, with_link c Answered) (first_in _ [])) (ap link_of (sym runs.1)))
+      let done = ended r place [] made e c Answered failure u (u.steps (Execute, with_link c Answered) (first_in _ [])) (ap link_of (sym runs.1)) in
+      subst (λ (last : Running). IsRunFrom script Among g a number refusal r.board c [] last failure) (sym runs.0) (record {
+        run = done.0;
+        comes_to = λ allowed none spare left. (done.1, fewer_remain r.board (length {A = Command} [] + spare) spare (omega arith) left);
+      })
   runs_on carry refusal end failure (command ∷ more) r place made e c u (inl (next, executes, rest)) =
-      runs_on carry refusal end failure more next (place + 1) (made_after made command place) (after_result e command executes.done number)
-      (effect script c command) (went carry r next place refusal command more made e c u executes) rest
+      comes_on carry r next place refusal command more made e c u executes end failure
+      (runs_on carry refusal end failure more next (place + 1) (made_after made command place) (after_result e command executes.done number)
+      (effect script c command) (went carry r next place refusal command more made e c u executes) rest)
   runs_on carry refusal end failure (command ∷ more) r place made e c u (inr (code, fails, last, is)) =
-      subst (λ (last : Running). IsRunOf script Among g a number last failure) (sym last)
-      (ended r place (command ∷ more) made e c Failed failure u (u.steps (Refuse place, with_link c Failed) (first_in _ _)) (ap link_of (sym is)))
+      subst (λ (last : Running). IsRunFrom script Among g a number refusal r.board c (command ∷ more) last failure) (sym last)
+      (stops r place refusal command more made e c u code fails failure is)
 
 -- ---- the start
 
@@ -238,7 +323,15 @@ underway_at_start script is Among closed g a c stands sent state seen lines_show
     }
 
 -- a request that was built runs
-pub requests_run : CommandsCarry → RequestsRun
-requests_run carry script Among is closed g a c stands sent state seen lines_shown accounted number refusal end failure runs =
+pub requests_come : CommandsCarry → (script : Script) (Among : Listed) → IsScript script → IsClosed script Among → (g : Gateway) (a : Agent) (c : Configuration)
+    → Stands script Among c → c.link ≡ Sent → c.state ≡ a.state → Seen script (owned_in g a.call) (naming a) g.board c
+    → LinesShown script a g.line c → IsAccounted g.board → (number : ℕ) (refusal : Option ChosenRefusal) (end : Running) (failure : Option Failure)
+    → RunsFrom number refusal (start_of g) 0 (commands_of script a none_made 0 (built_by script a a.state)) end failure
+    → IsRunFrom script Among g a number refusal g.board c (built_by script a a.state) end failure
+requests_come carry script Among is closed g a c stands sent state seen lines_shown accounted number refusal end failure runs =
     runs_on script is Among g a number carry refusal end failure (built_by script a a.state) (start_of g) 0 none_made a c
     (underway_at_start script is Among closed g a c stands sent state seen lines_shown accounted number) runs
+
+pub requests_run : CommandsCarry → RequestsRun
+requests_run carry script Among is closed g a c stands sent state seen lines_shown accounted number refusal end failure runs =
+    (requests_come carry script Among is closed g a c stands sent state seen lines_shown accounted number refusal end failure runs).run

@@ -108,7 +108,7 @@ built_once names (command ∷ more) once =
 
 -- ---- a state of a script
 
-all_at : (P : State → Type 0) (d : State) (states : List State) (i : ℕ) → All P states → P d → P (unwrap_or (slice_get states i) d)
+pub all_at : (P : State → Type 0) (d : State) (states : List State) (i : ℕ) → All P states → P d → P (unwrap_or (slice_get states i) d)
 all_at P d [] i all otherwise = otherwise
 all_at P d (state ∷ states) zero all otherwise = All-head P state states all
 all_at P d (state ∷ states) (suc i) all otherwise = all_at P d states i (All-tail P state states all) otherwise

@@ -8,7 +8,7 @@ use Rattle.mg_safety.proofs.Words.{effect, is_elsewhere, LineRow, created_contex
 use Rattle.mg_safety.proofs.Words.{creates_apart, and_first, and_second, by_test, false_not_true}
 use Rattle.mg_names.specs.declared.phases.LinkPhase as phases
 use Rattle.mg_model.specs.declared.commands.Termination.TheVariants as termination
-use Rattle.mg_safety.proofs.InvariantWords.{Naming, Shown, Seen, LinesShown, Owner, owned_at, ChangesOwned}
+use Rattle.mg_safety.proofs.InvariantWords.{IsOfScript, Naming, Shown, Seen, LinesShown, Owner, owned_at, ChangesOwned}
 use Rattle.mg_safety.proofs.Shared.ShownParts.{shown_with, seen_with}
 
 -- ---- changes of what is owned
@@ -173,6 +173,10 @@ module _ (script : Script) (c : Configuration) (command : Command) (legal : is_l
 
 pub formed_with_link : (c : Configuration) (link : phases.LinkPhase) → IsWellFormed (with_link c link) → IsWellFormed c
 formed_with_link c link f = record { live = f.live; absent_mode = f.absent_mode; absent_remote = f.absent_remote; named = f.named; cut_within = f.cut_within }
+
+pub of_script_with_link : (script : Script) (c : Configuration) (link : phases.LinkPhase) → IsOfScript script (with_link c link) → IsOfScript script c
+of_script_with_link script c link o =
+    record { spot = o.spot; mode = o.mode; events = o.events; plays = o.plays; context = o.context; remote = o.remote; cut = o.cut }
 
 -- the board and the lines show neither the state nor the link
 pub shown_still : (script : Script) (owned : TermId → Bool) (n : Naming) (b : Board) (c : Configuration) (state : ℕ) (link : phases.LinkPhase)

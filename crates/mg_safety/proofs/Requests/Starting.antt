@@ -13,6 +13,19 @@ slot_of script c of_script t j e = elim (slot_or_not script t) [
   | inr undeclared ↦ (let apart : In j ≡ Absent = sym e ∙ of_script.spot t undeclared in absurd (cc))
 ]
 
+-- one of the call's terminations, and that it stands in a context
+pub record Stander (script : Script) (c : Configuration) (j : ℕ) : Type 0 where
+  pub v : Termination
+  pub slot : IsSlot script v
+  pub at : c.spot v ≡ In j
+
+-- in a context that is live one of them stands
+pub stander : (script : Script) (c : Configuration) → IsWellFormed c → IsOfScript script c → (j : ℕ) → is_live (c.context j) ≡ true → Stander script c j
+stander script c formed of_script j live =
+    let some = Any-from_list_any (λ t. is_in (c.spot t) j) terminations (sym (formed.live j) ∙ live) in
+    let at = is_in_is (c.spot some.1) j some.4 in
+    record { v = some.1; slot = slot_of script c of_script some.1 j at; at = at }
+
 module _ (script : Script) (owned : TermId → Bool) (n : Naming) (b : Board) (c : Configuration) (seen : Seen script owned n b c)
     (accounted : IsAccounted b) where
   -- a context in which one of the call's terminations stands is in use
@@ -26,18 +39,6 @@ module _ (script : Script) (owned : TermId → Bool) (n : Naming) (b : Board) (c
 
 module _ (script : Script) (owned : TermId → Bool) (n : Naming) (b : Board) (c : Configuration) (seen : Seen script owned n b c)
     (formed : IsWellFormed c) (of_script : IsOfScript script c) (accounted : IsAccounted b) where
-  -- in a context that is live one of the call's terminations stands
-  record Stander (j : ℕ) : Type 0 where
-    v : Termination
-    slot : IsSlot script v
-    at : c.spot v ≡ In j
-
-  stander : (j : ℕ) → c.context j ≡ Live → Stander j
-  stander j live =
-      let some = Any-from_list_any (λ t. is_in (c.spot t) j) terminations (sym (formed.live j) ∙ ap is_live live) in
-      let at = is_in_is (c.spot some.1) j some.4 in
-      record { v = some.1; slot = slot_of script c of_script some.1 j at; at = at }
-
   module _ (names : IsLive c) where
     -- a name that is bound is live
     bound_live : (j x : ℕ) → n.contexts j ≡ Some x → c.context j ≡ Live
@@ -47,6 +48,10 @@ module _ (script : Script) (owned : TermId → Bool) (n : Naming) (b : Board) (c
         at Live e here = e
         at Stale e here = absurd (names.contexts j e)
         at Free e here = absurd (true≢false (here ∙ ap (λ v. not (is_free v)) e))
+
+    -- so one of the call's terminations stands in it
+    bound_stander : (j x : ℕ) → n.contexts j ≡ Some x → Stander script c j
+    bound_stander j x bound = stander script c formed of_script j (ap is_live (bound_live j x bound))
 
     reads : (k : ℕ) (r : Remote) (remote : Option ℕ) → c.remote k ≡ r → RemoteSeen n r remote → RemoteReads b n r remote
     reads k Unset remote e here = here
@@ -65,10 +70,10 @@ module _ (script : Script) (owned : TermId → Bool) (n : Naming) (b : Board) (c
       line_stands = seen.line_stands;
       line_owned = seen.line_owned;
       line_once = seen.line_once;
-      context_real = λ j x bound. let s = stander j (bound_live j x bound) in
+      context_real = λ j x bound. let s = bound_stander j x bound in
           (seen.context_number j x bound, spot_used script owned n b c seen accounted s.v j x s.slot s.at bound);
       context_once = seen.context_once;
-      members = λ j x t bound. let s = stander j (bound_live j x bound) in seen.members s.v j x t s.slot s.at bound;
+      members = λ j x t bound. let s = bound_stander j x bound in seen.members s.v j x t s.slot s.at bound;
       ephemeral_slot = seen.ephemeral_slot;
       ephemeral_stands = seen.ephemeral_stands;
       ephemeral_owned = seen.ephemeral_owned;
