@@ -42,3 +42,9 @@ pub mod ReportsDiffer
 pub mod NumbersLeft
 pub mod FaultsNeeded
 pub mod LongRun
+pub mod DialEntries
+pub mod QuietLines
+pub mod LineSteps
+pub mod DialRun
+pub mod StandsStill
+pub mod DigitsNeeded

@@ -13,9 +13,7 @@ use Rattle.mg_model.specs.Script.{DigitMap}
 use Rattle.mg_model.specs.DigitMaps.{Dialling, collecting, completed, Completion, Collected, with_symbol, with_pause}
 use Rattle.mg_model.specs.declared.transitions.EventItem.TheVariants as item
 use Rattle.mg_model.specs.LineEvents.{ListItem, LineRow, Note, Outcome, new_line, silent, armed, signalled, hooked, flashed, dialled, paused, signal_ended}
-
-abbrev one : Position
-one = record { accepts = false ∷ true ∷ false ∷ false ∷ false ∷ false ∷ false ∷ false ∷ false ∷ false ∷ false ∷ false ∷ [] }
+use Rattle.mg_examples.specs.Dials.{one}
 
 abbrev two : Position
 two = record { accepts = false ∷ false ∷ true ∷ false ∷ false ∷ false ∷ false ∷ false ∷ false ∷ false ∷ false ∷ false ∷ [] }

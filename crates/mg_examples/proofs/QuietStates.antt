@@ -1,20 +1,24 @@
--- A state without commands is accepted in any script, and so are states whose commands add a line or subtract one, where each names what is declared.
+-- A state without commands is accepted in any script, and so are states whose commands add a line, modify one in the null context or subtract one, where each
+-- names what is declared.
 use Rattle.std.proofs.Common.{◌≡◌, ◌≤◌, Bool, true, false, List, [], ◌∷◌, length, nat_lt, ltb-true, refl}
 use Rattle.std.proofs.lemmas.Bool.{and_parts}
 use Rattle.std.proofs.lemmas.List.Elements.{All-cons, All-nil}
 use Rattle.std.specs.List.{All, list_all}
 use Rattle.std.specs.Prelude.{◌&&◌, IsTrue}
 use Rattle.mg_examples.proofs.Words.{Command, AddLine, Subtract, IsCommandOf, IsScript, IsStateOf, create_once, Script, State}
+use Rattle.mg_model.specs.declared.commands.Command.TheVariants.{ModifyLine}
+use Rattle.mg_model.specs.declared.commands.Place.TheVariants.{NullContext}
 use Rattle.mg_model.specs.declared.commands.Termination.TheVariants.{Line}
 use Rattle.mg_model.proofs.Cases.{false_not_true}
 
 pub no_command : (script : Script) → All (IsCommandOf script) [] × (true ≡ true)
 no_command script = (All-nil (IsCommandOf script), refl)
 
--- each names a context and a line
+-- each names a line, and a context or the null context
 abbrev is_command : Script → Command → Bool
 is_command script (AddLine create j i options) = nat_lt j (length script.contexts) && nat_lt i (length script.lines)
 is_command script (Subtract j (Line i)) = nat_lt j (length script.contexts) && nat_lt i (length script.lines)
+is_command script (ModifyLine NullContext i options) = nat_lt i (length script.lines)
 is_command script command = false
 
 command_so : (script : Script) (command : Command) → IsTrue (is_command script command) → IsCommandOf script command
@@ -24,6 +28,7 @@ command_so script (AddLine create j i options) h =
 command_so script (Subtract j (Line i)) h =
     let both = and_parts (nat_lt j (length script.contexts)) (nat_lt i (length script.lines)) h in
     (ltb-true j (length script.contexts) both.0, ltb-true i (length script.lines) both.1)
+command_so script (ModifyLine NullContext i options) h = (tt, ltb-true i (length script.lines) h)
 command_so script command h = absurd (false_not_true h)
 
 all_so : {A : Type 0} (P : A → Type 0) (test : A → Bool) → ((x : A) → IsTrue (test x) → P x) → (xs : List A) → IsTrue (list_all test xs) → All P xs

@@ -27,14 +27,14 @@ abbrev is_call : ℕ → Opened → Bool
 is_call number one = number == one.call
 
 -- the call that has a line
-abbrev user_of : List Opened → ℕ → Option Opened
+abbrev pub user_of : List Opened → ℕ → Option Opened
 user_of calls l = find (is_its l) calls
 
 abbrev row_if : Option Opened → Option Row
 row_if None = None
 row_if (Some one) = Some null_row
 
-abbrev line_if : Option Opened → LineRow
+abbrev pub line_if : Option Opened → LineRow
 line_if None = new_line
 line_if (Some one) = armed_line
 

@@ -13,3 +13,5 @@ pub mod NameStays
 pub mod ReportsCanDiffer
 pub mod LastsToTheLimit
 pub mod FaultsAreNeeded
+pub mod Dials
+pub mod DigitsAreNotEnough

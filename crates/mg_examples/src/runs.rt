@@ -6,6 +6,7 @@ ghost use Rattle.mg_names.specs.declared.kinds.Kind.TheVariants.{Of};
 ghost use Rattle.mg_names.specs.declared.obligations.Obligation.TheVariants as Obligation;
 ghost use Rattle.mg_examples.specs.BegunTalk.{BegunCallTalks};
 ghost use Rattle.mg_examples.specs.CreatedTwice.{created_twice, created_twice_entries};
+ghost use Rattle.mg_examples.specs.DigitsAreNotEnough.{DigitsAreNotEnough};
 ghost use Rattle.mg_examples.specs.FaultsAreNeeded.{FaultsAreNeeded};
 ghost use Rattle.mg_examples.specs.LastsToTheLimit.{LastsToTheLimit};
 ghost use Rattle.mg_examples.specs.NameStays.{name_stays};
@@ -65,4 +66,10 @@ pub fn a_run_lasts_to_the_limit()
 /// the example's script without the `fault` of `talk`, which breaks no obligation, a call whose first request is refused can't go on.
 pub fn faults_are_needed()
     ensures { FaultsAreNeeded }
+{}
+
+/// That a call at rest can be moved (`mg_safety::runs::calls_can_be_moved`) needs its premise of what leads the call on, and digits alone aren't that: of a
+/// script that breaks no obligation, a call whose user dialled too little stays where it is, whatever events of it follow.
+pub fn digits_are_not_enough()
+    ensures { DigitsAreNotEnough }
 {}
