@@ -1,10 +1,10 @@
-mod Below
+pub mod Below
 mod OneWay
 mod Executed
 mod FateSets
-mod Members
+pub mod Members
 mod Telling
-mod OneMore
+pub mod OneMore
 mod Over
 mod Passing
 mod Picked
