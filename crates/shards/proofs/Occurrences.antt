@@ -17,12 +17,12 @@ use Rattle.agent.specs.AgentValue.{agent_of}
 use Rattle.agent.specs.Preparing.{stepped_by}
 use Rattle.agent.specs.declared.delivered.Delivery.{Delivery}
 use Rattle.shards.proofs.MessageLemmas.{found_in, own_message}
-use Rattle.shards.proofs.Refusals.{cannot_execute, cannot_happen}
+use Rattle.shards.proofs.Refusals.{cannot_execute, cannot_happen, no_room}
 use Rattle.shards.proofs.RefusedSteps.{not_brought, not_stepped}
 use Rattle.shards.proofs.ShardLemmas.{world_numbered}
 use Rattle.shards.proofs.TakenSteps.{never_told, stands}
 use Rattle.shards.specs.Beginnings.{has_ended}
-use Rattle.shards.specs.CanOccur.{IsOccurrence, IsTakeable, NeverOccurs}
+use Rattle.shards.specs.CanOccur.{HasNoRoomFor, IsOccurrence, IsTakeable, NeverOccurs}
 use Rattle.shards.specs.CouldHappen.{IsExecutable, IsPossibleOn, IsPossibleRequest}
 use Rattle.shards.specs.Shards.{IsShard, ShardValue}
 use Rattle.shards.specs.Shows.{is_told}
@@ -42,6 +42,17 @@ pub takeable : (script : Script) (event : CallEvent) (s : CallRecord) (brought :
 takeable script event s brought true delivered is = record { brought = brought; delivered = delivered; takes = sym is }
 takeable script event s brought false delivered is = inr (brought, (delivered, nothing _ (sym is)))
 
+-- of what reaches the agent no room is asked
+pub no_request_of : (v : ShardValue) (call : ℕ) (event : CallEvent) → IsAtAgent event → HasNoRoomFor v call event
+no_request_of v call (to_call.OnLine line happens) none = tt
+no_request_of v call (to_call.Execute number chosen) none = absurd none
+no_request_of v call (to_call.Reply number) of_agent = tt
+no_request_of v call to_call.Pass of_agent = tt
+no_request_of v call (to_call.Note number) of_agent = tt
+no_request_of v call to_call.Timer of_agent = tt
+no_request_of v call (to_call.Hear association) of_agent = tt
+no_request_of v call (to_call.Begin old) none = tt
+
 -- ---- what it comes to
 
 module _ (v : ShardValue) (was : IsShard v) (call : ℕ) (s : CallRecord) where
@@ -49,8 +60,11 @@ module _ (v : ShardValue) (was : IsShard v) (call : ℕ) (s : CallRecord) where
     pub line_occurs : (line : LineNo) (event : LineEvent) (can : Bool) → IsPossibleOn v.gateway call line.0 event can
         → IsOccurrence v call (to_call.OnLine line event) can
     line_occurs line event true is = record { call_record = s; held = held; could = is }
-    line_occurs line event false is = λ w shown world occurs.
-        cannot_happen w v.gateway (record_in v.call_table) shown.shows (world_numbered v w shown) call s held v.script line.0 event world is occurs
+    line_occurs line event false is = (
+      λ w shown world occurs.
+          cannot_happen w v.gateway (record_in v.call_table) shown.shows (world_numbered v w shown) call s held v.script line.0 event world is occurs,
+      tt,
+    )
 
     addressed : (number : ℕ) (x : IsExecutable v.gateway call number s) → IsAddressed v.gateway call x.request
     addressed number x =
@@ -65,8 +79,11 @@ module _ (v : ShardValue) (was : IsShard v) (call : ℕ) (s : CallRecord) where
       held = held;
       could = record { request = x.request; sent = x.sent; room = λ full. x.can (addressed number x, full) };
     }
-    request_occurs number chosen false is = λ w shown world occurs.
-        cannot_execute w v.gateway (record_in v.call_table) shown.shows (world_numbered v w shown) call s held v.script number chosen world is occurs
+    request_occurs number chosen false is = (
+      λ w shown world occurs.
+          cannot_execute w v.gateway (record_in v.call_table) shown.shows (world_numbered v w shown) call s held v.script number chosen world is occurs,
+      λ w shown request sent. no_room w v.gateway (record_in v.call_table) shown.shows (world_numbered v w shown) call s held number is request sent,
+    )
 
     never_taken : (event : CallEvent) → IsAtAgent event → IsTakeable v.script event s false → NeverOccurs v (OfCall (record { 0 = call }) event)
     never_taken event of_agent (inl none) w shown after occurs =
@@ -84,14 +101,14 @@ module _ (v : ShardValue) (was : IsShard v) (call : ℕ) (s : CallRecord) where
     taken_occurs (to_call.Note number) of_agent told true is = record { call_record = s; held = held; could = (told, is) }
     taken_occurs to_call.Timer of_agent told true is = record { call_record = s; held = held; could = (told, is) }
     taken_occurs (to_call.Hear association) of_agent told true is = record { call_record = s; held = held; could = (told, is) }
-    taken_occurs (to_call.Reply number) of_agent told false is = never_taken (to_call.Reply number) of_agent is
-    taken_occurs to_call.Pass of_agent told false is = never_taken to_call.Pass of_agent is
-    taken_occurs (to_call.Note number) of_agent told false is = never_taken (to_call.Note number) of_agent is
-    taken_occurs to_call.Timer of_agent told false is = never_taken to_call.Timer of_agent is
-    taken_occurs (to_call.Hear association) of_agent told false is = never_taken (to_call.Hear association) of_agent is
+    taken_occurs (to_call.Reply number) of_agent told false is = (never_taken (to_call.Reply number) of_agent is, tt)
+    taken_occurs to_call.Pass of_agent told false is = (never_taken to_call.Pass of_agent is, tt)
+    taken_occurs (to_call.Note number) of_agent told false is = (never_taken (to_call.Note number) of_agent is, tt)
+    taken_occurs to_call.Timer of_agent told false is = (never_taken to_call.Timer of_agent is, tt)
+    taken_occurs (to_call.Hear association) of_agent told false is = (never_taken (to_call.Hear association) of_agent is, tt)
 
     pub untold_never : (event : CallEvent) → IsAtAgent event → is_told v.gateway.association event ≡ false → IsOccurrence v call event false
-    untold_never event of_agent told w shown after occurs = never_told v call event told w shown after occurs
+    untold_never event of_agent told = (λ w shown after occurs. never_told v call event told w shown after occurs, no_request_of v call event of_agent)
 
   pub begins : (held : record_in v.call_table call ≡ Some s) (new : ℕ) → has_ended v.script (agent_of s.agent) v.gateway.association ≡ true
       → CanBegin v.gateway call new (Ok tt) → IsOccurrence v new (to_call.Begin (record { 0 = call })) true

@@ -1,6 +1,6 @@
 -- What is refused as not enabled can't happen in the world that is shown.
 use Rattle.std.proofs.Common.{◌≡◌, ◌∙◌, ◌==◌, ◌⊎◌, inl, inr, ℕ, Bool, true, false, List, [], ◌∷◌, Option, Some, None, if◌then◌else◌, refl, sym, ap, subst, arith}
-use Rattle.std.specs.Prelude.{Contains}
+use Rattle.std.specs.Prelude.{◌+◌, ◌<◌, Contains, length}
 use Rattle.std.specs.List.{find}
 use Rattle.std.proofs.lemmas.List.Elements.{Contains-append_cases}
 use Rattle.mg_model.proofs.Cases.{not_both, some_is_none, same_itself}
@@ -10,9 +10,10 @@ use Rattle.mg_model.specs.declared.line_events.LineEvent.{LineEvent}
 use Rattle.mg_model.specs.Gateway as gateway
 use Rattle.mg_model.specs.Gateway.{Gateway}
 use Rattle.mg_model.specs.Messages.{Request}
+use Rattle.mg_model.specs.Numbers.{last_number}
 use Rattle.mg_model.specs.Reports.{is_of}
 use Rattle.mg_model.specs.Script.{Script}
-use Rattle.mg_model.specs.World.{World, Executes, Occurs, execute, on_a_line}
+use Rattle.mg_model.specs.World.{IsRequestOf, World, Executes, Occurs, execute, on_a_line}
 use Rattle.mg_safety.proofs.Messages.NumberedWorlds.{IsNumbered}
 use Rattle.gateway.specs.Answers.{HasNoRoom}
 use Rattle.gateway.specs.GatewayValue.{GatewayValue, gateway_of}
@@ -52,14 +53,23 @@ module _ (w : World) (g : GatewayValue) (call_record : ℕ → Option CallRecord
   not_executed request refusal after full (inr (inl again)) = let offers = full.is_fresh in let kept_before = again.kept in cc
   not_executed request refusal after full (inr (inr (dropped, same))) = let offers = full.is_fresh in cc
 
-  pub cannot_execute : (script : Script) (number : ℕ) (refusal : Option ChosenRefusal) (after : World) → CannotExecute g number s
-      → Occurs script w (execute call number refusal) after → ⊥
-  cannot_execute script number refusal after (inl none) (r, sent, executes) = no_request number r none sent.0 sent.1 sent.2
-  cannot_execute script number refusal after (inr (request, found, full)) (r, sent, executes) =
+  -- the request that was sent has no room
+  without_room : (number : ℕ) → CannotExecute g number s → (r : Request) → IsRequestOf w call number r → HasNoRoom w.gateway r
+  without_room number (inl none) r sent = absurd (no_request number r none sent.0 sent.1 sent.2)
+  without_room number (inr (request, found, full)) r sent =
       let here = found_in (λ (x : Request). is_of call (Some number) x.call x.number) w.requests request (own.requests (Some number) ∙ found) in
       let names = own_message call number request.call request.number here.1 in
       let same : request ≡ r = numbered.requests.once request r here.0 sent.0 (names.0 ∙ sym sent.1) (names.1 ∙ sym sent.2) in
-      not_executed r refusal after (subst (λ (x : Request). HasNoRoom w.gateway x) same (subst (λ (x : Gateway). HasNoRoom x request) (sym shows.gateway) full)) executes
+      subst (λ (x : Request). HasNoRoom w.gateway x) same (subst (λ (x : Gateway). HasNoRoom x request) (sym shows.gateway) full)
+
+  pub cannot_execute : (script : Script) (number : ℕ) (refusal : Option ChosenRefusal) (after : World) → CannotExecute g number s
+      → Occurs script w (execute call number refusal) after → ⊥
+  cannot_execute script number refusal after cannot (r, sent, executes) = not_executed r refusal after (without_room number cannot r sent) executes
+
+  pub no_room : (number : ℕ) → CannotExecute g number s → (r : Request) → IsRequestOf w call number r
+      → last_number < (w.gateway.link call).notes + length r.commands
+  no_room number cannot r sent =
+      subst (λ (c : ℕ). last_number < (w.gateway.link c).notes + length r.commands) sent.1 (without_room number cannot r sent).full
 
   pub cannot_happen : (script : Script) (line : ℕ) (event : LineEvent) (after : World) → CannotHappenOn g call line event
       → Occurs script w (on_a_line call line event) after → ⊥

@@ -1,12 +1,14 @@
 -- Whether an event of a call can happen in a shard, whatever call is handed in. A reader should check that what can't happen happens in no world that the
 -- shard shows, and each kind of event that could against what is asked of it. This profile's own.
-use Rattle.std.specs.Prelude.{◌≡◌, ℕ, Bool, true, false, Option, Some, None, is_some, Ok, ◌⊎◌}
+use Rattle.std.specs.Prelude.{◌≡◌, ◌+◌, ◌<◌, ⊤, ℕ, Bool, true, false, Option, Some, None, is_some, length, Ok, ◌⊎◌}
 use Rattle.mg_model.specs.declared.events.CallEvent.{CallEvent}
 use Rattle.mg_model.specs.declared.events.CallEvent.TheVariants as to_call
 use Rattle.mg_model.specs.declared.events.Event.{Event}
 use Rattle.mg_model.specs.declared.events.Event.TheVariants.{OfCall}
+use Rattle.mg_model.specs.Messages.{Request}
+use Rattle.mg_model.specs.Numbers.{last_number}
 use Rattle.mg_model.specs.Script.{Script}
-use Rattle.mg_model.specs.World.{World, Occurs}
+use Rattle.mg_model.specs.World.{IsRequestOf, World, Occurs}
 use Rattle.gateway.specs.Beginnings.{CanBegin}
 use Rattle.agent.specs.AgentValue.{agent_of}
 use Rattle.agent.specs.Preparing.{stepped_by}
@@ -24,6 +26,13 @@ use Rattle.shards.specs.declared.call_record.CallRecord.{CallRecord}
 -- in no world that the shard shows
 abbrev pub NeverOccurs : ShardValue → Event → Type 0
 NeverOccurs v event = (w : World) → IsWorldOf v w → (after : World) → Occurs v.script w event after → ⊥
+
+-- a request that was sent and can't reach the gateway may raise more notes than there are numbers left for
+abbrev pub HasNoRoomFor : ShardValue → (call : ℕ) → CallEvent → Type 0
+HasNoRoomFor v call (to_call.Execute number chosen) =
+    (w : World) → IsWorldOf v w → (request : Request) → IsRequestOf w call number request
+    → last_number < (w.gateway.link call).notes + length request.commands
+HasNoRoomFor v call event = ⊤
 
 -- ---- what could
 
@@ -65,7 +74,7 @@ pub record CouldOccur (v : ShardValue) (call : ℕ) (event : CallEvent) : Type 0
 
 abbrev pub IsOccurrence : ShardValue → (call : ℕ) → CallEvent → Bool → Type 0
 IsOccurrence v call event true = CouldOccur v call event
-IsOccurrence v call event false = NeverOccurs v (OfCall (record { 0 = call }) event)
+IsOccurrence v call event false = NeverOccurs v (OfCall (record { 0 = call }) event) × HasNoRoomFor v call event
 
 -- nothing where the call isn't open there
 abbrev pub TellsOccurrence : ShardValue → (call : ℕ) → CallEvent → Option Bool → Type 0

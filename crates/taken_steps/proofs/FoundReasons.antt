@@ -26,7 +26,7 @@ use Rattle.agent.specs.declared.call.Next.{Next}
 use Rattle.gateway.specs.GatewayValue.{gateway_of}
 use Rattle.mg_safety.proofs.Events.Handover.{world_begun}
 use Rattle.shards.proofs.ShardLemmas.{world_numbered}
-use Rattle.shards.specs.CanOccur.{IsOccurrence, NeverOccurs, TellsOccurrence, record_call}
+use Rattle.shards.specs.CanOccur.{HasNoRoomFor, IsOccurrence, NeverOccurs, TellsOccurrence, record_call}
 use Rattle.shards.specs.Shards.{IsShard, IsWorldOf, ShardValue, opened_as}
 use Rattle.shards.specs.Standings.{StandsAs}
 use Rattle.shards.specs.Stepping.{has_step}
@@ -244,22 +244,23 @@ module _ (v : ShardValue) (was : IsShard v) (w : World) (shown : IsWorldOf v w) 
         → (is_resting agent.phase ≡ true) × ((state_of v.script agent.state).is_end ≡ true)
     at_end call step = ended_in_kind (is_resting agent.phase) (state_of v.script agent.state).is_end (kind ∙ for_ended (variant_of a) call step)
 
-    found_cause : (call : ℕ) (happens : CallEvent) → w.agent (record_call call happens) ≡ Some agent → Never call happens
+    found_cause : (call : ℕ) (happens : CallEvent) → w.agent (record_call call happens) ≡ Some agent → Never call happens → HasNoRoomFor v call happens
         → has_step happens (variant_of a) ≡ true → (why : Idle) → IsFound v a s call happens why → IsCause v w agent a call happens why
-    found_cause call (to_call.OnLine line event) there never step why is = line_cause a agent call line event never why is
-    found_cause call (to_call.Execute number chosen) there never step why is =
-        subst (λ (x : Idle). IsCause v w agent a call (to_call.Execute number chosen) x) (sym is) (is_fresh call number chosen never)
-    found_cause call (to_call.Reply number) there never step why is = reply_cause a call agent there s.state state number never why is
-    found_cause call to_call.Pass there never step why is = pass_cause a call agent there s.state state never why is
-    found_cause call (to_call.Note number) there never step why is =
+    found_cause call (to_call.OnLine line event) there never room step why is = line_cause a agent call line event never why is
+    found_cause call (to_call.Execute number chosen) there never room step why is =
+        subst (λ (x : Idle). IsCause v w agent a call (to_call.Execute number chosen) x) (sym is)
+        (λ request sent_so. (is_fresh call number chosen never request sent_so, room w shown request sent_so))
+    found_cause call (to_call.Reply number) there never room step why is = reply_cause a call agent there s.state state number never why is
+    found_cause call to_call.Pass there never room step why is = pass_cause a call agent there s.state state never why is
+    found_cause call (to_call.Note number) there never room step why is =
         let rest = at_rest step in note_cause a call agent there s.state state rest.0 rest.1 number never why is
-    found_cause call to_call.Timer there never step why is =
+    found_cause call to_call.Timer there never room step why is =
         let rest = at_rest step in timer_cause a call agent there s.state state rest.0 rest.1 never why is
-    found_cause call (to_call.Hear heard_of) there never step why is =
+    found_cause call (to_call.Hear heard_of) there never room step why is =
         hearing_cause a call agent there heard_of never why
         (subst (λ n. IsFoundAtHearing n w.gateway.association heard_of why) association
         (subst (λ n. IsFoundAtHearing s.association.0 n heard_of why) (sym gateways) is))
-    found_cause call (to_call.Begin old) there never step why is =
+    found_cause call (to_call.Begin old) there never room step why is =
         let ended = at_end old.0 step in
         beginning_cause a old.0 agent there call never ended.0 ended.1 why
         (subst (λ n. IsFoundAtBeginning n w.gateway.association why) association
@@ -312,8 +313,9 @@ module _ (v : ShardValue) (was : IsShard v) (a : Next) (s : Standing) (call : �
     };
   }
 
-  found : has_step happens (variant_of a) ≡ true → (why : Idle) → IsFound v a s call happens why → IsRefusedFor v a call happens why
-  found step why is = record {
+  found : HasNoRoomFor v call happens → has_step happens (variant_of a) ≡ true → (why : Idle) → IsFound v a s call happens why
+      → IsRefusedFor v a call happens why
+  found room step why is = record {
     never = never;
     because = λ w shown.
         let here = at.told w shown in
@@ -322,17 +324,17 @@ module _ (v : ShardValue) (was : IsShard v) (a : Next) (s : Standing) (call : �
           stands = stands v was w shown a s (record_call call happens) at;
           reason = as_reason v was w shown here.agent a call happens step why
               (found_cause v was w shown a s here.agent (kind_is v was w shown a s (record_call call happens) at) here.state here.association call happens
-              here.open_call (never w shown) step why is);
+              here.open_call (never w shown) room step why is);
         };
   }
 
   -- what was found, if anything was
-  pub all_found : has_step happens (variant_of a) ≡ true → (found_of : Option Idle) → IfSome found_of (λ why. IsFound v a s call happens why)
-      → IfSome found_of (λ why. IsRefusedFor v a call happens why)
-  all_found step None is = tt
-  all_found step (Some why) is = found step why is
+  pub all_found : HasNoRoomFor v call happens → has_step happens (variant_of a) ≡ true → (found_of : Option Idle)
+      → IfSome found_of (λ why. IsFound v a s call happens why) → IfSome found_of (λ why. IsRefusedFor v a call happens why)
+  all_found room step None is = tt
+  all_found room step (Some why) is = found room step why is
 
 -- an event that was asked about, and can't happen
 pub never_so : (v : ShardValue) (call : ℕ) (event : CallEvent) (told : Option Bool) (can : Bool) → TellsOccurrence v call event told → told ≡ Some can
-    → can ≡ false → NeverOccurs v (OfCall (record { 0 = call }) event)
+    → can ≡ false → NeverOccurs v (OfCall (record { 0 = call }) event) × HasNoRoomFor v call event
 never_so v call event told can tells is not_so = subst (IsOccurrence v call event) not_so (subst (TellsOccurrence v call event) is tells)

@@ -38,7 +38,7 @@ module _ (v : ShardValue) (call : ℕ) (line : LineNo) where
       → TellsOccurrence v call (to_call.OnLine line (happens.Hook On)) told → IfSome told (λ holds. TellsHolder v call line.0 holds)
   tells_holder off None is = tt
   tells_holder off (Some true) is = holds (happens.Hook On) is
-  tells_holder off (Some false) is = (off, is)
+  tells_holder off (Some false) is = (off, is.0)
 
   -- the one hook event can't happen, and of the other it was asked
   pub tells_so : (one other : CallEvent) (told : Option Bool) (can : Bool) (last : Option Bool) → one ≡ to_call.OnLine line (happens.Hook Off)
@@ -46,4 +46,4 @@ module _ (v : ShardValue) (call : ℕ) (line : LineNo) where
       → TellsOccurrence v call other last → IfSome last (λ holds. TellsHolder v call line.0 holds)
   tells_so one other told can last is tells was not_so also tells_too =
       tells_holder (subst (IsOccurrence v call (to_call.OnLine line (happens.Hook Off))) not_so
-      (answered (happens.Hook Off) told can (asked (happens.Hook Off) one told is tells) was)) last (asked (happens.Hook On) other last also tells_too)
+      (answered (happens.Hook Off) told can (asked (happens.Hook Off) one told is tells) was)).0 last (asked (happens.Hook On) other last also tells_too)

@@ -142,12 +142,14 @@ IsUnreleased script w agent call happens = ⊥
 -- ---- numbers that end
 
 -- of a line: so many events happened that the numbers of notes may have ended, and they have where the call holds the line, which doesn't rule the event out.
--- Of a request: it is one that would be executed
+-- Of a request: it is one that would be executed, and may raise more notes than there are numbers left for
 abbrev pub NotesEnd : ShardValue → World → (call : ℕ) → CallEvent → Type 0
 NotesEnd v w call (to_call.OnLine line happens) =
     IsLong v × (w.gateway.holder line.0 ≡ Some call → (outcome_of (w.gateway.line line.0) happens ≡ None → ⊥)
     → last_number < (w.gateway.link call).notes + 1)
-NotesEnd v w call (to_call.Execute number chosen) = (request : Request) → IsRequestOf w call number request → offer_to w.gateway request ≡ fresh
+NotesEnd v w call (to_call.Execute number chosen) =
+    (request : Request) → IsRequestOf w call number request
+    → (offer_to w.gateway request ≡ fresh) × (last_number < (w.gateway.link call).notes + length request.commands)
 NotesEnd v w call happens = ⊥
 
 -- no number is left for the call's next request

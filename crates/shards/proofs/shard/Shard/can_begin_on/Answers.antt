@@ -13,16 +13,20 @@ use Rattle.shards.specs.CallTable.{record_in}
 use Rattle.shards.proofs.shard.Shard.can_begin_on.Goals as goal
 
 pub returns-then-not-has_ended : goal.returns-then-not-has_ended
-returns-then-not-has_ended c =
-    subst (λ (v : ShardValue). NeverOccurs v (begin c.args.call.0 c.args.old.0)) c.self.view_is
-    (never_ended _ c.args.call.0 c.args.old.0 c.args.call_record.now (ap (λ (v : ShardValue). record_in v.call_table c.args.old.0) c.self.view_is ∙ c.requires.held)
-    (ap (has_ended c.self.inside.script.now (agent_of c.args.call_record.now.agent)) (sym c.association.ensures) ∙ sym c.has_ended.ensures ∙ c.if-not-has_ended.true))
+returns-then-not-has_ended c = (
+  subst (λ (v : ShardValue). NeverOccurs v (begin c.args.call.0 c.args.old.0)) c.self.view_is
+      (never_ended _ c.args.call.0 c.args.old.0 c.args.call_record.now (ap (λ (v : ShardValue). record_in v.call_table c.args.old.0) c.self.view_is ∙ c.requires.held)
+      (ap (has_ended c.self.inside.script.now (agent_of c.args.call_record.now.agent)) (sym c.association.ensures) ∙ sym c.has_ended.ensures ∙ c.if-not-has_ended.true)),
+  tt,
+)
 
 pub returns-in_default : goal.returns-in_default
-returns-in_default c =
-    subst (λ (v : ShardValue). NeverOccurs v (begin c.args.call.0 c.args.old.0)) c.self.view_is
-    (never_begun _ c.args.call.0 c.args.old.0 c.in_default.field-0
-    (subst (CanBegin c.self.inside.gateway c.args.old.0 c.args.call.0) c.in_default.is c.can_begin.ensures))
+returns-in_default c = (
+  subst (λ (v : ShardValue). NeverOccurs v (begin c.args.call.0 c.args.old.0)) c.self.view_is
+      (never_begun _ c.args.call.0 c.args.old.0 c.in_default.field-0
+      (subst (CanBegin c.self.inside.gateway c.args.old.0 c.args.call.0) c.in_default.is c.can_begin.ensures)),
+  tt,
+)
 
 pub returns : goal.returns
 returns c =
