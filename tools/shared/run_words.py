@@ -1,4 +1,5 @@
-"""What is said of a run: under each line of its report a sentence on each step of its call, with the messages and what plays, from what `mgexplain` tells.
+"""What is said of a run: under each line of its report a sentence on each step of its call, with the messages, what plays and who hears whom, from what
+`mgexplain` tells.
 Nothing is decided here. It is installed too, so it knows nothing of this repository."""
 import itertools
 
@@ -145,9 +146,17 @@ def commands(told):
 
 def plays(step, before):
     """The lines on what plays, where that is other than before."""
-    if step["plays"] == before:
+    if step["plays"] == before["plays"]:
         return []
     return [f"    plays now on line {each['on_line']} {' '.join(each['signals'])}" for each in step["plays"]] or ["    nothing plays any more"]
+
+
+def hears(step, before):
+    """The line on who hears whom, where that is other than before."""
+    if step["hears"] == before["hears"]:
+        return []
+    told = ", ".join(f"{one['to']} hears {one['from']}" for one in step["hears"])
+    return [f"    now {told}" if told else "    nobody hears anybody any more"]
 
 
 def head(step):
@@ -159,7 +168,7 @@ def head(step):
 
 
 def lines_of(step, before):
-    """The lines on a step, before which this played."""
+    """The lines on a step, by what played and who heard whom before it."""
     yield head(step)
     yield f"    {says(step)}"
     if "executed" in step:
@@ -169,16 +178,17 @@ def lines_of(step, before):
         yield f"    the call sends request {step['sent']['request_number']}, of state {step['sent']['state']}:"
         yield from commands(step["sent"])
     yield from plays(step, before)
+    yield from hears(step, before)
 
 
 def of_call(lines):
     """The paragraphs on a call of the plan and those that began within it, by their lines of the report."""
-    before = []
+    before = {"plays": [], "hears": []}
     for line in lines:
         said = [line["line"]]
         for step in line["steps"]:
             said += lines_of(step, before)
-            before = step["plays"]
+            before = step
         yield said
 
 

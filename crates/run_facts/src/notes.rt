@@ -1,4 +1,4 @@
-//! Notes, and the signals that play.
+//! Notes, the signals that play, and who hears whom.
 use crate::names::name_of;
 use check_facts::names::line_name;
 use gateway::{Method, SignalSet};
@@ -7,7 +7,7 @@ use mg_names::signals::Signal;
 use mg_names::slots::Slot;
 use script_table::Script;
 use std::alloc::AllocError;
-use taken_steps::NoteSent;
+use taken_steps::{Hearing, NoteSent};
 
 /// The word of a method.
 fn method_word(method: Method) -> &'static str {
@@ -107,6 +107,26 @@ pub(crate) fn write_plays(
             write_line(out, line_name(script, *slot), set, gap)?;
             gap = ",";
         }
+    }
+    out.push_str("]")
+}
+
+/// Adds which lines hear which.
+pub(crate) fn write_hears(
+    out: &mut String,
+    script: &Script,
+    lines: &[LineNo],
+    hears: &[Hearing],
+) -> Result<(), AllocError> {
+    out.push_str(r#","hears":["#)?;
+    let mut gap = "";
+    for one in hears {
+        let (from, to) = (
+            name_of(script, lines, one.from),
+            name_of(script, lines, one.to),
+        );
+        write!(out, r#"{gap}{{"from":"{from}","to":"{to}"}}"#)?;
+        gap = ",";
     }
     out.push_str("]")
 }

@@ -1,6 +1,6 @@
-//! A step of a call: what it came to, where the call is before and behind it, its messages and what plays.
+//! A step of a call: what it came to, where the call is before and behind it, its messages, what plays and who hears whom.
 use crate::idle_reason::write_reason;
-use crate::notes::{write_note, write_notes, write_plays};
+use crate::notes::{write_hears, write_note, write_notes, write_plays};
 use crate::plan_words::PlanWords;
 use crate::request_facts::{write_executed, write_reply, write_sent};
 use check_facts::names::state_name;
@@ -60,7 +60,7 @@ fn write_reached(
     Ok(())
 }
 
-/// Adds what was sent at a step, and what plays behind it.
+/// Adds what was sent at a step, what plays behind it, and who hears whom then.
 fn write_shown(
     out: &mut String,
     script: &Script,
@@ -72,7 +72,8 @@ fn write_shown(
     if let Some(sent) = &shown.sent {
         write_sent(out, script, sent)?;
     }
-    write_plays(out, script, shown.plays.as_slice())
+    write_plays(out, script, shown.plays.as_slice())?;
+    write_hears(out, script, lines, shown.hears.as_slice())
 }
 
 /// Adds a step of a call with these lines, at a place among its steps. The only error is running out of memory.

@@ -6,8 +6,8 @@
 //!
 //! The way of what is sent: a second gateway goes along, and each event of the call happens to it too (`scene`); nothing of that decides what happens. A
 //! request is known by its number from when it is sent until it reaches the gateway; its commands are those of the script, by the names that were
-//! bound as it was built (`names_bound`). What reached one of the two, and what was sent at it, is shown beside the signals of each line (`shown`), of a
-//! reply what each command came to (`results`). Where the gateway that goes along can't follow, a fault says so (`fault`). This profile's own.
+//! bound as it was built (`names_bound`). What reached one of the two, and what was sent at it, is shown beside the signals of each line and who hears whom
+//! (`shown`), of a reply what each command came to (`results`). Where the gateway that goes along can't follow, a fault says so (`fault`). This profile's own.
 #![tactic(auto)]
 
 mod came;
@@ -30,5 +30,5 @@ pub use planned_calls::{OpenFault, Shard};
 pub use position::{Position, position_of};
 pub use results::CommandResult;
 pub use scene::Scene;
-pub use shown::{Executed, Fate, NoteSent, Sent, Shown, TakenReply};
+pub use shown::{Executed, Fate, Hearing, NoteSent, Sent, Shown, TakenReply};
 pub use taking::{Taken, take};

@@ -1,8 +1,8 @@
-//! What a call and its gateway send each other along its events, and what plays: a gateway goes along with the one that the steps are taken on.
+//! What a call and its gateway send each other along its events, what plays, and who hears whom: a gateway goes along with the one that the steps are taken on.
 use crate::fault::SceneFault;
 use crate::names_bound::NamesBound;
 use crate::results::{contexts_of, results_of};
-use crate::shown::{Executed, Fate, NoteSent, Sent, Shown, TakenReply};
+use crate::shown::{Executed, Fate, Hearing, NoteSent, Sent, Shown, TakenReply};
 use agent::Next;
 use gateway::{
     Answer, ChosenRefusal, ContextRef, Gateway, LineEvent, MessageId, Reply, Request, SentNote,
@@ -87,6 +87,25 @@ impl<'s> Scene<'s> {
             })?;
         }
         Ok(plays)
+    }
+
+    /// Adds the lines that hear a line.
+    fn add_hearers(&self, hears: &mut Vec<Hearing>, from: LineNo) -> Result<(), AllocError> {
+        for to in self.lines.as_slice() {
+            if self.gateway.board().path(from, *to) {
+                hears.push(Hearing { from, to: *to })?;
+            }
+        }
+        Ok(())
+    }
+
+    /// Which lines hear which.
+    fn hears(&self) -> Result<Vec<Hearing>, AllocError> {
+        let mut hears = Vec::new(self.alloc);
+        for from in self.lines.as_slice() {
+            self.add_hearers(&mut hears, *from)?;
+        }
+        Ok(hears)
     }
 
     /// The place of the request with a number among those that were sent.
@@ -297,6 +316,13 @@ impl Scene<'_> {
         }
     }
 
+    /// What plays then, and who hears whom.
+    fn rest(&self, shown: &mut Shown) -> Result<(), AllocError> {
+        shown.plays = self.plays()?;
+        shown.hears = self.hears()?;
+        Ok(())
+    }
+
     /// The gateway restarts.
     fn restart(&mut self) -> Result<(), SceneFault> {
         let Ok(_) = self.gateway.restart() else {
@@ -313,14 +339,14 @@ impl Scene<'_> {
             Event::OfCall { call, event } => self.show_of_call(&mut shown, next, call, event)?,
             Event::Restart => self.restart()?,
         }
-        shown.plays = self.plays()?;
+        self.rest(&mut shown)?;
         Ok(shown)
     }
 
-    /// What is shown where nothing happened: what plays. This profile's own.
+    /// What is shown where nothing happened: what plays, and who hears whom. This profile's own.
     pub fn show_idle(&self) -> Result<Shown, SceneFault> {
         let mut shown = Shown::nothing(self.alloc);
-        shown.plays = self.plays()?;
+        self.rest(&mut shown)?;
         Ok(shown)
     }
 }

@@ -1,4 +1,4 @@
-//! What is sent at a step of a call, and what plays behind it.
+//! What is sent at a step of a call, what plays behind it, and who hears whom then.
 use crate::names_bound::NamesBound;
 use crate::results::CommandResult;
 use gateway::{Dialled, Failure, Method, SentNote, SignalSet};
@@ -105,7 +105,16 @@ impl NoteSent {
     }
 }
 
-/// What is sent at a step of a call, and what plays behind it. This profile's own.
+/// A line of a call that hears another one: a path of media leads from the one to the other. This profile's own.
+#[derive(Clone, Copy, Debug)]
+pub struct Hearing {
+    /// The line that is heard.
+    pub from: LineNo,
+    /// The line that hears it.
+    pub to: LineNo,
+}
+
+/// What is sent at a step of a call, what plays behind it, and who hears whom then. This profile's own.
 #[derive(Drop)]
 pub struct Shown {
     /// The request that reached the gateway.
@@ -120,10 +129,12 @@ pub struct Shown {
     pub sent: Option<Sent>,
     /// The signals of each line behind the step, in the order of the script.
     pub plays: Vec<SignalSet>,
+    /// Which lines hear which behind the step: those that hear the first line of the script stand first.
+    pub hears: Vec<Hearing>,
 }
 
 impl Shown {
-    /// Nothing was sent, and nothing plays.
+    /// Nothing was sent, nothing plays, and nobody hears anybody.
     pub(crate) fn nothing(alloc: Global) -> Shown {
         Shown {
             executed: None,
@@ -132,6 +143,7 @@ impl Shown {
             notes: Vec::new(alloc),
             sent: None,
             plays: Vec::new(alloc),
+            hears: Vec::new(alloc),
         }
     }
 }
