@@ -44,11 +44,13 @@ STORIES = (
 )
 # The same of what stands in the middle, where a line that is still armed leads nowhere.
 MIDDLE_NOTE = ("note_swallowed", "middle")
+# Calls are stuck in it, and none that is still before it can be brought to its end.
+STUCK = [("cannot_end", "idle"), ("cannot_be_moved", "middle"), ("cannot_end", "middle")]
 MIDDLES = (
-    ("nothing leads out", "", [("state_never_left", "middle"), MIDDLE_NOTE, MIDDLE_NOTE]),
+    ("nothing leads out", "", [("state_never_left", "middle"), MIDDLE_NOTE, MIDDLE_NOTE, *STUCK]),
     ("a dead telephone", 'do = ["modify - a events=none"]\nfault = "rearm"\ntimer = "rearm"', [("line_deaf", "middle"), MIDDLE_NOTE]),
     ("two dead telephones", 'do = ["modify - a events=none", "modify - b events=none"]\nfault = "rearm"\ntimer = "rearm"', [("line_deaf", "middle")] * 2),
-    ("both", 'do = ["modify - a events=none"]\nfault = "middle"', [("line_deaf", "middle"), ("state_never_left", "middle"), MIDDLE_NOTE]),
+    ("both", 'do = ["modify - a events=none"]\nfault = "middle"', [("line_deaf", "middle"), ("state_never_left", "middle"), MIDDLE_NOTE, *STUCK]),
     ("a way out", 'timer = "rearm"', [MIDDLE_NOTE, MIDDLE_NOTE]),
     ("a way out by each line", 'timer = "rearm"\non.a.of = "rearm"\non.b.of = "rearm"', []),
 )
@@ -68,10 +70,10 @@ ENTRIES = (
 )
 # Patterns of gallery/patterns: what is warned of in states where they aren't followed, notes that come to nothing apart; where they are, nothing is.
 PATTERNS = {
-    "end_marked": {"state_never_left"},
+    "end_marked": {"state_never_left", "cannot_be_moved", "cannot_end"},
     "armed_for": {"arrow_unused", "state_unlisted"},
     "no_dead_line": {"arrow_unused", "line_deaf"},
-    "clearing": {"command_refused"},
+    "clearing": {"command_refused", "cannot_end"},
 }
 
 

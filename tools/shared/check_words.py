@@ -10,10 +10,10 @@ YES = (
 )
 MEANT = "Whether the service is what you meant, `--coverage` shows: who hears whom, which notes are awaited, and which commands are done."
 MANY = "Calls come to a million configurations or more, so it isn't told what of this no call uses."
-WARNED = "What of it no call uses, the lines that no call hears, and the notes and commands that nothing comes of:"
+WARNED = "What of it no call uses, the lines that no call hears, the notes and commands that nothing comes of, and the states in which calls are stuck:"
 UNWARNED = (
     "Calls come to each point and use each transition and mark, each line is heard wherever a call rests, no note is swallowed but in the start state, "
-    "and no command is left out or refused each time."
+    "no command is left out or refused each time, and each call can be moved on and be brought to its end."
 )
 # What an obligation asks, and what may be done where it is broken, beside giving the entry that is wanted.
 RULES = {
@@ -96,6 +96,8 @@ WARNINGS = {
     "entry_unreached": "no call comes to any point of it, so it can go.",
     "entry_held": "entry {holder} has each of its points, so it can go.",
     "point_unreached": "no call comes to its point {point}, the first such; calls come to others of it.",
+    "cannot_be_moved": "a call can rest in it and wait for ever: no timer leads on, and no receiver that is lifted or put down. {advice}",
+    "cannot_end": "a call that is in it can't be brought to its end, whatever is done at its telephones from there. {advice}",
 }
 
 
@@ -104,6 +106,10 @@ HEAR = "Let `on.{0}.{kind}` lead somewhere, or give {0} a list without that even
 BIND = "Let a state on the way here create {used}, or leave the command out."
 LEAD = "Let that arrow lead to a state that has other commands or none, or let one before create what they name."
 STAND = "{needed} Over that arrow this isn't so: let it lead to a state without the command, or see to it before."
+MOVE = (
+    "Digits and flashes don't count, since nothing may come of them: give it a `timer`, or let it say where a receiver leads that a list of its lines names."
+)
+END = "Let a state on the way from there lead, by a timer, by a reply or by a receiver, to one that is marked `end`."
 # What a command asks, by its first word.
 NEEDS = {
     "add": "It asks that its context is there, and that what it adds stands in the null context or is created.",
@@ -128,7 +134,7 @@ def advice(told, more):
         return HEAR.format(*told["names"], **more)
     if kind == "command_refused":
         return STAND.format(needed=NEEDS[more["command"].split(" ")[0]])
-    return {"command_unsent": BIND, "request_empty": LEAD}.get(kind, "").format(**more)
+    return {"command_unsent": BIND, "request_empty": LEAD, "cannot_be_moved": MOVE, "cannot_end": END}.get(kind, "").format(**more)
 
 
 def of_arrow(told, page):

@@ -1,10 +1,14 @@
 -- What is told of an input with the line of its check, with the status of that line; or, where warnings count, with the status of a no for a yes of whose
--- script or certificate something is warned of. A reader should check that a status of 0 says then that nothing is. This profile's own.
-use Rattle.std.specs.Prelude.{◌≡◌, ◌⊎◌, ⊤, ℕ, Bool, true, List, [], ◌∷◌, ◌++◌, Option, Some, codes, string_bytes}
+-- script or certificate something is warned of, or whose calls can't all be brought to their ends. A reader should check that a status of 0 says then that
+-- nothing is, and that each call can be moved wherever it rests and be brought to its end. This profile's own.
+use Rattle.std.specs.Prelude.{◌≡◌, ◌⊎◌, ⊤, ℕ, Bool, true, false, ◌&&◌, List, [], ◌∷◌, ◌++◌, Option, Some, codes, string_bytes}
+use Rattle.std.specs.List.{list_all}
 use Rattle.std.specs.Fmt.{decimal}
 use Rattle.mg_model.specs.Script.{Script}
 use Rattle.mg_model.specs.Entries.{Entry}
 use Rattle.composition.specs.Verdict.{AreRead}
+use Rattle.call_ends.specs.Endings.{AreStateEndings}
+use Rattle.call_ends.specs.declared.ending.StateEnding.{StateEnding}
 use Rattle.call_ways.specs.Ways.{ComeToMany}
 use Rattle.call_ways.specs.Candidates.{candidates_of}
 use Rattle.call_ways.specs.Warnings.{ArePicked}
@@ -42,14 +46,23 @@ IsUnder form l said = Begins form l (code_of said.status) (string_bytes said.tex
 abbrev pub IsSaid : (Line → Type 0) → Form → Said → Type 0
 IsSaid Is form said = (l : Line) × Is l × IsUnder form l said
 
--- of the script and the certificate nothing is warned of
-abbrev pub IsWithoutWarning : Script → List Entry → Type 0
-IsWithoutWarning table entries = ArePicked table entries (candidates_of table entries) []
+-- calls that are in a state can be moved where they rest, and brought to their ends
+abbrev pub ends_well : StateEnding → Bool
+ends_well one = one.can_end && one.can_be_moved
 
--- something is warned of, or calls come to too many configurations to tell
+-- whether so it is in each state
+abbrev pub EndWell : Script → List Entry → Bool → Type 0
+EndWell table entries well = (list : List StateEnding) × (AreStateEndings table entries list × (list_all ends_well list ≡ well))
+
+-- of the script and the certificate nothing is warned of, and each call can be moved and be brought to its end
+abbrev pub IsWithoutWarning : Script → List Entry → Type 0
+IsWithoutWarning table entries = ArePicked table entries (candidates_of table entries) [] × EndWell table entries true
+
+-- something is warned of, or a call can't be moved or brought to its end, or calls come to too many configurations to tell
 abbrev pub IsInDoubt : Script → List Entry → Type 0
 IsInDoubt table entries =
-    ((first : Warning) × ((more : List Warning) × ArePicked table entries (candidates_of table entries) (first ∷ more))) ⊎ ComeToMany table entries
+    ((first : Warning) × ((more : List Warning) × ArePicked table entries (candidates_of table entries) (first ∷ more)))
+    ⊎ (EndWell table entries false ⊎ ComeToMany table entries)
 
 -- the status of a yes where warnings count
 abbrev pub IsStrictStatus : Text → Text → ℕ → Type 0

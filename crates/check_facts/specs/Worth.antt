@@ -1,30 +1,35 @@
 -- What a yes is worth, and the status that it has where that counts. No public clause speaks of these words.
 use Rattle.std.specs.Prelude.{◌≡◌, ◌⊎◌, Bool, true, false, List, [], ◌∷◌, Option, Some, None}
+use Rattle.std.specs.List.{list_all}
 use Rattle.program_rim.specs.declared.status.Status.{Status}
 use Rattle.program_rim.specs.declared.status.Status.TheVariants as status
 use Rattle.mg_model.specs.Script.{Script}
 use Rattle.mg_model.specs.Entries.{Entry}
+use Rattle.call_ends.specs.Endings.{AreStateEndings}
 use Rattle.call_ways.specs.Ways.{ComeToMany}
 use Rattle.call_ways.specs.Candidates.{candidates_of}
 use Rattle.call_ways.specs.Warnings.{ArePicked}
 use Rattle.call_ways.specs.declared.warning.Warning.{Warning}
 use Rattle.program_rim.specs.Statuses.{code_of}
-use Rattle.check_facts.specs.Saying.{IsInDoubt, IsWithoutWarning}
+use Rattle.check_facts.specs.Saying.{IsInDoubt, IsWithoutWarning, ends_well}
 use Rattle.check_facts.specs.declared.worth.Worth.{Worth}
 
--- these are all the warnings; or calls come to too many configurations to tell
+-- these are all the warnings, and how calls can be brought to their ends; or calls come to too many configurations to tell
 abbrev pub IsWorth : Script → List Entry → Option Worth → Type 0
 IsWorth table entries None = ComeToMany table entries
-IsWorth table entries (Some worth) = ArePicked table entries (candidates_of table entries) worth.warnings.items
+IsWorth table entries (Some worth) =
+    ArePicked table entries (candidates_of table entries) worth.warnings.items × AreStateEndings table entries worth.endings.items
 
-abbrev pub strict_status : List Warning → Status
-strict_status [] = status.Yes
-strict_status (first ∷ more) = status.No
+-- by the warnings, and by whether all calls end well
+abbrev pub strict_status : List Warning → Bool → Status
+strict_status [] true = status.Yes
+strict_status [] false = status.No
+strict_status (first ∷ more) well = status.No
 
 abbrev pub yes_status : Bool → Option Worth → Status
 yes_status false worth = status.Yes
 yes_status true None = status.No
-yes_status true (Some worth) = strict_status worth.warnings.items
+yes_status true (Some worth) = strict_status worth.warnings.items (list_all ends_well worth.endings.items)
 
 -- the status of a yes, where warnings count or don't
 abbrev pub IsYesStatus : Bool → Script → List Entry → Status → Type 0

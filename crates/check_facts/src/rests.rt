@@ -1,6 +1,8 @@
-//! What is so where calls rest, state by state: who hears whom, which notes the lists of the lines raise, and how far a request has come where a mark is
-//! needed. Each is what `call_ways` answers of the configurations that calls come to.
+//! What is so where calls rest, state by state: who hears whom, which notes the lists of the lines raise, how far a request has come where a mark is needed,
+//! and whether calls can be moved and brought to their ends. Each is what `call_ways` or `call_ends` answers of the configurations that calls come to.
 use crate::names::{line_name, state_name};
+use crate::worth::Worth;
+use call_ends::ending::StateEnding;
 use call_ways::reached::Reached;
 use call_ways::{Sight, is_shown};
 use mg_model::transitions::Pair;
@@ -10,12 +12,13 @@ use mg_names::slots::Slot;
 use script_table::Script;
 use std::alloc::{AllocError, Global};
 
-/// A script with the configurations that calls come to.
+/// A script with the configurations that calls come to, and what is known of their ends.
 #[derive(Clone, Copy)]
 struct Seen<'a> {
     alloc: Global,
     script: &'a Script,
     reached: &'a Reached,
+    endings: &'a [StateEnding],
 }
 
 impl Seen<'_> {
@@ -167,6 +170,17 @@ fn write_marks(out: &mut String, seen: &Seen<'_>, state: u8) -> Result<(), Alloc
     Ok(())
 }
 
+/// Adds whether calls that are in a state can be moved where they rest, and brought to their ends.
+fn write_ending(out: &mut String, endings: &[StateEnding], state: u8) -> Result<(), AllocError> {
+    match endings.get(state as usize) {
+        Some(one) => {
+            let (can_end, can_be_moved) = (one.can_end, one.can_be_moved);
+            write!(out, r#","can_be_moved":{can_be_moved},"can_end":{can_end}"#)
+        }
+        None => Ok(()),
+    }
+}
+
 /// Adds what is so where calls rest in a state.
 fn write_state(out: &mut String, seen: &Seen<'_>, state: u8) -> Result<(), AllocError> {
     let rests = seen.shows(&Sight::Rests(state))?;
@@ -181,7 +195,9 @@ fn write_state(out: &mut String, seen: &Seen<'_>, state: u8) -> Result<(), Alloc
     }
     out.push_str(r#"],"marks":["#)?;
     write_marks(out, seen, state)?;
-    out.push_str("]}")
+    out.push_str("]")?;
+    write_ending(out, seen.endings, state)?;
+    out.push_str("}")
 }
 
 /// Adds what is so where calls rest, state by state, as a member of a JSON object behind a comma. The only error is running out of memory.
@@ -189,12 +205,13 @@ pub(crate) fn write_rests(
     alloc: Global,
     out: &mut String,
     script: &Script,
-    reached: &Reached,
+    worth: &Worth,
 ) -> Result<(), AllocError> {
     let seen = Seen {
         alloc,
         script,
-        reached,
+        reached: &worth.reached,
+        endings: worth.endings.as_slice(),
     };
     out.push_str(r#","rests":["#)?;
     let mut gap = "";

@@ -64,7 +64,7 @@ fn worth_facts(
     match worth {
         Some(worth) => {
             let mut out = warning_facts(alloc, documents, worth)?;
-            write_rests(alloc, &mut out, documents.script, &worth.reached)?;
+            write_rests(alloc, &mut out, documents.script, worth)?;
             write_arrows(&mut out, documents.script, worth.crossings.as_slice())?;
             Ok(out)
         }

@@ -1,8 +1,9 @@
-//! What a yes is worth: what of the script and of its certificate no call uses, lines that no call hears, notes that no state takes, and commands that no call
-//! gets done. What there is to warn of is found by `call_ways`.
+//! What a yes is worth: what of the script and of its certificate no call uses, lines that no call hears, notes that no state takes, commands that no call gets
+//! done, and states in which calls are stuck. What there is to warn of is found by `call_ways` and `call_ends`.
 use crate::documents::Documents;
 use crate::names::{NO_NAME, line_name, state_name};
 use crate::worth::Worth;
+use call_ends::ending::StateEnding;
 use call_ways::crossings::Crossing;
 use call_ways::{Warning, find_holder, find_unreached};
 use mg_names::kinds::Kind;
@@ -156,6 +157,51 @@ fn write_warning(
     }
 }
 
+/// Adds a warning of calls that are stuck in a state, behind a comma where another stands before it; says whether none stands there yet.
+fn write_stuck(
+    out: &mut String,
+    script: &Script,
+    word: &str,
+    state: u8,
+    is_first: bool,
+) -> Result<bool, AllocError> {
+    out.push_str(if is_first { "" } else { "," })?;
+    write_of_state(out, script, word, state)?;
+    out.push_str("}")?;
+    Ok(false)
+}
+
+/// Adds what is to warn of in how calls that are in a state can be brought to their ends; says whether nothing stands there yet.
+fn write_ending(
+    out: &mut String,
+    script: &Script,
+    one: &StateEnding,
+    is_first: bool,
+) -> Result<bool, AllocError> {
+    let mut is_none = is_first;
+    if !one.can_be_moved {
+        is_none = write_stuck(out, script, "cannot_be_moved", one.state, is_none)?;
+    }
+    if !one.can_end {
+        is_none = write_stuck(out, script, "cannot_end", one.state, is_none)?;
+    }
+    Ok(is_none)
+}
+
+/// Adds the warnings of how calls can be brought to their ends, state by state, behind those that stand there, if any do.
+fn write_endings(
+    out: &mut String,
+    script: &Script,
+    endings: &[StateEnding],
+    is_first: bool,
+) -> Result<(), AllocError> {
+    let mut is_none = is_first;
+    for one in endings {
+        is_none = write_ending(out, script, one, is_none)?;
+    }
+    Ok(())
+}
+
 /// The warnings of a yes, in their order, as a member of a JSON object behind a comma. The only error is running out of memory.
 pub(crate) fn warning_facts(
     alloc: Global,
@@ -171,6 +217,13 @@ pub(crate) fn warning_facts(
         out.push_str("}")?;
         gap = ",";
     }
+    let is_none = worth.warnings.is_empty();
+    write_endings(
+        &mut out,
+        documents.script,
+        worth.endings.as_slice(),
+        is_none,
+    )?;
     out.push_str("]")?;
     Ok(out)
 }

@@ -1,7 +1,12 @@
-//! What a yes is worth: the warnings of a script and its certificate, and the status that a yes has where these count.
+//! What a yes is worth: the warnings of a script and its certificate, whether calls can be brought to their ends, and the status that a yes has where these
+//! count.
 ghost use Rattle.std.specs.Prelude.{◌≡◌, IfOk};
+ghost use Rattle.std.specs.List.{list_all};
+ghost use Rattle.check_facts.specs.Saying.{ends_well};
 ghost use Rattle.check_facts.specs.Worth.{IsWorth, yes_status};
 
+use call_ends::ending::StateEnding;
+use call_ends::states::find_state_endings;
 use call_ways::crossings::{Crossing, find_crossings};
 use call_ways::find::find_all;
 use call_ways::reached::Reached;
@@ -20,6 +25,8 @@ pub(crate) struct Worth {
     pub(crate) crossings: Vec<Crossing>,
     /// What of the script and the certificate they don't use, lines that none of them hears, and commands that none gets done.
     pub(crate) warnings: Vec<Warning>,
+    /// How calls that are in each state can be brought to their ends.
+    pub(crate) endings: Vec<StateEnding>,
 }
 
 /// What a yes on a script and a certificate is worth; nothing where calls come to too many configurations to tell. The only error is running out of
@@ -34,16 +41,28 @@ pub(crate) fn find_worth(
     let Some(reached) = find_all(alloc, script, cert)? else {
         return Ok(None);
     };
+    let Some(endings) = find_state_endings(alloc, script, cert)? else {
+        return Ok(None);
+    };
     let crossings = find_crossings(alloc, script, &reached)?;
     let warnings = find_warnings(alloc, script, cert, &reached, crossings.as_slice())?;
     Ok(Some(Worth {
         reached,
         crossings,
         warnings,
+        endings,
     }))
 }
 
-/// The status of a yes: that of a no where warnings count and there are some, or where it can't be told whether there are.
+/// Whether each call can be moved wherever it rests, and brought to its end.
+fn end_well(endings: &[StateEnding]) -> bool
+    ensures { result ≡ list_all ends_well endings.now }
+{
+    endings.iter().all(|one| one.can_end && one.can_be_moved)
+}
+
+/// The status of a yes: that of a no where warnings count and there are some, or a call that can't be moved or brought to its end, or where it can't be told
+/// whether there are.
 pub(crate) fn yes_status(is_strict: bool, worth: &Option<Worth>) -> Status
     ensures { result ≡ yes_status is_strict worth.now }
 {
@@ -53,8 +72,11 @@ pub(crate) fn yes_status(is_strict: bool, worth: &Option<Worth>) -> Status
     let Some(worth) = worth else {
         return Status::No;
     };
-    if worth.warnings.is_empty() {
-        return Status::Yes;
+    if !worth.warnings.is_empty() {
+        return Status::No;
     }
-    Status::No
+    if !end_well(worth.endings.as_slice()) {
+        return Status::No;
+    }
+    Status::Yes
 }
