@@ -1,58 +1,93 @@
-"""The ladder of a call as rows: the call on the left, its gateway on the right, a row for each message that is sent, for each that comes to its end, and
-for what users do. It is installed too, so it knows nothing of this repository."""
+"""The ladder of a call as rows, in the order in which things happen: what is done at a telephone, each message between the call and its gateway where it comes
+to its end, and what the call does by itself. It is installed too, so it knows nothing of this repository."""
 from collections import namedtuple
 
-from shared import run_words
+from shared import request_words, run_words
+from shared.request_words import FAINT, REFUSED, Piece
 
-# A row: its way (`right`, `left` for a message to that side, `cut` for a restart, `none` for what is no message), what stands left of it, upon it and
-# right of it, the
-# last one in brief too, whether it is a message that comes to no end, and whether it is an idle step.
-Row = namedtuple("Row", "way left upon right brief is_lost is_idle", defaults=("", False, False))
+# What a row is: a message to the gateway or to the call, one that is sent and comes later or to no end, what is done at a telephone, what the call does by
+# itself, a restart of all gateways, and a step that couldn't happen.
+REQUEST, ANSWER, SENT, LOST, LINE, CALL, RESTART, IDLE = "request", "answer", "sent", "lost", "line", "call", "restart", "idle"
+# A row: the place of its step among those that are told, what it is, where it stands (the name of a line, `call` or `gateway`), its pieces, where the call is
+# then (None where it can't be elsewhere than before), and all that is said of it.
+Row = namedtuple("Row", "step kind at pieces place says", defaults=(None, ""))
+AT_CALL, AT_GATEWAY = "call", "gateway"
+# What is done at a telephone, by the first word of a step, and what a note tells of it, by its kind.
+DONE = {"off": "lifts", "on": "hangs up", "flash": "flash", "digit": "{}", "pause": "pause", "end": "{} ends"}
+NOTES = {"of": "lifts", "on": "hangs up", "fl": "flashes", "full": "dialled {}", "part": "dialled {}, no number"}
+BY_ITSELF = {"timer": "timer", "pass": "goes on", "hear": "hears of the restart", "begin": "begins"}
+RESTARTS = {
+    "restart": "all gateways restart",
+    "end of an epoch": "end of an epoch: all gateways restart",
+    "restart of another call": "of another call: all gateways restart",
+}
+TONES = {"al/ri": "ring", "cg/dt": "dial tone", "cg/rt": "ringing tone", "cg/bt": "busy tone", "cg/ct": "congestion tone"}
 
 
-def row(way, left, upon, right, **more):
-    """A row, whose right side is as brief as it is, unless it is said."""
-    return Row(way, left, upon, right, **{"brief": right, **more})
+def note(told):
+    """A note in few words."""
+    return f"{told['on_line']} {NOTES[told['note_kind']].format(told.get('symbols') or 'nothing')}"
 
 
-def arrives(steps, key, number):
-    """Whether a message comes to its end at one of these steps."""
+def is_end(step, key, number):
+    """Whether the message with this number comes to its end at a step."""
     name = {"executed": "request_number", "reply": "request_number", "note": "note_number"}[key]
-    return any(key in step and step[key][name] == number for step in steps)
+    return key in step and step[key][name] == number
 
 
-def ends(step, later):
-    """The rows of what comes to its end at a step."""
-    says, place = run_words.says(step), run_words.place(step["after"])
+def executed(told):
+    """The pieces of a request that comes to the gateway."""
+    if told["fate"] == "executed":
+        return [*request_words.pieces(told)]
+    return [Piece("the same once more" if told["fate"] == "repeated" else f"dropped: {request_words.brief(told['request'])}", FAINT)]
+
+
+def answer(told):
+    """The pieces of a reply."""
+    return [Piece(request_words.refusal(told["refused"]), REFUSED)] if "refused" in told else [Piece("done")]
+
+
+def ending(place, step):
+    """The row of what happens at a step."""
+    says, after = run_words.says(step), (step["after"]["state"], step["after"]["phase"])
+    word, *more = step["step"].split()
     if step["came"] == "idle":
-        yield row("none", f"idle: {step['step']}", "", says, is_idle=True)
-    elif step["came"] != "event":
-        yield row("cut", place, "", says)
-    elif "executed" in step:
-        number, fate = step["executed"]["request_number"], step["executed"]["fate"]
-        yield row("right", "", f"request {number}", says, brief=says.partition("gateway, ")[2] or says)
-        if fate != "discarded":
-            yield row("none", "", "", f"sends the reply to request {number}", is_lost=not arrives(later, "reply", number))
-    elif "reply" in step:
-        yield row("left", place, f"reply {step['reply']['request_number']}", "")
-    elif "note" in step:
-        yield row("left", place, f"note {step['note']['note_number']}", "")
-    else:
-        yield row("none", place if step["step"].split()[0] in run_words.TO_CALL else "", "", says)
+        return Row(place, IDLE, AT_CALL, [Piece(f"idle: {step['step']}, {step['reason'].replace('_', ' ')}", FAINT)], None, says)
+    if step["came"] != "event":
+        return Row(place, RESTART, AT_GATEWAY, [Piece(RESTARTS[step["came"]], REFUSED)], after, says)
+    if "executed" in step:
+        whole = "\n".join([says, *(line.strip() for line in run_words.commands(step["executed"]))])
+        return Row(place, REQUEST, AT_GATEWAY, executed(step["executed"]), None, whole)
+    if "reply" in step:
+        return Row(place, ANSWER, AT_CALL, answer(step["reply"]), after, says)
+    if "note" in step:
+        return Row(place, ANSWER, AT_CALL, [Piece(note(step["note"]))], after, says)
+    if word in BY_ITSELF:
+        return Row(place, CALL, AT_CALL, [Piece(BY_ITSELF[word])], after, says)
+    return Row(place, LINE, more[0], [Piece(DONE[word].format(TONES.get(more[-1], more[-1])))], None, says)
 
 
-def starts(step, later):
-    """The rows of what is sent at a step."""
-    for note in step["notes"]:
-        brief = f"sends note {note['note_number']} of line {note['on_line']}: {note['note_kind']}"
-        yield row("none", "", "", f"sends {run_words.note(note)}", brief=brief, is_lost=not arrives(later, "note", note["note_number"]))
+def sent(step):
+    """What is sent at a step: who sends it, the key and the number by which it comes to its end, and its pieces."""
+    if "executed" in step and step["executed"]["fate"] != "discarded":
+        yield AT_GATEWAY, "reply", step["executed"]["request_number"], [Piece("the reply")]
+    for told in step["notes"]:
+        yield AT_GATEWAY, "note", told["note_number"], [Piece(note(told))]
     if "sent" in step:
-        number = step["sent"]["request_number"]
-        yield row("none", f"sends request {number}", "", "", is_lost=not arrives(later, "executed", number))
+        yield AT_CALL, "executed", step["sent"]["request_number"], [*request_words.pieces(step["sent"])]
+
+
+def starting(place, step, later):
+    """The rows of what is sent at a step and doesn't come to its end at the next one."""
+    for by, key, number, pieces in sent(step):
+        if not any(is_end(one, key, number) for one in later[:1]):
+            is_lost = not any(is_end(one, key, number) for one in later)
+            said = [*(Piece(one.words, REFUSED if is_lost else FAINT) for one in pieces), *([Piece("lost", REFUSED)] if is_lost else [])]
+            yield Row(place, LOST if is_lost else SENT, by, said)
 
 
 def rows(steps):
     """The rows of the steps of a line of the report."""
-    for at, step in enumerate(steps):
-        yield from ends(step, steps[at + 1 :])
-        yield from starts(step, steps[at + 1 :])
+    for place, step in enumerate(steps):
+        yield ending(place, step)
+        yield from starting(place, step, steps[place + 1 :])

@@ -1,6 +1,6 @@
-"""A script's state machine as a text for Graphviz, with what a No names marked: the state of its point, and the way of its step. It says what the script and
-`mgexplain` say, and decides nothing. It is installed too, so it knows nothing of this repository."""
-from shared import certificates, scripts
+"""A script's state machine as a text for Graphviz, drawn as pictures of scripts are, with what a No names marked: the state of its point, and the way of its
+step. It says what the script and `mgexplain` say, and decides nothing. It is installed too, so it knows nothing of this repository."""
+from shared import certificates, pictures, scripts
 
 MARKED_NODE = ', color=red, style=filled, fillcolor=mistyrose, xlabel="{}"'
 MARKED_WAY = ", color=red, fontcolor=red, penwidth=2"
@@ -21,22 +21,13 @@ def way_of(page, configuration):
     return {"ok": "ok", "fault": "fault"}.get(certificates.link(configuration)) if step == "reply" else step
 
 
-def ways_out(state):
-    """The ways out of a state, each with the state that it leads to: the reply's, the timer's, then the notes' by the names of lines and kinds."""
-    yield from ((key, state[key]) for key in ("ok", "fault", "timer") if key in state)
-    yield from ((f"{line}.{kind}", target) for line, kinds in sorted(state.get("on", {}).items()) for kind, target in sorted(kinds.items()))
-
-
 def states(script, page):
     """The lines on the states of a script with their ways."""
     configuration, words = named(page)
     for state in script["state"]:
-        name, shape = state["name"], "doublecircle" if state.get("end") else "box"
-        is_marked = configuration is not None and configuration["state"] == name
-        yield f'  "{name}" [label="{name}", shape={shape}{MARKED_NODE.format(words) if is_marked else ""}];'
-        taken = way_of(page, configuration) if is_marked else None
-        for word, target in ways_out(state):
-            yield f'  "{name}" -> "{target}" [label="{word}"{MARKED_WAY if word == taken else ""}];'
+        is_marked = configuration is not None and configuration["state"] == state["name"]
+        yield pictures.node(state, MARKED_NODE.format(words) if is_marked else "")
+        yield from pictures.arcs(state, script["lines"], way_of(page, configuration) if is_marked else None, MARKED_WAY)
 
 
 def lines(page, texts):

@@ -21,20 +21,20 @@ def label(texts):
     return '"' + "\\n".join(texts) + '"'
 
 
-def node(state):
-    """A state's node."""
+def node(state, more=""):
+    """A state's node, with what more is said of how it is drawn."""
     told = label([state["name"], *(f"talk {pair}" for pair in state.get("talk", []))])
     shape = "doublecircle" if state.get("end") else "box" if state.get("do") else "ellipse"
-    return f'  "{state["name"]}" [shape={shape}, label={told}];'
+    return f'  "{state["name"]}" [shape={shape}, label={told}{more}];'
 
 
-def arcs(state, lines):
-    """A state's arcs, one for each state that it leads to."""
+def arcs(state, lines, taken=None, more=""):
+    """A state's arcs, one for each state that it leads to; the one that is taken by this word is drawn otherwise."""
     ways = {}
     for word, target in ways_out(state, lines):
         ways.setdefault(target, []).append(word)
     for target, told in ways.items():
-        yield f'  "{state["name"]}" -> "{target}" [label={label(told)}];'
+        yield f'  "{state["name"]}" -> "{target}" [label={label(told)}{more if taken in told else ""}];'
 
 
 def picture(script):

@@ -9,7 +9,7 @@ import subprocess
 from collections import namedtuple
 from pathlib import Path
 
-from shared import asking, certificates, check_words, explained, marked_pictures, messages, pictures, run_words, scripts
+from shared import asking, certificates, check_words, coverage_cells, explained, ladders, marked_pictures, messages, pictures, run_words, scripts
 
 try:
     import jinja2
@@ -31,8 +31,8 @@ State = namedtuple("State", "name is_end talk commands ways entries")
 Entry = namedtuple("Entry", "place link lines ephemerals contexts cuts point")
 # A step: what `mgexplain` tells of it, what is said of that, the messages that end at it, and those that are sent at it, each with its number.
 Step = namedtuple("Step", "told says ended sent")
-# A call of the report: its line, and its steps.
-Told = namedtuple("Told", "line steps")
+# A call of the report: its line, its ladder, and its steps.
+Told = namedtuple("Told", "line ladder steps")
 # How Graphviz is called: no background, and each state leads to its part of the page.
 DOT = ("dot", "-Tsvg", "-Gbgcolor=transparent", "-Nfontname=Helvetica", "-Nfontsize=12", "-Efontname=Helvetica", "-Efontsize=10", "-Gfontname=Helvetica")
 
@@ -111,13 +111,21 @@ def by_step(sent, key):
     return found
 
 
+def drawn_calls(page, texts, of_call):
+    """The ladder of each call of a run; an arrow leads to the message that comes to its end there."""
+    told = [of_call.get(messages.call_of(line), []) for line in page["report"] if "steps" in line]
+    links = [{message.ended: number for number, message in own if message.ended is not None} for own in told]
+    return ladders.drawn_apart(page, scripts.read(texts[0])["lines"], links)
+
+
 def told_calls(page, texts):
-    """The calls of a run with their steps, and the messages that are sent and that end at each."""
+    """The calls of a run with their ladders and their steps, and the messages that are sent and that end at each."""
     of_call = messages.by_call(messages.of_run(page, texts))
-    for line in page["report"]:
+    for line, ladder in zip(page["report"], drawn_calls(page, texts, of_call)):
         own = of_call.get(messages.call_of(line), [])
         ended, sent = by_step(own, "ended"), by_step(own, "sent")
-        yield Told(line["line"], [Step(step, run_words.says(step), ended.get(place, []), sent.get(place, [])) for place, step in enumerate(line["steps"])])
+        steps = [Step(step, run_words.says(step), ended.get(place, []), sent.get(place, [])) for place, step in enumerate(line["steps"])]
+        yield Told(line["line"], ladder, steps)
 
 
 def heading(text):
@@ -146,6 +154,7 @@ def laid_out(names, texts, verdict, run):
         warned=check_words.WARNED,
         warnings=[(told, check_words.warned(told, verdict.page, script)) for told in verdict.page.get("warnings", [])],
         words=verdict.words.partition("\n")[2].strip("\n"),
+        coverage=[*coverage_cells.rows(verdict.page, script)],
         machine=svg("\n".join(marked_pictures.lines(verdict.page, texts))),
         script=script,
         states=[*states_of(script, entries, verdict.page.get("point", {}))],
