@@ -1,5 +1,5 @@
 """What a browser without a window, Chromium, says of pages: in both colours and at two widths whether something is wider than its place, whether each link
-leads to a part of the page, and whether each text can be told from what is behind it."""
+leads to a part of the page, whether each text can be told from what is behind it, and whether no two texts of a ladder overlap."""
 import html
 import json
 import re
@@ -45,6 +45,41 @@ function ofElement(view, element, contrast) {
   return found;
 }
 
+function mixed(over, under, opacity) {
+  const part = (over.length < 4 ? 1 : over[3]) * opacity;
+  return [0, 1, 2].map(at => over[at] * part + under[at] * (1 - part));
+}
+
+function behindText(view, shapes, text, box) {
+  const middle = [box.left + box.width / 2, box.top + box.height / 2];
+  let color = behind(view, text.ownerSVGElement.parentElement);
+  for (const shape of shapes) {
+    if (shape.compareDocumentPosition(text) & Node.DOCUMENT_POSITION_PRECEDING) break;
+    const style = view.getComputedStyle(shape), at = shape.getBoundingClientRect();
+    const has = at.left <= middle[0] && middle[0] <= at.right && at.top <= middle[1] && middle[1] <= at.bottom;
+    if (has && style.fill != "none") color = mixed(numbers(style.fill), color, Number(style.fillOpacity));
+  }
+  return color;
+}
+
+function overlap(one, other) {
+  const wide = Math.min(one.right, other.right) - Math.max(one.left, other.left), high = Math.min(one.bottom, other.bottom) - Math.max(one.top, other.top);
+  return wide > 0.5 && high > one.height / 5;
+}
+
+function ofDrawing(view, drawing, contrast) {
+  const texts = [...drawing.querySelectorAll("text")], boxes = texts.map(text => text.getBoundingClientRect()), found = [];
+  const shapes = [...drawing.querySelectorAll("rect, circle, ellipse, polygon, path")];
+  texts.forEach((text, at) => {
+    const color = behindText(view, shapes, text, boxes[at]);
+    if (ratio(numbers(view.getComputedStyle(text).fill), color) < contrast) found.push(`the text ${text.textContent} is pale`);
+    if (!drawing.classList.contains("ladder")) return;
+    for (let next = at + 1; next < texts.length; next++)
+      if (overlap(boxes[at], boxes[next])) found.push(`${text.textContent} overlaps ${texts[next].textContent}`);
+  });
+  return found;
+}
+
 function looked(view, contrast) {
   const root = view.document.documentElement;
   root.querySelectorAll("details").forEach(one => one.open = true);
@@ -52,7 +87,8 @@ function looked(view, contrast) {
   const links = [...root.querySelectorAll("a")].flatMap(link => ofLink(view, link));
   const others = [...root.querySelectorAll("body *:not(svg *)")].flatMap(element => ofElement(view, element, contrast));
   const color = view.getComputedStyle(view.document.body).backgroundColor;
-  return {count: root.querySelectorAll("*").length, behind: color, wrongs: [...new Set([...wide, ...links, ...others])]};
+  const drawn = [...root.querySelectorAll("svg")].flatMap(drawing => ofDrawing(view, drawing, contrast));
+  return {count: root.querySelectorAll("*").length, behind: color, wrongs: [...new Set([...wide, ...links, ...others, ...drawn])]};
 }
 
 async function look(pages, widths, contrast) {

@@ -17,11 +17,6 @@ def words(found):
     return " ".join(option.word for option in found)
 
 
-def is_choice(option):
-    """Whether words stand for the value of an option."""
-    return isinstance(option.kind, tuple) and isinstance(option.kind[0], str)
-
-
 def brief(text):
     """The first sentence of a text, without what a shell would take for its own."""
     return text.partition(". ")[0].partition("; ")[0].rstrip(".").replace("`", "").replace("'", "").replace("[", "(").replace("]", ")").replace(":", ",")
@@ -71,16 +66,13 @@ complete -F _mgtool mgtool
 """
 
 
-def bash_value(option):
-    """What bash offers for the value of an option."""
-    front = f"    {option.word})"
-    if is_choice(option):
-        return f"""{front} COMPREPLY=($(compgen -W '{" ".join(option.kind)}' -- "$current")) ;;"""
-    if option.kind == "/":
-        return f'{front} COMPREPLY=($(compgen -d -- "$current")) ;;'
-    if isinstance(option.kind, tuple):
-        return f"{front} ;;"
-    return f'{front} _mgtool_files {option.kind} "$current" ;;'
+def bash_action(kind):
+    """What bash offers for a value, and the end of its case."""
+    if declarations.are_words(kind):
+        return f"""COMPREPLY=($(compgen -W '{" ".join(kind)}' -- "$current")) ;;"""
+    if kind == "/":
+        return 'COMPREPLY=($(compgen -d -- "$current")) ;;'
+    return ";;" if isinstance(kind, tuple) else f'_mgtool_files {kind} "$current" ;;'
 
 
 def bash():
@@ -89,10 +81,10 @@ def bash():
     kinds = {word: {option.kind for command in COMMANDS for option in command.options if option.word == word} for word in valued}
     one_kind = {word: option for word, option in valued.items() if len(kinds[word]) == 1}
     several = [word for word in valued if word not in one_kind]
-    values = [bash_value(option) for option in one_kind.values()]
+    values = [f"    {word}) {bash_action(option.kind)}" for word, option in one_kind.items()]
     for word in several:
         pairs = ((command.name, option.kind) for command in COMMANDS for option in command.options if option.word == word)
-        cases = " ".join(f'{name}) _mgtool_files {kind} "$current" ;;' for name, kind in pairs)
+        cases = " ".join(f"{name}) {bash_action(kind)}" for name, kind in pairs)
         values.append(f"    {word}) case $command in {cases} esac ;;")
     return HEAD.format("bash") + BASH.format(
         everywhere=words(EVERYWHERE),
@@ -114,7 +106,7 @@ def zsh_action(kind):
         return "_files -/"
     if isinstance(kind, str):
         return f'_files -g "*.{kind}"'
-    return f"({' '.join(kind)})" if isinstance(kind[0], str) else " "
+    return f"({' '.join(kind)})" if declarations.are_words(kind) else " "
 
 
 def zsh_option(option):
@@ -143,7 +135,7 @@ def fish_option(condition, option):
     """An option for fish."""
     short = option.word.startswith("-") and not option.word.startswith("--")
     word = f"-o {option.word[1:]}" if short and len(option.word) > 2 else f"-{'s' if short else 'l'} {option.word.lstrip('-')}"
-    value = "" if option.value is None else f" -x -a '{' '.join(option.kind)}'" if is_choice(option) else " -x" if isinstance(option.kind, tuple) else " -r"
+    value = "" if option.value is None else f" -x -a '{' '.join(option.kind)}'" if declarations.are_words(option.kind) else " -x" if isinstance(option.kind, tuple) else " -r"
     return f"complete -c mgtool -n '{condition}' {word}{value} -d '{brief(option.about)}'"
 
 

@@ -8,14 +8,14 @@ from shared.programs import TOP
 ROWS = TOP / "tests" / "mgtool" / "checks.rows"
 # A line as compilers write it.
 LINE = re.compile(r"(?P<file>.+?):(?P<line>\d+):(?P<column>\d+): (?P<severity>error|warning|note): (?P<text>.+)")
-TOLD = re.compile(r"(script|certificate) (\d+):(\d+) (error|warning|note)((?: \| [^|]+)*)")
+TOLD = re.compile(r"(script|certificate|intents) (\d+):(\d+) (error|warning|note)((?: \| [^|]+)*)")
 # What is told of a place: the file by its kind, the place, how grave it is, and the text or, of a row, what stands in it.
 Told = namedtuple("Told", "kind line column severity says")
 
 
-def rows():
-    """The rows, each as its keys with their values."""
-    text = "\n".join(line for line in ROWS.read_text().splitlines() if not line.startswith("#"))
+def rows(path=ROWS):
+    """The rows of a file, each as its keys with their values."""
+    text = "\n".join(line for line in path.read_text().splitlines() if not line.startswith("#"))
     for block in filter(None, re.split(r"\n\n+", text.strip("\n"))):
         row = {}
         for line in block.splitlines():
@@ -45,9 +45,14 @@ def written(row, folder):
     return words
 
 
-def told(lines, folder):
-    """What lines tell; a ValueError where one isn't as compilers write it."""
-    kinds = {str(folder / "a.toml"): "script", str(folder / "a.json"): "certificate", str(folder / "a.certificate.json"): "certificate"}
+def kinds_in(folder):
+    """What each file of a folder is, by its name."""
+    names = {"a.toml": "script", "a.json": "certificate", "a.certificate.json": "certificate", "a.scenarios.toml": "intents"}
+    return {str(folder / name): kind for name, kind in names.items()}
+
+
+def told(lines, kinds):
+    """What lines tell of files that are of these kinds; a ValueError where one isn't as compilers write it."""
     for line in lines:
         found = LINE.fullmatch(line)
         if found is None or found["file"] not in kinds:
@@ -55,9 +60,9 @@ def told(lines, folder):
         yield Told(kinds[found["file"]], int(found["line"]), int(found["column"]), found["severity"], found["text"])
 
 
-def wanted(row):
-    """What a row says that is told."""
-    for value in row.get("told", []):
+def wanted(values):
+    """What values of a row say that is told."""
+    for value in values:
         kind, line, column, severity, says = TOLD.fullmatch(value).groups()
         yield Told(kind, int(line), int(column), severity, [part.strip() for part in says.split(" | ") if part.strip()])
 
@@ -73,14 +78,14 @@ def fault_of(row, status, output, folder):
     if (status, last[: len(row["last"][0])]) != (int(row["status"][0]), row["last"][0]):
         return f"status {status}, {last}"
     try:
-        found = [*told(lines, folder)]
+        found = [*told(lines, kinds_in(folder))]
     except ValueError as fault:
         return str(fault)
-    grave, asked = ([one for one in every if one.severity != "note"] for every in (found, [*wanted(row)]))
+    grave, asked = ([one for one in every if one.severity != "note"] for every in (found, [*wanted(row.get("told", []))]))
     if len(grave) != len(asked) or not all(map(is_as, grave, asked)):
         return f"{grave}"
     notes = iter(one for one in found if one.severity == "note")
-    for note in (one for one in wanted(row) if one.severity == "note"):
+    for note in (one for one in wanted(row.get("told", [])) if one.severity == "note"):
         if not any(is_as(one, note) for one in notes):
             return f"no note {note} among {[one for one in found if one.severity == 'note']}"
     return None

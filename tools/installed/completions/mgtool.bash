@@ -12,7 +12,7 @@ _mgtool() {
     COMPREPLY=()
     while ((at < COMP_CWORD)); do
         case ${COMP_WORDS[at]} in
-        --certificate | --format | --pieces | --call | -o | --workers | --messages | --pcap) ((at++)) ;;
+        --certificate | --format | --pieces | --call | --scenarios | -k | --record | -o | --intents | --workers | --messages | --pcap | --changes) ((at++)) ;;
         -?*) ;;
         *) if [[ $command ]]; then ((files++)); else command=${COMP_WORDS[at]}; fi ;;
         esac
@@ -22,27 +22,35 @@ _mgtool() {
     '') kinds=command ;;
     check) options='--certificate --strict --format --pieces --help --version' kinds='toml' ;;
     why) options='--certificate --json --dot --ladder --call --strict --help --version' kinds='toml toml' ;;
+    test) options='--certificate --scenarios -k --faults --record --format --help --version' kinds='toml' ;;
     draft) options='--certificate -o --wide --help --version' kinds='toml' ;;
+    coverage) options='--certificate --intents --brief --format --help --version' kinds='toml' ;;
     run) options='--certificate --workers --help --version' kinds='toml toml' ;;
     trace) options='--certificate --call --messages --pcap --help --version' kinds='toml toml' ;;
     page) options='--certificate -o --help --version' kinds='toml toml' ;;
     picture) options='--help --version' kinds='toml' ;;
+    watch) options='--certificate --changes --help --version' kinds='toml' ;;
     esac
     case $before in
     --certificate) _mgtool_files json "$current" ;;
-    --format) COMPREPLY=($(compgen -W 'text json sarif junit' -- "$current")) ;;
     --pieces) ;;
     --call) ;;
+    --scenarios) _mgtool_files toml "$current" ;;
+    -k) ;;
+    --record) _mgtool_files toml "$current" ;;
+    --intents) _mgtool_files toml "$current" ;;
     --workers) ;;
     --messages) COMPREPLY=($(compgen -d -- "$current")) ;;
     --pcap) _mgtool_files pcapng "$current" ;;
+    --changes) ;;
+    --format) case $command in check) COMPREPLY=($(compgen -W 'text json sarif junit' -- "$current")) ;; test) COMPREPLY=($(compgen -W 'text json junit' -- "$current")) ;; coverage) COMPREPLY=($(compgen -W 'text json' -- "$current")) ;; esac ;;
     -o) case $command in draft) _mgtool_files json "$current" ;; page) _mgtool_files html "$current" ;; esac ;;
     *)
         kinds=($kinds)
         if [[ $current == -* ]]; then
             COMPREPLY=($(compgen -W "$options" -- "$current"))
         elif [[ $kinds == command ]]; then
-            COMPREPLY=($(compgen -W 'check why draft run trace page picture' -- "$current"))
+            COMPREPLY=($(compgen -W 'check why test draft coverage run trace page picture watch' -- "$current"))
         elif ((files < ${#kinds[@]})); then
             _mgtool_files "${kinds[files]}" "$current"
         fi

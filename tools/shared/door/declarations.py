@@ -6,7 +6,7 @@ TOOL = "mgtool"
 # A file that a command takes: under which key it is kept, how it is shown, what is said of it, whether it has to be there, and the end of such files' names.
 Operand = namedtuple("Operand", "key shown about is_needed kind")
 # An option: its key, its word, how its value is shown, which is None where it takes none, what is said of it, and what may stand there: words, the end of a
-# file's name, `/` for a folder, or the smallest and the largest number.
+# file's name, `/` for a folder, the smallest and the largest number, or any word.
 Option = namedtuple("Option", "key word value about kind")
 # A command: its name, what it does in a line, what is said of it below that, its files, its options, and whether it takes a certificate.
 Command = namedtuple("Command", "name about more operands options")
@@ -22,6 +22,7 @@ CERTIFICATE = Option(
 CALL = Option("call", "--call", "N", "Of a plan: tell the call with this number alone, from 0, with those that begin within it.", (0, 4_294_967_295))
 TEXT, JSON, SARIF, JUNIT = FORMATS = ("text", "json", "sarif", "junit")
 STANDARD = "-"
+ANY = ()
 
 ABOUT = "check call control scripts, say why, draft certificates, run plans and show what happens"
 RULE = (
@@ -36,7 +37,7 @@ FILES = (
 )
 STATUSES = (
     ("0", "the answer is yes; of draft: it came to a yes; of run, trace and page with a plan: the plan was run"),
-    ("1", "the answer is no, or with --strict a yes under which something is warned of"),
+    ("1", "the answer is no, or with --strict a yes under which something is warned of; of coverage: an intent doesn't hold"),
     ("2", "the words ask for nothing; the line names the wrong one"),
     ("3", "a file can't be taken, has mistakes, or can't be written"),
     ("4", "there was no memory"),
@@ -75,6 +76,27 @@ COMMANDS = (
         ),
     ),
     Command(
+        "test",
+        "run the scenarios of a script, and tell which come out as they say",
+        "The scenarios of my.toml stand in my.scenarios.toml: what people do, and what has to come of it. The proved program runs them, and what it tells is "
+        "compared with what they say. Of one that comes out otherwise the first difference stands at its place, with the messages up to it. The intents of each "
+        "state are a test too. The last line says how many passed and how many failed. A script that is a No isn't run: its diagnosis is told.",
+        (SCRIPT,),
+        (
+            CERTIFICATE,
+            Option("scenarios", "--scenarios", "FILE", "The file of scenarios; `-` is standard input. Without it the one beside the script is taken.", "toml"),
+            Option("word", "-k", "WORD", "Run the scenarios and ask the intents alone that have this in their names; those of a state are called `intents of STATE`.", ANY),
+            Option(
+                "has_faults", "--faults", None,
+                "Run each scenario again with each message lost, repeated and late, each command refused, a restart behind each word, and each telephone lifted "
+                "or put down a word earlier and later. What has to hold then stands in the file, under `always` and `at_end`.",
+                None,
+            ),
+            Option("target", "--record", "FILE", "Write the scenarios with what came of each step into this file, and judge nothing; `-` is standard output.", "toml"),
+            Option("format", "--format", "FORM", "How it is told: as text, one JSON value, or JUnit XML. As text where none is named.", (TEXT, JSON, JUNIT)),
+        ),
+    ),
+    Command(
         "draft",
         "write a certificate of a script",
         "It puts in what a No says is lacking, from the certificate that is named or kept on, until a yes, or a No on which a person has to decide. Without "
@@ -84,6 +106,23 @@ COMMANDS = (
             CERTIFICATE,
             Option("target", "-o", "FILE", "Write it into this file, and keep none; `-` is standard output.", "json"),
             Option("is_wide", "--wide", None, "Join entries of a state that differ in one component alone, which adds no configuration.", None),
+        ),
+    ),
+    Command(
+        "coverage",
+        "say what the service does, state by state, and whether its intents hold",
+        "It says what `mgcall-why --coverage` says: who hears whom where calls rest, which notes are awaited, where marks are needed, and what becomes of each "
+        "command on each way in. Behind that stands what of the intents doesn't hold, an error each at its place, with status 1. Of a No it tells what `check` "
+        "tells.",
+        (SCRIPT,),
+        (
+            CERTIFICATE,
+            Option(
+                "scenarios", "--intents", "FILE",
+                "The file with intents. Without it the one beside the script is taken where it is there: of my.toml it is my.scenarios.toml.", "toml",
+            ),
+            Option("is_brief", "--brief", None, "As text: say whether the intents hold, and nothing of the states.", None),
+            Option("format", "--format", "FORM", "How it is told: as text, or one JSON value with the facts. As text where none is named.", (TEXT, JSON)),
         ),
     ),
     Command(
@@ -119,6 +158,17 @@ COMMANDS = (
         (SCRIPT,),
         (),
     ),
+    Command(
+        "watch",
+        "check a script again whenever it changes",
+        "It looks each second at the script, its certificate and the scenario file beside it, and checks again where one changed, a block each. Behind a yes "
+        "it runs what the scenario file asks for. An interruption ends it with status 0.",
+        (SCRIPT._replace(about="the script, a TOML document"),),
+        (
+            CERTIFICATE,
+            Option("changes", "--changes", "N", "End after so many changes, with the status of the last check; 0 checks once.", (0, 1_000_000)),
+        ),
+    ),
 )
 # Options that have to be given.
 NEEDED = {"page": ("target",)}
@@ -131,9 +181,14 @@ def command(name):
     return next((one for one in COMMANDS if one.name == name), None)
 
 
+def are_words(kind):
+    """Whether words stand for the value of an option."""
+    return isinstance(kind, tuple) and kind != ANY and isinstance(kind[0], str)
+
+
 def choice(option):
     """The value of an option as a usage shows it; none where it takes none."""
-    return "|".join(option.kind) if isinstance(option.kind, tuple) and isinstance(option.kind[0], str) else option.value
+    return "|".join(option.kind) if are_words(option.kind) else option.value
 
 
 def usage(one):

@@ -23,10 +23,10 @@ def record(told):
     return {"file": told.file, **place, "severity": told.severity, **({"rule": told.rule} if told.rule else {}), "says": told.text}
 
 
-def value(report):
-    """One JSON value."""
+def value(report, **more):
+    """One JSON value; a command may tell more than the others."""
     line = {"line": report.line} if report.line else {}
-    return json.dumps({"format": FORMAT, **line, "status": report.status, "diagnostics": [*map(record, report.diagnostics)]}) + "\n"
+    return json.dumps({"format": FORMAT, **line, "status": report.status, "diagnostics": [*map(record, report.diagnostics)], **more}) + "\n"
 
 
 WRITERS = {TEXT: text, JSON: value, SARIF: sarif.written, JUNIT: junit.written}

@@ -59,6 +59,13 @@ def ended(number, frame):
     sys.exit(128 + number)
 
 
+def called(name, command, given, find):
+    """Does what these words ask of a command; gives the status. `find` finds the programs."""
+    asked = words.asked(name, command, given)
+    scripts.can_read()
+    return importlib.import_module(f"shared.door.{command.name}").done(asked, find)
+
+
 def main(name, home):
     """Does what the words ask for. `name` is how the tool is called; `home` is the module that finds the programs (`program`), and says which version they are
     (`version`) and whether they are proved (`said_of`). Gives the status."""
@@ -74,6 +81,4 @@ def main(name, home):
         return 0
     if command is None:
         without_command(name, given)
-    asked = words.asked(name, command, given[:place] + given[place + 1 :])
-    scripts.can_read()
-    return importlib.import_module(f"shared.door.{command.name}").done(asked, functools.cache(home.program))
+    return called(name, command, given[:place] + given[place + 1 :], functools.cache(home.program))

@@ -11,7 +11,7 @@ from shared.mistakes.nodes import Unread
 from shared.mistakes.reading import MARK
 from shared.mistakes.told import MOST_BYTES
 
-SCRIPT, CERTIFICATE, PLAN = KINDS = ("script", "certificate", "plan")
+SCRIPT, CERTIFICATE, PLAN, SCENARIOS = KINDS = ("script", "certificate", "plan", "file of scenarios")
 STANDARD_INPUT = "<stdin>"
 # The rule that is broken where a file can't be taken.
 RULE = "input"
@@ -20,7 +20,10 @@ EMPTY = {
     SCRIPT: "a script names its `lines`, its `start`, its `restart` and its states",
     CERTIFICATE: "a certificate is an object with `version` and `entries`",
     PLAN: "a plan lists calls",
+    SCENARIOS: "it lists scenarios, each begun by `[[scenario]]`",
 }
+# The keys of which a file of scenarios has one at its top.
+OF_SCENARIOS = {"scenario", "always", "at_end", "intents"}
 # A file that was read: what it is taken for, its name as it is told, and its bytes.
 Given = namedtuple("Given", "kind name text")
 
@@ -49,6 +52,8 @@ def kind_of(text):
         top = toml_text.read(text).value
     except Unread:
         return None
+    if "state" not in top and OF_SCENARIOS & {*top}:
+        return SCENARIOS
     return PLAN if "call" in top and "state" not in top else SCRIPT if "state" in top else None
 
 

@@ -12,7 +12,7 @@ from shared.door import inputs
 from shared.door.inputs import CERTIFICATE, Given
 from shared.mistakes import told
 
-SUFFIX, CERTIFIED, DIGESTS = ".toml", ".certificate.json", ".certificate.digest"
+SUFFIX, CERTIFIED, DIGESTS, SCENARIOS = ".toml", ".certificate.json", ".certificate.digest", ".scenarios.toml"
 # How a draft is named that is kept nowhere, and the text of a certificate without entries.
 NOWHERE, EMPTY = "<draft>", certificates.text([]).encode()
 # What of a yes shows that a draft has what no call comes to.
@@ -29,6 +29,7 @@ class Beside:
         path = Path(name)
         stem = path.name.removesuffix(SUFFIX)
         self.script, self.certificate, self.digests = path, path.with_name(stem + CERTIFIED), path.with_name(stem + DIGESTS)
+        self.scenarios = path.with_name(stem + SCENARIOS)
 
     def rows(self, script, certificate):
         """The checksums as `sha256sum` writes them."""

@@ -5,7 +5,7 @@ import re
 from shared import entry_places
 from shared.door.diagnostics import TOP, Place
 from shared.mistakes import toml_text
-from shared.mistakes.nodes import within
+from shared.mistakes.nodes import LIST, TABLE, TEXT, within
 
 LINE = re.compile(rb"\n")
 
@@ -23,17 +23,40 @@ class Text:
         return Place(line, at - self.begins[line - 1] + 1)
 
 
-class Script(Text):
-    """The parts of a script that is read. What isn't there stands where what has it stands."""
+class Document(Text):
+    """The parts of a TOML document that is read."""
 
     def __init__(self, text):
         super().__init__(text)
         self.root = toml_text.read(text)
-        self.states = {state.member("name").value: state for state in self.root.member("state").value}
+
+    def at(self, *path):
+        """The place to which keys, and numbers of lists from 0, lead, as far as they are there: that of a key, or of the first byte of a text in a list. A
+        single text stands for a list of one."""
+        node, place = self.root, TOP
+        for step in path:
+            if node.kind == TABLE and step in node.value:
+                place, node = self.place(node.place(step)), node.member(step)
+            elif node.kind == LIST and isinstance(step, int) and step < len(node.value):
+                node = node.value[step]
+                place = self.inside(node) if node.kind == TEXT else self.place(node.at)
+            elif node.kind == TEXT and step == 0:
+                place = self.inside(node)
+            else:
+                break
+        return place
 
     def inside(self, node):
         """The place of the first byte of a text's value."""
         return self.place(within(self.text, node.at, 0))
+
+
+class Script(Document):
+    """The parts of a script that is read. What isn't there stands where what has it stands."""
+
+    def __init__(self, text):
+        super().__init__(text)
+        self.states = {state.member("name").value: state for state in self.root.member("state").value}
 
     def key(self, name):
         """A key of the top."""

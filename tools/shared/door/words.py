@@ -60,9 +60,9 @@ def reading(option):
     if option.value is None:
         return {"action": "store_true"}
     how = {"action": Once, "metavar": option.value}
-    if not isinstance(option.kind, tuple):
+    if not isinstance(option.kind, tuple) or option.kind == declarations.ANY:
         return {**how, "type": named}
-    if isinstance(option.kind[0], str):
+    if declarations.are_words(option.kind):
         return {**how, "choices": option.kind}
     return {**how, "type": number(*option.kind)}
 
@@ -110,7 +110,7 @@ def asked(tool, command, given):
     found, more = made.parse_known_intermixed_args(given)
     if more:
         made.error(f"{more[0]!r} isn't a word of it")
-    inputs = [value for key in ("script", "plan", "certificate") if (value := getattr(found, key, None)) == declarations.STANDARD]
+    inputs = [value for key in ("script", "plan", "certificate", "scenarios") if (value := getattr(found, key, None)) == declarations.STANDARD]
     if len(inputs) > 1:
         made.error("standard input can be one file alone, and - is given twice")
     found.refuse = made.error

@@ -16,6 +16,7 @@ FAULTS = {
     ),
     "certificate": ("NotJson", "BadKey", "Unknown", "EmptySet", "TooManyEntries", "TooManyPoints", "OldVersion"),
     "plan": ("NotToml", "BadStep", "TooMany"),
+    "scenarios": ("NotToml", "BadKey", "BadWord", "Unknown", "Duplicate", "TooMany"),
 }
 # For how many mistakes of a document a word is sought that may have been meant: it takes long beside the rest.
 MOST_MEANT = 1000
