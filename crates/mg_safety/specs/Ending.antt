@@ -11,15 +11,19 @@ use Rattle.mg_model.specs.declared.commands.Command.{Command}
 use Rattle.mg_model.specs.declared.events.Event.{Event}
 use Rattle.mg_model.specs.declared.steps.StepName.{StepName}
 use Rattle.mg_model.specs.declared.steps.StepName.TheVariants.{Refuse, Execute, Reply, Observe, Timer}
+use Rattle.mg_model.specs.Accepted.{IsScript, IsEntryOf}
 use Rattle.mg_model.specs.Agent.{Agent}
 use Rattle.mg_model.specs.Configuration.{Configuration}
 use Rattle.mg_model.specs.Effects.{is_legal, effect}
+use Rattle.mg_model.specs.Entries.{Entry, IsCovered}
 use Rattle.mg_model.specs.Numbers.{last_number}
+use Rattle.mg_model.specs.Obligations.{NoneBroken}
 use Rattle.mg_model.specs.Script.{Script, State}
 use Rattle.mg_model.specs.Shards.{AreLeft, IsContextLeft, IsEphemeralLeft}
 use Rattle.mg_model.specs.Steps.{request_in, steps_of, with_link}
 use Rattle.mg_model.specs.Tables.{state_of}
-use Rattle.mg_model.specs.World.{World, Runs, HasEnded, is_of_call}
+use Rattle.mg_model.specs.World.{World, Opened, IsOpening, Runs, HasEnded, is_of_call}
+use Rattle.mg_safety.specs.Followed.{IsShownBy}
 
 -- ---- moves that can be made to happen
 
@@ -109,3 +113,12 @@ pub record CanBeEnded (script : Script) (w : World) (call most : ℕ) : Type 0 w
 -- each move takes three events at most: what brings a call from a configuration to its end brings it there in a world that shows the configuration
 abbrev pub IsWorth : Script → World → ℕ → Agent → Configuration → Type 0
 IsWorth script w call a c = (way : List Configuration) → Brings script way c → NumbersLast w call a (length way) → CanBeEnded script w call (3 * length way)
+
+-- whatever is lost, repeated, late or restarted: a call of the gateway's association is shown by a configuration that some entry has, and what brings a call from
+-- there to its end brings this one there in that world
+abbrev pub CallsCanBeEnded : Type 0
+CallsCanBeEnded =
+    (script : Script) (entries : List Entry) → IsScript script → All (IsEntryOf script) entries → NoneBroken script entries → HasFewCommands script
+    → (calls : List Opened) (events : List Event) (opening end : World) → IsOpening script calls opening → Runs script events opening end
+    → (call : ℕ) (a : Agent) → end.agent call ≡ Some a → a.association ≡ end.gateway.association
+    → (c : Configuration) × (IsCovered entries c × (IsShownBy script end a c × IsWorth script end call a c))

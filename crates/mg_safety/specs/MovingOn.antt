@@ -1,5 +1,6 @@
 -- That a call at rest can be moved, where its script says how it goes on and its gateway hears that. A reader should check that the events are the call's own, at
--- most three, and that digits alone aren't among what leads on: where the note of a completed map is lost nothing is collected any more.
+-- most three, and that digits alone aren't among what leads on: a number that is dialled in part is used up where no arrow takes it, and nothing is collected any
+-- more.
 use Rattle.std.specs.Prelude.{◌≡◌, ℕ, ◌+◌, ◌<◌, ◌≤◌, true, false, IsTrue, List, length, Some}
 use Rattle.std.specs.List.{All, list_any}
 use Rattle.mg_model.specs.declared.events.Event.{Event}

@@ -1,5 +1,6 @@
 //! The promise over runs. `mg_examples` has runs and certificates that show that it isn't hollow.
 ghost use Rattle.mg_safety.specs.Beginnings.{EndedCallsMayBegin, LostCallsMayNotBegin};
+ghost use Rattle.mg_safety.specs.Ending.{CallsCanBeEnded};
 ghost use Rattle.mg_safety.specs.GoingOn.{CallsCanGoOn};
 ghost use Rattle.mg_safety.specs.Headline.{EveryRunIsGood, EveryRunOfOneCallIsGood};
 ghost use Rattle.mg_safety.specs.MovingOn.{CallsCanBeMoved};
@@ -51,4 +52,11 @@ pub fn calls_can_go_on()
 /// this call lead it into the state that is named there, as long as numbers are left.
 pub fn calls_can_be_moved()
     ensures { CallsCanBeMoved }
+{}
+
+/// Where no obligation is broken, and no state has more than 16 commands, a world of a run shows of each call of the gateway's association a configuration that
+/// some entry has, and whatever moves bring a call from there to its end bring this one there in that world, as long as numbers are left: at most three events of
+/// its own for each.
+pub fn calls_can_be_ended()
+    ensures { CallsCanBeEnded }
 {}

@@ -2,7 +2,6 @@
 use Rattle.std.proofs.Common.{◌≡◌, ◌∙◌, ◌+◌, ◌*◌, ◌<◌, ◌≤◌, ◌++◌, ℕ, suc, true, List, [], ◌∷◌, length, length-append, Option, Some, None, refl, sym, subst}
 use Rattle.std.proofs.Common.{arith, inl, inr}
 use Rattle.std.specs.Prelude.{IsTrue, nat_lt}
-use Rattle.std.specs.List.{All}
 use Rattle.std.proofs.lemmas.Bool.{lt-ltb}
 use Rattle.std.proofs.lemmas.List.Elements.{All-append, All-cons, All-nil}
 use Rattle.mg_names.specs.declared.phases.LinkPhase.{LinkPhase}
@@ -11,6 +10,7 @@ use Rattle.mg_model.specs.declared.commands.Command.{Command}
 use Rattle.mg_model.specs.declared.events.Event.{Event}
 use Rattle.mg_model.specs.declared.failures.Failure.{Failure}
 use Rattle.mg_model.specs.Accepted.{IsScript}
+use Rattle.mg_model.specs.Entries.{IsCovered}
 use Rattle.mg_model.specs.Agent.{Agent, bound_by, built_by, entered, forgotten, heard}
 use Rattle.mg_model.specs.Configuration.{Configuration}
 use Rattle.mg_model.specs.Gateway.{Gateway}
@@ -20,9 +20,10 @@ use Rattle.mg_model.specs.Steps.{reset}
 use Rattle.mg_model.specs.Tables.{no_state, state_of}
 use Rattle.mg_model.specs.World.{World, IsOpening, Opened, Runs, agent_steps, hear, is_of_call}
 use Rattle.mg_model.proofs.Cases.{at_one, by_test, where_true}
-use Rattle.mg_safety.specs.Ending.{Brings, CanBeEnded, HasFewCommands, IsAtEnd, IsWorth, Leads, LeadsIn, NumbersLast, most_commands}
+use Rattle.mg_safety.specs.Ending.{Brings, CallsCanBeEnded, CanBeEnded, HasFewCommands, IsAtEnd, IsWorth, Leads, LeadsIn, NumbersLast, most_commands}
 use Rattle.mg_safety.specs.Followed.{IsShownBy}
 use Rattle.mg_safety.proofs.Agents.HearSound.{hear_current}
+use Rattle.mg_safety.proofs.Certificate.Closed.{closed}
 use Rattle.mg_safety.proofs.GoingOn.Entered.{Enters, enters_state}
 use Rattle.mg_safety.proofs.GoingOn.Moved.{is_own}
 use Rattle.mg_safety.proofs.GoingOn.Moves.{IsMovedTo, IsOfRun, last_after, next_room, of_opening, one_more, run_on}
@@ -205,3 +206,9 @@ lost_can_end script Among is_script closes few calls events opening w opens runs
     let of_run = run_on script Among is_script closes events opening w (of_opening script Among is_script closes calls opening opens) runs in
     lost_ends_by script Among is_script closes few call w of_run a there older (length way)
     (subst (NumbersLast w call a) (omega arith) last) way refl brings
+
+pub calls_be_ended : CallsCanBeEnded
+calls_be_ended script entries is_script listed none_broken few calls events opening end opens runs call a there now =
+    let closes = closed script entries is_script listed none_broken in
+    let found = can_end script (IsCovered entries) is_script closes few calls events opening end opens runs call a there now in
+    (found.0, (found.1.0.covered, found.1.1))
