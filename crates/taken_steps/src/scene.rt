@@ -38,11 +38,6 @@ pub struct Scene<'s> {
     notes: Vec<NoteSent>,
 }
 
-/// The same commands again.
-fn copied(alloc: Global, commands: &[Command]) -> Result<Vec<Command>, AllocError> {
-    commands.to_vec(alloc)
-}
-
 /// The request that a call waits for, where it is one of this number.
 fn outstanding<'a>(next: &'a Next<'_>, number: u32) -> Option<&'a Request> {
     match next {
@@ -181,7 +176,7 @@ impl Scene<'_> {
         shown.executed = Some(Executed {
             number: asked.id.number,
             fate,
-            commands: copied(self.alloc, asked.commands.as_slice())?,
+            commands: asked.commands.as_slice().to_vec(self.alloc)?,
             bound: asked.bound,
             results,
             failure,
@@ -275,7 +270,7 @@ impl Scene<'_> {
         shown.sent = Some(Sent {
             number: request.number(),
             state: next.state(),
-            commands: copied(self.alloc, commands.as_slice())?,
+            commands: commands.as_slice().to_vec(self.alloc)?,
             bound: self.bound,
         });
         self.asked.push(Asked {
