@@ -109,6 +109,8 @@ STAND = "{needed} Over that arrow this isn't so: let it lead to a state without 
 MOVE = (
     "Digits and flashes don't count, since nothing may come of them: give it a `timer`, or let it say where a receiver leads that a list of its lines names."
 )
+ENDS = "Each call can be brought to its end, from wherever it has come to: by so many moves at most: {moves}."
+STUCK = "This leads to where no call can be brought to its end:"
 END = "Let a state on the way from there lead, by a timer, by a reply or by a receiver, to one that is marked `end`."
 # What a command asks, by its first word.
 NEEDS = {
@@ -198,6 +200,15 @@ def rule(page):
     return YES if "warnings" in page else f"{YES} {MANY}"
 
 
+def ended(page, script):
+    """Whether each call can be brought to its end, or the way to where none can; nothing where that isn't told."""
+    told = page.get("ending", {})
+    if "each_within" in told:
+        yield [ENDS.format(moves=told["each_within"])]
+    elif "stuck" in told:
+        yield [STUCK, *map(made, way_steps.moves(script, told["stuck"]))]
+
+
 def worth(page, texts):
     """What a yes is worth, and what it leaves to whoever wrote the script."""
     if "warnings" not in page:
@@ -207,6 +218,7 @@ def worth(page, texts):
         script, lines = scripts.read(texts[0]), entry_places.lines(texts[1])
         said = [warning(told, page, script, lines) for told in page["warnings"]]
         yield [WARNED, *said] if said else [UNWARNED]
+        yield from ended(page, script)
 
 
 def covered(page, texts):

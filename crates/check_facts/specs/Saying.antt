@@ -1,15 +1,18 @@
 -- What is told of an input with the line of its check, with the status of that line; or, where warnings count, with the status of a no for a yes of whose
 -- script or certificate something is warned of, or whose calls can't all be brought to their ends. A reader should check that a status of 0 says then that
--- nothing is, and that each call can be moved wherever it rests and be brought to its end. This profile's own.
+-- nothing is, that each call can be moved wherever it rests, and that some number of moves brings each to its end, from wherever it has come to: as
+-- `NoCallIsStuck` of `call_ends` asks. This profile's own.
 use Rattle.std.specs.Prelude.{◌≡◌, ◌⊎◌, ⊤, ℕ, Bool, true, false, ◌&&◌, List, [], ◌∷◌, ◌++◌, Option, Some, codes, string_bytes}
 use Rattle.std.specs.List.{list_all}
 use Rattle.std.specs.Fmt.{decimal}
 use Rattle.mg_model.specs.Script.{Script}
+use Rattle.mg_model.specs.Configuration.{Configuration}
 use Rattle.mg_model.specs.Entries.{Entry}
 use Rattle.composition.specs.Verdict.{AreRead}
-use Rattle.call_ends.specs.Endings.{AreStateEndings}
+use Rattle.call_ends.specs.Endings.{AreStateEndings, IsLeast, IsStuck}
 use Rattle.call_ends.specs.declared.ending.StateEnding.{StateEnding}
 use Rattle.call_ways.specs.Ways.{ComeToMany}
+use Rattle.call_ways.specs.declared.way.Move.{Move}
 use Rattle.call_ways.specs.Candidates.{candidates_of}
 use Rattle.call_ways.specs.Warnings.{ArePicked}
 use Rattle.call_ways.specs.declared.warning.Warning.{Warning}
@@ -54,15 +57,24 @@ ends_well one = one.can_end && one.can_be_moved
 abbrev pub EndWell : Script → List Entry → Bool → Type 0
 EndWell table entries well = (list : List StateEnding) × (AreStateEndings table entries list × (list_all ends_well list ≡ well))
 
+-- so many moves bring each call to its end, from wherever it has come to
+abbrev pub EachEnds : Script → List Entry → Type 0
+EachEnds table entries = (moves : ℕ) × IsLeast table entries moves
+
+-- from where a way leads no call can be brought to its end
+abbrev pub OneIsStuck : Script → List Entry → Type 0
+OneIsStuck table entries = (way : List (Move × Configuration)) × ((c : Configuration) × IsStuck table entries way c)
+
 -- of the script and the certificate nothing is warned of, and each call can be moved and be brought to its end
 abbrev pub IsWithoutWarning : Script → List Entry → Type 0
-IsWithoutWarning table entries = ArePicked table entries (candidates_of table entries) [] × EndWell table entries true
+IsWithoutWarning table entries =
+    ArePicked table entries (candidates_of table entries) [] × (EndWell table entries true × EachEnds table entries)
 
 -- something is warned of, or a call can't be moved or brought to its end, or calls come to too many configurations to tell
 abbrev pub IsInDoubt : Script → List Entry → Type 0
 IsInDoubt table entries =
     ((first : Warning) × ((more : List Warning) × ArePicked table entries (candidates_of table entries) (first ∷ more)))
-    ⊎ (EndWell table entries false ⊎ ComeToMany table entries)
+    ⊎ (EndWell table entries false ⊎ (OneIsStuck table entries ⊎ ComeToMany table entries))
 
 -- the status of a yes where warnings count
 abbrev pub IsStrictStatus : Text → Text → ℕ → Type 0

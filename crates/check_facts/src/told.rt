@@ -10,6 +10,7 @@ ghost use Rattle.check_facts.specs.Worth.{IsYesStatus};
 
 use crate::arrows::write_arrows;
 use crate::documents::Documents;
+use crate::endings::write_ending;
 use crate::form::Form;
 use crate::no_facts::no_facts;
 use crate::rests::write_rests;
@@ -66,6 +67,7 @@ fn worth_facts(
             let mut out = warning_facts(alloc, documents, worth)?;
             write_rests(alloc, &mut out, documents.script, worth)?;
             write_arrows(&mut out, documents.script, worth.crossings.as_slice())?;
+            write_ending(alloc, &mut out, documents.script, &worth.ending)?;
             Ok(out)
         }
         None => Ok(String::new(alloc)),

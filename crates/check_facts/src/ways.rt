@@ -50,6 +50,20 @@ fn write_moves(
     Ok(())
 }
 
+/// Adds a way from the opening.
+pub(crate) fn write_steps(
+    alloc: Global,
+    out: &mut String,
+    script: &Script,
+    way: &[WayStep],
+) -> Result<(), AllocError> {
+    out.push_str(r#""opening":"#)?;
+    write_configuration(alloc, out, script, &opening(script))?;
+    out.push_str(r#","moves":["#)?;
+    write_moves(alloc, out, script, way)?;
+    out.push_str("]")
+}
+
 /// Adds the way on which a call comes to a point.
 fn write_comes(
     alloc: Global,
@@ -57,11 +71,9 @@ fn write_comes(
     script: &Script,
     way: &[WayStep],
 ) -> Result<(), AllocError> {
-    out.push_str(r#","way":{"comes":true,"opening":"#)?;
-    write_configuration(alloc, out, script, &opening(script))?;
-    out.push_str(r#","moves":["#)?;
-    write_moves(alloc, out, script, way)?;
-    out.push_str("]}")
+    out.push_str(r#","way":{"comes":true,"#)?;
+    write_steps(alloc, out, script, way)?;
+    out.push_str("}")
 }
 
 /// Adds what of a point's entry calls come to, where none comes to the point.

@@ -3,9 +3,10 @@
 ghost use Rattle.std.specs.Prelude.{◌≡◌, IfOk};
 ghost use Rattle.std.specs.List.{list_all};
 ghost use Rattle.check_facts.specs.Saying.{ends_well};
-ghost use Rattle.check_facts.specs.Worth.{IsWorth, yes_status};
+ghost use Rattle.check_facts.specs.Worth.{IsWorth, each_ends, yes_status};
 
-use call_ends::ending::StateEnding;
+use call_ends::ending::{Ending, StateEnding};
+use call_ends::find::find_stuck;
 use call_ends::states::find_state_endings;
 use call_ways::crossings::{Crossing, find_crossings};
 use call_ways::find::find_all;
@@ -27,6 +28,8 @@ pub(crate) struct Worth {
     pub(crate) warnings: Vec<Warning>,
     /// How calls that are in each state can be brought to their ends.
     pub(crate) endings: Vec<StateEnding>,
+    /// By how many moves each call can be, or a way to where one can't.
+    pub(crate) ending: Ending,
 }
 
 /// What a yes on a script and a certificate is worth; nothing where calls come to too many configurations to tell. The only error is running out of
@@ -44,6 +47,7 @@ pub(crate) fn find_worth(
     let Some(endings) = find_state_endings(alloc, script, cert)? else {
         return Ok(None);
     };
+    let ending = find_stuck(alloc, script, cert)?;
     let crossings = find_crossings(alloc, script, &reached)?;
     let warnings = find_warnings(alloc, script, cert, &reached, crossings.as_slice())?;
     Ok(Some(Worth {
@@ -51,6 +55,7 @@ pub(crate) fn find_worth(
         crossings,
         warnings,
         endings,
+        ending,
     }))
 }
 
@@ -59,6 +64,17 @@ fn end_well(endings: &[StateEnding]) -> bool
     ensures { result ≡ list_all ends_well endings.now }
 {
     endings.iter().all(|one| one.can_end && one.can_be_moved)
+}
+
+/// Whether each call can be brought to its end, wherever it has come to.
+fn each_ends(ending: &Ending) -> bool
+    ensures { result ≡ each_ends ending.now }
+{
+    match ending {
+        Ending::EachCanEnd { .. } => true,
+        Ending::Stuck { .. } => false,
+        Ending::TooMany => false,
+    }
 }
 
 /// The status of a yes: that of a no where warnings count and there are some, or a call that can't be moved or brought to its end, or where it can't be told
@@ -76,6 +92,9 @@ pub(crate) fn yes_status(is_strict: bool, worth: &Option<Worth>) -> Status
         return Status::No;
     }
     if !end_well(worth.endings.as_slice()) {
+        return Status::No;
+    }
+    if !each_ends(&worth.ending) {
         return Status::No;
     }
     Status::Yes
