@@ -34,7 +34,7 @@ fn muted(config: &Config, line: Slot) -> Config
 
 /// Whether there is a path of media from one line to another. Where the other one lets nothing in, no path leads back from it, and two lines that are
 /// joined are so by a path to it.
-pub(crate) fn has_path(config: &Config, from: Slot, to: Slot) -> bool
+pub fn has_path(config: &Config, from: Slot, to: Slot) -> bool
     ensures { IsTrue result ↔ HasPath (configuration_of config.now) from to }
 {
     let quiet = muted(config, to);

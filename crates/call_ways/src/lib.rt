@@ -37,6 +37,7 @@ mod warning;
 mod warnings;
 pub mod way;
 
+pub use hearing::has_path;
 pub use holders::find_holder;
 pub use points::find_unreached;
 pub use sights::{Sight, is_shown};
