@@ -6,3 +6,10 @@ mod OneRound
 mod Ends
 mod Within
 mod Stuck
+mod OneSignal
+mod RunsTell
+mod Growing
+mod KeyedPoints
+mod GoingThrough
+mod Spreading
+mod Telling

@@ -4,3 +4,7 @@ pub mod NoCallIsStuck
 pub mod Targets
 pub mod Rounds
 pub mod Resting
+pub mod Telephones
+pub mod RestingTelephones
+pub mod Spreading
+pub mod RunsTell

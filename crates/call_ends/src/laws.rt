@@ -1,6 +1,7 @@
-//! What it is worth that a call can be brought to its end.
+//! What it is worth that a call can be brought to its end, and that what plays on its lines was given to them.
 ghost use Rattle.call_ends.specs.CallsCanEnd.{CallsCanEnd, EndsAreWithin};
 ghost use Rattle.call_ends.specs.NoCallIsStuck.{NoCallIsStuck};
+ghost use Rattle.call_ends.specs.RunsTell.{RunsTell};
 
 /// Where no obligation is broken, a call can be brought to its end from a configuration that calls come to exactly where it can be through such configurations,
 /// by steps of the check.
@@ -20,4 +21,10 @@ pub fn calls_can_end()
 /// association hears of the restart, as long as numbers are left.
 pub fn no_call_is_stuck()
     ensures { NoCallIsStuck }
+{}
+
+/// Where no obligation is broken, what plays on a line of a call of the gateway's association, in any world of a run, was given to that line on a way by which
+/// calls come to a configuration of the call's state, with its request as far: whatever people do, and whatever was lost, repeated, late or restarted before.
+pub fn runs_tell()
+    ensures { RunsTell }
 {}
