@@ -1,2 +1,3 @@
+mod Forgotten
 pub mod Saying
 pub mod YesStatus

@@ -1,2 +1,3 @@
+pub mod Forgotten
 pub mod Saying
 pub mod Worth

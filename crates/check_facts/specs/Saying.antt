@@ -1,8 +1,8 @@
 -- What is told of an input with the line of its check, with the status of that line; or, where warnings count, with the status of a no for a yes of whose
--- script or certificate something is warned of, or whose calls can't all be brought to their ends. A reader should check that a status of 0 says then that
--- nothing is, that each call can be moved wherever it rests, and that some number of moves brings each to its end, from wherever it has come to: as
--- `NoCallIsStuck` of `call_ends` asks. This profile's own.
-use Rattle.std.specs.Prelude.{◌≡◌, ◌⊎◌, ⊤, ℕ, Bool, true, false, ◌&&◌, List, [], ◌∷◌, ◌++◌, Option, Some, codes, string_bytes}
+-- script or certificate something is warned of, or whose calls can't all be brought to their ends, or leave a telephone forgotten where they rest. A reader
+-- should check that a status of 0 says then that nothing is, that each call can be moved wherever it rests, that no telephone is forgotten in any state, and that
+-- some number of moves brings each call to its end, from wherever it has come to, as `NoCallIsStuck` of `call_ends` asks. This profile's own.
+use Rattle.std.specs.Prelude.{◌≡◌, ◌⊎◌, ℕ, Bool, true, false, ◌&&◌, List, [], ◌∷◌, ◌++◌, Option, Some, codes, string_bytes}
 use Rattle.std.specs.List.{list_all}
 use Rattle.std.specs.Fmt.{decimal}
 use Rattle.mg_model.specs.Script.{Script}
@@ -19,6 +19,7 @@ use Rattle.call_ways.specs.declared.warning.Warning.{Warning}
 use Rattle.check_lines.specs.Output.{Text, Line, text_of, line_status, yes}
 use Rattle.check_lines.specs.VerdictLines.{IsLineOfSections}
 use Rattle.program_rim.specs.Statuses.{code_of}
+use Rattle.check_facts.specs.Forgotten.{ComeToManyOfALine, SomeIsForgotten}
 use Rattle.check_facts.specs.declared.form.Form.{Form}
 use Rattle.check_facts.specs.declared.form.Form.TheVariants as form
 use Rattle.check_facts.specs.declared.said.Said.{Said}
@@ -65,16 +66,22 @@ EachEnds table entries = (moves : ℕ) × IsLeast table entries moves
 abbrev pub OneIsStuck : Script → List Entry → Type 0
 OneIsStuck table entries = (way : List (Move × Configuration)) × ((c : Configuration) × IsStuck table entries way c)
 
--- of the script and the certificate nothing is warned of, and each call can be moved and be brought to its end
-abbrev pub IsWithoutWarning : Script → List Entry → Type 0
-IsWithoutWarning table entries =
-    ArePicked table entries (candidates_of table entries) [] × (EndWell table entries true × EachEnds table entries)
+-- of the script and the certificate nothing is warned of, each call can be moved and be brought to its end, and no telephone is forgotten where calls rest
+pub record IsWithoutWarning (table : Script) (entries : List Entry) : Type 0 where
+  pub warnings : ArePicked table entries (candidates_of table entries) []
+  pub well : EndWell table entries true
+  pub ends : EachEnds table entries
+  pub remembered : SomeIsForgotten table entries → ⊥
 
--- something is warned of, or a call can't be moved or brought to its end, or calls come to too many configurations to tell
+-- calls come to too many configurations to tell, or do so with the telephone of a line
+abbrev pub ComeToTooMany : Script → List Entry → Type 0
+ComeToTooMany table entries = ComeToMany table entries ⊎ ComeToManyOfALine table entries
+
+-- something is warned of, or a call can't be moved or brought to its end, or a telephone is forgotten, or calls come to too many configurations to tell
 abbrev pub IsInDoubt : Script → List Entry → Type 0
 IsInDoubt table entries =
     ((first : Warning) × ((more : List Warning) × ArePicked table entries (candidates_of table entries) (first ∷ more)))
-    ⊎ (EndWell table entries false ⊎ (OneIsStuck table entries ⊎ ComeToMany table entries))
+    ⊎ (EndWell table entries false ⊎ (OneIsStuck table entries ⊎ (SomeIsForgotten table entries ⊎ ComeToTooMany table entries)))
 
 -- the status of a yes where warnings count
 abbrev pub IsStrictStatus : Text → Text → ℕ → Type 0

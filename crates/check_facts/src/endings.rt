@@ -12,9 +12,7 @@ pub(crate) fn write_ending(
     ending: &Ending,
 ) -> Result<(), AllocError> {
     match ending {
-        Ending::EachCanEnd { moves } => {
-            write!(out, r#","ending":{{"each_within":{moves}}}"#)
-        }
+        Ending::EachCanEnd { moves } => { write!(out, r#","ending":{{"each_within":{moves}}}"#) }
         Ending::Stuck { way } => {
             out.push_str(r#","ending":{"stuck":{"#)?;
             write_steps(alloc, out, script, way.as_slice())?;

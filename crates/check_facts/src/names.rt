@@ -4,6 +4,7 @@ use mg_model::components::{Remote, Spot};
 use mg_names::context_values::ContextValue;
 use mg_names::modes::Mode;
 use mg_names::phases::LinkPhase;
+use mg_names::signals::Signal;
 use mg_names::slots::Slot;
 use script_table::Script;
 
@@ -99,4 +100,15 @@ pub(crate) fn plays_word(plays: bool) -> &'static str {
 /// The word of whether media is cut.
 pub(crate) fn cut_word(cut: bool) -> &'static str {
     if cut { "yes" } else { "no" }
+}
+
+/// The word of a signal, without its package.
+pub(crate) fn signal_word(signal: Signal) -> &'static str {
+    match signal {
+        Signal::Ring => "ri",
+        Signal::DialTone => "dt",
+        Signal::RingingTone => "rt",
+        Signal::BusyTone => "bt",
+        Signal::CongestionTone => "ct",
+    }
 }

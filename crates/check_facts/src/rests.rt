@@ -1,6 +1,8 @@
 //! What is so where calls rest, state by state: who hears whom, which notes the lists of the lines raise, how far a request has come where a mark is needed,
-//! and whether calls can be moved and brought to their ends. Each is what `call_ways` or `call_ends` answers of the configurations that calls come to.
+//! what is so of the telephones, and whether calls can be moved and brought to their ends. Each is what `call_ways` or `call_ends` answers of the configurations that calls come to.
 use crate::names::{line_name, state_name};
+use crate::telephone_facts::write_telephones;
+use crate::telephones::LineTelephones;
 use crate::worth::Worth;
 use call_ends::ending::StateEnding;
 use call_ways::reached::Reached;
@@ -12,13 +14,14 @@ use mg_names::slots::Slot;
 use script_table::Script;
 use std::alloc::{AllocError, Global};
 
-/// A script with the configurations that calls come to, and what is known of their ends.
+/// A script with the configurations that calls come to, and what is known of their ends and their telephones.
 #[derive(Clone, Copy)]
 struct Seen<'a> {
     alloc: Global,
     script: &'a Script,
     reached: &'a Reached,
     endings: &'a [StateEnding],
+    telephones: &'a [LineTelephones],
 }
 
 impl Seen<'_> {
@@ -195,6 +198,10 @@ fn write_state(out: &mut String, seen: &Seen<'_>, state: u8) -> Result<(), Alloc
     }
     out.push_str(r#"],"marks":["#)?;
     write_marks(out, seen, state)?;
+    out.push_str(r#"],"telephones":["#)?;
+    if rests {
+        write_telephones(out, seen.script, seen.telephones, state)?;
+    }
     out.push_str("]")?;
     write_ending(out, seen.endings, state)?;
     out.push_str("}")
@@ -212,6 +219,7 @@ pub(crate) fn write_rests(
         script,
         reached: &worth.reached,
         endings: worth.endings.as_slice(),
+        telephones: worth.telephones.as_slice(),
     };
     out.push_str(r#","rests":["#)?;
     let mut gap = "";

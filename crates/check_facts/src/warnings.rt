@@ -1,7 +1,8 @@
 //! What a yes is worth: what of the script and of its certificate no call uses, lines that no call hears, notes that no state takes, commands that no call gets
-//! done, and states in which calls are stuck. What there is to warn of is found by `call_ways` and `call_ends`.
+//! done, states in which calls are stuck, and telephones that are forgotten where they rest. What there is to warn of is found by `call_ways` and `call_ends`.
 use crate::documents::Documents;
 use crate::names::{NO_NAME, line_name, state_name};
+use crate::telephone_warnings::write_forgotten;
 use crate::worth::Worth;
 use call_ends::ending::StateEnding;
 use call_ways::crossings::Crossing;
@@ -188,18 +189,19 @@ fn write_ending(
     Ok(is_none)
 }
 
-/// Adds the warnings of how calls can be brought to their ends, state by state, behind those that stand there, if any do.
+/// Adds the warnings of how calls can be brought to their ends, state by state, behind those that stand there, if any do; says whether nothing stands there
+/// yet.
 fn write_endings(
     out: &mut String,
     script: &Script,
     endings: &[StateEnding],
     is_first: bool,
-) -> Result<(), AllocError> {
+) -> Result<bool, AllocError> {
     let mut is_none = is_first;
     for one in endings {
         is_none = write_ending(out, script, one, is_none)?;
     }
-    Ok(())
+    Ok(is_none)
 }
 
 /// The warnings of a yes, in their order, as a member of a JSON object behind a comma. The only error is running out of memory.
@@ -217,13 +219,10 @@ pub(crate) fn warning_facts(
         out.push_str("}")?;
         gap = ",";
     }
+    let script = documents.script;
     let is_none = worth.warnings.is_empty();
-    write_endings(
-        &mut out,
-        documents.script,
-        worth.endings.as_slice(),
-        is_none,
-    )?;
+    let is_none = write_endings(&mut out, script, worth.endings.as_slice(), is_none)?;
+    write_forgotten(&mut out, script, worth.telephones.as_slice(), is_none)?;
     out.push_str("]")?;
     Ok(out)
 }

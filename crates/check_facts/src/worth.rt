@@ -1,10 +1,11 @@
-//! What a yes is worth: the warnings of a script and its certificate, whether calls can be brought to their ends, and the status that a yes has where these
-//! count.
+//! What a yes is worth: the warnings of a script and its certificate, whether calls can be brought to their ends and what is so of their telephones where they
+//! rest, and the status that a yes has where these count.
 ghost use Rattle.std.specs.Prelude.{◌≡◌, IfOk};
 ghost use Rattle.std.specs.List.{list_all};
 ghost use Rattle.check_facts.specs.Saying.{ends_well};
 ghost use Rattle.check_facts.specs.Worth.{IsWorth, each_ends, yes_status};
 
+use crate::telephones::{LineTelephones, find_telephones, has_forgotten};
 use call_ends::ending::{Ending, StateEnding};
 use call_ends::find::find_stuck;
 use call_ends::states::find_state_endings;
@@ -30,6 +31,10 @@ pub(crate) struct Worth {
     pub(crate) endings: Vec<StateEnding>,
     /// By how many moves each call can be, or a way to where one can't.
     pub(crate) ending: Ending,
+    /// The telephones of each line where calls rest.
+    pub(crate) telephones: Vec<LineTelephones>,
+    /// Whether one of them is forgotten in some state.
+    pub(crate) is_one_forgotten: bool,
 }
 
 /// What a yes on a script and a certificate is worth; nothing where calls come to too many configurations to tell. The only error is running out of
@@ -48,6 +53,10 @@ pub(crate) fn find_worth(
         return Ok(None);
     };
     let ending = find_stuck(alloc, script, cert)?;
+    let Some(telephones) = find_telephones(alloc, script, cert)? else {
+        return Ok(None);
+    };
+    let is_one_forgotten = has_forgotten(script, telephones.as_slice());
     let crossings = find_crossings(alloc, script, &reached)?;
     let warnings = find_warnings(alloc, script, cert, &reached, crossings.as_slice())?;
     Ok(Some(Worth {
@@ -56,6 +65,8 @@ pub(crate) fn find_worth(
         warnings,
         endings,
         ending,
+        telephones,
+        is_one_forgotten,
     }))
 }
 
@@ -77,8 +88,8 @@ fn each_ends(ending: &Ending) -> bool
     }
 }
 
-/// The status of a yes: that of a no where warnings count and there are some, or a call that can't be moved or brought to its end, or where it can't be told
-/// whether there are.
+/// The status of a yes: that of a no where warnings count and there are some, or a call that can't be moved or brought to its end, or a telephone that is
+/// forgotten, or where it can't be told whether there are.
 pub(crate) fn yes_status(is_strict: bool, worth: &Option<Worth>) -> Status
     ensures { result ≡ yes_status is_strict worth.now }
 {
@@ -92,6 +103,9 @@ pub(crate) fn yes_status(is_strict: bool, worth: &Option<Worth>) -> Status
         return Status::No;
     }
     if !end_well(worth.endings.as_slice()) {
+        return Status::No;
+    }
+    if worth.is_one_forgotten {
         return Status::No;
     }
     if !each_ends(&worth.ending) {
